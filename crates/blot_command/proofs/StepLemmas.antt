@@ -1,0 +1,45 @@
+-- One step on the book, as the code takes it and takes it back.
+use Rattle.std.proofs.Common.{◌≡◌, ℕ, ◌<◌, ◌+◌, List, [], ◌∷◌, ◌++◌, length, Option, Some, None, true, refl, sym, ap, ◌∙◌, arith, inl, inr}
+use Rattle.std.specs.Prelude.{All, Contains}
+use Rattle.std.proofs.lemmas.List.Elements.{All-weaker, All-contains, All-contains_itself}
+use Rattle.std.specs.Option.{option_map, option_and_then}
+use Rattle.std.proofs.lemmas.List.{same_from_push, length_push}
+use Rattle.blot_types.specs.declared.command.Command.{Command}
+use Rattle.blot_types.specs.declared.command.Entry.{Entry}
+use Rattle.blot_types.specs.declared.refused.Refused.{Refused}
+use Rattle.blot_command.specs.Book.{before, after, command_at, meaning_by}
+use Rattle.blot_command.specs.Law.{lawful_by}
+use Rattle.blot_command.specs.Undoable.{Meaning, IsNext, IsLawful, IsStep, Undoes}
+
+-- the last entry of a book that a command led to is that command's: the rest is the book before
+pub taken_back :
+    {C : Type 0} (embed : C → Command) (project : Command → Option C) → ((c : C) → project (embed c) ≡ Some c)
+    → (list rest : List Entry) (entry : Entry) (inverse : ℕ) → Undoes (meaning_by embed project) inverse list → list ≡ rest ++ entry ∷ []
+    → (rest ≡ before list inverse) × (option_and_then project (command_at list inverse) ≡ project entry.command)
+taken_back embed project back list rest entry inverse (earlier, command, number, step) is =
+    let law = lawful_by embed project back in
+    let same = same_from_push rest earlier entry (record { number = number; command = embed command }) (sym is ∙ step.state_is) in
+    let stood : before list inverse ≡ earlier = rw (step.state_is, step.inverse_is) (law.before_after earlier command number step.is_next) in
+    let given : option_and_then project (command_at list inverse) ≡ Some command =
+        rw (step.state_is, step.inverse_is) (law.command_back earlier command number step.is_next) in
+    (same.0 ∙ sym stood, given ∙ sym (back command) ∙ ap (λ e. project e.command) (sym same.1))
+
+-- such a book isn't empty
+pub not_empty :
+    {C : Type 0} (embed : C → Command) (project : Command → Option C)
+    → (list : List Entry) (inverse : ℕ) → Undoes (meaning_by embed project) inverse list → 0 < length list
+not_empty embed project list inverse (earlier, command, number, step) =
+    let long : length list ≡ length earlier + 1 = ap length step.state_is ∙ length_push earlier (record { number = number; command = embed command }) in
+    omega (arith, long)
+
+-- after a lawful step every number is below the one that comes next
+pub below_next :
+    {S C I R : Type 0} (m : Meaning S C I R) → IsLawful m → (s : S) (c : C) (n : ℕ) → IsNext m s c n
+    → All (λ earlier. earlier < n + 1) (m.numbers (m.after s c n))
+below_next m lawful s c n next =
+    All-weaker (Contains (m.numbers (m.after s c n))) (λ earlier. earlier < n + 1)
+        (λ k within. elim (lawful.brings_its_own s c n k next within) [
+          inl earlier ↦ (let below : k < n = All-contains (λ e. e < n) (m.numbers s) k next.above earlier in omega (arith, below))
+        | inr own ↦ omega (arith, own)
+        ])
+        (m.numbers (m.after s c n)) (All-contains_itself (m.numbers (m.after s c n)))

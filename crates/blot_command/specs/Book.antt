@@ -1,0 +1,42 @@
+-- The book as a list of entries: what stands after a command, its inverse, and what stands before.
+use Rattle.std.specs.Prelude.{ℕ, ◌==◌, Bool, not, map, List, [], ◌∷◌, ◌++◌, Option, Some, filter, find}
+use Rattle.std.specs.Option.{option_map, option_and_then}
+use Rattle.blot_types.specs.declared.command.Command.{Command}
+use Rattle.blot_types.specs.declared.command.Entry.{Entry}
+use Rattle.blot_types.specs.Legal.{is_book, refusal_of}
+use Rattle.blot_command.specs.declared.fault.ApplyFault.{ApplyFault}
+use Rattle.blot_command.specs.declared.fault.ApplyFault.TheVariants.{Refused, NoMemory}
+use Rattle.blot_command.specs.Undoable.{Meaning}
+
+-- whether an entry bears a number
+abbrev pub has_number : ℕ → Entry → Bool
+has_number number entry = entry.number == number
+
+-- the list after a command: the command stands at its end under its number
+abbrev pub after : List Entry → Command → ℕ → List Entry
+after list command number = list ++ record { number = number; command = command } ∷ []
+
+-- the inverse of a command: its number
+abbrev pub inverse_of : List Entry → Command → ℕ → ℕ
+inverse_of list command number = number
+
+-- the list before: without the entry of that number
+abbrev pub before : List Entry → ℕ → List Entry
+before list number = filter (λ entry. not (has_number number entry)) list
+
+-- the command that stands under a number
+abbrev pub command_at : List Entry → ℕ → Option Command
+command_at list number = option_map (λ entry. entry.command) (find (has_number number) list)
+
+-- what a kind of command means on the book, seen as a command by `embed` and back by `project`
+abbrev pub meaning_by : {C : Type 0} → (C → Command) → (Command → Option C) → Meaning (List Entry) C ℕ ApplyFault
+meaning_by embed project = record {
+  is_valid = is_book;
+  numbers = λ list. map (λ entry. entry.number) list;
+  refused = λ list command. option_map Refused (refusal_of list (embed command));
+  after = λ list command number. after list (embed command) number;
+  inverse_of = λ list command number. inverse_of list (embed command) number;
+  before = before;
+  command_of = λ list number. option_and_then project (command_at list number);
+  no_memory = NoMemory;
+}

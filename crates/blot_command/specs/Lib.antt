@@ -1,0 +1,4 @@
+pub mod Book
+pub mod Kinds
+pub mod Law
+pub mod Undoable

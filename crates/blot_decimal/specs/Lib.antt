@@ -1,0 +1,4 @@
+pub mod Fault
+pub mod Text
+pub mod Meaning
+pub mod Printed

@@ -1,0 +1,60 @@
+//! Sums of quantities.
+ghost use Rattle.std.specs.Prelude.{◌≡◌, Some, Ok};
+ghost use Rattle.std.specs.Fmt.{DisplaysOnOk};
+ghost use Rattle.blot_decimal.specs.Meaning.{exact_of};
+ghost use Rattle.blot_decimal.specs.Printed.{printed, IsShortest};
+
+use crate::printing::write_wide_units;
+use std::fmt;
+use std::marker::Model;
+
+/// A sum of quantities, with a sign: a whole number of units of 10^-6. A contract sees it as the
+/// number of its units.
+#[derive(Clone, Copy, Debug, PartialEq, Eq, PartialOrd, Ord, Hash)]
+pub struct QtySum(i128);
+
+impl Model for QtySum {
+    ghost use Rattle.std.specs.Prelude.{ℤ};
+
+    ghost Value = { ℤ };
+
+    ghost view = { λ sum. sum.0 };
+
+    ghost inverse = { λ units. record { 0 = units } };
+}
+
+impl QtySum {
+    /// How many decimals a sum of quantities keeps.
+    pub const PLACES: u32 = 6;
+
+    /// The sum of so many units of 10^-6.
+    pub fn from_units(units: i128) -> QtySum
+        ensures { result ≡ units }
+    {
+        QtySum(units)
+    }
+
+    /// How many units of 10^-6 it is.
+    pub fn units(self) -> i128
+        ensures { result ≡ self }
+    {
+        self.0
+    }
+}
+
+impl fmt::Display for QtySum {
+    ghost output = { λ sum. Some (printed 6 sum) };
+
+    /// The shortest exact decimal: no point for a whole number, at least one digit before a point,
+    /// and no zero at the end behind it.
+    fn fmt<W: fmt::Write>(&self, f: &mut fmt::Formatter<W>) -> fmt::Result
+        ensures writes { DisplaysOnOk W.write_str_gives f.old result
+            (Some (printed 6 self.now)) f.new }
+
+        // What is printed is read again as the same number, and no such text is shorter.
+        ensures read_again { exact_of 6 (printed 6 self.now) ≡ Ok self.now }
+        ensures shortest { IsShortest 6 self.now (printed 6 self.now) }
+    {
+        write_wide_units(f, self.0, Self::PLACES)
+    }
+}

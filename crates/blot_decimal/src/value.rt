@@ -1,0 +1,60 @@
+//! Quantities times prices, and sums of them.
+ghost use Rattle.std.specs.Prelude.{◌≡◌, Some, Ok};
+ghost use Rattle.std.specs.Fmt.{DisplaysOnOk};
+ghost use Rattle.blot_decimal.specs.Meaning.{exact_of};
+ghost use Rattle.blot_decimal.specs.Printed.{printed, IsShortest};
+
+use crate::printing::write_wide_units;
+use std::fmt;
+use std::marker::Model;
+
+/// A quantity times a price, or a sum of such: a whole number of units of 10^-14. A contract sees
+/// it as the number of its units.
+#[derive(Clone, Copy, Debug, PartialEq, Eq, PartialOrd, Ord, Hash)]
+pub struct Value(i128);
+
+impl Model for Value {
+    ghost use Rattle.std.specs.Prelude.{ℤ};
+
+    ghost Value = { ℤ };
+
+    ghost view = { λ value. value.0 };
+
+    ghost inverse = { λ units. record { 0 = units } };
+}
+
+impl Value {
+    /// How many decimals a value keeps.
+    pub const PLACES: u32 = 14;
+
+    /// The value of so many units of 10^-14.
+    pub fn from_units(units: i128) -> Value
+        ensures { result ≡ units }
+    {
+        Value(units)
+    }
+
+    /// How many units of 10^-14 it is.
+    pub fn units(self) -> i128
+        ensures { result ≡ self }
+    {
+        self.0
+    }
+}
+
+impl fmt::Display for Value {
+    ghost output = { λ value. Some (printed 14 value) };
+
+    /// The shortest exact decimal: no point for a whole number, at least one digit before a point,
+    /// and no zero at the end behind it.
+    fn fmt<W: fmt::Write>(&self, f: &mut fmt::Formatter<W>) -> fmt::Result
+        ensures writes { DisplaysOnOk W.write_str_gives f.old result
+            (Some (printed 14 self.now)) f.new }
+
+        // What is printed is read again as the same number, and no such text is shorter.
+        ensures read_again { exact_of 14 (printed 14 self.now) ≡ Ok self.now }
+        ensures shortest { IsShortest 14 self.now (printed 14 self.now) }
+    {
+        write_wide_units(f, self.0, Self::PLACES)
+    }
+}

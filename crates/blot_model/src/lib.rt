@@ -1,0 +1,11 @@
+//! The plain slow program: each definition of what a list of entries means, computed from the whole list
+//! each time. Every faster body is compared with it.
+#![tactic(auto)]
+
+mod executions;
+mod orders;
+mod refusals;
+
+pub use executions::survivors;
+pub use orders::order_of;
+pub use refusals::{accepts, legal};

@@ -1,0 +1,11 @@
+-- What the proofs of the functions share.
+mod ByteLemmas
+mod FieldLemmas
+mod MatchLemmas
+mod SizeLemmas
+mod StepLemmas
+mod OutcomeLemmas
+pub mod FrameLemmas
+pub mod WalkLemmas
+mod FindLemmas
+mod ReadingLemmas

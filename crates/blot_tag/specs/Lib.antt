@@ -1,0 +1,12 @@
+-- Frames of FIX 4.4 and their fields.
+pub mod Bytes
+pub mod Results
+pub mod Fields
+pub mod Faults
+pub mod Views
+pub mod Frames
+pub mod Looking
+pub mod Finding
+pub mod Walking
+pub mod Reading
+pub mod Buffers

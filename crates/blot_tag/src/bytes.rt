@@ -1,0 +1,13 @@
+ghost use Rattle.blot_tag.specs.Bytes.{IsFirstPlace};
+
+use memchr::memchr;
+
+// The byte that ends each field.
+pub(crate) const SOH: u8 = 1;
+
+// The first place at which the byte stands in the text.
+pub(crate) fn find_byte(byte: u8, text: &[u8]) -> Option<usize>
+    ensures { IsFirstPlace byte text.now result }
+{
+    memchr(byte, text)
+}

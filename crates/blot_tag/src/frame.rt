@@ -1,0 +1,37 @@
+ghost use Rattle.std.specs.Prelude.{◌≡◌, ◌≤◌, length};
+ghost use Rattle.blot_tag.specs.Fields.{fields_of};
+ghost use Rattle.blot_tag.specs.Frames.{IsFrame};
+
+use crate::fields::Fields;
+
+/// One valid frame of a stream: a message of FIX 4.4 with the right BodyLength and CheckSum.
+/// FIX 4.4 volume 2, "Message header" and "Message trailer".
+#[derive(Drop)]
+pub struct Frame<'a> {
+    text: &'a [u8],
+    pub ghost valid: { ∥ IsFrame text.now ∥₁ },
+}
+
+impl<'a> Frame<'a> {
+    ghost use Rattle.blot_tag.specs.Views.{text_of};
+
+    // A text that is known to be a frame.
+    pub(crate) fn new(text: &'a [u8]) -> Frame<'a>
+        requires { IsFrame text.now }
+        ensures { text_of result ≡ text.now }
+    {
+        Frame { text }
+    }
+
+    /// The fields of the frame, from left to right, 8, 9, 35 and 10 included; or those before the
+    /// first that can't be split off, and then that fault. FIX 4.4 volume 1, "tag=value" syntax.
+    pub fn fields(&self) -> Fields<'a>
+        ensures items { result ≡ fields_of (text_of self.now) }
+
+        // No frame is longer than 65,562 bytes.
+        ensures few { length result ≤ 65562 }
+        ensures valid { IsFrame (text_of self.now) }
+    {
+        Fields::of(self.text)
+    }
+}

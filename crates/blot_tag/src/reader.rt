@@ -1,0 +1,80 @@
+ghost use Rattle.std.specs.Prelude.{◌≡◌, ◌↔◌, ◌≤◌, [], ◌++◌, length, drop, slice_get, vec_len, IfOk, IfSome, OnOk, OnErr};
+ghost use Rattle.std.specs.Option.{option_map};
+ghost use Rattle.blot_tag.specs.Views.{text_of};
+ghost use Rattle.blot_tag.specs.Frames.{IsFrame};
+ghost use Rattle.blot_tag.specs.Walking.{Walk, IsWalk, walk_of, frames_of, joined_with};
+
+use crate::buffer::Buffer;
+use crate::frame::Frame;
+use std::alloc::{AllocError as NoMemory, Global};
+use std::marker::Model;
+
+/// The bytes of a stream that are still unread, and how many were passed over. It finds the valid
+/// frames of a stream however the stream is cut into pieces. FIX 4.4 volume 2, "Message recovery":
+/// what isn't a valid frame is passed over.
+#[derive(Drop)]
+pub struct Reader {
+    buffer: Buffer,
+}
+
+impl Model for Reader {
+    ghost use Rattle.blot_tag.specs.Reading.{Reading};
+    ghost use Rattle.blot_tag.specs.Buffers.{reading_of};
+
+    ghost Value = { Reading };
+
+    ghost view = { λ reader. reading_of reader.buffer };
+}
+
+impl Reader {
+    ghost use Rattle.std.specs.Borrow.{sem};
+    ghost use Rattle.std.specs.Io.BufRead.{Rests};
+    ghost use Rattle.blot_tag.specs.Reading.{Leaves};
+    ghost use Rattle.blot_tag.specs.contracts.reader.Reader.{the_row};
+
+    /// A reader of a stream from its first byte on.
+    pub fn new(alloc: Global) -> Reader
+        ensures unread { result.unread ≡ [] }
+        ensures skipped { result.skipped ≡ 0 }
+    {
+        Reader {
+            buffer: Buffer {
+                bytes: Vec::new(alloc),
+                start: 0,
+                skipped: 0,
+                frame: Vec::new(alloc),
+                has_frame: false,
+            },
+        }
+    }
+
+    /// Puts a piece of the stream behind the unread bytes. The walk over them goes on from the rest
+    /// of the earlier one, so it doesn't matter where a stream is cut.
+    pub fn feed(&mut self, piece: &[u8]) -> Result<(), NoMemory>
+        ensures ok { OnOk result (self.new ≡ record self.old { unread = self.old.unread ++ piece.now }) }
+        ensures err { OnErr result (self.new ≡ self.old) }
+        ensures cut { walk_of (self.old.unread ++ piece.now) ≡ joined_with (walk_of self.old.unread) piece.now }
+        ensures walk { (walk : Walk) → IsWalk self.new.unread walk ↔ (walk ≡ walk_of self.new.unread) }
+    {
+        self.buffer.extend(piece)
+    }
+
+    /// The first frame of the unread bytes, which leaves those behind it; none where there is no
+    /// frame, and then what could become one with more bytes stays unread.
+    pub fn next(&mut self) -> Result<Option<Frame<'_>>, NoMemory>
+        ensures first { IfOk result (λ frame. option_map text_of frame ≡ slice_get (frames_of self.old.unread) 0) }
+        ensures valid { IfOk result (λ found. IfSome found (λ frame. IsFrame (text_of frame))) }
+        ensures* leaves { sem 𝓛 (Rests the_row self.entry (Leaves self.old result)) }
+    {
+        self.buffer.advance()?;
+        Ok(self.buffer.given())
+    }
+
+    /// How many bytes `next` has passed over so far, before the last frame that it gave, or after
+    /// its last `None` before the rest. It stays at `u64::MAX`.
+    pub fn skipped(&self) -> u64
+        ensures { result ≡ self.now.skipped }
+    {
+        self.buffer.skipped
+    }
+}

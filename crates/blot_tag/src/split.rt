@@ -1,0 +1,120 @@
+ghost use Rattle.std.specs.Prelude.{◌≡◌, Option, Some, None, IfSome};
+ghost use Rattle.std.specs.Option.{option_map, option_copied};
+ghost use Rattle.std.specs.List.{before_first, after_first};
+ghost use Rattle.blot_tag.specs.Bytes.{is_soh, is_equals};
+ghost use Rattle.blot_tag.specs.Fields.{no_tag, wrong_length, data_tag_of, length_before, first_tag, data_value, first_field};
+ghost use Rattle.blot_tag.specs.Views.{tag_value, split_of};
+
+use crate::bytes::{SOH, find_byte};
+use crate::digits::{is_number, number_of, tag_number};
+use crate::field::{Field, SplitFault, SplitReason};
+
+const NO_TAG: SplitFault = SplitFault {
+    tag: 0,
+    reason: SplitReason::InvalidTagNumber,
+};
+
+// `10=`, three digits and SOH.
+const CHECK_SUM_LENGTH: usize = 7;
+
+fn wrong_length(tag: u32) -> SplitFault
+    ensures { result ≡ wrong_length tag }
+{
+    SplitFault {
+        tag,
+        reason: SplitReason::IncorrectDataFormat,
+    }
+}
+
+// The tag of the data that goes with a length tag. FIX 4.4 volume 6.
+fn data_tag(length_tag: u32) -> Option<u32>
+    ensures { result ≡ data_tag_of length_tag }
+{
+    match length_tag {
+        90 => Some(91),
+        93 => Some(89),
+        95 => Some(96),
+        212 => Some(213),
+        348 => Some(349),
+        350 => Some(351),
+        352 => Some(353),
+        354 => Some(355),
+        356 => Some(357),
+        358 => Some(359),
+        360 => Some(361),
+        362 => Some(363),
+        364 => Some(365),
+        445 => Some(446),
+        618 => Some(619),
+        621 => Some(622),
+        _ => None,
+    }
+}
+
+// The length of a data field, as the field right before it writes it; none for an ordinary field.
+fn length_before<'a>(before: Option<Field<'a>>, tag: u32) -> Option<&'a [u8]>
+    ensures { option_copied result ≡ length_before (option_map tag_value before.entry) tag }
+{
+    let field = before?;
+    if data_tag(field.tag) == Some(tag) {
+        Some(field.value)
+    } else {
+        None
+    }
+}
+
+// The tag that begins a text, and the text behind its `=`.
+#[tactic(auto, unfolding(crate::specs::Bytes::tag_number))]
+fn split_tag(text: &[u8]) -> Option<(u32, &[u8])>
+    ensures tag { option_map (λ split. split.0) result ≡ first_tag text.now }
+    ensures rest { IfSome result (λ split. split.1.now ≡ after_first is_equals text.now) }
+{
+    let place = find_byte(b'=', text)?;
+    let tag = tag_number(&text[..place])?;
+    Some((tag, &text[place + 1..]))
+}
+
+// The bytes up to the next SOH, and those behind it.
+fn split_at_soh(text: &[u8]) -> (&[u8], &[u8])
+    ensures before { result.0.now ≡ before_first is_soh text.now }
+    ensures after { result.1.now ≡ after_first is_soh text.now }
+{
+    match find_byte(SOH, text) {
+        Some(place) => (&text[..place], &text[place + 1..]),
+        None => (text, &[]),
+    }
+}
+
+// As many bytes as the digits say, and the text behind the SOH that follows them.
+#[tactic(auto, unfolding(crate::specs::Fields::data_value))]
+fn split_data<'a>(digits: &[u8], text: &'a [u8]) -> Option<(&'a [u8], &'a [u8])>
+    ensures { option_map (λ split. (split.0.now, split.1.now)) result ≡ data_value digits.now text.now }
+{
+    if !is_number(digits) {
+        return None;
+    }
+    let size = number_of(digits);
+    if size < text.len().saturating_sub(CHECK_SUM_LENGTH) && text[size] == SOH {
+        Some((&text[..size], &text[size + 1..]))
+    } else {
+        None
+    }
+}
+
+// The field that begins a text, right behind the field `before`, and the text behind it.
+#[tactic(auto, unfolding(crate::specs::Fields::first_field))]
+pub(crate) fn first_field<'a>(
+    before: Option<Field<'a>>,
+    text: &'a [u8],
+) -> Result<(Field<'a>, &'a [u8]), SplitFault>
+    ensures { split_of result ≡ first_field (option_map tag_value before.entry) text.now }
+{
+    let Some((tag, text)) = split_tag(text) else {
+        return Err(NO_TAG);
+    };
+    let (value, rest) = match length_before(before, tag) {
+        None => split_at_soh(text),
+        Some(digits) => split_data(digits, text).ok_or(wrong_length(tag))?,
+    };
+    Ok((Field { tag, value }, rest))
+}

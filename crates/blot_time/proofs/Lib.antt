@@ -1,0 +1,6 @@
+pub mod CalendarLemmas
+pub mod ClockLemmas
+pub mod DayLemmas
+pub mod DigitLemmas
+pub mod MomentLemmas
+pub mod Rows

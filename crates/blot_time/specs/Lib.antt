@@ -1,0 +1,6 @@
+pub mod Calendar
+pub mod Clock
+pub mod Day
+pub mod Digits
+pub mod Fault
+pub mod Moment

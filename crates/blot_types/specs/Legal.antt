@@ -1,0 +1,52 @@
+-- Which commands a list of entries refuses, and which lists are legal. As in `Survivors`, a word that
+-- ends in `_in` reads the entries newest first.
+use Rattle.std.specs.Prelude.{ℕ, ◌+◌, Bool, true, ◌&&◌, List, [], ◌∷◌, reverse, Option, find, is_none, nat_lt}
+use Rattle.std.specs.List.{list_all}
+use Rattle.std.specs.Option.{option_map}
+use Rattle.blot_types.specs.declared.command.Command.{Command}
+use Rattle.blot_types.specs.declared.command.Command.TheVariants.{Trade}
+use Rattle.blot_types.specs.declared.command.Entry.{Entry}
+use Rattle.blot_types.specs.declared.keys.ExecKey.{ExecKey}
+use Rattle.blot_types.specs.declared.refused.Refused.{Refused}
+use Rattle.blot_types.specs.declared.refused.Refused.TheVariants.{DuplicateExec}
+use Rattle.blot_types.specs.declared.TheConstants.{EVENTS_MAX}
+use Rattle.blot_types.specs.Survivors.{takes_up}
+
+-- whether a number is above those of the entries
+abbrev pub is_above : ℕ → List Entry → Bool
+is_above number entries = list_all (λ entry. nat_lt entry.number number) entries
+
+-- whether the entries' numbers rise
+abbrev pub rises_in : List Entry → Bool
+rises_in [] = true
+rises_in (entry ∷ earlier) = is_above entry.number earlier && rises_in earlier
+
+abbrev pub numbers_rise : List Entry → Bool
+numbers_rise list = rises_in (reverse list)
+
+-- the number of the entry that takes up a key
+abbrev pub taker_in : List Entry → ExecKey → Option ℕ
+taker_in entries key = option_map (λ entry. entry.number) (find (takes_up key) entries)
+
+-- why the entries refuse a command: the first reason that applies
+abbrev pub refusal_in : List Entry → Command → Option Refused
+refusal_in entries (Trade trade) = option_map DuplicateExec (taker_in entries trade.key)
+
+abbrev pub refusal_of : List Entry → Command → Option Refused
+refusal_of list command = refusal_in (reverse list) command
+
+-- whether each entry is accepted after those before it
+abbrev pub legal_in : List Entry → Bool
+legal_in [] = true
+legal_in (entry ∷ earlier) = is_none (refusal_in earlier entry.command) && legal_in earlier
+
+abbrev pub is_legal : List Entry → Bool
+is_legal list = legal_in (reverse list)
+
+-- a list of entries: the numbers rise, up to EVENTS_MAX
+abbrev pub is_numbered : List Entry → Bool
+is_numbered list = numbers_rise list && is_above (EVENTS_MAX + 1) (reverse list)
+
+-- a book: a list of entries that is legal
+abbrev pub is_book : List Entry → Bool
+is_book list = is_numbered list && is_legal list

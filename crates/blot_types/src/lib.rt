@@ -1,0 +1,22 @@
+//! The words that the whole house speaks: texts, keys, fills, commands and the entries of a day's record.
+//! The definitions of what a list of entries means (the root of a chain, the survivors, the order line,
+//! the refusal of a command) stand in the specs of this crate, since every crate above speaks of them.
+#![tactic(auto)]
+
+mod command;
+mod fill;
+mod filled;
+mod keys;
+mod lines;
+mod refused;
+mod text;
+
+pub use command::{Command, Entry, Trade};
+pub use fill::{Fill, Sign};
+pub use keys::{AllocKey, ExecKey, OrderKey};
+pub use lines::{OrderLine, Version};
+pub use refused::Refused;
+pub use text::{TEXT_MAX, Text64};
+
+/// The most events that a day's record holds, and so the greatest number that a command can have.
+pub const EVENTS_MAX: u64 = 100_000;

@@ -1,0 +1,32 @@
+use Rattle.std.proofs.Common.{arith, ◌≡◌, ◌+◌, ◌<◌, sym, ap, ◌∙◌, Result, Ok, Err}
+use Rattle.std.specs.Prelude.{All, IfOk}
+use Rattle.blot_types.specs.declared.command.Command.TheVariants.{Trade}
+use Rattle.blot_command.specs.Book.{before, after}
+use Rattle.blot_command.specs.Kinds.{command_meaning, command_lawful}
+use Rattle.blot_command.proofs.StepLemmas.{below_next}
+use Rattle.tests_book.proofs.generated.+explore.Goals as goal
+use Rattle.tests_book.proofs.generated.+explore.Goals.{in-Ok+in_ok-explore-in-Ok+else-is_some+else-ne, in-Err+else-ne-2+else-ne-3+in_ok-explore-in-Err}
+
+if_ok : {T E : Type 0} (r : Result T E) (P : Type 0) → P → IfOk r (λ _. P)
+if_ok (Ok x) P p = p
+if_ok (Err e) P p = tt
+
+pub explore-requires : goal.explore-requires
+explore-requires t c =
+    let step = c.in-Ok.ensures.accepted in
+    let above : All (λ earlier. earlier < c.args.number + 1) (command_meaning.numbers c.apply.new.tables) =
+        rw step.state_is (below_next command_meaning command_lawful _ _ _ step.is_next) in
+    (omega arith, (above, omega (arith, c.requires.within)))
+
+pub returns : goal.returns
+returns t c =
+    if_ok c.compare-2.result _ (elim c.match-apply.branch [
+      in-Ok+in_ok-explore-in-Ok+else-is_some+else-ne w ↦
+        let step = w.in-Ok.ensures.accepted in
+        let stood = command_lawful.before_after _ _ _ step.is_next in
+        let left = w.in_ok-explore-in-Ok.ensures ∙ step.state_is in
+        w.tables-is ∙ w.revert-back.ensures.state ∙ ap (λ list. before list w.in-Ok.inverse) left
+          ∙ ap (λ number. before (after c.args.tables.now (Trade c.in_ok-trade.trade) c.args.number) number) step.inverse_is ∙ stood
+    | in-Err+else-ne-2+else-ne-3+in_ok-explore-in-Err w ↦
+        w.tables-is ∙ w.in_ok-explore-in-Err.ensures ∙ w.in-Err.ensures.refused.state_is
+    ])
