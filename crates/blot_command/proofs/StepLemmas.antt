@@ -1,15 +1,14 @@
 -- One step on the book, as the code takes it and takes it back.
-use Rattle.std.proofs.Common.{◌≡◌, ℕ, ◌<◌, ◌+◌, List, [], ◌∷◌, ◌++◌, length, Option, Some, None, true, refl, sym, ap, ◌∙◌, arith, inl, inr}
+use Rattle.std.proofs.Common.{◌≡◌, ℕ, ◌<◌, ◌+◌, List, [], ◌∷◌, ◌++◌, length, Option, Some, sym, ap, ◌∙◌, arith, inl, inr}
 use Rattle.std.specs.Prelude.{All, Contains}
 use Rattle.std.proofs.lemmas.List.Elements.{All-weaker, All-contains, All-contains_itself}
-use Rattle.std.specs.Option.{option_map, option_and_then}
+use Rattle.std.specs.Option.{option_and_then}
 use Rattle.std.proofs.lemmas.List.{same_from_push, length_push}
 use Rattle.blot_types.specs.declared.command.Command.{Command}
 use Rattle.blot_types.specs.declared.command.Entry.{Entry}
-use Rattle.blot_types.specs.declared.refused.Refused.{Refused}
-use Rattle.blot_command.specs.Book.{before, after, command_at, meaning_by}
+use Rattle.blot_command.specs.Book.{before, command_at, meaning_by}
 use Rattle.blot_command.specs.Law.{lawful_by}
-use Rattle.blot_command.specs.Undoable.{Meaning, IsNext, IsLawful, IsStep, Undoes}
+use Rattle.blot_command.specs.Undoable.{Meaning, IsNext, IsLawful, Undoes}
 
 -- the last entry of a book that a command led to is that command's: the rest is the book before
 pub taken_back :
@@ -21,7 +20,7 @@ taken_back embed project back list rest entry inverse (earlier, command, number,
     let same = same_from_push rest earlier entry (record { number = number; command = embed command }) (sym is ∙ step.state_is) in
     let stood : before list inverse ≡ earlier = rw (step.state_is, step.inverse_is) (law.before_after earlier command number step.is_next) in
     let given : option_and_then project (command_at list inverse) ≡ Some command =
-        rw (step.state_is, step.inverse_is) (law.command_back earlier command number step.is_next) in
+    rw (step.state_is, step.inverse_is) (law.command_back earlier command number step.is_next) in
     (same.0 ∙ sym stood, given ∙ sym (back command) ∙ ap (λ e. project e.command) (sym same.1))
 
 -- such a book isn't empty
@@ -38,8 +37,8 @@ pub below_next :
     → All (λ earlier. earlier < n + 1) (m.numbers (m.after s c n))
 below_next m lawful s c n next =
     All-weaker (Contains (m.numbers (m.after s c n))) (λ earlier. earlier < n + 1)
-        (λ k within. elim (lawful.brings_its_own s c n k next within) [
-          inl earlier ↦ (let below : k < n = All-contains (λ e. e < n) (m.numbers s) k next.above earlier in omega (arith, below))
-        | inr own ↦ omega (arith, own)
-        ])
-        (m.numbers (m.after s c n)) (All-contains_itself (m.numbers (m.after s c n)))
+    (λ k within. elim (lawful.brings_its_own s c n k next within) [
+      | inl earlier ↦ (let below : k < n = All-contains (λ e. e < n) (m.numbers s) k next.above earlier in omega (arith, below))
+      | inr own ↦ omega (arith, own)
+    ])
+    (m.numbers (m.after s c n)) (All-contains_itself (m.numbers (m.after s c n)))

@@ -1,5 +1,5 @@
 -- The book as a list of entries: what stands after a command, its inverse, and what stands before.
-use Rattle.std.specs.Prelude.{ℕ, ◌==◌, Bool, not, map, List, [], ◌∷◌, ◌++◌, Option, Some, filter, find}
+use Rattle.std.specs.Prelude.{ℕ, ◌==◌, Bool, not, map, List, [], ◌∷◌, ◌++◌, Option, filter, find}
 use Rattle.std.specs.Option.{option_map, option_and_then}
 use Rattle.blot_types.specs.declared.command.Command.{Command}
 use Rattle.blot_types.specs.declared.command.Entry.{Entry}

@@ -1,5 +1,5 @@
 -- Every kind of command obeys the law: what stands before what stands after it is the book itself.
-use Rattle.std.specs.Prelude.{◌≡◌, ℕ, ◌<◌, ◌⊎◌, true, false, not, map, List, [], ◌∷◌, ◌++◌, Option, Some, None, filter, find, refl, All, Contains}
+use Rattle.std.specs.Prelude.{◌≡◌, ℕ, ◌<◌, false, map, List, [], ◌∷◌, ◌++◌, Option, Some, None, find, refl, All, Contains}
 use Rattle.std.specs.Option.{option_map, option_and_then}
 use Rattle.std.proofs.Common.{ap, sym, subst, ◌∙◌, arith, inl, inr}
 use Rattle.std.proofs.lemmas.Bool.{ne_eqb, eq-eqb}
@@ -9,11 +9,10 @@ use Rattle.std.proofs.lemmas.List.Folds.{find-append}
 use Rattle.blot_types.specs.declared.command.Command.{Command}
 use Rattle.blot_types.specs.declared.command.Entry.{Entry}
 use Rattle.blot_types.specs.declared.refused.Refused.{Refused}
-use Rattle.blot_types.specs.Legal.{refusal_of}
 use Rattle.blot_types.proofs.LegalLemmas.{is_book-push}
 use Rattle.blot_command.specs.Book.{has_number, before, meaning_by}
 use Rattle.blot_command.specs.declared.fault.ApplyFault.TheVariants.{Refused as RefusedBy}
-use Rattle.blot_command.specs.Undoable.{IsNext, IsLawful}
+use Rattle.blot_command.specs.Undoable.{IsLawful}
 
 -- the numbers of a list are below this one
 abbrev AllBelow : ℕ → List Entry → Type 0
@@ -55,15 +54,15 @@ pub lawful_by : {C : Type 0} (embed : C → Command) (project : Command → Opti
 lawful_by {C} embed project back = record {
   before_after = λ list c n next. before-push list (record { number = n; command = embed c }) next.above;
   command_back = λ list c n next.
-    ap (λ found. option_and_then project (option_map (λ entry. entry.command) found)) (find-push list (record { number = n; command = embed c }) next.above) ∙ back c;
+      ap (λ found. option_and_then project (option_map (λ entry. entry.command) found)) (find-push list (record { number = n; command = embed c }) next.above) ∙ back c;
   valid_after = λ list c n next.
-    is_book-push list (record { number = n; command = embed c }) next.valid (not_refused _ next.accepted) next.above next.within;
+      is_book-push list (record { number = n; command = embed c }) next.valid (not_refused _ next.accepted) next.above next.within;
   brings_its_own = λ list c n k next within.
-    elim (Contains-push_cases (map (λ entry. entry.number) list) n k (subst (λ numbers. Contains numbers k) (map_push (λ entry. entry.number) list (record { number = n; command = embed c })) within)) [
-      inl earlier ↦ inl earlier
-    | inr own ↦ inr (sym own)
-    ];
+      elim (Contains-push_cases (map (λ entry. entry.number) list) n k (subst (λ numbers. Contains numbers k) (map_push (λ entry. entry.number) list (record { number = n; command = embed c })) within)) [
+        | inl earlier ↦ inl earlier
+        | inr own ↦ inr (sym own)
+      ];
   loses_none = λ list c n k next within.
-    subst (λ numbers. Contains numbers k) (sym (map_push (λ entry. entry.number) list (record { number = n; command = embed c })))
+      subst (λ numbers. Contains numbers k) (sym (map_push (λ entry. entry.number) list (record { number = n; command = embed c })))
       (Contains-append_left (map (λ entry. entry.number) list) (n ∷ []) k within);
 }

@@ -7,7 +7,9 @@ impl Undoable for Command {
     ghost use Rattle.blot_command.specs.Kinds.{command_meaning, command_lawful};
 
     type State = Tables;
+
     type Inverse = u64;
+
     type Refusal = ApplyFault;
 
     ghost meaning = { command_meaning };

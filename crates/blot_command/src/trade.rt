@@ -1,6 +1,7 @@
 //! Trades on the book.
 ghost use Rattle.std.specs.Prelude.{◌≡◌, Some};
 ghost use Rattle.blot_command.specs.Kinds.{trade_of};
+
 use crate::{ApplyFault, Tables, Undoable};
 use blot_types::{Command, Entry, Refused, Trade};
 
@@ -8,7 +9,9 @@ impl Undoable for Trade {
     ghost use Rattle.blot_command.specs.Kinds.{trade_meaning, trade_lawful};
 
     type State = Tables;
+
     type Inverse = u64;
+
     type Refusal = ApplyFault;
 
     ghost meaning = { trade_meaning };

@@ -20,7 +20,11 @@ pub trait Undoable: Sized + Drop {
     /// Takes the command under a number above all numbers of the state, and hands back its inverse.
     /// Where the state refuses it, or memory runs out, it comes back with the reason, and the state is
     /// as it was.
-    fn apply(self, state: &mut Self::State, number: u64) -> Result<Self::Inverse, (Self, Self::Refusal)>
+    fn apply(
+        self,
+        state: &mut Self::State,
+        number: u64,
+    ) -> Result<Self::Inverse, (Self, Self::Refusal)>
         requires above { All (λ earlier. earlier < number) (meaning.numbers state.old) }
         requires within { number ≤ EVENTS_MAX }
         ensures accepted { IfOk result (λ inverse. IsStep meaning state.old self number inverse state.new) }

@@ -1,7 +1,6 @@
-use Rattle.std.proofs.Common.{◌≡◌, sym, ◌∙◌, ap, None}
+use Rattle.std.proofs.Common.{sym, ◌∙◌, ap}
 use Rattle.std.specs.Option.{option_map}
 use Rattle.blot_types.specs.declared.refused.Refused.TheVariants.{DuplicateExec}
-use Rattle.blot_types.specs.Legal.{refusal_of}
 use Rattle.blot_types.proofs.LegalLemmas.{is_book-push}
 use Rattle.blot_command.proofs.trade.TradeUndoable.apply.Goals as goal
 

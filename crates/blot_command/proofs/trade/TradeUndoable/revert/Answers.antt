@@ -1,7 +1,7 @@
 use Rattle.std.proofs.Common.{refl, ◌∙◌}
 use Rattle.blot_types.specs.declared.command.Command.TheVariants.{Trade}
 use Rattle.blot_command.specs.Kinds.{trade_of}
-use Rattle.blot_command.proofs.StepLemmas.{taken_back, not_empty}
+use Rattle.blot_command.proofs.StepLemmas.{taken_back}
 use Rattle.blot_command.proofs.trade.TradeUndoable.revert.Goals as goal
 
 pub returns-clause-state : goal.returns-clause-state
