@@ -5,14 +5,14 @@ ghost use Rattle.blot_types.specs.Order.{order_of};
 
 use crate::survivors;
 use blot_types::{Entry, OrderKey, OrderLine};
-use std::alloc::{AllocError, Global};
+use std::alloc::{AllocError as NoMemory, Global};
 
 /// The line of an order, or none where no execution of it stands.
 pub fn order_of(
     alloc: Global,
     list: &[Entry],
     order: &OrderKey,
-) -> Result<Option<OrderLine>, AllocError>
+) -> Result<Option<OrderLine>, NoMemory>
     requires { IsTrue (is_numbered list.now) }
     ensures { IfOk result (λ line. line ≡ order_of list.now order.now) }
 {

@@ -3,10 +3,10 @@ ghost use Rattle.std.specs.Prelude.{◌≡◌, reverse, IfOk};
 ghost use Rattle.blot_types.specs.Legal.{taker_in, refusal_of, is_legal};
 
 use blot_types::{Command, Entry, ExecKey, Refused};
-use std::alloc::AllocError;
+use std::alloc::AllocError as NoMemory;
 
 /// Why a list refuses a command, or none where it accepts it.
-pub fn accepts(list: &[Entry], command: &Command) -> Result<Option<Refused>, AllocError>
+pub fn accepts(list: &[Entry], command: &Command) -> Result<Option<Refused>, NoMemory>
     ensures { IfOk result (λ refused. refused ≡ refusal_of list.now command.now) }
 {
     Ok(match command {
@@ -25,7 +25,7 @@ fn taker(list: &[Entry], key: &ExecKey) -> Option<u64>
 }
 
 /// Whether each entry of a list is accepted after those before it.
-pub fn legal(list: &[Entry]) -> Result<bool, AllocError>
+pub fn legal(list: &[Entry]) -> Result<bool, NoMemory>
     ensures { IfOk result (λ legal. legal ≡ is_legal list.now) }
 {
     for (index, entry) in list.iter().enumerate() {

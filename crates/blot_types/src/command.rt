@@ -2,7 +2,7 @@
 ghost use Rattle.std.specs.Prelude.{◌≡◌, IfOk};
 
 use crate::{ExecKey, Fill, Version};
-use std::alloc::AllocError;
+use std::alloc::AllocError as NoMemory;
 
 /// A fill that a broker reports: an Execution Report with ExecType(150) `F`.
 #[derive(Clone, Copy, Debug, PartialEq, Eq)]
@@ -21,7 +21,7 @@ impl Command {
     ghost use Rattle.blot_types.specs.Survivors.{exec_key};
 
     /// An equal command, or want of memory.
-    pub fn try_copy(&self) -> Result<Command, AllocError>
+    pub fn try_copy(&self) -> Result<Command, NoMemory>
         ensures { IfOk result (λ copy. copy ≡ self.now) }
     {
         match self {
@@ -42,7 +42,7 @@ impl Command {
 /// An accepted command with its number.
 #[derive(Debug, PartialEq, Eq, Drop)]
 pub struct Entry {
-    /// At least 1, and never given twice.
+    /// The number that the command was taken under: no other entry has it.
     pub number: u64,
     pub command: Command,
 }

@@ -79,7 +79,13 @@ fn compare(alloc: Global, tables: &Tables, next: u64) -> Result<(), Fail>
 }
 
 // Takes commands drawn from a seed, one after the other, and then their inverses, newest first.
-fn explore(alloc: Global, tables: &mut Tables, number: u64, seed: u32, steps: u32) -> Result<(), Fail>
+fn explore(
+    alloc: Global,
+    tables: &mut Tables,
+    number: u64,
+    seed: u32,
+    steps: u32,
+) -> Result<(), Fail>
     requires above { All (λ earlier. earlier < number) (command_meaning.numbers tables.old) }
     requires within { number + steps ≤ EVENTS_MAX }
     ensures { IfOk result (λ _. tables.new ≡ tables.old) }
@@ -113,7 +119,13 @@ fn explore(alloc: Global, tables: &mut Tables, number: u64, seed: u32, steps: u3
 fn runs_of_trades_and_their_inverses(rt: HostRuntime) -> Result<(), Fail> {
     for seed in 0..5u32 {
         let mut tables = Tables::new(rt.alloc());
-        explore(rt.alloc(), &mut tables, 1, seed.wrapping_mul(2_654_435_769), 40)?;
+        explore(
+            rt.alloc(),
+            &mut tables,
+            1,
+            seed.wrapping_mul(2_654_435_769),
+            40,
+        )?;
     }
     Ok(())
 }

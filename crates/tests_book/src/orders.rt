@@ -12,7 +12,10 @@ fn shown(alloc: Global, tables: &Tables, order: &OrderKey) -> Result<String, All
         return String::from_str(alloc, "none");
     };
     let OrderLine {
-        cum, leaves, value, ..
+        cum,
+        leaves,
+        value,
+        ..
     } = line;
     format!(in alloc; "{cum} {leaves} {value}")
 }
@@ -21,13 +24,21 @@ fn shown(alloc: Global, tables: &Tables, order: &OrderKey) -> Result<String, All
 fn the_first_trade_and_its_inverse(rt: HostRuntime) -> Result<(), Fail> {
     let o1 = order(b"BRKA", b"O1")?;
     let mut tables = Tables::new(rt.alloc());
-    assert_eq!(rt; shown(rt.alloc(), &tables, &o1)?.as_str(), "none", "an empty book");
+    assert_eq!(rt;
+        shown(rt.alloc(), &tables, &o1)?.as_str(),
+        "none",
+        "an empty book"
+    );
 
     let Ok(number) = Command::Trade(first_trade()?).apply(&mut tables, 1) else {
         return Err(Fail::new("the first trade is refused"));
     };
     assert_eq!(rt; number, 1);
-    assert_eq!(rt; shown(rt.alloc(), &tables, &o1)?.as_str(), "100 200 1050", "after the first trade");
+    assert_eq!(rt;
+        shown(rt.alloc(), &tables, &o1)?.as_str(),
+        "100 200 1050",
+        "after the first trade"
+    );
     let entry = Entry {
         number: 1,
         command: Command::Trade(first_trade()?),
@@ -36,7 +47,11 @@ fn the_first_trade_and_its_inverse(rt: HostRuntime) -> Result<(), Fail> {
 
     let back = Command::revert(number, &mut tables);
     assert_eq!(rt; back, entry.command, "the command comes back");
-    assert_eq!(rt; shown(rt.alloc(), &tables, &o1)?.as_str(), "none", "after its inverse");
+    assert_eq!(rt;
+        shown(rt.alloc(), &tables, &o1)?.as_str(),
+        "none",
+        "after its inverse"
+    );
     assert_eq!(rt; tables.entry(1), None);
     Ok(())
 }
@@ -60,7 +75,11 @@ fn a_duplicate_is_refused_and_changes_nothing(rt: HostRuntime) -> Result<(), Fai
             assert_eq!(rt; fault, ApplyFault::Refused(Refused::DuplicateExec(1)));
         }
     }
-    assert_eq!(rt; shown(rt.alloc(), &tables, &o1)?.as_str(), "100 200 1050", "the book is unchanged");
+    assert_eq!(rt;
+        shown(rt.alloc(), &tables, &o1)?.as_str(),
+        "100 200 1050",
+        "the book is unchanged"
+    );
     assert_eq!(rt; tables.entry(2), None);
 
     // Another peer's execution of the same id is another execution, and its order another order.
@@ -72,7 +91,11 @@ fn a_duplicate_is_refused_and_changes_nothing(rt: HostRuntime) -> Result<(), Fai
     let Ok(_) = other.apply(&mut tables, 2) else {
         return Err(Fail::new("another peer's trade is refused"));
     };
-    assert_eq!(rt; shown(rt.alloc(), &tables, &o1)?.as_str(), "100 200 1050", "another peer's fill");
+    assert_eq!(rt;
+        shown(rt.alloc(), &tables, &o1)?.as_str(),
+        "100 200 1050",
+        "another peer's fill"
+    );
     assert_eq!(rt; shown(rt.alloc(), &tables, &o1_of_brkb)?.as_str(), "7 0 7");
     Ok(())
 }
@@ -95,10 +118,18 @@ fn two_fills_of_one_order(rt: HostRuntime) -> Result<(), Fail> {
     let Ok(number) = trade.apply(&mut tables, 2) else {
         return Err(Fail::new("the second trade is refused"));
     };
-    assert_eq!(rt; shown(rt.alloc(), &tables, &o1)?.as_str(), "150 0 1600", "leaves never fall below 0");
+    assert_eq!(rt;
+        shown(rt.alloc(), &tables, &o1)?.as_str(),
+        "150 0 1600",
+        "leaves never fall below 0"
+    );
 
     let back = Trade::revert(number, &mut tables);
     assert_eq!(rt; back, trade, "the trade comes back");
-    assert_eq!(rt; shown(rt.alloc(), &tables, &o1)?.as_str(), "100 200 1050", "the book is as it was");
+    assert_eq!(rt;
+        shown(rt.alloc(), &tables, &o1)?.as_str(),
+        "100 200 1050",
+        "the book is as it was"
+    );
     Ok(())
 }

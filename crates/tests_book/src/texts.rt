@@ -12,7 +12,14 @@ fn texts_and_what_is_none(rt: HostRuntime) -> Result<(), Fail> {
         assert!(rt; text == text);
     }
     let too_long = [b'x'; 65];
-    for bytes in [b"".as_slice(), b"A\x1f", b"A\x7f", b"\n", b"A\x80", &too_long] {
+    for bytes in [
+        b"".as_slice(),
+        b"A\x1f",
+        b"A\x7f",
+        b"\n",
+        b"A\x80",
+        &too_long,
+    ] {
         assert!(rt; Text64::read(bytes).is_none(), "taken: {bytes:?}");
     }
 

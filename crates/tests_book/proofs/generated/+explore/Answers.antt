@@ -15,18 +15,18 @@ pub explore-requires : goal.explore-requires
 explore-requires t c =
     let step = c.in-Ok.ensures.accepted in
     let above : All (λ earlier. earlier < c.args.number + 1) (command_meaning.numbers c.apply.new.tables) =
-        rw step.state_is (below_next command_meaning command_lawful _ _ _ step.is_next) in
+    rw step.state_is (below_next command_meaning command_lawful _ _ _ step.is_next) in
     (omega arith, (above, omega (arith, c.requires.within)))
 
 pub returns : goal.returns
 returns t c =
     if_ok c.compare-2.result _ (elim c.match-apply.branch [
-      in-Ok+in_ok-explore-in-Ok+else-is_some+else-ne w ↦
-        let step = w.in-Ok.ensures.accepted in
-        let stood = command_lawful.before_after _ _ _ step.is_next in
-        let left = w.in_ok-explore-in-Ok.ensures ∙ step.state_is in
-        w.tables-is ∙ w.revert-back.ensures.state ∙ ap (λ list. before list w.in-Ok.inverse) left
+      | in-Ok+in_ok-explore-in-Ok+else-is_some+else-ne w ↦
+          let step = w.in-Ok.ensures.accepted in
+          let stood = command_lawful.before_after _ _ _ step.is_next in
+          let left = w.in_ok-explore-in-Ok.ensures ∙ step.state_is in
+          w.tables-is ∙ w.revert-back.ensures.state ∙ ap (λ list. before list w.in-Ok.inverse) left
           ∙ ap (λ number. before (after c.args.tables.now (Trade c.in_ok-trade.trade) c.args.number) number) step.inverse_is ∙ stood
-    | in-Err+else-ne-2+else-ne-3+in_ok-explore-in-Err w ↦
-        w.tables-is ∙ w.in_ok-explore-in-Err.ensures ∙ w.in-Err.ensures.refused.state_is
+      | in-Err+else-ne-2+else-ne-3+in_ok-explore-in-Err w ↦
+          w.tables-is ∙ w.in_ok-explore-in-Err.ensures ∙ w.in-Err.ensures.refused.state_is
     ])

@@ -9,11 +9,11 @@ use Rattle.tests_book.proofs.generated.live.Goals.{in-Some+in_ok-command+in_ok-p
 pub loop-number-preserved : goal.loop-number-preserved
 loop-number-preserved c =
     elim c.match-entry.branch [
-      in-Some+in_ok-command+in_ok-push w ↦
-        rw (w.list-is, w.in_ok-push.ensures.items)
+      | in-Some+in_ok-command+in_ok-push w ↦
+          rw (w.list-is, w.in_ok-push.ensures.items)
           (rises-push c.loop-number.list.items (record { number = c.loop-number.number; command = w.in_ok-command.command }) c.loop-number.invariant.0 c.loop-number.invariant.1)
-    | in_default w ↦
-        rw w.list-is (is_above-weaker c.loop-number.number (c.loop-number.number + 1) (reverse c.loop-number.list.items) (omega arith) c.loop-number.invariant.0, c.loop-number.invariant.1)
+      | in_default w ↦
+          rw w.list-is (is_above-weaker c.loop-number.number (c.loop-number.number + 1) (reverse c.loop-number.list.items) (omega arith) c.loop-number.invariant.0, c.loop-number.invariant.1)
     ]
 
 pub returns : goal.returns

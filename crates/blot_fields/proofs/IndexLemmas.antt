@@ -1,0 +1,85 @@
+-- The slots come to know the fields, one at a time.
+use Rattle.std.proofs.Common.{◌≡◌, replicate, map, filter, ap, subst, ℕ, ◌+◌, ◌<◌, ◌≤◌, arith, Bool, true, false, List, [], ◌∷◌, Option, Some, None, Result, Ok, Err, refl, sym, ◌∙◌}
+use Rattle.std.specs.Prelude.{slice_index_or, if◌then◌else◌, ◌==◌, nat_lt}
+use Rattle.std.proofs.lemmas.List.{get_or-replicate}
+use Rattle.blot_tag.specs.Fields.{TagValue, Item}
+use Rattle.blot_fields.specs.declared.fault.Flaw.{Flaw}
+use Rattle.blot_fields.specs.declared.slot.Slot.{Slot}
+use Rattle.blot_fields.specs.declared.slot.Slot.TheVariants.{Missing}
+use Rattle.blot_fields.specs.declared.fault.Wrong.{Wrong}
+use Rattle.blot_fields.specs.Walk.{field_wrong, sound_behind, refused_behind}
+use Rattle.blot_fields.specs.Rows.{one_of, values}
+use Rattle.blot_fields.specs.Slots.{found_in, with_value}
+use Rattle.blot_fields.specs.Index.{together, IsIndexBefore, IsIndex, Notes}
+
+-- nothing is to come any more
+pub together-nil : (found : Result (Option (List ℕ)) Flaw) → together found [] ≡ found
+together-nil (Ok None) = refl
+together-nil (Ok (Some value)) = refl
+together-nil (Err reason) = refl
+
+-- the next value has come
+pub together-next : (found : Result (Option (List ℕ)) Flaw) (value : List ℕ) (later : List (List ℕ))
+    → together (with_value found value) later ≡ together found (value ∷ later)
+together-next (Ok None) value later = refl
+together-next (Ok (Some first)) value later = refl
+together-next (Err reason) value later = refl
+
+-- one tag's slot, behind a field that bears the tag or doesn't
+slot_next : (same : Bool) (old new : Result (Option (List ℕ)) Flaw) (value : List ℕ) (later : List (List ℕ)) (all : Result (Option (List ℕ)) Flaw)
+    → new ≡ (if same then with_value old value else old)
+    → together old (if same then value ∷ later else later) ≡ all → together new later ≡ all
+slot_next true old new value later all is so_far = rw is (together-next old value later ∙ so_far)
+slot_next false old new value later all is so_far = rw is so_far
+
+-- the values of a tag, the first field's before the others'
+pub values-cons : (tag : ℕ) (field : TagValue) (fields : List TagValue)
+    → values tag (field ∷ fields) ≡ (if field.tag == tag then field.value ∷ values tag fields else values tag fields)
+values-cons tag field fields = by_same (field.tag == tag)
+  where
+    by_same : (same : Bool) → map (λ (f : TagValue). f.value) (if same then field ∷ filter (λ (f : TagValue). f.tag == tag) fields else filter (λ (f : TagValue). f.tag == tag) fields)
+        ≡ (if same then field.value ∷ values tag fields else values tag fields)
+    by_same true = refl
+    by_same false = refl
+
+-- the values of a tag behind a field that has it, or hasn't
+pub values-has : (tag : ℕ) (field : TagValue) (fields : List TagValue) → (field.tag == tag) ≡ true → values tag (field ∷ fields) ≡ field.value ∷ values tag fields
+values-has tag field fields has = values-cons tag field fields ∙ rw has refl
+
+pub values-not : (tag : ℕ) (field : TagValue) (fields : List TagValue) → (field.tag == tag) ≡ false → values tag (field ∷ fields) ≡ values tag fields
+values-not tag field fields other = values-cons tag field fields ∙ rw other refl
+
+pub known_all : (fields : List TagValue) (slots : List Slot) → IsIndexBefore fields [] slots → IsIndex fields slots
+known_all fields slots known tag low = sym (together-nil (found_in (slice_index_or slots tag Missing))) ∙ known tag low
+
+pub known_next : (fields later : List TagValue) (field : TagValue) (old new : List Slot)
+    → IsIndexBefore fields (field ∷ later) old → Notes field old new → IsIndexBefore fields later new
+known_next fields later field old new known notes tag low =
+    slot_next (field.tag == tag) (found_in (slice_index_or old tag Missing)) (found_in (slice_index_or new tag Missing)) field.value (values tag later) _ (notes tag low) (rw (← values-cons tag field later) (known tag low))
+
+-- slots that are all missing know of nothing
+pub missing_everywhere : (count tag : ℕ) → tag < count → found_in (slice_index_or (replicate count Missing) tag Missing) ≡ Ok None
+missing_everywhere count tag low = rw (get_or-replicate count tag Missing Missing low) refl
+
+-- the fields behind a sound one
+sound_behind-cons : (before : ℕ) (rest : List Item) (field : TagValue) → field_wrong before field ≡ None
+    → sound_behind before (Ok field ∷ rest) ≡ field ∷ sound_behind (before + 1) rest
+sound_behind-cons before rest field sound = rw sound refl
+
+-- the fault behind a sound field
+refused_behind-cons : (before : ℕ) (rest : List Item) (field : TagValue) → field_wrong before field ≡ None
+    → refused_behind before (Ok field ∷ rest) ≡ refused_behind (before + 1) rest
+refused_behind-cons before rest field sound = rw sound refl
+
+pub known_behind : (all : List TagValue) (before : ℕ) (items rest : List Item) (field : TagValue) (old new : List Slot)
+    → items ≡ Ok field ∷ rest → field_wrong before field ≡ None → Notes field old new
+    → IsIndexBefore all (sound_behind before items) old → IsIndexBefore all (sound_behind (before + 1) rest) new
+known_behind all before items rest field old new is sound notes known =
+    let P : List TagValue → Type 0 = λ later. IsIndexBefore all later old in
+    known_next all (sound_behind (before + 1) rest) field old new (subst P (ap (sound_behind before) is ∙ sound_behind-cons before rest field sound) known) notes
+
+pub refused_later : (all : Option Wrong) (before : ℕ) (items rest : List Item) (field : TagValue)
+    → items ≡ Ok field ∷ rest → field_wrong before field ≡ None
+    → refused_behind before items ≡ all → refused_behind (before + 1) rest ≡ all
+refused_later all before items rest field is sound so_far =
+    sym (ap (refused_behind before) is ∙ refused_behind-cons before rest field sound) ∙ so_far

@@ -1,0 +1,59 @@
+-- The walk ends at the first field that is refused.
+use Rattle.std.proofs.Common.{◌≡◌, ℕ, ◌+◌, ◌≤◌, ◌<◌, List, [], ◌∷◌, length, Option, Some, None, Ok, Err, refl, sym, ap, ◌∙◌, arith}
+use borrow.Author.Tests.{ltb-true}
+use Rattle.std.specs.Prelude.{is_none, Bool, true, false, if◌then◌else◌, nat_lt}
+use Rattle.blot_fields.specs.declared.fault.Wrong.{Wrong}
+use Rattle.blot_tag.specs.Fields.{TagValue, Item}
+use Rattle.blot_fields.specs.Walk.{field_wrong, sound_field, with_others, sound_behind}
+
+-- a choice that isn't its second answer
+is_first : {A : Type 0} (first : Bool) (a : Option A) (b : A) → (if first then a else Some b) ≡ None → first ≡ true
+is_first true a b none = refl
+is_first false a b none = absurd cc
+
+-- a field that isn't refused is one of the first 2,000
+pub field_wrong-few : (before : ℕ) (field : TagValue) → field_wrong before field ≡ None → before < 2000
+unfolding field_wrong
+field_wrong-few before field sound = ltb-true before 2000 (is_first (nat_lt before 2000) _ _ sound)
+
+-- behind 2,000 fields each is refused
+sound_field-last : (item : Item) → sound_field 2000 item ≡ None
+unfolding field_wrong
+sound_field-last (Ok field) = refl
+sound_field-last (Err fault) = refl
+
+pub sound_behind-last : (items : List Item) → sound_behind 2000 items ≡ []
+sound_behind-last [] = refl
+sound_behind-last (item ∷ items) = ap (λ found. with_others found (sound_behind 2001 items)) (sound_field-last item)
+
+pub sound_behind-none : (before : ℕ) (item : Item) (items : List Item) → sound_field before item ≡ None → sound_behind before (item ∷ items) ≡ []
+sound_behind-none before item items none = ap (λ found. with_others found (sound_behind (before + 1) items)) none
+
+pub sound_behind-some : (before : ℕ) (item : Item) (items : List Item) (field : TagValue) → sound_field before item ≡ Some field
+    → sound_behind before (item ∷ items) ≡ field ∷ sound_behind (before + 1) items
+sound_behind-some before item items field some = ap (λ found. with_others found (sound_behind (before + 1) items)) some
+
+-- a choice that isn't nothing
+is_none_then : (found : Option Wrong) (field other : TagValue) → (if is_none found then Some field else None) ≡ Some other → found ≡ None
+is_none_then None field other some = refl
+is_none_then (Some wrong) field other some = absurd cc
+
+sound_field-few : (before : ℕ) (item : Item) (field : TagValue) → sound_field before item ≡ Some field → before < 2000
+sound_field-few before (Ok first) field some = field_wrong-few before first (is_none_then (field_wrong before first) first field some)
+sound_field-few before (Err fault) field some = absurd cc
+
+-- behind so many fields there are at most 2,000 less these
+length-with_others : (before : ℕ) (item : Item) (others : List TagValue) (found : Option TagValue) → before ≤ 2000
+    → sound_field before item ≡ found → (before < 2000 → length others + (before + 1) ≤ 2000) → length (with_others found others) + before ≤ 2000
+length-with_others before item others None few is more = omega arith
+length-with_others before item others (Some field) few is more =
+    let low = sound_field-few before item field is in
+    omega (arith, more low)
+
+length-sound_behind : (before : ℕ) (items : List Item) → before ≤ 2000 → length (sound_behind before items) + before ≤ 2000
+length-sound_behind before [] few = omega arith
+length-sound_behind before (item ∷ items) few =
+    length-with_others before item (sound_behind (before + 1) items) (sound_field before item) few refl (λ low. length-sound_behind (before + 1) items (omega arith))
+
+pub length-sound_fields : (items : List Item) → length (sound_behind 0 items) ≤ 2000
+length-sound_fields items = omega (arith, length-sound_behind 0 items (omega arith))

@@ -1,0 +1,52 @@
+-- The command that a message gives the book.
+use Rattle.std.specs.Prelude.{ℕ, ℤ, pos, ◌+ℤ◌, List, Option, Some, None}
+use Rattle.blot_time.specs.Moment.{utc_day}
+use Rattle.blot_types.specs.declared.command.Command.{Command}
+use Rattle.blot_types.specs.declared.command.Command.TheVariants as commands
+use Rattle.blot_types.specs.declared.fill.Fill.{Fill}
+use Rattle.blot_fields.specs.declared.message.Body.{Body}
+use Rattle.blot_fields.specs.declared.message.Body.TheVariants as bodies
+use Rattle.blot_fields.specs.declared.message.Message.{Message}
+use Rattle.blot_fields.specs.declared.report.Execution.{Execution}
+use Rattle.blot_fields.specs.declared.report.OrderSize.{OrderSize}
+use Rattle.blot_fields.specs.declared.report.OrderSize.TheVariants.{Given, Filled}
+use Rattle.blot_fields.specs.declared.report.Report.{Report}
+use Rattle.blot_fields.specs.declared.report.Report.TheVariants as reports
+
+-- the size of an order: OrderQty, or else CumQty and LeavesQty together
+abbrev pub size_of : OrderSize → ℤ
+size_of (Given qty) = pos qty
+size_of (Filled cum leaves) = pos cum +ℤ pos leaves
+
+-- the day of an execution: TradeDate, else the UTC day of TransactTime, else that of SendingTime
+abbrev pub day_of_execution : Option ℤ → Option ℤ → ℤ → ℤ
+day_of_execution (Some trade_date) transacted sending = trade_date
+day_of_execution None (Some moment) sending = utc_day moment
+day_of_execution None None sending = utc_day sending
+
+-- what an execution brings to its order
+abbrev pub fill_of : List ℕ → ℤ → Execution → Fill
+fill_of peer sending execution = record {
+  order = record { peer = peer; id = execution.order };
+  account = execution.account;
+  symbol = execution.symbol;
+  sign = execution.sign;
+  size = size_of execution.size;
+  qty = execution.qty;
+  price = execution.price;
+  day = day_of_execution execution.trade_date execution.transacted sending;
+}
+
+-- the command of a peer's Execution Report
+abbrev pub command_of_report : List ℕ → ℤ → Report → Option Command
+command_of_report peer sending (reports.Trade execution) =
+    Some (commands.Trade (record { key = record { peer = peer; id = execution.id }; fill = fill_of peer sending execution }))
+command_of_report peer sending _ = None
+
+-- the command of a peer's message
+abbrev pub command_of_body : List ℕ → ℤ → Body → Option Command
+command_of_body peer sending (bodies.Report report) = command_of_report peer sending report
+command_of_body peer sending _ = None
+
+abbrev pub command_of : Message → List ℕ → Option Command
+command_of message peer = command_of_body peer message.head.sending message.body

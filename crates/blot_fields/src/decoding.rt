@@ -1,0 +1,67 @@
+//! Reads whole messages.
+ghost use Rattle.std.specs.Prelude.{◌≡◌, ◌↔◌, Ok, Err, IsOk, IsOkAnd, IfErr, true, false};
+ghost use Rattle.blot_tag.specs.Fields.{fields_of};
+ghost use Rattle.blot_tag.specs.Views.{text_of};
+ghost use Rattle.blot_fields.specs.Decoding.{IsAllocation, GivesBody, decoded, wants_memory, no_memory};
+ghost use Rattle.blot_fields.specs.Tables.{IsWell, IsFault};
+ghost use Rattle.blot_fields.specs.Messages.{body_of};
+
+use crate::allocating::allocation_of;
+use crate::fault::Refusal;
+use crate::header::head_of;
+use crate::index::FieldIndex;
+use crate::kinds::{Kind, kind_of};
+use crate::reporting::report_of;
+use crate::session_layer::{logon_of, resend_request_of, sequence_reset_of, test_request_of};
+use crate::{Admin, Body, FieldFault, Message};
+use blot_tag::Frame;
+use std::alloc::Global;
+
+/// What a frame says: its message, or the first fault. Want of memory comes last, and only an
+/// allocation instruction takes any. FIX 4.4 volume 2, "Reject"; the order of the faults is own profile.
+#[tactic(auto, using(crate::proofs::DecodingLemmas::decoded_well, crate::proofs::DecodingLemmas::decoded_fault), unfolding(crate::specs::Decoding::decoded))]
+pub fn decode(alloc: Global, frame: &Frame) -> Result<Message, FieldFault>
+    ensures meaning { wants_memory result ≡ false → result ≡ decoded (fields_of (text_of frame.now)) }
+    ensures memory { wants_memory result ≡ true
+        → IsOkAnd (decoded (fields_of (text_of frame.now)))
+        (λ message. (result ≡ Err (no_memory message)) × IsAllocation message.body) }
+
+    // In a reader's words: a message is what is well by each row, and a fault is the first.
+    ensures well { IsOk (decoded (fields_of (text_of frame.now))) ↔ IsWell (fields_of (text_of frame.now)) }
+    ensures first { IfErr (decoded (fields_of (text_of frame.now)))
+        (λ fault. IsFault (fields_of (text_of frame.now)) fault) }
+{
+    let (fields, refused) = FieldIndex::of(frame);
+    let head = head_of(&fields);
+    if let Some(wrong) = refused {
+        return Err(wrong.under(head.ok()));
+    }
+    let head = match head {
+        Ok(head) => head,
+        Err(wrong) => return Err(wrong.under(None)),
+    };
+    match body_of(alloc, kind_of(head.kind.bytes()), &fields) {
+        Ok(body) => Ok(Message { head, body }),
+        Err(Refusal::Wrong(wrong)) => Err(wrong.under(Some(head))),
+        Err(Refusal::NoMemory) => Err(FieldFault::no_memory(head)),
+    }
+}
+
+// What a message of a kind says behind its header.
+fn body_of(alloc: Global, kind: Kind, fields: &FieldIndex) -> Result<Body, Refusal>
+    ensures { GivesBody result (body_of kind fields.now) }
+{
+    let body = match kind {
+        Kind::Logon => Body::Admin(logon_of(fields)?),
+        Kind::Heartbeat => Body::Admin(Admin::Heartbeat),
+        Kind::TestRequest => Body::Admin(test_request_of(fields)?),
+        Kind::ResendRequest => Body::Admin(resend_request_of(fields)?),
+        Kind::Reject => Body::Admin(Admin::Reject),
+        Kind::SequenceReset => Body::Admin(sequence_reset_of(fields)?),
+        Kind::Logout => Body::Admin(Admin::Logout),
+        Kind::Report => Body::Report(report_of(fields)?),
+        Kind::Allocation => Body::Allocation(allocation_of(alloc, fields)?),
+        Kind::Other => Body::Other,
+    };
+    Ok(body)
+}

@@ -1,0 +1,40 @@
+//! What a message says, or the first fault that it has. The fields of a frame are read by the
+//! tables of FIX 4.4, row by row, into values of their own types; or the answer is the one fault
+//! that comes first in the standard's order. A message about a trade gives the book's command.
+#![tactic(auto)]
+
+mod admin;
+mod allocating;
+mod allocation;
+mod command;
+mod decoding;
+mod digits;
+mod drafts;
+mod entries;
+mod fault;
+mod forms;
+mod groups;
+mod head;
+mod header;
+mod index;
+mod kinds;
+mod making;
+mod message;
+mod report;
+mod reporting;
+mod rows;
+mod sender;
+mod session_layer;
+mod slot;
+mod sound;
+
+pub use admin::Admin;
+pub use allocation::{Allocation, AllocationLine, AllocationTerms};
+pub use command::command_of;
+pub use decoding::decode;
+pub use entries::Entries;
+pub use fault::{FieldFault, FieldReason};
+pub use head::Head;
+pub use message::{Body, Message};
+pub use report::{Execution, OrderSize, Report};
+pub use sender::sender_of;

@@ -1,0 +1,47 @@
+//! Lists in the making.
+ghost use Rattle.std.specs.Prelude.{◌≡◌, [], true, IfOk};
+ghost use Rattle.blot_fields.specs.Making.{Grows};
+
+use crate::Entries;
+use std::alloc::{AllocError as NoMemory, Global};
+
+/// A list in the making. That memory was wanting is told at its end, since each fault comes before it.
+#[derive(Drop)]
+pub(crate) struct Making<T> {
+    items: Vec<T>,
+    // Whether there was memory for each item.
+    complete: bool,
+}
+
+impl<T: Drop> Making<T> {
+    /// An empty list.
+    pub(crate) fn new(alloc: Global) -> Making<T>
+        ensures { result.items.items ≡ [] }
+    {
+        Making {
+            items: Vec::new(alloc),
+            complete: true,
+        }
+    }
+
+    /// Puts an item at the end, if there was memory for each so far.
+    pub(crate) fn push(&mut self, item: T)
+        ensures { Grows item self.old self.new }
+    {
+        if self.complete && self.items.push(item).is_err() {
+            self.complete = false;
+        }
+    }
+
+    /// The list, if there was memory for each item.
+    pub(crate) fn finish(self) -> Result<Entries<T>, NoMemory>
+        ensures complete { IfOk result (λ _. self.complete ≡ true) }
+        ensures items { IfOk result (λ entries. entries ≡ self.items.items) }
+    {
+        if self.complete {
+            Ok(Entries::new(self.items))
+        } else {
+            Err(NoMemory)
+        }
+    }
+}

@@ -1,0 +1,4 @@
+pub mod Commands
+pub mod Outcome
+pub mod Replay
+pub mod Report

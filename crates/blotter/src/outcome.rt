@@ -1,0 +1,83 @@
+//! How a run ends.
+ghost use Rattle.std.specs.Prelude.{◌≡◌};
+ghost use Rattle.blotter.specs.Outcome.{outcome_of, status_of};
+
+use std::alloc::AllocError as NoMemory;
+use thiserror::Error;
+
+/// Why a replay stopped before its end.
+#[derive(Clone, Copy, Debug, PartialEq, Eq, Error)]
+pub enum ReplayFault {
+    /// The input couldn't be read.
+    #[error("the input can't be read")]
+    Read = 1,
+    /// The output couldn't be written.
+    #[error("the output can't be written")]
+    Write = 2,
+    /// The capture holds more commands than a day has events.
+    #[error("the capture has too many commands")]
+    Full = 3,
+    /// Memory ran out.
+    #[error("no memory")]
+    NoMemory = 4,
+    /// The input had more than 2^30 pieces.
+    #[error("the input is too long")]
+    TooLong = 5,
+}
+
+impl From<NoMemory> for ReplayFault {
+    ghost use Rattle.std.specs.Prelude.{◌≡◌};
+    ghost use Rattle.blotter.specs.declared.outcome.ReplayFault.TheVariants.{NoMemory};
+
+    ghost from_gives = { λ _ fault. fault ≡ NoMemory };
+
+    fn from(_fault: NoMemory) -> ReplayFault {
+        ReplayFault::NoMemory
+    }
+}
+
+/// How a run of the program ends.
+#[derive(Clone, Copy, Debug, PartialEq, Eq)]
+pub enum Outcome {
+    Done,
+    /// The input, the output or the capture is at fault.
+    InputFault,
+    /// The words of the command line are refused.
+    BadWords,
+    NoMemory,
+}
+
+impl Outcome {
+    /// How a run ends whose replay answered this.
+    pub fn of_replay(replayed: Result<(), ReplayFault>) -> Outcome
+        ensures { result ≡ outcome_of replayed }
+    {
+        match replayed {
+            Ok(()) => Outcome::Done,
+            Err(ReplayFault::NoMemory) => Outcome::NoMemory,
+            Err(_) => Outcome::InputFault,
+        }
+    }
+
+    /// The program's status: 0 done, 1 input fault, 2 words refused, 3 want of memory.
+    pub fn status(self) -> u8
+        ensures { result ≡ status_of self }
+    {
+        match self {
+            Outcome::Done => 0,
+            Outcome::InputFault => 1,
+            Outcome::BadWords => 2,
+            Outcome::NoMemory => 3,
+        }
+    }
+
+    /// The one line that goes to standard error in the end, without its LF; none where all went well.
+    pub fn last_line(self) -> Option<&'static str> {
+        match self {
+            Outcome::Done => None,
+            Outcome::InputFault => Some("blotter: input fault"),
+            Outcome::BadWords => Some("blotter: bad words"),
+            Outcome::NoMemory => Some("blotter: no memory"),
+        }
+    }
+}

@@ -1,0 +1,245 @@
+//! What the words ask for, how a run ends and what it tells, over words and streams in memory.
+
+use crate::refusal::Refusal;
+use crate::running::run;
+use crate::words::{Words, parse};
+use blot_types::Text64;
+use blotter::{Outcome, ReplayFault};
+use std::alloc::{AllocError, Global};
+use std::env::{Env, FillError};
+use std::io::{self, ErrorKind, Read};
+use std::test::Fail;
+
+// What is typed, with a space between two words, the program's name first.
+#[derive(Drop)]
+struct Typed(&'static [u8]);
+
+impl Env for Typed {
+    fn arg(&self, i: usize, buf: &mut [u8]) -> Result<usize, FillError> {
+        let Some(word) = self.0.split(|byte| *byte == b' ').nth(i) else {
+            return Err(FillError::NotPresent);
+        };
+        if word.len() > buf.len() {
+            return Err(FillError::TooLong);
+        }
+        buf[..word.len()].copy_from_slice(word);
+        Ok(word.len())
+    }
+
+    fn var(&self, _name: &str, _buf: &mut [u8]) -> Result<usize, FillError> {
+        Err(FillError::NotPresent)
+    }
+
+    fn var_at(&self, _i: usize, _buf: &mut [u8]) -> Result<usize, FillError> {
+        Err(FillError::NotPresent)
+    }
+}
+
+// An input that has nothing, or can't be read.
+#[derive(Drop)]
+struct Input {
+    is_broken: bool,
+}
+
+impl Read for Input {
+    fn read(&mut self, _buf: &mut [u8]) -> io::Result<usize> {
+        if self.is_broken {
+            return Err(io::Error::from(ErrorKind::Other));
+        }
+        Ok(0)
+    }
+}
+
+// What these words ask for, with a space between two.
+fn parse_line(alloc: Global, line: &'static str) -> Result<Words, Refusal> {
+    let words: Vec<&str> = line.split(' ').collect(alloc)?;
+    parse(alloc, words.as_slice())
+}
+
+// The peers, with a space before each.
+fn spelled(alloc: Global, peers: &[Text64]) -> Result<Vec<u8>, AllocError> {
+    let mut text = Vec::new(alloc);
+    for peer in peers {
+        text.extend_from_slice(b" ")?;
+        text.extend_from_slice(peer.bytes())?;
+    }
+    Ok(text)
+}
+
+#[test]
+fn words_are_read(rt: HostRuntime) -> Result<(), Fail> {
+    let rows: [(&str, &[u8], &[u8]); 3] = [
+        (
+            "blotter replay --own MO --day 20240105 BRKB BRKA",
+            b"MO",
+            b" BRKB BRKA",
+        ),
+        (
+            "blotter replay BRKA --day=20240105 --own=-M",
+            b"-M",
+            b" BRKA",
+        ),
+        (
+            "blotter replay --day 20240105 --own MO -- --own",
+            b"MO",
+            b" --own",
+        ),
+    ];
+    for (line, want_own, want_peers) in rows {
+        let Words::Replay { own, day, peers } = parse_line(rt.alloc(), line)?;
+        assert_eq!(rt; own.bytes(), want_own, "{line}");
+        assert_eq!(rt; day.write().as_slice(), b"20240105".as_slice(), "{line}");
+        let peers = spelled(rt.alloc(), peers.as_slice())?;
+        assert_eq!(rt; peers.as_slice(), want_peers, "{line}");
+    }
+    Ok(())
+}
+
+#[test]
+fn words_are_refused(rt: HostRuntime) -> Result<(), Fail> {
+    let rows = [
+        ("blotter", "Keeps a middle office's record of a trading day"),
+        (
+            "blotter --help",
+            "Keeps a middle office's record of a trading day",
+        ),
+        (
+            "blotter replay --help",
+            "Reads a capture from standard input and, at its end,",
+        ),
+        ("blotter play", "error: unrecognized subcommand 'play'"),
+        (
+            "blotter replay --size 1 --own MO --day 20240105 A",
+            "error: unexpected argument '--size' found",
+        ),
+        (
+            "blotter replay --day 20240105 A",
+            "error: the following required arguments were not provided:\n  --own <OWN>",
+        ),
+        (
+            "blotter replay --own MO A",
+            "error: the following required arguments were not provided:\n  --day <YYYYMMDD>",
+        ),
+        (
+            "blotter replay --own MO --day 20240105",
+            "error: the following required arguments were not provided:\n  <PEER>...",
+        ),
+        (
+            "blotter replay --own MO --own MO --day 20240105 A",
+            "error: the argument '--own <OWN>' cannot be used multiple times",
+        ),
+        (
+            "blotter replay --own MO --day 2024-01-05 A",
+            "error: invalid value '2024-01-05' for '--day <YYYYMMDD>'",
+        ),
+        (
+            "blotter replay --own MO --day 20240230 A",
+            "blotter: bad words",
+        ),
+        (
+            "blotter replay --own MO --day 2024010 A",
+            "blotter: bad words",
+        ),
+        (
+            "blotter replay --own= --day 20240105 A",
+            "blotter: bad words",
+        ),
+        (
+            "blotter replay --own MO --day 20240105 ",
+            "blotter: bad words",
+        ),
+        (
+            "blotter replay --own MO --day 20240105 A BRKÄ",
+            "blotter: bad words",
+        ),
+        (
+            "blotter replay --own MO --day 20240105 A B A",
+            "blotter: bad words",
+        ),
+        (
+            "blotter replay --own MO --day 20240105 ABCDEFGHIJKLMNOPQRSTUVWXYZABCDEFGHIJKLMNOPQRSTUVWXYZABCDEFGHIJKLM",
+            "blotter: bad words",
+        ),
+    ];
+    for (line, told) in rows {
+        let Err(refusal) = parse_line(rt.alloc(), line) else {
+            return Err(Fail::from(line));
+        };
+        assert_eq!(rt; refusal.outcome().status(), 2, "{line}");
+        let text = refusal.text().unwrap_or("");
+        assert!(rt; text.starts_with(told), "{line} tells {text}");
+    }
+    Ok(())
+}
+
+#[test]
+fn outcomes_have_a_status_and_a_last_line(rt: HostRuntime) {
+    let rows = [
+        (Outcome::of_replay(Ok(())), 0, None),
+        (
+            Outcome::of_replay(Err(ReplayFault::Read)),
+            1,
+            Some("blotter: input fault"),
+        ),
+        (
+            Outcome::of_replay(Err(ReplayFault::Write)),
+            1,
+            Some("blotter: input fault"),
+        ),
+        (
+            Outcome::of_replay(Err(ReplayFault::Full)),
+            1,
+            Some("blotter: input fault"),
+        ),
+        (
+            Outcome::of_replay(Err(ReplayFault::TooLong)),
+            1,
+            Some("blotter: input fault"),
+        ),
+        (
+            Outcome::of_replay(Err(ReplayFault::NoMemory)),
+            3,
+            Some("blotter: no memory"),
+        ),
+        (Refusal::BadWords.outcome(), 2, Some("blotter: bad words")),
+        (Refusal::NoMemory.outcome(), 3, Some("blotter: no memory")),
+    ];
+    for (outcome, status, line) in rows {
+        assert_eq!(rt; outcome.status(), status);
+        assert!(rt; outcome.last_line() == line, "status {status}");
+    }
+}
+
+#[test]
+fn runs_end_and_tell(rt: HostRuntime) {
+    let rows: [(&[u8], bool, u8, &[u8]); 4] = [
+        (b"blotter replay --own MO --day 20240105 A", false, 0, b""),
+        (
+            b"blotter replay --own MO --day 20240105 A",
+            true,
+            1,
+            b"blotter: input fault\n",
+        ),
+        (
+            b"blotter replay --own MO --day 20240105 A A",
+            true,
+            2,
+            b"blotter: bad words\n",
+        ),
+        (b"blotter repl\xE4y", true, 2, b"blotter: bad words\n"),
+    ];
+    for (line, is_broken, status, told) in rows {
+        let mut input = Input { is_broken };
+        let mut output = Vec::new(rt.alloc());
+        let mut errors = Vec::new(rt.alloc());
+        let outcome = run(
+            &(Typed(line), rt.alloc()),
+            &mut input,
+            &mut output,
+            &mut errors,
+        );
+        assert_eq!(rt; outcome.status(), status);
+        assert!(rt; status == 0 || output.is_empty());
+        assert_eq!(rt; errors.as_slice(), told);
+    }
+}

@@ -1,0 +1,90 @@
+//! The words of the command line: what they ask for.
+ghost use Rattle.std.specs.Prelude.{◌≡◌, ◌≢◌, ◌↔◌, Ok, Some, IfErr, IfOk, IfSome, IsSome, IsSomeAnd, IsTrue, codes, option_map};
+ghost use Rattle.clap.specs.Matches.{first_value, found_of, matched_of, raw_values};
+ghost use Rattle.blot_time.specs.Day.{day_of, IsDayText};
+ghost use Rattle.blot_types.specs.Text.{is_text};
+ghost use Rattle.blotter_main.specs.Words.{IsPeerList, IsReplay, own_of, day_named, peers_of};
+
+use crate::command_line::{DAY, OWN, PEER, REPLAY, command};
+use crate::peers::read_peers;
+use crate::refusal::{Refusal, refusal_of};
+use blot_time::Day;
+use blot_types::Text64;
+use clap::ArgMatches;
+use std::alloc::Global;
+use std::convert::AsStr;
+use std::env::{self, Env};
+use std::io::ErrorKind;
+
+/// What the command line asks for.
+#[derive(Debug, Drop)]
+pub enum Words {
+    /// What the fills of the capture on standard input made of each order.
+    Replay {
+        own: Text64,
+        day: Day,
+        peers: Vec<Text64>,
+    },
+}
+
+/// The words that the system gives, the program's name first.
+pub fn given<S: Env + AllocGlobal>(system: &S) -> Result<Vec<String>, Refusal> {
+    match env::args(system) {
+        Ok(words) => Ok(words.collect(system.alloc())?),
+        Err(error) if error.kind() == ErrorKind::OutOfMemory => Err(Refusal::NoMemory),
+        Err(_) => Err(Refusal::BadWords),
+    }
+}
+
+/// What these words ask for, the first of which is the program's name.
+pub fn parse<S: AsStr>(alloc: Global, words: &[S]) -> Result<Words, Refusal>
+    ensures peers { IfOk result (λ words. IsPeerList (peers_of words)) }
+{
+    let matches = match command(alloc)?.try_get_matches_from(words) {
+        Ok(matches) => matches,
+        Err(error) => return Err(refusal_of(alloc, error)),
+    };
+    match matches.subcommand_matches(REPLAY) {
+        Some(matches) => read_replay(alloc, matches),
+        None => Err(Refusal::BadWords),
+    }
+}
+
+// The words of a replay, as `clap` found them.
+fn read_replay(alloc: Global, matches: &ArgMatches<'_>) -> Result<Words, Refusal>
+    ensures own { IfOk result (λ words. first_value (found_of matches.now) (codes "own") ≡ Some (own_of words)) }
+    ensures day { IfOk result (λ words. IfSome (first_value (found_of matches.now) (codes "day")) (λ word. day_of word ≡ Ok (day_named words))) }
+    ensures named { IfOk result (λ words. option_map raw_values (matched_of (found_of matches.now) (codes "peer")) ≡ Some (peers_of words)) }
+    ensures peers { IfOk result (λ words. IsPeerList (peers_of words)) }
+    ensures refused { IfErr result (λ refusal. refusal ≢ Refusal.NoMemory
+        → IsReplay (first_value (found_of matches.now) (codes "own")) (first_value (found_of matches.now) (codes "day"))
+        (option_map raw_values (matched_of (found_of matches.now) (codes "peer"))) → ⊥) }
+{
+    let Some(own) = read_text(matches.get_str(OWN)) else {
+        return Err(Refusal::BadWords);
+    };
+    let Some(day) = read_day(matches.get_str(DAY)) else {
+        return Err(Refusal::BadWords);
+    };
+    let Some(named) = matches.get_strs(PEER) else {
+        return Err(Refusal::BadWords);
+    };
+    let peers = read_peers(alloc, named)?;
+    Ok(Words::Replay { own, day, peers })
+}
+
+// The text of a word, if it is one.
+fn read_text(word: Option<&str>) -> Option<Text64>
+    ensures some { IsSome result ↔ IsSomeAnd word.entry (λ word. IsTrue (is_text word.now)) }
+    ensures value { IfSome result (λ text. option_map (λ word. word.now) word.entry ≡ Some text) }
+{
+    Text64::read(word?.as_bytes())
+}
+
+// The day of a word, if it is one.
+fn read_day(word: Option<&str>) -> Option<Day>
+    ensures some { IsSome result ↔ IsSomeAnd word.entry (λ word. IsDayText word.now) }
+    ensures value { IfSome result (λ day. IfSome word.entry (λ word. day_of word.now ≡ Ok day)) }
+{
+    Day::read(word?.as_bytes()).ok()
+}

@@ -1,0 +1,9 @@
+//! Tests of the program's calls over readers and writers in memory: captures whole, cut, damaged and failing.
+#![tactic(auto)]
+
+#[cfg(test)]
+mod captures;
+#[cfg(test)]
+mod memory;
+#[cfg(test)]
+mod replays;
