@@ -1,15 +1,11 @@
 -- A message is well, or its first fault is answered.
-use Rattle.std.proofs.Common.{◌≡◌, ◌↔◌, ℕ, Bool, true, false, List, [], ◌∷◌, ◌++◌, Option, Some, None, Result, Ok, Err, refl, sym, ap, ◌∙◌}
+use Rattle.std.proofs.Common.{◌≡◌, ◌↔◌, ℕ, Bool, true, false, List, [], ◌∷◌, Option, Some, None, Result, Ok, Err, refl, sym, ap, ◌∙◌}
 use Rattle.std.specs.Prelude.{if◌then◌else◌, IsOk, IfErr}
 use Rattle.std.specs.Option.{option_or}
-use Rattle.std.specs.Result.{result_err, result_ok}
-use Rattle.std.specs.List.{AllByRecursion}
+use Rattle.std.specs.Result.{result_err}
 use Rattle.blot_tag.specs.Fields.{TagValue, Item}
-use Rattle.blot_tag.specs.Results.{◌>>=◌}
 use Rattle.blot_types.specs.Text.{is_text}
-use Rattle.blot_fields.specs.declared.admin.Admin.{Admin}
 use Rattle.blot_fields.specs.declared.fault.FieldFault.{FieldFault}
-use Rattle.blot_fields.specs.declared.fault.Flaw.{Flaw}
 use Rattle.blot_fields.specs.declared.fault.Flaw.TheVariants.{ValueIncorrect}
 use Rattle.blot_fields.specs.declared.fault.Wrong.{Wrong}
 use Rattle.blot_fields.specs.declared.head.Head.{Head}
@@ -19,16 +15,14 @@ use Rattle.blot_fields.specs.declared.kinds.Kind.{Kind}
 use Rattle.blot_fields.specs.declared.kinds.Kind.TheVariants as kinds
 use Rattle.blot_fields.specs.declared.message.Body.{Body}
 use Rattle.blot_fields.specs.declared.message.Message.{Message}
-use Rattle.blot_fields.specs.declared.message.Body.TheVariants as bodies
 use Rattle.blot_fields.specs.Allocations.{terms_of, allocation_by, allocation_of}
 use Rattle.blot_fields.specs.Decoding.{message_under, message_of, decoded_before, decoded}
-use Rattle.blot_fields.specs.Faults.{fault_under}
 use Rattle.blot_fields.specs.Forms.{text_form, sequence_form, moment_form, flag_form}
 use Rattle.blot_fields.specs.Kinds.{kind_of, alloc_type_form}
-use Rattle.blot_fields.specs.Messages.{head_of, body_of, logon_of, test_request_of, resend_request_of, sequence_reset_of, report_of}
+use Rattle.blot_fields.specs.Messages.{head_of, body_of}
 use Rattle.blot_fields.specs.Rows.{needed, optional}
 use Rattle.blot_fields.specs.Tables.IsFault.{in_walk, in_header, in_table}
-use Rattle.blot_fields.specs.Tables.{Row, AreWell, IsFirstFault, IsWell, IsFault, first_value, header_rows, logon_rows, terms_rows, alloc_rows, allocation_rows, body_rows, message_rows}
+use Rattle.blot_fields.specs.Tables.{Row, AreWell, IsFirstFault, IsWell, IsFault, first_value, header_rows, terms_rows, alloc_rows, allocation_rows, body_rows, message_rows}
 use Rattle.blot_fields.specs.Walk.{sound_fields, refused_field}
 use Rattle.blot_fields.proofs.GroupLemmas.{bound, form-said, average-row, groups-rows}
 use Rattle.blot_fields.proofs.TableLemmas.{first_fault, step, last, needs-row, head-rows, logon-rows, test_request-rows, resend_request-rows, sequence_reset-rows, report-rows}

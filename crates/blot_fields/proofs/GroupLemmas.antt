@@ -1,6 +1,6 @@
 -- The rows of an allocation's groups find their first fault.
 use Rattle.std.proofs.Common.{◌≡◌, ℕ, ℤ, Bool, true, false, List, [], ◌∷◌, ◌++◌, Option, Some, None, Result, Ok, Err, refl, sym, ap, ◌∙◌}
-use Rattle.std.specs.Prelude.{if◌then◌else◌, ◌&&◌, ◌||◌, ◌==◌, not, nat_le, is_none}
+use Rattle.std.specs.Prelude.{if◌then◌else◌, ◌&&◌, ◌||◌, ◌==◌, nat_le, is_none}
 use Rattle.std.specs.Option.{option_or, option_map, ok_or}
 use Rattle.std.specs.Result.{result_err}
 use Rattle.std.specs.List.{list_any}
@@ -8,14 +8,13 @@ use Rattle.blot_tag.specs.Bytes.{is_number, number_of}
 use Rattle.blot_tag.specs.Fields.{TagValue}
 use Rattle.blot_tag.specs.Results.{◌>>=◌}
 use Rattle.blot_fields.specs.declared.allocation.AllocationLine.{AllocationLine}
-use Rattle.blot_fields.specs.declared.allocation.AllocationTerms.{AllocationTerms}
 use Rattle.blot_fields.specs.declared.fault.Flaw.{Flaw}
 use Rattle.blot_fields.specs.declared.fault.Flaw.TheVariants.{RequiredTagMissing, ValueIncorrect, IncorrectDataFormat, IncorrectGroupCount}
 use Rattle.blot_fields.specs.declared.fault.Wrong.{Wrong}
 use Rattle.blot_fields.specs.Forms.{text_form, any_form, number_form, count_form, qty_form, price_form}
 use Rattle.blot_fields.specs.Groups.{bears, behind, are_executions, are_lines, lacks_price, lines_in, some_line_lacks_price, average_of, ids_of, executions_of, line_of, each_line_of, lines_of}
-use Rattle.blot_fields.specs.Rows.{wrong, at, values, one_of, only, there, there_in, needed, optional, optional_in}
-use Rattle.blot_fields.specs.Tables.{Row, needs, may_have, value_wrong, first_of, first_value, needs_average, group_row, id_rows, line_rows, execution_group, line_group}
+use Rattle.blot_fields.specs.Rows.{wrong, at, values, one_of, only, there, needed, optional, optional_in}
+use Rattle.blot_fields.specs.Tables.{needs, may_have, value_wrong, first_value, needs_average, group_row, id_rows, line_rows, execution_group, line_group}
 use Rattle.blot_fields.proofs.IndexLemmas.{values-has, values-not}
 use Rattle.blot_fields.proofs.TableLemmas.{first_fault, step, last, option_or-or, option_or-none, then_done, needs-row, may_have-row, there-row, first-there, first_fault-append}
 

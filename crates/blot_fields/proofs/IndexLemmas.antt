@@ -1,6 +1,6 @@
 -- The slots come to know the fields, one at a time.
-use Rattle.std.proofs.Common.{◌≡◌, replicate, map, filter, ap, subst, ℕ, ◌+◌, ◌<◌, ◌≤◌, arith, Bool, true, false, List, [], ◌∷◌, Option, Some, None, Result, Ok, Err, refl, sym, ◌∙◌}
-use Rattle.std.specs.Prelude.{slice_index_or, if◌then◌else◌, ◌==◌, nat_lt}
+use Rattle.std.proofs.Common.{◌≡◌, replicate, map, filter, ap, subst, ℕ, ◌+◌, ◌<◌, Bool, true, false, List, [], ◌∷◌, Option, Some, None, Result, Ok, Err, refl, sym, ◌∙◌}
+use Rattle.std.specs.Prelude.{slice_index_or, if◌then◌else◌, ◌==◌}
 use Rattle.std.proofs.lemmas.List.{get_or-replicate}
 use Rattle.blot_tag.specs.Fields.{TagValue, Item}
 use Rattle.blot_fields.specs.declared.fault.Flaw.{Flaw}
@@ -8,9 +8,9 @@ use Rattle.blot_fields.specs.declared.slot.Slot.{Slot}
 use Rattle.blot_fields.specs.declared.slot.Slot.TheVariants.{Missing}
 use Rattle.blot_fields.specs.declared.fault.Wrong.{Wrong}
 use Rattle.blot_fields.specs.Walk.{field_wrong, sound_behind, refused_behind}
-use Rattle.blot_fields.specs.Rows.{one_of, values}
+use Rattle.blot_fields.specs.Rows.{values}
 use Rattle.blot_fields.specs.Slots.{found_in, with_value}
-use Rattle.blot_fields.specs.Index.{together, IsIndexBefore, IsIndex, Notes}
+use Rattle.blot_fields.specs.Index.{together, IsIndexBefore, Notes}
 
 -- nothing is to come any more
 pub together-nil : (found : Result (Option (List ℕ)) Flaw) → together found [] ≡ found
@@ -48,9 +48,6 @@ values-has tag field fields has = values-cons tag field fields ∙ rw has refl
 
 pub values-not : (tag : ℕ) (field : TagValue) (fields : List TagValue) → (field.tag == tag) ≡ false → values tag (field ∷ fields) ≡ values tag fields
 values-not tag field fields other = values-cons tag field fields ∙ rw other refl
-
-pub known_all : (fields : List TagValue) (slots : List Slot) → IsIndexBefore fields [] slots → IsIndex fields slots
-known_all fields slots known tag low = sym (together-nil (found_in (slice_index_or slots tag Missing))) ∙ known tag low
 
 pub known_next : (fields later : List TagValue) (field : TagValue) (old new : List Slot)
     → IsIndexBefore fields (field ∷ later) old → Notes field old new → IsIndexBefore fields later new

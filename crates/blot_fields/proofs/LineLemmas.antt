@@ -1,9 +1,9 @@
 -- How the lines of an allocation come to be made.
-use Rattle.std.proofs.Common.{◌≡◌, ◌≢◌, ℕ, ℤ, Bool, true, false, List, [], ◌∷◌, Option, Some, None, Result, Ok, Err, refl, sym, ap, subst, ◌∙◌, suc, ◌+◌, take, arith, eq-eqb}
+use Rattle.std.proofs.Common.{◌≡◌, ℕ, ℤ, Bool, true, false, List, [], ◌∷◌, Option, Some, None, Result, Ok, Err, refl, sym, ap, subst, ◌∙◌, suc, ◌+◌, take, arith, eq-eqb}
 use Rattle.std.proofs.lemmas.Bool.{eqb-true}
 use Rattle.std.specs.Prelude.{if◌then◌else◌, ◌==◌, not, MatchBool}
 use Rattle.std.specs.Option.{option_map}
-use Rattle.std.specs.List.{before_first, prefix_len}
+use Rattle.std.specs.List.{prefix_len}
 use Rattle.blot_tag.specs.Fields.{TagValue}
 use Rattle.blot_tag.specs.Results.{◌>>=◌}
 use Rattle.blot_fields.specs.declared.allocation.AllocationLine.{AllocationLine}
@@ -13,7 +13,7 @@ use Rattle.blot_fields.specs.declared.making.Making.{Making}
 use Rattle.blot_fields.specs.Drafts.{Draft, line_from, with_field, begun, Pushes, NextLine}
 use Rattle.blot_fields.specs.Groups.{bears, before, lines_in, line_of, each_line_of}
 use Rattle.blot_fields.specs.Index.{together}
-use Rattle.blot_fields.specs.Making.{Grows, Makes}
+use Rattle.blot_fields.specs.Making.{Makes}
 use Rattle.blot_fields.specs.Slots.{with_value}
 use Rattle.blot_fields.specs.Rows.{values, one_of, needed, there, optional, only, needed_in, optional_in}
 use Rattle.blot_fields.specs.Forms.{text_form, qty_form, price_form}
@@ -137,7 +137,7 @@ resumed-begins average (Some draft) field later begins =
     ap (λ whole. with_line (line_from average whole) (each_line_of average (lines_in (field ∷ later)))) ended
     ∙ ap (with_line (line_from average draft)) (resumed-first average field later begins)
 
--- another field goes on with the line that is begun, if one is
+-- another field goes on with the open line, if there is one
 resumed-goes_on : (average : Option ℤ) (line : Option Draft) (field : TagValue) (later : List TagValue) → (field.tag == 79) ≡ false
     → resumed average line (field ∷ later) ≡ resumed average (option_map (λ draft. with_field draft field) line) later
 resumed-goes_on average None field later other = ap (each_line_of average) (lines_in-goes_on field later other)
@@ -151,7 +151,7 @@ unfolding each_line_of
 resumed-nil average None = refl
 resumed-nil average (Some draft) = ap (λ whole. with_line (line_from average whole) (Ok [])) (known-nil draft)
 
--- the lines so far, the one that is begun and those to come are what is meant
+-- the lines so far, the open one and those to come are what is meant
 abbrev pub LinesFront : Option ℤ → Making AllocationLine → Option Draft → List TagValue → Result (List AllocationLine) Wrong → Type 0
 LinesFront average lines line fields meant = IsFront lines (resumed average line fields) meant
 

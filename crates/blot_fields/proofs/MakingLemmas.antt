@@ -1,5 +1,5 @@
 -- How a list comes to be made.
-use Rattle.std.proofs.Common.{◌≡◌, true, List, [], ◌∷◌, ◌++◌, Option, Some, None, Result, Ok, Err, refl, sym, ap, ◌∙◌, append_assoc}
+use Rattle.std.proofs.Common.{◌≡◌, true, List, [], ◌∷◌, ◌++◌, Some, None, Result, Ok, Err, refl, sym, ap, ◌∙◌, append_assoc}
 use Rattle.std.specs.Prelude.{IsOkAnd}
 use Rattle.std.specs.Result.{result_err}
 use Rattle.std.proofs.lemmas.List.{append-nil}
@@ -22,6 +22,7 @@ pub record IsFront {T : Type 0} (making : Making T) (rest meant : Result (List T
   pub items : making.complete ≡ true → joined making.items.items rest ≡ meant
   pub faults : result_err rest ≡ result_err meant
 
+-- what stands behind some items may take their last with it
 joined-more : {T : Type 0} (items : List T) (item : T) (rest : Result (List T) Wrong) → joined (items ++ item ∷ []) rest ≡ joined items (with_first item rest)
 joined-more items item (Ok rest) = ap (λ all. Ok all) (append_assoc items (item ∷ []) rest)
 joined-more items item (Err wrong) = refl
@@ -30,13 +31,7 @@ with_first-faults : {T : Type 0} (item : T) (rest : Result (List T) Wrong) → r
 with_first-faults item (Ok rest) = refl
 with_first-faults item (Err wrong) = refl
 
-pub front_begins : {T : Type 0} (making : Making T) (meant : Result (List T) Wrong) → making.items.items ≡ [] → IsFront making meant meant
-front_begins making meant empty = record { items = λ complete. rw empty (joined-nil meant); faults = refl }
-  where
-    joined-nil : {T : Type 0} (rest : Result (List T) Wrong) → joined [] rest ≡ rest
-    joined-nil (Ok rest) = refl
-    joined-nil (Err wrong) = refl
-
+-- one item more
 pub front_grows : {T : Type 0} (item : T) (old new : Making T) (rest meant : Result (List T) Wrong)
     → Grows item old new → IsFront old (with_first item rest) meant → IsFront new rest meant
 front_grows item old new rest meant grows front =

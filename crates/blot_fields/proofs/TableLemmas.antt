@@ -13,8 +13,7 @@ use Rattle.blot_fields.specs.declared.kinds.ExecType.{ExecType}
 use Rattle.blot_fields.specs.declared.kinds.ExecType.TheVariants as execs
 use Rattle.blot_fields.specs.Rows.{values, has, is_there, one_of, at, wrong, only, there, there_in, needed, optional, optional_in}
 use Rattle.blot_fields.specs.Forms.{any_form, qty_form}
-use Rattle.blot_fields.specs.declared.report.OrderSize.{OrderSize}
-use Rattle.blot_fields.specs.declared.report.OrderSize.TheVariants.{Given, Filled}
+use Rattle.blot_fields.specs.declared.report.OrderSize.TheVariants.{Given}
 use Rattle.blot_fields.specs.Tables.{Row, needs, needs_size, may_have, needed_wrong, optional_wrong, header_rows, logon_rows, test_request_rows, resend_request_rows, sequence_reset_rows, execution_rows, trade_rows, correct_rows, bust_rows, exec_rows, report_rows, first_of, first_value}
 
 -- the fault of the first row that finds one

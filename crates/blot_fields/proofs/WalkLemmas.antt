@@ -1,5 +1,5 @@
 -- The walk ends at the first field that is refused.
-use Rattle.std.proofs.Common.{◌≡◌, ℕ, ◌+◌, ◌≤◌, ◌<◌, List, [], ◌∷◌, length, Option, Some, None, Ok, Err, refl, sym, ap, ◌∙◌, arith}
+use Rattle.std.proofs.Common.{◌≡◌, ℕ, ◌+◌, ◌≤◌, ◌<◌, List, [], ◌∷◌, length, Option, Some, None, Ok, Err, refl, ap, arith}
 use borrow.Author.Tests.{ltb-true}
 use Rattle.std.specs.Prelude.{is_none, Bool, true, false, if◌then◌else◌, nat_lt}
 use Rattle.blot_fields.specs.declared.fault.Wrong.{Wrong}
@@ -28,10 +28,6 @@ sound_behind-last (item ∷ items) = ap (λ found. with_others found (sound_behi
 
 pub sound_behind-none : (before : ℕ) (item : Item) (items : List Item) → sound_field before item ≡ None → sound_behind before (item ∷ items) ≡ []
 sound_behind-none before item items none = ap (λ found. with_others found (sound_behind (before + 1) items)) none
-
-pub sound_behind-some : (before : ℕ) (item : Item) (items : List Item) (field : TagValue) → sound_field before item ≡ Some field
-    → sound_behind before (item ∷ items) ≡ field ∷ sound_behind (before + 1) items
-sound_behind-some before item items field some = ap (λ found. with_others found (sound_behind (before + 1) items)) some
 
 -- a choice that isn't nothing
 is_none_then : (found : Option Wrong) (field other : TagValue) → (if is_none found then Some field else None) ≡ Some other → found ≡ None

@@ -1,6 +1,6 @@
 -- What the fields of a frame mean: a message, or its first fault. First the walk from the left, then the header, then
 -- the rows of the message's own table (FIX 4.4 volume 2, "Reject"; the order of the faults is own profile).
-use Rattle.std.specs.Prelude.{◌≡◌, ℕ, Bool, true, false, List, Option, Some, None, Result, Ok, Err, IsOkAnd}
+use Rattle.std.specs.Prelude.{◌≡◌, Bool, true, false, List, Option, Some, None, Result, Ok, Err, IsOkAnd}
 use Rattle.std.specs.Result.{result_ok}
 use Rattle.blot_tag.specs.Fields.{TagValue, Item}
 use Rattle.blot_fields.specs.declared.fault.FieldFault.{FieldFault}

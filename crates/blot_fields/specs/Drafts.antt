@@ -45,19 +45,19 @@ with_field draft field = record {
 abbrev pub begun : List ℕ → Draft
 begun account = record { account = account; qty = found_in Missing; price = found_in Missing }
 
--- a line that is begun, if one is, was put behind the others, or is at fault
+-- the open line, if there is one, was put behind the others, or is at fault
 abbrev pub Pushes : Option ℤ → Option Draft → Making AllocationLine → Result (Unit {0}) Wrong → Making AllocationLine → Type 0
 Pushes average None old result new = (result ≡ Ok tt) × (new ≡ old)
 Pushes average (Some draft) old (Ok done) new =
     (line : AllocationLine) × (line_from average draft ≡ Ok line) × Grows line old new
 Pushes average (Some draft) old (Err wrong) new = line_from average draft ≡ Err wrong
 
--- the line that is begun next
+-- the line that stays open
 abbrev pub next_draft : Result (Option LineDraft) Wrong → Result (Option Draft) Wrong
 next_draft (Ok line) = Ok (option_map draft_of line)
 next_draft (Err wrong) = Err wrong
 
--- a field began a line, behind the one before, or went on with that one
+-- a field began a line and ended the one before, or went on with the open line
 abbrev pub NextLine : Option ℤ → Option Draft → TagValue → Making AllocationLine → Result (Option Draft) Wrong → Making AllocationLine → Type 0
 NextLine average line field old (Ok next) new =
     MatchBool (field.tag == 79)

@@ -1,5 +1,5 @@
 -- What a value says, by the form that its row asks for, or what is wrong with it (FIX 4.4 volume 1, data types; limits are own profile).
-use Rattle.std.specs.Prelude.{ℕ, ℤ, Bool, true, false, ◌&&◌, ◌||◌, ◌==◌, not, nat_le, List, codes, Result, Ok, Err, if◌then◌else◌}
+use Rattle.std.specs.Prelude.{ℕ, ℤ, Bool, true, false, ◌&&◌, ◌||◌, ◌==◌, nat_le, List, codes, Result, Ok, Err, if◌then◌else◌}
 use Rattle.blot_decimal.specs.Meaning.{qty_of, price_of}
 use Rattle.blot_decimal.specs.declared.fault.DecimalFault.{DecimalFault}
 use Rattle.blot_decimal.specs.declared.fault.DecimalFault.TheVariants as decimals

@@ -8,7 +8,7 @@ use Rattle.blot_fields.specs.declared.allocation.AllocationLine.{AllocationLine}
 use Rattle.blot_fields.specs.declared.fault.Flaw.TheVariants.{RequiredTagMissing, IncorrectGroupCount}
 use Rattle.blot_fields.specs.declared.fault.Wrong.{Wrong}
 use Rattle.blot_fields.specs.Forms.{text_form, count_form, qty_form, price_form}
-use Rattle.blot_fields.specs.Rows.{wrong, at, values, has, there, needed, optional}
+use Rattle.blot_fields.specs.Rows.{wrong, at, values, there, needed, optional}
 
 -- whether a field has a tag
 abbrev pub bears : ℕ → TagValue → Bool

@@ -1,5 +1,5 @@
 -- An index of a message's fields by their tags.
-use Rattle.std.specs.Prelude.{◌≡◌, ℕ, ◌<◌, ◌==◌, if◌then◌else◌, List, [], ◌∷◌, slice_index_or, Option, Some, None, Result, Ok, Err}
+use Rattle.std.specs.Prelude.{◌≡◌, ℕ, ◌<◌, ◌==◌, if◌then◌else◌, List, ◌∷◌, slice_index_or, Option, Some, None, Result, Ok, Err}
 use Rattle.blot_tag.specs.Fields.{TagValue}
 use Rattle.blot_fields.specs.Rows.{one_of, values}
 use Rattle.blot_fields.specs.Slots.{found_in, with_value}

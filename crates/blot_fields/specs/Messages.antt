@@ -1,5 +1,5 @@
 -- What each message says, one line a row, in the order of its table; the first row at fault answers.
-use Rattle.std.specs.Prelude.{ℕ, Bool, false, List, Option, Some, None, Result, Ok, Err, unwrap_or, if◌then◌else◌}
+use Rattle.std.specs.Prelude.{ℕ, Bool, false, List, Option, Some, None, Result, Ok, unwrap_or, if◌then◌else◌}
 use Rattle.blot_tag.specs.Fields.{TagValue}
 use Rattle.blot_tag.specs.Results.{◌>>=◌}
 use Rattle.blot_fields.specs.declared.admin.Admin.{Admin}

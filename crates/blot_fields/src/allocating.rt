@@ -146,14 +146,16 @@ fn each_line_of(
     Ok(lines)
 }
 
-// The line that is begun once a field came: the field begins one, and ends the one before, or goes on with it.
+// The line that stays open behind a field. An AllocAccount begins one and ends the one before; any
+// other field goes on with the open line, if there is one.
 fn next_line<'a>(
     average: &Option<Price>,
     line: Option<LineDraft<'a>>,
     field: Field<'a>,
     lines: &mut Making<AllocationLine>,
 ) -> Result<Option<LineDraft<'a>>, Wrong>
-    ensures { NextLine average.now (option_map draft_of line.entry) (tag_value field.entry) lines.old (next_draft result) lines.new }
+    ensures { NextLine average.now (option_map draft_of line.entry) (tag_value field.entry)
+        lines.old (next_draft result) lines.new }
 {
     if field.tag == 79 {
         push_line(average, line, lines)?;
@@ -165,7 +167,7 @@ fn next_line<'a>(
     }
 }
 
-// Puts the line that is begun, if one is, behind the others.
+// Puts the open line, if there is one, behind the others.
 fn push_line(
     average: &Option<Price>,
     line: Option<LineDraft>,

@@ -17,8 +17,9 @@ use crate::{Admin, Body, FieldFault, Message};
 use blot_tag::Frame;
 use std::alloc::Global;
 
-/// What a frame says: its message, or the first fault. Want of memory comes last, and only an
-/// allocation instruction takes any. FIX 4.4 volume 2, "Reject"; the order of the faults is own profile.
+/// What a frame says: its message, or the first fault. Want of memory comes last, and only the
+/// lists of an Allocation Instruction take any. FIX 4.4 volume 2, "Reject"; the order of the
+/// faults is own profile.
 #[tactic(auto, using(crate::proofs::DecodingLemmas::decoded_well, crate::proofs::DecodingLemmas::decoded_fault), unfolding(crate::specs::Decoding::decoded))]
 pub fn decode(alloc: Global, frame: &Frame) -> Result<Message, FieldFault>
     ensures meaning { wants_memory result ≡ false → result ≡ decoded (fields_of (text_of frame.now)) }
@@ -27,7 +28,8 @@ pub fn decode(alloc: Global, frame: &Frame) -> Result<Message, FieldFault>
         (λ message. (result ≡ Err (no_memory message)) × IsAllocation message.body) }
 
     // In a reader's words: a message is what is well by each row, and a fault is the first.
-    ensures well { IsOk (decoded (fields_of (text_of frame.now))) ↔ IsWell (fields_of (text_of frame.now)) }
+    ensures well { IsOk (decoded (fields_of (text_of frame.now)))
+        ↔ IsWell (fields_of (text_of frame.now)) }
     ensures first { IfErr (decoded (fields_of (text_of frame.now)))
         (λ fault. IsFault (fields_of (text_of frame.now)) fault) }
 {

@@ -6,7 +6,7 @@ use std::alloc::AllocError as NoMemory;
 use std::error::Error;
 use std::fmt;
 
-/// Why a message is refused. FIX 4.4 volume 2, SessionRejectReason(373); want of memory is own profile.
+/// Why a message is refused. FIX 4.4 volume 2, SessionRejectReason(373); `NoMemory` is own profile.
 #[derive(Clone, Copy, Debug, PartialEq, Eq)]
 pub enum FieldReason {
     /// A field has no valid tag.

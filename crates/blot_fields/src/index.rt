@@ -34,7 +34,8 @@ impl<'a> Model for FieldIndex<'a> {
 
     ghost view = { λ index. sound_fields (fields_of (text_of index.frame.now)) };
 
-    ghost invariant = { λ index. IsIndex (sound_fields (fields_of (text_of index.frame.now))) index.slots };
+    ghost invariant = { λ index.
+        IsIndex (sound_fields (fields_of (text_of index.frame.now))) index.slots };
 }
 
 impl<'a> FieldIndex<'a> {

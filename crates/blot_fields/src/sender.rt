@@ -7,7 +7,8 @@ ghost use Rattle.blot_fields.specs.Sender.{sender_of, text_in};
 use blot_tag::Frame;
 use blot_types::Text64;
 
-/// The first field SenderCompID(49) of a frame, if it is a text. The frame may be at fault elsewhere.
+/// The first field SenderCompID(49) of a frame, if it is a text. The frame may be at fault
+/// elsewhere. It takes no memory.
 pub fn sender_of(frame: &Frame) -> Option<Text64>
     ensures { result ≡ sender_of (fields_of (text_of frame.now)) }
 {

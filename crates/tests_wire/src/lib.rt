@@ -1,8 +1,14 @@
-//! Tests of the byte side: exact decimals, times, the frames of a stream and their fields.
+//! Tests of the byte side: exact decimals, times, the frames of a stream and their fields, and messages.
 #![tactic(auto)]
 
 #[cfg(test)]
+mod allocation_rows;
+#[cfg(test)]
 mod decimals;
+#[cfg(test)]
+mod field_rows;
+#[cfg(test)]
+mod fields;
 #[cfg(test)]
 mod frames;
 #[cfg(test)]

@@ -1,6 +1,3 @@
-use Rattle.std.proofs.Common.{◌≡◌, replicate}
-use Rattle.std.specs.Prelude.{slice_index_or}
-use Rattle.blot_fields.specs.declared.slot.Slot.TheVariants.{Missing}
 use Rattle.blot_fields.proofs.IndexLemmas.{missing_everywhere}
 use Rattle.blot_fields.proofs.index.no_slots.Goals as goal
 
