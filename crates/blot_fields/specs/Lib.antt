@@ -12,6 +12,7 @@ pub mod Slots
 pub mod Index
 pub mod Tables
 pub mod Faults
+pub mod FaultText
 pub mod Decoding
 pub mod Commands
 pub mod Sender

@@ -27,6 +27,18 @@ pub enum FieldReason {
     NoMemory = 100,
 }
 
+impl FieldReason {
+    ghost use Rattle.std.specs.Prelude.{◌≡◌};
+    ghost use Rattle.blot_fields.specs.FaultText.{reason_number};
+
+    /// The standard's number of it.
+    fn number(self) -> u8
+        ensures { result ≡ reason_number self }
+    {
+        self as u8
+    }
+}
+
 /// A message's first fault. FIX 4.4 volume 2, "Reject".
 #[derive(Clone, Copy, Debug, PartialEq, Eq)]
 pub struct FieldFault {
@@ -38,9 +50,14 @@ pub struct FieldFault {
 }
 
 impl fmt::Display for FieldFault {
+    ghost use Rattle.std.specs.Prelude.{Some};
+    ghost use Rattle.blot_fields.specs.FaultText.{fault_text};
+
+    ghost output = { λ fault. Some (fault_text fault) };
+
     fn fmt<W: fmt::Write>(&self, f: &mut fmt::Formatter<W>) -> fmt::Result {
         let tag = self.tag;
-        let reason = self.reason as u8;
+        let reason = self.reason.number();
         write!(f, "field {tag} is refused for reason {reason}")
     }
 }

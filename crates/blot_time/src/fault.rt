@@ -11,6 +11,11 @@ pub enum TimeFault {
 }
 
 impl fmt::Display for TimeFault {
+    ghost use Rattle.std.specs.Prelude.{Some};
+    ghost use Rattle.blot_time.specs.FaultText.{fault_text};
+
+    ghost output = { λ fault. Some (fault_text fault) };
+
     fn fmt<W: fmt::Write>(&self, f: &mut fmt::Formatter<W>) -> fmt::Result {
         f.write_str(match self {
             TimeFault::Format => "not a date or time in FIX's form",
