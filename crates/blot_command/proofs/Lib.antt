@@ -1,1 +1,4 @@
+pub mod LiveLemmas
+pub mod RecordLemmas
+pub mod ShowLemmas
 pub mod StepLemmas

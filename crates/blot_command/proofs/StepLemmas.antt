@@ -1,6 +1,6 @@
 -- One step on the book, as the code takes it and takes it back.
-use Rattle.std.proofs.Common.{◌≡◌, ℕ, ◌<◌, ◌+◌, List, [], ◌∷◌, ◌++◌, length, Option, Some, sym, ap, ◌∙◌, arith, inl, inr}
-use Rattle.std.specs.Prelude.{All, Contains}
+use Rattle.std.proofs.Common.{◌≡◌, ℕ, ◌<◌, ◌+◌, List, [], ◌∷◌, ◌++◌, length, Option, Some, None, sym, ap, subst, refl, ◌∙◌, arith, inl, inr}
+use Rattle.std.specs.Prelude.{All, Contains, IsSome}
 use Rattle.std.proofs.lemmas.List.Elements.{All-weaker, All-contains, All-contains_itself}
 use Rattle.std.specs.Option.{option_and_then}
 use Rattle.std.proofs.lemmas.List.{same_from_push, length_push}
@@ -22,6 +22,22 @@ taken_back embed project back list rest entry inverse (earlier, command, number,
     let given : option_and_then project (command_at list inverse) ≡ Some command =
     rw (step.state_is, step.inverse_is) (law.command_back earlier command number step.is_next) in
     (same.0 ∙ sym stood, given ∙ sym (back command) ∙ ap (λ e. project e.command) (sym same.1))
+
+-- and it is one of that kind
+kind_of : {C : Type 0} (project : Command → Option C) (found : Option Command) (command : Command) (c : C) → option_and_then project found ≡ Some c → option_and_then (λ x. Some x) found ≡ Some command → IsSome (project command)
+kind_of project None command c kind is = cc
+kind_of project (Some other) command c kind is =
+    let one : other ≡ command = cc in
+    subst IsSome (sym kind ∙ ap project one) refl
+
+pub is_of_kind :
+    {C : Type 0} (embed : C → Command) (project : Command → Option C) → ((c : C) → project (embed c) ≡ Some c)
+    → (list : List Entry) (inverse : ℕ) (command : Command) → Undoes (meaning_by embed project) inverse list → option_and_then (λ x. Some x) (command_at list inverse) ≡ Some command
+    → IsSome (project command)
+is_of_kind embed project back list inverse command (earlier, c, number, step) is =
+    let law = lawful_by embed project back in
+    let given : option_and_then project (command_at list inverse) ≡ Some c = rw (step.state_is, step.inverse_is) (law.command_back earlier c number step.is_next) in
+    kind_of project (command_at list inverse) command c given is
 
 -- such a book isn't empty
 pub not_empty :

@@ -1,4 +1,5 @@
 pub mod Book
 pub mod Kinds
 pub mod Law
+pub mod Shown
 pub mod Undoable

@@ -1,7 +1,7 @@
 //! Commands of any kind on the book.
 
 use crate::{ApplyFault, Tables, Undoable};
-use blot_types::{Command, Trade};
+use blot_types::{Command, Entry};
 
 impl Undoable for Command {
     ghost use Rattle.blot_command.specs.Kinds.{command_meaning, command_lawful};
@@ -17,15 +17,20 @@ impl Undoable for Command {
     ghost lawful = { command_lawful };
 
     fn apply(self, tables: &mut Tables, number: u64) -> Result<u64, (Command, ApplyFault)> {
-        match self {
-            Command::Trade(trade) => match trade.apply(tables, number) {
-                Ok(inverse) => Ok(inverse),
-                Err((trade, fault)) => Err((Command::Trade(trade), fault)),
-            },
+        if let Some(refused) = tables.refusal(&self) {
+            return Err((self, ApplyFault::Refused(refused)));
+        }
+        let entry = Entry {
+            number,
+            command: self,
+        };
+        match tables.record(entry) {
+            Ok(()) => Ok(number),
+            Err(entry) => Err((entry.command, ApplyFault::NoMemory)),
         }
     }
 
-    fn revert(number: u64, tables: &mut Tables) -> Command {
-        Command::Trade(Trade::revert(number, tables))
+    fn revert(_number: u64, tables: &mut Tables) -> Command {
+        tables.take_last().command
     }
 }

@@ -1,10 +1,14 @@
 //! Commands and their inverses. `Undoable` is what a command of any kind promises: exactly when it is
 //! accepted, what the state is after it, and that its inverse restores the state before. `Tables` is the
-//! book's live list of entries, and each kind of command keeps that promise on it.
+//! book: its live list of entries with the chains and the fills that stand, and each kind of command keeps
+//! that promise on it.
 #![tactic(auto)]
 
+mod bust;
 mod command;
+mod correct;
 mod fault;
+mod live;
 mod tables;
 mod trade;
 mod undoable;

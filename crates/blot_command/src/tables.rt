@@ -1,31 +1,37 @@
 //! The book.
-ghost use Rattle.std.specs.Prelude.{◌≡◌, ◌<◌, [], ◌∷◌, ◌++◌, length, reverse, find, IsTrue, OnOk, OnErr, IfErr};
+ghost use Rattle.std.specs.Prelude.{◌≡◌, ◌<◌, [], ◌∷◌, ◌++◌, None, Some, IsSome, length, find, IsTrue, OnOk, OnErr, IfErr, IfSome};
 ghost use Rattle.std.specs.Option.{option_copied};
-ghost use Rattle.blot_types.specs.Legal.{is_book, taker_in};
+ghost use Rattle.blot_types.specs.Legal.{is_book, refusal_of};
 ghost use Rattle.blot_types.specs.Order.{order_of};
+ghost use Rattle.blot_types.specs.declared.TheConstants.{EVENTS_MAX};
+ghost use Rattle.blot_order.specs.Slots.{put_at, kept_at};
 ghost use Rattle.blot_command.specs.Book.{has_number};
+ghost use Rattle.blot_command.specs.Shown.{with_put, with_kept, IsPut, IsKept, CanPut};
 
-use blot_types::{Command, Entry, ExecKey, OrderKey, OrderLine};
-use std::alloc::Global;
+use crate::live::LiveList;
+use blot_order::Orders;
+use blot_types::{Command, Entry, OrderKey, OrderLine, Refused, Version};
+use std::alloc::{AllocError as NoMemory, Global};
 use std::marker::Model;
 
-/// The book: its live list of entries, in rising order of number. A contract sees it as that list,
-/// which is always legal.
+/// The book: its live list of entries, in rising order of number, with the chains of its executions and
+/// the fills that stand. A contract sees it as the list, which is always legal.
 #[derive(Drop)]
 pub struct Tables {
-    entries: Vec<Entry>,
+    live: LiveList,
+    orders: Orders,
 }
 
 impl Model for Tables {
-    ghost use Rattle.std.specs.Prelude.{◌≡◌, List, true};
+    ghost use Rattle.std.specs.Prelude.{List};
     ghost use Rattle.blot_types.specs.declared.command.Entry.{Entry};
-    ghost use Rattle.blot_types.specs.Legal.{is_book};
+    ghost use Rattle.blot_command.specs.Shown.{Shows};
 
     ghost Value = { List Entry };
 
-    ghost view = { λ tables. tables.entries.items };
+    ghost view = { λ tables. tables.live };
 
-    ghost invariant = { λ tables. is_book tables.entries.items ≡ true };
+    ghost invariant = { λ tables. Shows tables.live tables.orders };
 }
 
 impl Tables {
@@ -34,7 +40,8 @@ impl Tables {
         ensures { result ≡ [] }
     {
         Tables {
-            entries: Vec::new(alloc),
+            live: LiveList::new(alloc),
+            orders: Orders::new(alloc),
         }
     }
 
@@ -42,33 +49,22 @@ impl Tables {
     pub fn order(&self, order: &OrderKey) -> Option<OrderLine>
         ensures { result ≡ order_of self.now order.now }
     {
-        let mut line = None;
-        for entry in &self.entries {
-            let version = entry.version();
-            if version.fill.order == *order {
-                line = Some(OrderLine::with_fill(line, &version.fill));
-            }
-        }
-        line
+        self.orders.get(order)
     }
 
     /// The entry of a number, if it is live.
     pub fn entry(&self, number: u64) -> Option<&Entry>
         ensures { option_copied result ≡ find (has_number number) self.now }
     {
-        self.entries.iter().find(|entry| entry.number == number)
+        self.live.entry(number)
     }
 
-    /// The number of the entry that takes up a key.
-    pub(crate) fn taker(&self, key: &ExecKey) -> Option<u64>
-        ensures taker { result ≡ taker_in (reverse self.now) key.now }
+    /// Why the book refuses a command.
+    pub(crate) fn refusal(&self, command: &Command) -> Option<Refused>
+        ensures refusal { result ≡ refusal_of self.now command.now }
         ensures book { IsTrue (is_book self.now) }
     {
-        self.entries
-            .iter()
-            .rev()
-            .find(|entry| entry.command.exec_key() == *key)
-            .map(|entry| entry.number)
+        self.live.refusal(command)
     }
 
     /// Puts an entry behind the others, or hands it back where memory runs out.
@@ -78,9 +74,20 @@ impl Tables {
         ensures err { OnErr result (self.new ≡ self.old) }
         ensures returned { IfErr result (λ back. back ≡ entry) }
     {
-        match self.entries.push(entry) {
-            Ok(()) => Ok(()),
-            Err(failed) => Err(failed.value),
+        let version = entry.version();
+        let replaced = self.live.replaced(entry.command.role());
+        let Ok(()) = put(&mut self.orders, &version) else {
+            return Err(entry);
+        };
+        match self.live.push(entry) {
+            Ok(()) => {
+                take(&mut self.orders, &replaced);
+                Ok(())
+            }
+            Err(back) => {
+                take(&mut self.orders, &version);
+                Err(back)
+            }
         }
     }
 
@@ -89,9 +96,43 @@ impl Tables {
         requires { 0 < length self.old }
         ensures { self.old ≡ self.new ++ result ∷ [] }
     {
-        match self.entries.pop() {
-            Some(entry) => entry,
-            None => unreachable!(),
-        }
+        let entry = self.live.pop();
+        let version = entry.version();
+        let replaced = self.live.replaced(entry.command.role());
+        take(&mut self.orders, &version);
+        un_take(&mut self.orders, &replaced);
+        entry
+    }
+}
+
+// Puts the fill of a version, if there is one.
+fn put(orders: &mut Orders, version: &Option<Version>) -> Result<(), NoMemory>
+    requires { IfSome version.now (λ version. CanPut version orders.old) }
+    ensures ok { OnOk result (orders.new ≡ with_put version.now orders.old) }
+    ensures err { OnErr result (orders.new ≡ orders.old) }
+{
+    match version {
+        None => Ok(()),
+        Some(version) => orders.put(version.number, &version.fill),
+    }
+}
+
+// Takes the fill of a version, if there is one.
+fn take(orders: &mut Orders, version: &Option<Version>)
+    requires { IfSome version.now (λ version. IsPut version orders.old) }
+    ensures { orders.new ≡ with_kept version.now orders.old }
+{
+    if let Some(version) = version {
+        orders.take(version.number, &version.fill);
+    }
+}
+
+// Puts the fill of a version again, if there is one.
+fn un_take(orders: &mut Orders, version: &Option<Version>)
+    requires { IfSome version.now (λ version. IsKept version orders.old) }
+    ensures { orders.new ≡ with_put version.now orders.old }
+{
+    if let Some(version) = version {
+        orders.un_take(version.number);
     }
 }

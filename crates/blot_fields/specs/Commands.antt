@@ -4,6 +4,7 @@ use Rattle.blot_time.specs.Moment.{utc_day}
 use Rattle.blot_types.specs.declared.command.Command.{Command}
 use Rattle.blot_types.specs.declared.command.Command.TheVariants as commands
 use Rattle.blot_types.specs.declared.fill.Fill.{Fill}
+use Rattle.blot_types.specs.declared.keys.ExecKey.{ExecKey}
 use Rattle.blot_fields.specs.declared.message.Body.{Body}
 use Rattle.blot_fields.specs.declared.message.Body.TheVariants as bodies
 use Rattle.blot_fields.specs.declared.message.Message.{Message}
@@ -37,11 +38,20 @@ fill_of peer sending execution = record {
   day = day_of_execution execution.trade_date execution.transacted sending;
 }
 
--- the command of a peer's Execution Report
+-- the key of a peer's execution
+abbrev pub exec_of : List ℕ → List ℕ → ExecKey
+exec_of peer id = record { peer = peer; id = id }
+
+-- the command of a peer's Execution Report: a Trade's key is its ExecID; a Correct and a Bust have a key of
+-- their own, their ExecID, and refer to the execution that their ExecRefID names
 abbrev pub command_of_report : List ℕ → ℤ → Report → Option Command
 command_of_report peer sending (reports.Trade execution) =
-    Some (commands.Trade (record { key = record { peer = peer; id = execution.id }; fill = fill_of peer sending execution }))
-command_of_report peer sending _ = None
+    Some (commands.Trade (record { key = exec_of peer execution.id; fill = fill_of peer sending execution }))
+command_of_report peer sending (reports.Correct reference execution) =
+    Some (commands.Correct (record { key = exec_of peer execution.id; reference = exec_of peer reference; fill = fill_of peer sending execution }))
+command_of_report peer sending (reports.Bust id reference) =
+    Some (commands.Bust (record { key = exec_of peer id; reference = exec_of peer reference }))
+command_of_report peer sending reports.Other = None
 
 -- the command of a peer's message
 abbrev pub command_of_body : List ℕ → ℤ → Body → Option Command

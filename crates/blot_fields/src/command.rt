@@ -1,11 +1,11 @@
 //! What a message asks of the book.
 ghost use Rattle.std.specs.Prelude.{◌≡◌, Ok};
-ghost use Rattle.blot_fields.specs.Commands.{size_of, day_of_execution, fill_of, command_of};
+ghost use Rattle.blot_fields.specs.Commands.{size_of, day_of_execution, fill_of, exec_of, command_of_report, command_of};
 
 use crate::{Body, Execution, Message, OrderSize, Report};
 use blot_decimal::QtySum;
 use blot_time::{Day, Moment};
-use blot_types::{Command, ExecKey, Fill, OrderKey, Text64, Trade};
+use blot_types::{Bust, Command, Correct, ExecKey, Fill, OrderKey, Text64, Trade};
 use std::alloc::{AllocError as NoMemory, Global};
 
 /// The command that a peer's message gives the book; none for a message that leaves the book alone.
@@ -17,16 +17,42 @@ pub fn command_of(
     ensures { result ≡ Ok (command_of message.now peer) }
 {
     let command = match &message.body {
-        Body::Report(Report::Trade(execution)) => Some(Command::Trade(Trade {
-            key: ExecKey {
-                peer,
-                id: execution.id,
-            },
-            fill: fill_of(peer, message.head.sending, execution),
-        })),
+        Body::Report(report) => command_of_report(peer, message.head.sending, report),
         _ => None,
     };
     Ok(command)
+}
+
+// The command of a peer's Execution Report.
+fn command_of_report(peer: Text64, sending: Moment, report: &Report) -> Option<Command>
+    ensures { result ≡ command_of_report peer sending report.now }
+{
+    match report {
+        Report::Trade(execution) => Some(Command::Trade(Trade {
+            key: exec_of(peer, execution.id),
+            fill: fill_of(peer, sending, execution),
+        })),
+        Report::Correct {
+            reference,
+            execution,
+        } => Some(Command::Correct(Correct {
+            key: exec_of(peer, execution.id),
+            reference: exec_of(peer, *reference),
+            fill: fill_of(peer, sending, execution),
+        })),
+        Report::Bust { id, reference } => Some(Command::Bust(Bust {
+            key: exec_of(peer, *id),
+            reference: exec_of(peer, *reference),
+        })),
+        Report::Other => None,
+    }
+}
+
+// The key of a peer's execution.
+fn exec_of(peer: Text64, id: Text64) -> ExecKey
+    ensures { result ≡ exec_of peer id }
+{
+    ExecKey { peer, id }
 }
 
 // What an execution brings to its order.

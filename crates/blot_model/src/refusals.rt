@@ -1,27 +1,35 @@
 //! Which commands a list refuses.
-ghost use Rattle.std.specs.Prelude.{◌≡◌, reverse, IfOk};
-ghost use Rattle.blot_types.specs.Legal.{taker_in, refusal_of, is_legal};
+ghost use Rattle.std.specs.Prelude.{◌≡◌, IfOk};
+ghost use Rattle.blot_types.specs.Chains.{root_in, chain_refusal};
+ghost use Rattle.blot_types.specs.Legal.{refusal_of, is_legal};
+ghost use Rattle.blot_types.specs.Survivors.{links_of};
 
-use blot_types::{Command, Entry, ExecKey, Refused};
+use crate::chains::{bust_of, number_of, root_of};
+use blot_types::{Command, Entry, ExecKey, Refused, Role};
 use std::alloc::AllocError as NoMemory;
 
 /// Why a list refuses a command, or none where it accepts it.
 pub fn accepts(list: &[Entry], command: &Command) -> Result<Option<Refused>, NoMemory>
     ensures { IfOk result (λ refused. refused ≡ refusal_of list.now command.now) }
 {
-    Ok(match command {
-        Command::Trade(trade) => taker(list, &trade.key).map(Refused::DuplicateExec),
+    if let Some(number) = number_of(list, &command.exec_key()) {
+        return Ok(Some(Refused::DuplicateExec(number)));
+    }
+    Ok(match command.role() {
+        Role::Begins => None,
+        Role::Corrects(reference) => chain_refusal(list, &reference),
+        Role::Busts(reference) => chain_refusal(list, &reference),
     })
 }
 
-// The number of the entry that takes up a key.
-fn taker(list: &[Entry], key: &ExecKey) -> Option<u64>
-    ensures { result ≡ taker_in (reverse list.now) key.now }
+// Why a reference is refused: it has no root, or its chain is busted.
+fn chain_refusal(list: &[Entry], reference: &ExecKey) -> Option<Refused>
+    ensures { result ≡ chain_refusal (links_of list.now) reference.now (root_in (links_of list.now) reference.now) }
 {
-    list.iter()
-        .rev()
-        .find(|entry| entry.command.exec_key() == *key)
-        .map(|entry| entry.number)
+    match root_of(list, reference) {
+        None => Some(Refused::UnknownExec(*reference)),
+        Some(root) => bust_of(list, &root).map(Refused::BustedExec),
+    }
 }
 
 /// Whether each entry of a list is accepted after those before it.

@@ -1,2 +1,8 @@
-pub mod OrderLemmas
+pub mod ChainLemmas
+pub mod KeyLemmas
+pub mod LawLemmas
 pub mod LegalLemmas
+pub mod OrderLemmas
+mod Rows
+pub mod StandLemmas
+pub mod SurvivorLemmas

@@ -1,16 +1,13 @@
--- Which commands a list of entries refuses, and which lists are legal. As in `Survivors`, a word that
--- ends in `_in` reads the entries newest first.
-use Rattle.std.specs.Prelude.{ℕ, ◌+◌, Bool, true, ◌&&◌, List, [], ◌∷◌, reverse, Option, find, is_none, nat_lt}
+-- Which commands a list of entries refuses, and which lists are legal. A word that ends
+-- in `_in` reads the entries newest first.
+use Rattle.std.specs.Prelude.{ℕ, ◌+◌, Bool, true, ◌&&◌, List, [], ◌∷◌, map, reverse, Option, is_none, nat_lt}
 use Rattle.std.specs.List.{list_all}
-use Rattle.std.specs.Option.{option_map}
 use Rattle.blot_types.specs.declared.command.Command.{Command}
-use Rattle.blot_types.specs.declared.command.Command.TheVariants.{Trade}
 use Rattle.blot_types.specs.declared.command.Entry.{Entry}
-use Rattle.blot_types.specs.declared.keys.ExecKey.{ExecKey}
 use Rattle.blot_types.specs.declared.refused.Refused.{Refused}
-use Rattle.blot_types.specs.declared.refused.Refused.TheVariants.{DuplicateExec}
 use Rattle.blot_types.specs.declared.TheConstants.{EVENTS_MAX}
-use Rattle.blot_types.specs.Survivors.{takes_up}
+use Rattle.blot_types.specs.Chains.{link_refusal}
+use Rattle.blot_types.specs.Survivors.{exec_key, role_of, link_of}
 
 -- whether a number is above those of the entries
 abbrev pub is_above : ℕ → List Entry → Bool
@@ -24,13 +21,9 @@ rises_in (entry ∷ earlier) = is_above entry.number earlier && rises_in earlier
 abbrev pub numbers_rise : List Entry → Bool
 numbers_rise list = rises_in (reverse list)
 
--- the number of the entry that takes up a key
-abbrev pub taker_in : List Entry → ExecKey → Option ℕ
-taker_in entries key = option_map (λ entry. entry.number) (find (takes_up key) entries)
-
 -- why the entries refuse a command: the first reason that applies
 abbrev pub refusal_in : List Entry → Command → Option Refused
-refusal_in entries (Trade trade) = option_map DuplicateExec (taker_in entries trade.key)
+refusal_in entries command = link_refusal (map link_of entries) (exec_key command) (role_of command)
 
 abbrev pub refusal_of : List Entry → Command → Option Refused
 refusal_of list command = refusal_in (reverse list) command

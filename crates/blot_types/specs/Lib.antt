@@ -1,4 +1,6 @@
+pub mod Chains
 pub mod Keys
+pub mod Laws
 pub mod Legal
 pub mod Order
 pub mod Survivors

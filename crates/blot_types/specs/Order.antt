@@ -38,9 +38,13 @@ line_by fills last = record {
 abbrev pub line_of : List Fill → Option OrderLine
 line_of fills = option_map (line_by fills) (last_or None fills)
 
--- the fills of an order among versions, in their order
+-- the fills of an order, in their order
+abbrev pub fills_of : List Fill → OrderKey → List Fill
+fills_of fills order = filter (λ fill. same_order fill.order order) fills
+
+-- the fills of an order among versions
 abbrev pub fills_among : List Version → OrderKey → List Fill
-fills_among versions order = filter (λ fill. same_order fill.order order) (map (λ version. version.fill) versions)
+fills_among versions order = fills_of (map (λ version. version.fill) versions) order
 
 -- the line of an order (FIX 4.4 volume 4, CumQty and LeavesQty; computed from the survivors alone)
 abbrev pub order_of : List Entry → OrderKey → Option OrderLine

@@ -8,13 +8,15 @@ mod fill;
 mod filled;
 mod keys;
 mod lines;
+mod link;
 mod refused;
 mod text;
 
-pub use command::{Command, Entry, Trade};
+pub use command::{Bust, Command, Correct, Entry, Trade};
 pub use fill::{Fill, Sign};
 pub use keys::{AllocKey, ExecKey, OrderKey};
 pub use lines::{OrderLine, Version};
+pub use link::{Link, Role};
 pub use refused::Refused;
 pub use text::{TEXT_MAX, Text64};
 

@@ -1,16 +1,14 @@
 -- The commands of a stream, as its frames are taken one by one and its pieces come.
-use Rattle.std.proofs.Common.{◌≡◌, ℕ, ◌+◌, ◌<◌, ◌≤◌, List, [], ◌∷◌, ◌++◌, length, fold, Option, Some, None, true, false, refl, sym, ap, ◌∙◌, arith, inl, inr, subst}
+use Rattle.std.proofs.Common.{◌≡◌, ℕ, ◌+◌, ◌<◌, ◌≤◌, List, [], ◌∷◌, ◌++◌, length, Option, Some, None, refl, sym, ap, ◌∙◌, arith, inl, inr, subst}
 use Rattle.std.specs.Prelude.{is_none, option_to_list, IfSome, IsSome}
 use Rattle.std.specs.Io.KnownBytes.{Consumes, Keeps, IsAtEnd}
 use Rattle.std.specs.List.{filter_map, cons_option}
 use Rattle.std.proofs.lemmas.Bool.{cases_Bool}
-use Rattle.std.proofs.lemmas.Grind.{fold-append}
 use Rattle.std.proofs.lemmas.List.{append_assoc, append-nil}
-use Rattle.std.proofs.lemmas.List.Elements.{filter_map-append}
 use Rattle.blot_types.specs.declared.command.Command.{Command}
 use Rattle.blot_types.specs.Legal.{refusal_of}
 use Rattle.blot_tag.specs.Reading.{Reading, TakesFirst, FindsNone}
-use Rattle.blot_tag.specs.Walking.{walk_of, frames_of, rest_of, joined_with}
+use Rattle.blot_tag.specs.Walking.{frames_of, joined_with}
 use Rattle.blot_tag.proofs.WalkLemmas.{walk_of-append, walk_of-prefix, look_of-nil}
 use Rattle.blot_tag.proofs.FrameLemmas.{look_of-prefix}
 use Rattle.blotter.specs.Commands.{command_in}

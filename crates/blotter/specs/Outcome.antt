@@ -1,5 +1,5 @@
--- How a run of the program ends, and its status.
-use Rattle.std.specs.Prelude.{ℕ, Result, Ok, Err}
+-- How a run of the program ends, its status and its last line.
+use Rattle.std.specs.Prelude.{ℕ, List, Option, Some, None, Result, Ok, Err, codes}
 use Rattle.blotter.specs.declared.outcome.Outcome.{Outcome}
 use Rattle.blotter.specs.declared.outcome.Outcome.TheVariants.{Done, InputFault, BadWords, NoMemory as OutOfMemory}
 use Rattle.blotter.specs.declared.outcome.ReplayFault.{ReplayFault}
@@ -19,3 +19,10 @@ status_of Done = 0
 status_of InputFault = 1
 status_of BadWords = 2
 status_of OutOfMemory = 3
+
+-- the line that standard error is told in the end, without its LF: none where all went well
+abbrev pub last_line_of : Outcome → Option (List ℕ)
+last_line_of Done = None
+last_line_of InputFault = Some (codes "blotter: input fault")
+last_line_of BadWords = Some (codes "blotter: bad words")
+last_line_of OutOfMemory = Some (codes "blotter: no memory")

@@ -1,8 +1,8 @@
 -- What a capture comes to: the commands that its frames give, the book that they lead to, and its report.
-use Rattle.std.specs.Prelude.{◌≡◌, ℕ, ◌+◌, ◌<◌, ◌≤◌, All, Bool, List, [], ◌∷◌, ◌++◌, map, fold, filter, reverse, Option, Some, None, ⊤, is_none, if◌then◌else◌}
-use Rattle.std.specs.List.{flat_map, filter_map, list_any}
+use Rattle.std.specs.Prelude.{◌≡◌, ℕ, ◌+◌, ◌<◌, ◌≤◌, All, List, [], ◌++◌, map, fold, Option, Some, None, ⊤, is_none, if◌then◌else◌}
+use Rattle.std.specs.List.{filter_map}
 use Rattle.blot_types.specs.declared.command.Command.{Command}
-use Rattle.blot_types.specs.declared.command.Command.TheVariants.{Trade}
+use Rattle.blot_types.specs.declared.command.Command.TheVariants.{Trade, Correct, Bust}
 use Rattle.blot_types.specs.declared.command.Entry.{Entry}
 use Rattle.blot_types.specs.declared.keys.OrderKey.{OrderKey}
 use Rattle.blot_types.specs.declared.TheConstants.{EVENTS_MAX}
@@ -17,13 +17,15 @@ pub record Run : Type 0 where
   pub next : ℕ
   pub came : ℕ
 
--- the order that a command's execution fills
-abbrev pub order_filled : Command → OrderKey
-order_filled (Trade trade) = trade.fill.order
+-- the order that a command fills: a Bust fills none
+abbrev pub order_filled : Command → Option OrderKey
+order_filled (Trade trade) = Some trade.fill.order
+order_filled (Correct correct) = Some correct.fill.order
+order_filled (Bust bust) = None
 
--- the orders that the executions of a list fill, in list order
+-- the orders that the commands of a list fill, in list order
 abbrev pub orders_filled : List Entry → List OrderKey
-orders_filled list = map (λ entry. order_filled entry.command) list
+orders_filled list = filter_map (λ entry. order_filled entry.command) list
 
 -- what the running book keeps
 pub record IsKept (list : List Entry) (orders : List OrderKey) (next came : ℕ) : Type 0 where

@@ -40,7 +40,8 @@ abbrev pub line_text : OrderKey → OrderLine → List ℕ
 line_text order line =
     word (codes "order") ++ word order.peer ++ word order.id ++ word line.symbol ++ word (sign_text line.sign) ++ amounts_text line
 
--- the lines of some orders of a list: one for each that is shown
+-- the lines of some orders of a list: one for each that has an execution that stands. The others have none,
+-- where all of their executions were busted, or corrected to fill another order
 abbrev pub lines_of : List Entry → List OrderKey → List ℕ
 lines_of list orders = flat_map (λ order. option_map_or (line_text order) (order_of list order) []) orders
 

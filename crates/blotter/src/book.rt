@@ -1,5 +1,5 @@
 //! The book as a capture's commands lead to it.
-ghost use Rattle.std.specs.Prelude.{◌≡◌, ◌≢◌, ◌≤◌, ◌↔◌, Err, OnOk, OnErr, IfOk};
+ghost use Rattle.std.specs.Prelude.{◌≡◌, ◌≢◌, ◌<◌, ◌≤◌, ◌↔◌, ◌++◌, Err, OnOk, OnErr, IfOk, option_to_list, vec_len, vec_capacity};
 ghost use Rattle.blot_types.specs.Order.{order_of};
 ghost use Rattle.blotter.specs.Replay.{start, step_of, order_filled as filled_by, orders_filled};
 ghost use Rattle.blotter.specs.Report.{sorted};
@@ -11,8 +11,8 @@ use std::alloc::{AllocError as NoMemory, Global};
 use std::collections::BTreeSet;
 use std::marker::Model;
 
-/// The book, the next number, and how many commands came. The orders that its executions name stand
-/// beside it, in the order of the list.
+/// The book, the next number, and how many commands came. The orders that its commands fill stand beside
+/// it, in the order of the list.
 #[derive(Drop)]
 pub(crate) struct Book {
     tables: Tables,
@@ -79,7 +79,7 @@ impl Book {
         let order = order_filled(&command);
         match command.apply(&mut self.tables, self.next) {
             Ok(_) => {
-                self.orders.push_reserved(order);
+                push_order(&mut self.orders, order);
                 self.next += 1;
                 self.came += 1;
                 Ok(())
@@ -93,12 +93,24 @@ impl Book {
     }
 }
 
-// The order that a command's execution fills.
-fn order_filled(command: &Command) -> OrderKey
+// The order that a command fills: a Bust fills none.
+fn order_filled(command: &Command) -> Option<OrderKey>
     ensures { result ≡ filled_by command.now }
 {
     match command {
-        Command::Trade(trade) => trade.fill.order,
+        Command::Trade(trade) => Some(trade.fill.order),
+        Command::Correct(correct) => Some(correct.fill.order),
+        Command::Bust(_) => None,
+    }
+}
+
+// Puts an order, if there is one, at the end of a list that has room for it.
+fn push_order(orders: &mut Vec<OrderKey>, order: Option<OrderKey>)
+    requires { vec_len orders.old < vec_capacity orders.old }
+    ensures { orders.new.items ≡ orders.old.items ++ option_to_list order }
+{
+    if let Some(order) = order {
+        orders.push_reserved(order);
     }
 }
 

@@ -1,6 +1,6 @@
 //! How a run ends.
-ghost use Rattle.std.specs.Prelude.{◌≡◌};
-ghost use Rattle.blotter.specs.Outcome.{outcome_of, status_of};
+ghost use Rattle.std.specs.Prelude.{◌≡◌, option_map};
+ghost use Rattle.blotter.specs.Outcome.{outcome_of, status_of, last_line_of};
 
 use std::alloc::AllocError as NoMemory;
 use thiserror::Error;
@@ -72,7 +72,9 @@ impl Outcome {
     }
 
     /// The one line that goes to standard error in the end, without its LF; none where all went well.
-    pub fn last_line(self) -> Option<&'static str> {
+    pub fn last_line(self) -> Option<&'static str>
+        ensures { option_map (λ line. line.now) result ≡ last_line_of self }
+    {
         match self {
             Outcome::Done => None,
             Outcome::InputFault => Some("blotter: input fault"),

@@ -1,6 +1,9 @@
--- How a run ends whose words are refused.
+-- How a run ends whose words are refused, and what standard error is told.
+use Rattle.std.specs.Prelude.{ℕ, List, Option, Some}
+use Rattle.std.specs.Str.{trim_end}
 use Rattle.blotter.specs.declared.outcome.Outcome.{Outcome}
 use Rattle.blotter.specs.declared.outcome.Outcome.TheVariants.{BadWords as WordsRefused, NoMemory as OutOfMemory}
+use Rattle.blotter.specs.Outcome.{last_line_of}
 use Rattle.blotter_main.specs.declared.refusal.Refusal.{Refusal}
 use Rattle.blotter_main.specs.declared.refusal.Refusal.TheVariants.{Usage, BadWords, NoMemory}
 
@@ -9,3 +12,10 @@ abbrev pub outcome_of : Refusal → Outcome
 outcome_of (Usage text) = WordsRefused
 outcome_of BadWords = WordsRefused
 outcome_of NoMemory = OutOfMemory
+
+-- what standard error is told, without its last LF: the text of clap without the white space at its end, or
+-- else the outcome's last line
+abbrev pub text_of : Refusal → Option (List ℕ)
+text_of (Usage text) = Some (trim_end text.bytes.items)
+text_of BadWords = last_line_of WordsRefused
+text_of NoMemory = last_line_of OutOfMemory

@@ -67,9 +67,10 @@ const ABOUT_REPLAY: &str = "\
 Reads a capture from standard input and, at its end, prints a line for each order with a fill.
 
 For every fill a broker sends its client's middle office a drop copy: a FIX 4.4 Execution Report
-(35=8 with 150=F). A capture is the bytes that came in, message behind message, of one broker or of
-several. Bytes that are no whole message with the right BodyLength and CheckSum are passed over, and
-so are the messages of brokers that aren't named.";
+(35=8 with 150=F). A correction (150=G) brings another version of a fill, whole, and a bust (150=H)
+takes a fill away with all its corrections. A capture is the bytes that came in, message behind
+message, of one broker or of several. Bytes that are no whole message with the right BodyLength and
+CheckSum are passed over, and so are the messages of brokers that aren't named.";
 
 const EXAMPLE: &str = "\
 Example:
@@ -79,7 +80,7 @@ const AFTER_REPLAY: &str = "\
 A line has these words, with a tab between two, and lines are sorted by broker and then OrderID:
   order PEER ORDERID SYMBOL SIDE FILLED LEFT VALUE
 SIDE is B or S, FILLED the quantity filled, LEFT what is left of the order's quantity, and VALUE the
-sum of quantity times price over the fills.
+sum of quantity times price over the fills, as last corrected and without the busted ones.
 
 Example:
   blotter replay --own MO --day 20240105 BRKA < examples/first_trade.fix

@@ -1,7 +1,7 @@
 //! Why the words are refused.
-ghost use Rattle.std.specs.Prelude.{◌≡◌};
+ghost use Rattle.std.specs.Prelude.{◌≡◌, option_map};
 ghost use Rattle.clap.specs.Values.{kind_of};
-ghost use Rattle.blotter_main.specs.Refusal.{outcome_of};
+ghost use Rattle.blotter_main.specs.Refusal.{outcome_of, text_of};
 
 use blotter::Outcome;
 use clap::error::ErrorKind;
@@ -29,7 +29,9 @@ impl Refusal {
     }
 
     /// What standard error is told, without its last LF: the text of `clap`, or else the outcome's line.
-    pub fn text(&self) -> Option<&str> {
+    pub fn text(&self) -> Option<&str>
+        ensures { option_map (λ text. text.now) result ≡ text_of self.now }
+    {
         match self {
             Refusal::Usage(text) => Some(text.as_str().trim_end()),
             Refusal::BadWords | Refusal::NoMemory => self.outcome().last_line(),

@@ -2,7 +2,7 @@
 
 use blot_decimal::{Price, Qty, QtySum};
 use blot_time::Day;
-use blot_types::{ExecKey, Fill, OrderKey, Sign, Text64, Trade};
+use blot_types::{Command, ExecKey, Fill, OrderKey, Sign, Text64};
 use std::test::Fail;
 
 pub fn text(bytes: &[u8]) -> Result<Text64, Fail> {
@@ -38,10 +38,10 @@ pub fn fill(order: OrderKey, qty: &[u8], price: &[u8], size: &[u8]) -> Result<Fi
     })
 }
 
-/// The first trade: BRKA's E1 on O1, 100 of 300 at 10.50.
-pub fn first_trade() -> Result<Trade, Fail> {
-    Ok(Trade {
-        key: exec(b"BRKA", b"E1")?,
-        fill: fill(order(b"BRKA", b"O1")?, b"100", b"10.50", b"300")?,
-    })
+/// A command came back.
+pub fn expect_back(sent: &Command, back: &Command, number: u64) -> Result<(), Fail> {
+    if back != sent {
+        return Err(Fail::new(format_args!("another command came back from {number}")));
+    }
+    Ok(())
 }

@@ -1,19 +1,18 @@
-//! Generated runs of trades and their inverses, compared with the plain slow program after every step.
-ghost use Rattle.std.specs.Prelude.{◌≡◌, ◌+◌, ◌<◌, ◌≤◌, All, IfOk, IsTrue};
-ghost use Rattle.blot_types.specs.Legal.{is_numbered};
+//! Generated runs of commands and their inverses, compared with the plain slow program after every step.
+ghost use Rattle.std.specs.Prelude.{◌≡◌, ◌+◌, ◌<◌, ◌≤◌, All, IfOk};
 ghost use Rattle.blot_command.specs.Kinds.{command_meaning};
 
-use crate::fixtures::{exec, fill, order};
+use crate::fixtures::{exec, expect_back, fill, order};
+use crate::model::{compare, expect_entry, live};
 use blot_command::{ApplyFault, Tables, Undoable};
-use blot_model::{accepts, legal, order_of};
-use blot_types::{Command, EVENTS_MAX, Entry, Trade};
-use std::alloc::{AllocError, Global};
+use blot_model::accepts;
+use blot_types::{Bust, Command, Correct, EVENTS_MAX, Fill, OrderKey, Refused, Sign, Trade};
+use std::alloc::Global;
 use std::test::Fail;
 
-// A trade drawn from a seed: one of two peers, of eight executions, three orders, four quantities and prices.
-fn drawn(seed: u32) -> Result<Trade, Fail> {
-    let peer: &[u8] = if seed & 1 == 0 { b"BRKA" } else { b"BRKB" };
-    let id: &[u8] = match seed >> 1 & 7 {
+// One of eight execution ids.
+fn drawn_id(seed: u32) -> &'static [u8] {
+    match seed & 7 {
         0 => b"E0",
         1 => b"E1",
         2 => b"E2",
@@ -22,58 +21,94 @@ fn drawn(seed: u32) -> Result<Trade, Fail> {
         5 => b"E5",
         6 => b"E6",
         _ => b"E7",
-    };
-    let order_id: &[u8] = match seed >> 4 & 3 {
+    }
+}
+
+// A fill drawn from a seed: of one of three orders, with one of four quantities and prices.
+fn drawn_fill(peer: &[u8], seed: u32) -> Result<Fill, Fail> {
+    let order_id: &[u8] = match seed & 3 {
         0 => b"O0",
         1 => b"O1",
         _ => b"O2",
     };
-    let (qty, price): (&[u8], &[u8]) = match seed >> 6 & 3 {
+    let (qty, price): (&[u8], &[u8]) = match seed >> 2 & 3 {
         0 => (b"100", b"10.5"),
         1 => (b"0.000001", b"-0.00000001"),
         2 => (b"9999999999.999999", b"99999999.99999999"),
         _ => (b"50", b"11"),
     };
     let mut fill = fill(order(peer, order_id)?, qty, price, b"300")?;
-    if seed >> 8 & 1 == 0 {
+    if seed >> 4 & 1 == 0 {
         fill.account = None;
     }
+    if seed >> 5 & 1 == 0 {
+        fill.sign = Sign::Sell;
+    }
+    Ok(fill)
+}
+
+fn drawn_trade(peer: &[u8], seed: u32) -> Result<Trade, Fail> {
     Ok(Trade {
-        key: exec(peer, id)?,
-        fill,
+        key: exec(peer, drawn_id(seed))?,
+        fill: drawn_fill(peer, seed >> 6)?,
     })
 }
 
-// The live list up to a number, read entry by entry.
-fn live(alloc: Global, tables: &Tables, next: u64) -> Result<Vec<Entry>, AllocError>
-    requires { next ≤ EVENTS_MAX }
-    ensures { IfOk result (λ list. IsTrue (is_numbered list.items)) }
-{
-    let mut list = Vec::new(alloc);
-    for number in 0..next {
-        if let Some(entry) = tables.entry(number) {
-            let command = entry.command.try_copy()?;
-            list.push(Entry { number, command })?;
-        }
-    }
-    Ok(list)
+fn drawn_correct(peer: &[u8], seed: u32) -> Result<Correct, Fail> {
+    Ok(Correct {
+        key: exec(peer, drawn_id(seed))?,
+        reference: exec(peer, drawn_id(seed >> 3))?,
+        fill: drawn_fill(peer, seed >> 6)?,
+    })
 }
 
-// The book is what the plain program says of its live list, for every order that is drawn.
-fn compare(alloc: Global, tables: &Tables, next: u64) -> Result<(), Fail>
+fn drawn_bust(peer: &[u8], seed: u32) -> Result<Bust, Fail> {
+    Ok(Bust {
+        key: exec(peer, drawn_id(seed))?,
+        reference: exec(peer, drawn_id(seed >> 3))?,
+    })
+}
+
+// A command of one of two peers, drawn from a seed: three Trades and three Corrects to two Busts.
+fn drawn(seed: u32) -> Result<Command, Fail> {
+    let peer: &[u8] = if seed & 1 == 0 { b"BRKA" } else { b"BRKB" };
+    match seed >> 1 & 7 {
+        0 | 1 => Ok(Command::Bust(drawn_bust(peer, seed >> 4)?)),
+        2 | 3 | 4 => Ok(Command::Trade(drawn_trade(peer, seed >> 4)?)),
+        _ => Ok(Command::Correct(drawn_correct(peer, seed >> 4)?)),
+    }
+}
+
+// What the plain program says of a command.
+fn expected(
+    alloc: Global,
+    tables: &Tables,
+    next: u64,
+    command: &Command,
+) -> Result<Option<Refused>, Fail>
     requires { next ≤ EVENTS_MAX }
 {
-    let list = live(alloc, tables, next)?;
-    if !legal(&list)? {
-        return Err(Fail::new("the live list isn't legal"));
+    Ok(accepts(&live(alloc, tables, next)?, command)?)
+}
+
+// A command was taken where the plain program accepts it.
+fn expect_taken(expected: Option<Refused>, number: u64) -> Result<(), Fail> {
+    match expected {
+        None => Ok(()),
+        Some(refused) => Err(Fail::new(format_args!("{refused:?}, but taken under {number}"))),
     }
-    for peer in [b"BRKA", b"BRKB"] {
-        for id in [b"O0", b"O1", b"O2"] {
-            let order = order(peer, id)?;
-            if tables.order(&order) != order_of(alloc, &list, &order)? {
-                return Err(Fail::new(format_args!("{order:?} before {next}")));
-            }
-        }
+}
+
+// A command was refused as the plain program refuses it, and came back.
+fn expect_refused(
+    expected: Option<Refused>,
+    fault: ApplyFault,
+    sent: &Command,
+    back: &Command,
+    number: u64,
+) -> Result<(), Fail> {
+    if expected.map(ApplyFault::Refused) != Some(fault) || back != sent {
+        return Err(Fail::new(format_args!("refused under {number} with {fault:?}")));
     }
     Ok(())
 }
@@ -82,6 +117,7 @@ fn compare(alloc: Global, tables: &Tables, next: u64) -> Result<(), Fail>
 fn explore(
     alloc: Global,
     tables: &mut Tables,
+    orders: &[OrderKey],
     number: u64,
     seed: u32,
     steps: u32,
@@ -90,42 +126,48 @@ fn explore(
     requires within { number + steps ≤ EVENTS_MAX }
     ensures { IfOk result (λ _. tables.new ≡ tables.old) }
 {
-    compare(alloc, tables, number)?;
+    compare(alloc, tables, number, orders)?;
     if steps == 0 {
         return Ok(());
     }
-    let trade = drawn(seed >> 7)?;
+    let sent = drawn(seed >> 7)?;
     let seed = seed.wrapping_mul(1_664_525).wrapping_add(1_013_904_223);
-    let expected = accepts(&live(alloc, tables, number)?, &Command::Trade(trade))?;
-    match Command::Trade(trade).apply(tables, number) {
+    let refusal = expected(alloc, tables, number, &sent)?;
+    match sent.try_copy()?.apply(tables, number) {
         Ok(inverse) => {
-            explore(alloc, tables, number + 1, seed, steps - 1)?;
+            expect_taken(refusal, number)?;
+            expect_entry(tables, number, &sent)?;
+            explore(alloc, tables, orders, number + 1, seed, steps - 1)?;
             let back = Command::revert(inverse, tables);
-            if expected.is_some() || back != Command::Trade(trade) {
-                return Err(Fail::new(format_args!("taken under {number}, or another came back")));
-            }
+            expect_back(&sent, &back, number)?;
         }
         Err((back, fault)) => {
-            if expected.map(ApplyFault::Refused) != Some(fault) || back != Command::Trade(trade) {
-                return Err(Fail::new(format_args!("refused under {number} with {fault:?}")));
-            }
-            explore(alloc, tables, number + 1, seed, steps - 1)?;
+            expect_refused(refusal, fault, &sent, &back, number)?;
+            explore(alloc, tables, orders, number + 1, seed, steps - 1)?;
         }
     }
-    compare(alloc, tables, number)
+    compare(alloc, tables, number, orders)
+}
+
+// The orders that are drawn.
+fn drawn_orders() -> Result<[OrderKey; 6], Fail> {
+    Ok([
+        order(b"BRKA", b"O0")?,
+        order(b"BRKA", b"O1")?,
+        order(b"BRKA", b"O2")?,
+        order(b"BRKB", b"O0")?,
+        order(b"BRKB", b"O1")?,
+        order(b"BRKB", b"O2")?,
+    ])
 }
 
 #[test]
-fn runs_of_trades_and_their_inverses(rt: HostRuntime) -> Result<(), Fail> {
-    for seed in 0..5u32 {
+fn runs_of_commands_and_their_inverses(rt: HostRuntime) -> Result<(), Fail> {
+    let orders = drawn_orders()?;
+    for seed in 0..20u32 {
         let mut tables = Tables::new(rt.alloc());
-        explore(
-            rt.alloc(),
-            &mut tables,
-            1,
-            seed.wrapping_mul(2_654_435_769),
-            40,
-        )?;
+        let seed = seed.wrapping_mul(2_654_435_769);
+        explore(rt.alloc(), &mut tables, &orders, 1, seed, 40)?;
     }
     Ok(())
 }

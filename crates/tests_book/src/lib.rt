@@ -1,12 +1,18 @@
-//! Tests of the book side: the worked rows of orders, and generated runs compared with the plain slow
-//! program after every step.
+//! Tests of the book side: the worked rows of orders and of chains of executions, and generated runs compared
+//! with the plain slow program after every step.
 #![tactic(auto)]
 
+#[cfg(test)]
+mod chains;
 #[cfg(test)]
 mod fixtures;
 #[cfg(test)]
 mod generated;
 #[cfg(test)]
+mod model;
+#[cfg(test)]
 mod orders;
+#[cfg(test)]
+mod rows;
 #[cfg(test)]
 mod texts;

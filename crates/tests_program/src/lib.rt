@@ -4,6 +4,8 @@
 #[cfg(test)]
 mod captures;
 #[cfg(test)]
+mod correction_rows;
+#[cfg(test)]
 mod memory;
 #[cfg(test)]
 mod replays;

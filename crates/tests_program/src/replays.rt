@@ -1,11 +1,13 @@
 //! `replay` over captures in memory.
 
 use crate::captures::{capture, frame};
+use crate::correction_rows::CORRECTIONS;
 use crate::memory::{Sink, Source};
 use blot_time::Day;
 use blot_types::{EVENTS_MAX, Text64};
 use blotter::{ReplayFault, replay};
 use std::alloc::Global;
+use std::process::Abort;
 use std::test::Fail;
 
 const LOGON: &str = "35=A|49=BRKA|56=MO|34=1|52=20240105-09:59:59|98=0|108=30|";
@@ -113,9 +115,11 @@ fn shown(alloc: Global, sink: &Sink) -> Result<Vec<u8>, Fail> {
     Ok(text)
 }
 
-#[test]
-fn captures_and_their_order_lines(rt: HostRuntime) -> Result<(), Fail> {
-    for (name, messages, lines) in CAPTURES {
+fn check_captures(
+    rt: &(impl Abort + AllocGlobal),
+    rows: &[(&str, &str, &str)],
+) -> Result<(), Fail> {
+    for (name, messages, lines) in rows {
         let bytes = capture(rt.alloc(), messages)?;
         let mut sink = sink(rt.alloc(), 7, 0);
         assert_eq!(rt;
@@ -129,6 +133,13 @@ fn captures_and_their_order_lines(rt: HostRuntime) -> Result<(), Fail> {
             "{name}"
         );
     }
+    Ok(())
+}
+
+#[test]
+fn captures_and_their_order_lines(rt: HostRuntime) -> Result<(), Fail> {
+    check_captures(&rt, &CAPTURES)?;
+    check_captures(&rt, &CORRECTIONS)?;
     Ok(())
 }
 

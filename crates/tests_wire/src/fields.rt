@@ -7,7 +7,7 @@ use blot_fields::{
     decode, sender_of,
 };
 use blot_tag::Reader;
-use blot_types::{Command, Sign, Text64, Trade};
+use blot_types::{Command, ExecKey, Fill, Sign, Text64};
 use std::alloc::{AllocError as NoMemory, Global};
 use std::process::Abort;
 use std::test::Fail;
@@ -357,30 +357,49 @@ fn messages_say_what_their_fields_say(rt: HostRuntime) -> Result<(), Fail> {
 
 // The command of a peer's message, as the rows have it.
 fn command_text(alloc: Global, message: &Message, peer: Text64) -> Result<String, NoMemory> {
+    let mut shown = String::new(alloc);
     match command_of(alloc, message, peer)? {
-        Some(Command::Trade(trade)) => trade_text(alloc, &trade),
-        None => String::from_str(alloc, "none"),
+        Some(Command::Trade(trade)) => {
+            shown.push_str("Trade")?;
+            push_key(&mut shown, &trade.key)?;
+            push_fill(&mut shown, &trade.fill)?;
+        }
+        Some(Command::Correct(correct)) => {
+            shown.push_str("Correct")?;
+            push_key(&mut shown, &correct.key)?;
+            shown.push_str(" of")?;
+            push_key(&mut shown, &correct.reference)?;
+            push_fill(&mut shown, &correct.fill)?;
+        }
+        Some(Command::Bust(bust)) => {
+            shown.push_str("Bust")?;
+            push_key(&mut shown, &bust.key)?;
+            shown.push_str(" of")?;
+            push_key(&mut shown, &bust.reference)?;
+        }
+        None => shown.push_str("none")?,
     }
-}
-
-fn trade_text(alloc: Global, trade: &Trade) -> Result<String, NoMemory> {
-    let fill = &trade.fill;
-    let mut shown = String::from_str(alloc, "Trade")?;
-    push_text(&mut shown, &trade.key.peer)?;
-    push_text(&mut shown, &trade.key.id)?;
-    shown.push(':')?;
-    push_text(&mut shown, &fill.order.peer)?;
-    push_text(&mut shown, &fill.order.id)?;
-    push_account(&mut shown, &fill.account)?;
-    push_text(&mut shown, &fill.symbol)?;
-    write!(&mut shown, " {} {}", sign_text(fill.sign), fill.size)?;
-    write!(&mut shown, " {} {}", fill.qty, fill.price)?;
-    push_ascii(&mut shown, &fill.day.write())?;
     Ok(shown)
 }
 
+fn push_key(shown: &mut String, key: &ExecKey) -> Result<(), NoMemory> {
+    push_text(shown, &key.peer)?;
+    push_text(shown, &key.id)
+}
+
+fn push_fill(shown: &mut String, fill: &Fill) -> Result<(), NoMemory> {
+    shown.push(':')?;
+    push_text(shown, &fill.order.peer)?;
+    push_text(shown, &fill.order.id)?;
+    push_account(shown, &fill.account)?;
+    push_text(shown, &fill.symbol)?;
+    write!(shown, " {} {}", sign_text(fill.sign), fill.size)?;
+    write!(shown, " {} {}", fill.qty, fill.price)?;
+    push_ascii(shown, &fill.day.write())
+}
+
 #[test]
-fn fills_give_commands(rt: HostRuntime) -> Result<(), Fail> {
+fn fills_corrections_and_busts_give_commands(rt: HostRuntime) -> Result<(), Fail> {
     let alloc = rt.alloc();
     let peer = Text64::read(b"BRKA").ok_or("no text")?;
     for row in COMMANDS.lines() {

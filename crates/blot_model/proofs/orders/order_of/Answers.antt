@@ -1,9 +1,10 @@
 use Rattle.std.proofs.Common.{◌≡◌, ◌+◌, ◌≤◌, ◌++◌, ◌∷◌, [], true, false, take, length, arith, sym, ap, ◌∙◌}
-use Rattle.std.proofs.lemmas.List.{take_more, length-map}
+use Rattle.std.proofs.lemmas.List.{take_more}
 use Rattle.blot_types.specs.Keys.{same_order}
-use Rattle.blot_types.specs.Survivors.{survivors, version_of}
+use Rattle.blot_types.specs.Survivors.{survivors}
 use Rattle.blot_types.specs.declared.TheConstants.{EVENTS_MAX}
 use Rattle.blot_types.proofs.LegalLemmas.{length_numbered}
+use Rattle.blot_types.proofs.SurvivorLemmas.{length-survivors}
 use Rattle.blot_types.proofs.OrderLemmas.{IsWithin-weaker, line_of-taken, line_of-passed}
 use Rattle.blot_model.proofs.orders.order_of.Goals as goal
 use Rattle.blot_model.proofs.orders.order_of.Goals.{then-eq, else-eq}
@@ -12,9 +13,8 @@ pub with_fill-requires : goal.with_fill-requires
 with_fill-requires c =
     let versions = c.deref-version-items.result.now in
     let index = c.loop-version.version-index in
-    let is : versions ≡ survivors c.args.list.now = cc (c.deref-version-items.ensures.value, c.in_ok-survivors.ensures) in
-    let long : length versions ≡ length c.args.list.now = ap length is ∙ length-map c.args.list.now version_of in
-    let few : index ≤ EVENTS_MAX = omega (arith, long, length_numbered c.args.list.now c.requires, c.loop-version-test.true) in
+    let is : versions ≡ survivors c.args.list.now = cc (c.deref-version-items.ensures.value, c.in_ok-survivors.ensures.exact) in
+    let few : index ≤ EVENTS_MAX = omega (arith, ap length is, length-survivors c.args.list.now, length_numbered c.args.list.now c.requires, c.loop-version-test.true) in
     record { few = IsWithin-weaker index EVENTS_MAX c.loop-version.line few c.loop-version.invariant.1 }
 
 pub loop-version-preserved : goal.loop-version-preserved

@@ -1,4 +1,4 @@
-use Rattle.std.proofs.Common.{◌≡◌, ◌<◌, ◌++◌, arith, subst, sym, ap, ◌∙◌, Ok, Err, Some, None}
+use Rattle.std.proofs.Common.{◌<◌, ◌++◌, arith, subst, sym, ap, ◌∙◌, Ok, Err}
 use Rattle.blot_tag.specs.Reading.{Leaves, TakesFirst, FindsNone}
 use Rattle.blot_tag.specs.Views.{text_of}
 use Rattle.blotter.specs.Replay.{commands_of, run_of}

@@ -1,7 +1,6 @@
-use Rattle.std.proofs.Common.{◌≡◌, ◌<◌, ◌≤◌, length, Result, Option, Ok, Err, Some, None, arith, sym, ap, ◌∙◌, subst}
+use Rattle.std.proofs.Common.{Result, Option, Ok, Err, Some, None, arith, sym, ap}
 use Rattle.std.specs.Prelude.{OnOk, IfSome}
-use Rattle.blot_types.specs.declared.TheConstants.{EVENTS_MAX}
-use Rattle.blotter.specs.Replay.{commands_of, run_of}
+use Rattle.blotter.specs.Replay.{commands_of}
 use Rattle.blotter.proofs.StreamLemmas.{came-run_of}
 use Rattle.blotter.proofs.replaying.replay.Goals as goal
 

@@ -1,8 +1,6 @@
-use Rattle.std.proofs.Common.{◌≡◌, ◌≤◌, ℕ, List, ◌++◌, [], length, take, drop, arith, sym, ap, ◌∙◌, subst, refl, Err}
-use Rattle.std.specs.Io.KnownBytes.{Consumes}
+use Rattle.std.proofs.Common.{◌≡◌, ◌≤◌, ℕ, List, ◌++◌, length, take, drop, arith, sym, ap, ◌∙◌, Err}
 use Rattle.std.proofs.lemmas.List.{take-take, take-append-le}
 use Rattle.blot_tag.specs.Walking.{frames_of}
-use Rattle.blotter.specs.Replay.{ComesTo, commands_of, run_of}
 use Rattle.blotter.proofs.StreamLemmas.{ComesTo-init, ComesTo-step, ComesTo-full, frames_of-nil}
 use Rattle.blotter.proofs.replaying.take_all.Goals as goal
 

@@ -1,7 +1,45 @@
-use Rattle.std.proofs.Common.{sym, ◌∙◌, ap}
+use Rattle.std.proofs.Common.{◌≡◌, ◌++◌, ◌∷◌, [], ap, ◌∙◌, sym, subst, true}
+use Rattle.std.specs.Option.{option_and_then}
+use Rattle.std.specs.Prelude.{IfSome}
+use Rattle.blot_types.specs.Chains.{replaced_in}
 use Rattle.blot_types.specs.Legal.{is_book}
-use Rattle.blot_types.proofs.LegalLemmas.{is_book-front}
+use Rattle.blot_types.specs.Survivors.{links_of}
+use Rattle.blot_command.specs.Shown.{version_numbered, Shows, with_put, IsKept}
+use Rattle.blot_command.proofs.LiveLemmas.{next-entry}
+use Rattle.blot_command.proofs.RecordLemmas.{brings, replaces, can_take_last, can_un_take, shows-less}
 use Rattle.blot_command.proofs.tables.Tables.take_last.Goals as goal
 
+pub take-requires : goal.take-requires
+take-requires c =
+    let list = c.pop-entry.new.self in
+    let entry = c.pop-entry.result in
+    let whole : is_book (list ++ entry ∷ []) ≡ true = ap is_book (sym c.pop-entry.ensures.rest) ∙ c.pop-entry.ensures.book in
+    let next = next-entry list entry whole in
+    let shows : Shows (list ++ entry ∷ []) c.self.inside.orders = subst (λ l. Shows l c.self.inside.orders) c.pop-entry.ensures.rest c.self.invariant in
+    let read = c.replaced-replaced.ensures ∙ ap (λ role. option_and_then (version_numbered list) (replaced_in (links_of list) role)) c.role.ensures in
+    can_take_last list entry c.self.inside.orders c.version-version.result c.replaced-replaced.result next shows (brings entry c.version-version.result c.version-version.ensures)
+    (replaces list entry c.replaced-replaced.result next read)
+
+pub un_take-requires : goal.un_take-requires
+un_take-requires c =
+    let list = c.pop-entry.new.self in
+    let entry = c.pop-entry.result in
+    let whole : is_book (list ++ entry ∷ []) ≡ true = ap is_book (sym c.pop-entry.ensures.rest) ∙ c.pop-entry.ensures.book in
+    let next = next-entry list entry whole in
+    let shows : Shows (list ++ entry ∷ []) c.self.inside.orders = subst (λ l. Shows l c.self.inside.orders) c.pop-entry.ensures.rest c.self.invariant in
+    let read = c.replaced-replaced.ensures ∙ ap (λ role. option_and_then (version_numbered list) (replaced_in (links_of list) role)) c.role.ensures in
+    subst (λ slots. IfSome c.replaced-replaced.result (λ version. IsKept version slots)) (sym c.take.ensures)
+    (can_un_take list entry c.self.inside.orders c.version-version.result c.replaced-replaced.result next shows (brings entry c.version-version.result c.version-version.ensures)
+    (replaces list entry c.replaced-replaced.result next read))
+
 pub invariant_of-self : goal.invariant_of-self
-invariant_of-self c = is_book-front c.pop.new.self.items c.in-Some.entry (sym (ap is_book c.in-Some.ensures.items) ∙ c.self.invariant)
+invariant_of-self c =
+    let list = c.pop-entry.new.self in
+    let entry = c.pop-entry.result in
+    let whole : is_book (list ++ entry ∷ []) ≡ true = ap is_book (sym c.pop-entry.ensures.rest) ∙ c.pop-entry.ensures.book in
+    let next = next-entry list entry whole in
+    let read = c.replaced-replaced.ensures ∙ ap (λ role. option_and_then (version_numbered list) (replaced_in (links_of list) role)) c.role.ensures in
+    let shows : Shows (list ++ entry ∷ []) c.self.inside.orders = subst (λ l. Shows l c.self.inside.orders) c.pop-entry.ensures.rest c.self.invariant in
+    subst (Shows list) (sym (c.un_take.ensures ∙ ap (with_put c.replaced-replaced.result) c.take.ensures))
+    (shows-less list entry c.self.inside.orders c.version-version.result c.replaced-replaced.result next shows (brings entry c.version-version.result c.version-version.ensures)
+    (replaces list entry c.replaced-replaced.result next read))

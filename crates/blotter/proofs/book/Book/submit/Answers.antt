@@ -1,19 +1,54 @@
-use Rattle.std.proofs.Common.{arith, ◌≡◌, ◌++◌, ◌∷◌, [], sym, ap, ◌∙◌}
-use Rattle.std.proofs.lemmas.List.{map_push}
+use Rattle.std.proofs.Common.{arith, ℕ, ◌≡◌, ◌+◌, ◌++◌, false, List, [], Option, Some, None, inl, inr, refl, sym, ap, ◌∙◌}
+use Rattle.std.specs.Prelude.{is_none, option_to_list}
+use Rattle.std.specs.Option.{option_map}
+use Rattle.std.specs.List.{cons_option}
+use Rattle.std.proofs.lemmas.List.Elements.{filter_map-append}
+use Rattle.blot_types.specs.declared.command.Command.{Command}
+use Rattle.blot_types.specs.declared.command.Entry.{Entry}
+use Rattle.blot_types.specs.declared.keys.OrderKey.{OrderKey}
+use Rattle.blot_types.specs.declared.refused.Refused.{Refused as Reason}
+use Rattle.blot_types.specs.Legal.{refusal_of}
+use Rattle.blot_command.specs.declared.fault.ApplyFault.{ApplyFault}
+use Rattle.blot_command.specs.declared.fault.ApplyFault.TheVariants.{Refused}
 use Rattle.blot_command.specs.Kinds.{command_meaning, command_lawful}
+use Rattle.blot_command.specs.Undoable.{IsRefusal}
 use Rattle.blot_command.proofs.StepLemmas.{below_next}
-use Rattle.blotter.specs.Replay.{order_filled, orders_filled}
+use Rattle.blotter.specs.Replay.{step_of, order_filled, orders_filled}
 use Rattle.blotter.proofs.book.Book.submit.Goals as goal
+
+alone : (order : Option OrderKey) → cons_option order [] ≡ option_to_list order
+alone None = refl
+alone (Some order) = refl
+
+not_none : (found : Option Reason) (reason : ApplyFault) → option_map Refused found ≡ Some reason → is_none found ≡ false
+not_none None reason is = cc
+not_none (Some found) reason is = refl
+
+-- a command that the book refuses changes no more than how many came
+passed_over :
+    (list next : List Entry) (number came : ℕ) (command returned : Command) (reason : ApplyFault) (why : Reason)
+    → IsRefusal command_meaning list command returned reason next → reason ≡ Refused why
+    → step_of (record { list = list; next = number; came = came }) command ≡ record { list = next; next = number; came = came + 1 }
+passed_over list next number came command returned reason why refusal is = elim refusal.reason_is [
+  | inl refused ↦ rw (not_none (refusal_of list command) reason refused, refusal.state_is) refl
+  | inr memory ↦ cc
+]
 
 pub invariant_of-self-in-Ok-apply : goal.invariant_of-self-in-Ok-apply
 invariant_of-self-in-Ok-apply c =
     let step = c.in-Ok-apply.ensures.accepted in
-    let one_more : orders_filled c.apply.new.tables ≡ orders_filled c.self.inside.tables ++ order_filled c.args.command ∷ [] =
-    ap orders_filled step.state_is ∙ map_push (λ entry. order_filled entry.command) c.self.inside.tables _ in
+    let one_more : orders_filled c.apply.new.tables ≡ orders_filled c.self.inside.tables ++ option_to_list (order_filled c.args.command) =
+    ap orders_filled step.state_is
+    ∙ filter_map-append (λ entry. order_filled entry.command) c.self.inside.tables _
+    ∙ ap (λ orders. orders_filled c.self.inside.tables ++ orders) (alone (order_filled c.args.command)) in
     record {
       below = rw step.state_is (below_next command_meaning command_lawful _ _ _ step.is_next);
       started = omega arith;
       few = omega (arith, c.self.invariant.few);
       limited = omega (arith, c.self.invariant.limited);
-      filled = rw (c.push_reserved.ensures.items, c.in-Ok.ensures.items, c.self.invariant.filled, c.order_filled-order.ensures) (sym one_more);
+      filled = rw (c.push_order.ensures, c.in-Ok.ensures.items, c.self.invariant.filled, c.order_filled-order.ensures) (sym one_more);
     }
+
+pub returns-in-Err-default-Refused-clause-ok : goal.returns-in-Err-default-Refused-clause-ok
+returns-in-Err-default-Refused-clause-ok c =
+    rw (← c.self.view_is) (sym (passed_over _ _ _ _ _ _ _ _ c.in-Err-default-Refused.ensures.refused c.in-Err-default-Refused.field-0-1-is))

@@ -1,0 +1,181 @@
+//! `Chains`.
+ghost use Rattle.std.specs.Prelude.{◌≡◌, [], ◌∷◌, Some, None, IfSome, OnOk, OnErr};
+ghost use Rattle.blot_types.specs.declared.link.Role.TheVariants.{Begins, Corrects, Busts};
+ghost use Rattle.blot_types.specs.Chains.{root_in, current_in, bust_in, taker_in, chain_refusal, link_refusal};
+ghost use Rattle.blot_types.specs.Laws.{IsOneTrade};
+ghost use Rattle.blot_chain.specs.Rooted.{chain_root};
+ghost use Rattle.blot_chain.specs.Steps.{IsNewest, Adds};
+
+use crate::rooted::{Rooted, bust_among, number_among, root_among, version_among};
+use blot_types::{ExecKey, Link, Role};
+use std::alloc::{AllocError as NoMemory, Global};
+use std::marker::Model;
+
+/// The links of the executions that are taken up, in the order in which they came. A contract sees them as
+/// a list, newest first, in which each link was accepted after those before it.
+#[derive(Drop)]
+pub struct Chains {
+    links: Vec<Rooted>,
+}
+
+impl Model for Chains {
+    ghost use Rattle.std.specs.Prelude.{List, reverse};
+    ghost use Rattle.blot_types.specs.declared.link.Link.{Link};
+    ghost use Rattle.blot_chain.specs.Rooted.{links_in, HoldsChains};
+
+    ghost Value = { List Link };
+
+    ghost view = { λ chains. links_in (reverse chains.links.items) };
+
+    ghost invariant = { λ chains. HoldsChains (reverse chains.links.items) };
+}
+
+impl Chains {
+    /// No chains. No memory is taken.
+    pub fn new(alloc: Global) -> Chains
+        ensures { result ≡ [] }
+    {
+        Chains {
+            links: Vec::new(alloc),
+        }
+    }
+
+    /// Adds a Trade, which begins a chain. Its key is taken up by no link so far. An error leaves the
+    /// chains as they were. FIX 4.4 volume 4, ExecType(150).
+    pub fn add(&mut self, number: u64, key: &ExecKey) -> Result<(), NoMemory>
+        requires accepted { link_refusal self.old key.now Begins ≡ None }
+        ensures ok { OnOk result (self.new ≡ record { number = number; key = key.now; role = Begins } ∷ self.old) }
+        ensures err { OnErr result (self.new ≡ self.old) }
+    {
+        self.push_link(number, key, Role::Begins, *key)
+    }
+
+    /// Adds a Correct, which brings a version to the chain of the reference. Its key is taken up by no link
+    /// so far, and the reference has a root, which isn't busted. An error leaves the chains as they were.
+    /// FIX 4.4 volume 4, ExecRefID(19).
+    pub fn correct(
+        &mut self,
+        number: u64,
+        key: &ExecKey,
+        reference: &ExecKey,
+    ) -> Result<(), NoMemory>
+        requires accepted { link_refusal self.old key.now (Corrects reference.now) ≡ None }
+        ensures ok { OnOk result (self.new ≡ record { number = number; key = key.now; role = Corrects reference.now } ∷ self.old) }
+        ensures err { OnErr result (self.new ≡ self.old) }
+    {
+        let root = self.chain_of(reference);
+        self.push_link(number, key, Role::Corrects(*reference), root)
+    }
+
+    /// Adds a Bust, which ends the chain of the reference. Its key is taken up by no link so far, and the
+    /// reference has a root, which isn't busted. An error leaves the chains as they were. FIX 4.4 volume 4,
+    /// ExecRefID(19).
+    pub fn bust(&mut self, number: u64, key: &ExecKey, reference: &ExecKey) -> Result<(), NoMemory>
+        requires accepted { link_refusal self.old key.now (Busts reference.now) ≡ None }
+        ensures ok { OnOk result (self.new ≡ record { number = number; key = key.now; role = Busts reference.now } ∷ self.old) }
+        ensures err { OnErr result (self.new ≡ self.old) }
+    {
+        let root = self.chain_of(reference);
+        self.push_link(number, key, Role::Busts(*reference), root)
+    }
+
+    /// Takes back a Trade of this key, the newest link. No memory is taken. Own profile.
+    pub fn un_add(&mut self, key: &ExecKey)
+        requires newest { IsNewest key.now Begins self.old }
+        ensures { Adds key.now Begins self.new self.old }
+    {
+        self.pop_link(key, Role::Begins);
+    }
+
+    /// Takes back a Correct of this key and reference, the newest link. No memory is taken. Own profile.
+    pub fn un_correct(&mut self, key: &ExecKey, reference: &ExecKey)
+        requires newest { IsNewest key.now (Corrects reference.now) self.old }
+        ensures { Adds key.now (Corrects reference.now) self.new self.old }
+    {
+        self.pop_link(key, Role::Corrects(*reference));
+    }
+
+    /// Takes back a Bust of this key and reference, the newest link. No memory is taken. Own profile.
+    pub fn un_bust(&mut self, key: &ExecKey, reference: &ExecKey)
+        requires newest { IsNewest key.now (Busts reference.now) self.old }
+        ensures { Adds key.now (Busts reference.now) self.new self.old }
+    {
+        self.pop_link(key, Role::Busts(*reference));
+    }
+
+    /// The root of a key, that of the Trade in which its references end. None where no link takes up the
+    /// key, or a Bust does. FIX 4.4 volume 4, ExecRefID(19).
+    pub fn root_of(&self, key: &ExecKey) -> Option<ExecKey>
+        ensures root { result ≡ root_in self.now key.now }
+        ensures one_trade { IfSome result (λ root. IsOneTrade self.now root) }
+    {
+        root_among(&self.links, key)
+    }
+
+    /// The number of the last version of the chain of a root, busted or not. None where the key is no root.
+    /// Own profile.
+    pub fn current(&self, root: &ExecKey) -> Option<u64>
+        ensures { result ≡ current_in self.now root.now }
+    {
+        version_among(&self.links, root)
+    }
+
+    /// The number of the Bust of the chain of a root. None where the chain isn't busted, or the key is no
+    /// root. Own profile.
+    pub fn bust_of(&self, root: &ExecKey) -> Option<u64>
+        ensures { result ≡ bust_in self.now root.now }
+    {
+        bust_among(&self.links, root)
+    }
+
+    /// The number of the Trade, Correct or Bust that takes up a key. Own profile.
+    pub fn number_of(&self, key: &ExecKey) -> Option<u64>
+        ensures { result ≡ taker_in self.now key.now }
+    {
+        number_among(&self.links, key)
+    }
+
+    // The root of a reference that isn't refused.
+    fn chain_of(&self, reference: &ExecKey) -> ExecKey
+        requires accepted { chain_refusal self.now reference.now (root_in self.now reference.now) ≡ None }
+        ensures { root_in self.now reference.now ≡ Some result }
+    {
+        match self.root_of(reference) {
+            Some(root) => root,
+            None => unreachable!(),
+        }
+    }
+
+    // Puts a link behind the others, with the root of its chain.
+    fn push_link(
+        &mut self,
+        number: u64,
+        key: &ExecKey,
+        role: Role,
+        root: ExecKey,
+    ) -> Result<(), NoMemory>
+        requires accepted { link_refusal self.old key.now role ≡ None }
+        requires rooted { chain_root self.old key.now role ≡ Some root }
+        ensures ok { OnOk result (self.new ≡ record { number = number; key = key.now; role = role } ∷ self.old) }
+        ensures err { OnErr result (self.new ≡ self.old) }
+    {
+        let link = Link {
+            number,
+            key: *key,
+            role,
+        };
+        self.links.push(Rooted { link, root })?;
+        Ok(())
+    }
+
+    // Takes the newest link out. It has this key and role, so nothing is compared.
+    fn pop_link(&mut self, key: &ExecKey, role: Role)
+        requires newest { IsNewest key.now role self.old }
+        ensures { Adds key.now role self.new self.old }
+    {
+        match self.links.pop() {
+            Some(_newest) => {}
+            None => unreachable!(),
+        }
+    }
+}

@@ -1,0 +1,109 @@
+-- The live list: the version of a number, and the list without its last entry.
+use Rattle.std.proofs.Common.{◌≡◌, ℕ, ◌≤◌, ◌+◌, ◌==◌, true, ◌&&◌, List, [], ◌∷◌, ◌++◌, reverse, Option, Some, None, refl, sym, ap, ◌∙◌, arith}
+use Rattle.std.specs.Prelude.{find, is_none, nat_lt}
+use Rattle.std.specs.Option.{option_map, option_or}
+use Rattle.std.proofs.lemmas.Bool.{ne_eqb, eq-eqb, and_parts, ltb-true}
+use Rattle.std.proofs.lemmas.List.{reverse-append}
+use Rattle.std.proofs.lemmas.List.Elements.{filter_map-append}
+use Rattle.std.proofs.lemmas.List.Folds.{find-append}
+use Rattle.blot_types.specs.declared.command.Entry.{Entry}
+use Rattle.blot_types.specs.declared.fill.Fill.{Fill}
+use Rattle.blot_types.specs.declared.keys.ExecKey.{ExecKey}
+use Rattle.blot_types.specs.declared.lines.Version.{Version}
+use Rattle.blot_types.specs.declared.link.Link.{Link}
+use Rattle.blot_types.specs.declared.link.Role.{Role}
+use Rattle.blot_types.specs.declared.TheConstants.{EVENTS_MAX}
+use Rattle.blot_types.specs.Legal.{is_above, numbers_rise, is_legal, is_book, refusal_of}
+use Rattle.blot_types.specs.Survivors.{exec_key, links_of, fill_by, version_of, versions_of}
+use Rattle.blot_types.proofs.ChainLemmas.{none_is}
+use Rattle.blot_types.proofs.LegalLemmas.{is_legal-push, numbers_rise-push, is_book-front}
+use Rattle.blot_types.proofs.SurvivorLemmas.{links_of-push}
+use Rattle.blot_chain.specs.Steps.{Adds}
+use Rattle.blot_command.specs.Shown.{version_numbered, HoldsList}
+
+-- ---- the version of a number
+
+pub version_numbered-append : (front back : List Entry) (number : ℕ) → version_numbered (front ++ back) number ≡ option_or (version_numbered front number) (version_numbered back number)
+version_numbered-append front back number =
+    ap (find (λ version. version.number == number)) (filter_map-append version_of front back)
+    ∙ find-append (λ version. version.number == number) (versions_of front) (versions_of back)
+
+abbrev version_number : Option Version → ℕ
+version_number None = 0
+version_number (Some version) = version.number
+
+numbered : (number : ℕ) (key : ExecKey) (fill : Option Fill) (version : Version) → option_map (λ f. record { number = number; key = key; fill = f }) fill ≡ Some version → version.number ≡ number
+numbered number key None version brought = cc
+numbered number key (Some fill) version brought = ap version_number (sym brought)
+
+-- a version bears the number of its entry
+pub version-number : (entry : Entry) (version : Version) → version_of entry ≡ Some version → version.number ≡ entry.number
+version-number entry version brought = numbered entry.number (exec_key entry.command) (fill_by entry.command) version brought
+
+one-found : (entry : Entry) (version : Version) (number : ℕ) → version_of entry ≡ Some version → entry.number ≡ number → version_numbered (entry ∷ []) number ≡ Some version
+one-found entry version number brought is = rw (brought, eq-eqb version.number number (version-number entry version brought ∙ is)) refl
+
+-- the first entry of that number that brings a version
+pub version-found :
+    (list front back : List Entry) (entry : Entry) (version : Version) (number : ℕ) → list ≡ (front ++ entry ∷ []) ++ back → version_numbered front number ≡ None
+    → version_of entry ≡ Some version → entry.number ≡ number → Some version ≡ version_numbered list number
+version-found list front back entry version number is none brought same =
+    let here : version_numbered (front ++ entry ∷ []) number ≡ Some version =
+    version_numbered-append front (entry ∷ []) number ∙ rw (none, one-found entry version number brought same) refl in
+    sym (ap (λ l. version_numbered l number) is ∙ version_numbered-append (front ++ entry ∷ []) back number ∙ rw here refl)
+
+-- an entry that brings none, or has another number
+pub version-none : (list : List Entry) (entry : Entry) (number : ℕ) → version_numbered list number ≡ None → version_of entry ≡ None → version_numbered (list ++ entry ∷ []) number ≡ None
+version-none list entry number none brought = version_numbered-append list (entry ∷ []) number ∙ rw (none, brought) refl
+
+other_number : (entry : Entry) (number : ℕ) (brought : Option Version) → version_of entry ≡ brought → (entry.number ≡ number → ⊥) → version_numbered (entry ∷ []) number ≡ None
+other_number entry number None brought other = rw brought refl
+other_number entry number (Some version) brought other =
+    rw (brought, ne_eqb version.number number (λ same. other (sym (version-number entry version brought) ∙ same))) refl
+
+pub version-other : (list : List Entry) (entry : Entry) (number : ℕ) → version_numbered list number ≡ None → (entry.number ≡ number → ⊥) → version_numbered (list ++ entry ∷ []) number ≡ None
+version-other list entry number none other =
+    version_numbered-append list (entry ∷ []) number ∙ rw (none, other_number entry number (version_of entry) refl other) refl
+
+-- ---- one entry more, and one less
+
+-- an entry may stand behind a list in a book
+pub record IsNextEntry (list : List Entry) (entry : Entry) : Type 0 where
+  pub book : is_book list ≡ true
+  pub rise : numbers_rise list ≡ true
+  pub legal : is_legal list ≡ true
+  pub above : is_above entry.number (reverse list) ≡ true
+  pub accepted : refusal_of list entry.command ≡ None
+  pub within : entry.number ≤ EVENTS_MAX
+
+pub next-entry : (list : List Entry) (entry : Entry) → is_book (list ++ entry ∷ []) ≡ true → IsNextEntry list entry
+next-entry list entry book =
+    let whole = book in
+    let parts : (numbers_rise (list ++ entry ∷ []) ≡ true) × (is_above (EVENTS_MAX + 1) (reverse (list ++ entry ∷ [])) ≡ true) × (is_legal (list ++ entry ∷ []) ≡ true) = grind (arith, whole) in
+    let rise : (is_above entry.number (reverse list) && numbers_rise list) ≡ true = sym (numbers_rise-push list entry) ∙ parts.0 in
+    let legal : (is_none (refusal_of list entry.command) && is_legal list) ≡ true = sym (is_legal-push list entry) ∙ parts.2 in
+    let limited : is_above (EVENTS_MAX + 1) (entry ∷ reverse list) ≡ true = sym (ap (is_above (EVENTS_MAX + 1)) (reverse-append list (entry ∷ []))) ∙ parts.1 in
+    let rises : (is_above entry.number (reverse list) ≡ true) × (numbers_rise list ≡ true) = and_parts _ _ rise in
+    let legals : (is_none (refusal_of list entry.command) ≡ true) × (is_legal list ≡ true) = and_parts _ _ legal in
+    let limits : (nat_lt entry.number (EVENTS_MAX + 1) ≡ true) × (is_above (EVENTS_MAX + 1) (reverse list) ≡ true) = and_parts _ _ limited in
+    record {
+      book = is_book-front list entry book;
+      rise = rises.1;
+      legal = legals.1;
+      above = rises.0;
+      accepted = none_is (refusal_of list entry.command) legals.0;
+      within = omega (arith, ltb-true entry.number (EVENTS_MAX + 1) limits.0);
+    }
+
+abbrev tail_of : List Link → List Link
+tail_of [] = []
+tail_of (link ∷ links) = links
+
+-- the list without its last entry, and the chains without its link
+pub holds-less :
+    (list rest : List Entry) (entry : Entry) (key : ExecKey) (role : Role) (links earlier : List Link) → HoldsList list links → list ≡ rest ++ entry ∷ []
+    → Adds key role earlier links → HoldsList rest earlier
+holds-less list rest entry key role links earlier holds is adds = record {
+  book = is_book-front rest entry (sym (ap is_book is) ∙ holds.book);
+  links_are = ap tail_of (sym adds.1 ∙ holds.links_are ∙ ap links_of is ∙ links_of-push rest entry);
+}

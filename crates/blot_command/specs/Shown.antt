@@ -1,0 +1,54 @@
+-- What ties the chains and the fills that the book keeps to its live list.
+use Rattle.std.specs.Prelude.{◌≡◌, ℕ, ◌≤◌, ◌==◌, List, Option, Some, None, true, find, All}
+use Rattle.std.specs.Option.{option_map}
+use Rattle.blot_types.specs.declared.command.Entry.{Entry}
+use Rattle.blot_types.specs.declared.fill.Fill.{Fill}
+use Rattle.blot_types.specs.declared.lines.Version.{Version}
+use Rattle.blot_types.specs.declared.link.Link.{Link}
+use Rattle.blot_types.specs.Legal.{numbers_rise, is_book}
+use Rattle.blot_types.specs.Survivors.{links_of, versions_of, survivors}
+use Rattle.blot_order.specs.declared.slot.Slot.{Slot}
+use Rattle.blot_types.specs.declared.TheConstants.{EVENTS_MAX}
+use Rattle.blot_order.specs.declared.slot.Slot.TheVariants.{Put, Kept}
+use Rattle.blot_order.specs.Slots.{put_at, kept_at, held_at, with_slot}
+
+-- the version of a number, of those that a list's entries bring
+abbrev pub version_numbered : List Entry → ℕ → Option Version
+version_numbered list number = find (λ version. version.number == number) (versions_of list)
+
+-- the fill of the version of a number
+abbrev pub fill_numbered : ℕ → List Version → Option Fill
+fill_numbered number versions = option_map (λ version. version.fill) (find (λ version. version.number == number) versions)
+
+-- the live list is a book, and the chains are those of its entries
+pub record HoldsList (list : List Entry) (links : List Link) : Type 0 where
+  pub book : is_book list ≡ true
+  pub links_are : links ≡ links_of list
+
+-- the numbers rise, the fills that are put are those of the survivors, and the fill of each version is held,
+-- so that it can be put again without memory
+pub record Shows (list : List Entry) (slots : List Slot) : Type 0 where
+  pub rise : numbers_rise list ≡ true
+  pub put : (number : ℕ) → put_at slots number ≡ fill_numbered number (survivors list)
+  pub held : All (λ version. held_at slots version.number ≡ Some version.fill) (versions_of list)
+
+-- the slots with the fill of a version put, or kept; without a version they are as they were
+abbrev pub with_put : Option Version → List Slot → List Slot
+with_put None slots = slots
+with_put (Some version) slots = with_slot version.number (Put version.fill) slots
+
+abbrev pub with_kept : Option Version → List Slot → List Slot
+with_kept None slots = slots
+with_kept (Some version) slots = with_slot version.number (Kept version.fill) slots
+
+-- a version's fill can be put: none is put under its number, up to EVENTS_MAX
+pub record CanPut (version : Version) (slots : List Slot) : Type 0 where
+  pub unput : put_at slots version.number ≡ None
+  pub within : version.number ≤ EVENTS_MAX
+
+-- a version's fill is put; it is kept
+abbrev pub IsPut : Version → List Slot → Type 0
+IsPut version slots = put_at slots version.number ≡ Some version.fill
+
+abbrev pub IsKept : Version → List Slot → Type 0
+IsKept version slots = kept_at slots version.number ≡ Some version.fill

@@ -1,0 +1,42 @@
+//! Busts on the book.
+ghost use Rattle.std.specs.Prelude.{◌≡◌, Some, IsSome};
+ghost use Rattle.blot_command.specs.Kinds.{bust_of};
+
+use crate::{ApplyFault, Tables, Undoable};
+use blot_types::{Bust, Command};
+
+impl Undoable for Bust {
+    ghost use Rattle.blot_command.specs.Kinds.{bust_meaning, bust_lawful};
+
+    type State = Tables;
+
+    type Inverse = u64;
+
+    type Refusal = ApplyFault;
+
+    ghost meaning = { bust_meaning };
+
+    ghost lawful = { bust_lawful };
+
+    fn apply(self, tables: &mut Tables, number: u64) -> Result<u64, (Bust, ApplyFault)> {
+        match Command::Bust(self).apply(tables, number) {
+            Ok(inverse) => Ok(inverse),
+            Err((back, fault)) => Err((into_bust(back), fault)),
+        }
+    }
+
+    fn revert(number: u64, tables: &mut Tables) -> Bust {
+        into_bust(Command::revert(number, tables))
+    }
+}
+
+// The bust that a command is.
+fn into_bust(command: Command) -> Bust
+    requires { IsSome (bust_of command) }
+    ensures { bust_of command ≡ Some result }
+{
+    match command {
+        Command::Bust(bust) => bust,
+        _ => unreachable!(),
+    }
+}

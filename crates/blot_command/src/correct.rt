@@ -1,0 +1,42 @@
+//! Corrections on the book.
+ghost use Rattle.std.specs.Prelude.{◌≡◌, Some, IsSome};
+ghost use Rattle.blot_command.specs.Kinds.{correct_of};
+
+use crate::{ApplyFault, Tables, Undoable};
+use blot_types::{Command, Correct};
+
+impl Undoable for Correct {
+    ghost use Rattle.blot_command.specs.Kinds.{correct_meaning, correct_lawful};
+
+    type State = Tables;
+
+    type Inverse = u64;
+
+    type Refusal = ApplyFault;
+
+    ghost meaning = { correct_meaning };
+
+    ghost lawful = { correct_lawful };
+
+    fn apply(self, tables: &mut Tables, number: u64) -> Result<u64, (Correct, ApplyFault)> {
+        match Command::Correct(self).apply(tables, number) {
+            Ok(inverse) => Ok(inverse),
+            Err((back, fault)) => Err((into_correct(back), fault)),
+        }
+    }
+
+    fn revert(number: u64, tables: &mut Tables) -> Correct {
+        into_correct(Command::revert(number, tables))
+    }
+}
+
+// The correction that a command is.
+fn into_correct(command: Command) -> Correct
+    requires { IsSome (correct_of command) }
+    ensures { correct_of command ≡ Some result }
+{
+    match command {
+        Command::Correct(correct) => correct,
+        _ => unreachable!(),
+    }
+}

@@ -1,0 +1,10 @@
+//! The fills of executions by their number, and the lines of their orders. A fill is put under the number
+//! that brought it, is taken and kept there, and is put again. The line of an order comes from the fills
+//! that are put, in rising order of number.
+#![tactic(auto)]
+
+mod orders;
+mod slot;
+
+pub use orders::Orders;
+pub use slot::Slot;

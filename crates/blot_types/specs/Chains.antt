@@ -1,0 +1,80 @@
+-- The chains of executions: a Trade begins one, each Correct brings it a new version, a Bust ends it.
+--
+-- "The entries before it" is natural on a list newest first. So a word that ends in `_in` reads the links
+-- newest first: behind a link stand the earlier ones.
+use Rattle.std.specs.Prelude.{ℕ, Bool, true, false, ◌&&◌, List, [], ◌∷◌, Option, Some, None, find, is_none, if◌then◌else◌}
+use Rattle.std.specs.Option.{option_map, option_or, option_and_then}
+use Rattle.blot_types.specs.declared.keys.ExecKey.{ExecKey}
+use Rattle.blot_types.specs.declared.link.Link.{Link}
+use Rattle.blot_types.specs.declared.link.Role.{Role}
+use Rattle.blot_types.specs.declared.link.Role.TheVariants.{Begins, Corrects, Busts}
+use Rattle.blot_types.specs.declared.refused.Refused.{Refused}
+use Rattle.blot_types.specs.declared.refused.Refused.TheVariants.{DuplicateExec, UnknownExec, BustedExec}
+use Rattle.blot_types.specs.Keys.{same_exec}
+
+-- whether an entry takes up this key
+abbrev pub takes_up : ExecKey → Link → Bool
+takes_up key link = same_exec link.key key
+
+-- the number of the entry that takes up a key
+abbrev pub taker_in : List Link → ExecKey → Option ℕ
+taker_in links key = option_map (λ link. link.number) (find (takes_up key) links)
+
+-- the root of the key of an entry, where `root` tells the roots of the keys before it: a Trade's key is its
+-- own root, a Correct's has the root of its reference, a Bust's has none
+abbrev pub own_root : (ExecKey → Option ExecKey) → ExecKey → Role → Option ExecKey
+own_root root key Begins = Some key
+own_root root key (Corrects reference) = root reference
+own_root root key (Busts reference) = None
+
+-- the root of a key; a key that no entry takes up has none (FIX 4.4 volume 4, ExecRefID)
+abbrev pub root_in : List Link → ExecKey → Option ExecKey
+root_in [] key = None
+root_in (link ∷ earlier) key = if takes_up key link then own_root (root_in earlier) link.key link.role else root_in earlier key
+
+-- whether there is a root, and it is this one
+abbrev pub is_root : ExecKey → Option ExecKey → Bool
+is_root root None = false
+is_root root (Some found) = same_exec found root
+
+-- whether an entry is a Bust of the chain of this root
+abbrev pub busts : List Link → ExecKey → Role → Bool
+busts earlier root Begins = false
+busts earlier root (Corrects reference) = false
+busts earlier root (Busts reference) = is_root root (root_in earlier reference)
+
+-- the number of the Bust of the chain of a root
+abbrev pub bust_in : List Link → ExecKey → Option ℕ
+bust_in [] root = None
+bust_in (link ∷ earlier) root = if busts earlier root link.role then Some link.number else bust_in earlier root
+
+-- the number of the last version of the chain of a root: the newest Trade or Correct with that root
+abbrev pub current_in : List Link → ExecKey → Option ℕ
+current_in [] root = None
+current_in (link ∷ earlier) root =
+    if is_root root (own_root (root_in earlier) link.key link.role) then Some link.number else current_in earlier root
+
+-- why a reference is refused: it has no root, or its chain is busted
+abbrev pub chain_refusal : List Link → ExecKey → Option ExecKey → Option Refused
+chain_refusal links reference None = Some (UnknownExec reference)
+chain_refusal links reference (Some root) = option_map BustedExec (bust_in links root)
+
+abbrev pub reference_refusal : List Link → Role → Option Refused
+reference_refusal links Begins = None
+reference_refusal links (Corrects reference) = chain_refusal links reference (root_in links reference)
+reference_refusal links (Busts reference) = chain_refusal links reference (root_in links reference)
+
+-- why a link is refused: its key is taken up, or else what its reference is refused for
+abbrev pub link_refusal : List Link → ExecKey → Role → Option Refused
+link_refusal links key role = option_or (option_map DuplicateExec (taker_in links key)) (reference_refusal links role)
+
+-- whether each link is accepted after those before it
+abbrev pub is_chained : List Link → Bool
+is_chained [] = true
+is_chained (link ∷ earlier) = is_none (link_refusal earlier link.key link.role) && is_chained earlier
+
+-- the number of the version that a link takes the place of, or busts
+abbrev pub replaced_in : List Link → Role → Option ℕ
+replaced_in links Begins = None
+replaced_in links (Corrects reference) = option_and_then (current_in links) (root_in links reference)
+replaced_in links (Busts reference) = option_and_then (current_in links) (root_in links reference)

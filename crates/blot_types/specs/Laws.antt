@@ -1,0 +1,42 @@
+-- What always holds of the definitions.
+use Rattle.std.specs.Prelude.{◌≡◌, ℕ, Bool, not, List, [], ◌∷◌, ◌++◌, filter, Some, None}
+use Rattle.blot_types.specs.declared.command.Entry.{Entry}
+use Rattle.blot_types.specs.declared.keys.ExecKey.{ExecKey}
+use Rattle.blot_types.specs.declared.lines.Version.{Version}
+use Rattle.blot_types.specs.declared.link.Link.{Link}
+use Rattle.blot_types.specs.declared.link.Role.TheVariants.{Begins, Busts}
+use Rattle.blot_types.specs.Chains.{takes_up, is_root, bust_in}
+use Rattle.blot_types.specs.Survivors.{links_of, root_of, role_of, survivors}
+
+-- the references of a chain end in one Trade: one link takes up the root, and it begins the chain
+pub record IsOneTrade (links : List Link) (root : ExecKey) : Type 0 where
+  pub trade : Link
+  pub alone : filter (takes_up root) links ≡ trade ∷ []
+  pub begins : trade.role ≡ Begins
+
+-- whether a version is of the chain of a root
+abbrev pub is_of_chain : List Entry → ExecKey → Version → Bool
+is_of_chain list root version = is_root root (root_of list version.key)
+
+-- the survivors of the chain of a root
+abbrev pub survivors_of_chain : List Entry → ExecKey → List Version
+survivors_of_chain list root = filter (is_of_chain list root) (survivors list)
+
+-- the survivors of all other chains
+abbrev pub survivors_beside : List Entry → ExecKey → List Version
+survivors_beside list root = filter (λ version. not (is_of_chain list root version)) (survivors list)
+
+-- each chain that isn't busted has exactly one survivor, and a busted chain has none
+pub record HasOneSurvivorEach (list : List Entry) : Type 0 where
+  pub live :
+      (key root : ExecKey) → root_of list key ≡ Some root → bust_in (links_of list) root ≡ None
+      → (version : Version) × (survivors_of_chain list root ≡ version ∷ [])
+  pub busted : (root : ExecKey) (number : ℕ) → bust_in (links_of list) root ≡ Some number → survivors_of_chain list root ≡ []
+
+-- a Bust leaves the survivors of the other chains as they were: the list, and the list without the Bust, have
+-- the same ones in the same order
+pub record BustsLeaveOthers (list : List Entry) : Type 0 where
+  pub others :
+      (front back : List Entry) (entry : Entry) (reference root : ExecKey) → list ≡ front ++ entry ∷ back
+      → role_of entry.command ≡ Busts reference → root_of front reference ≡ Some root
+      → survivors_beside list root ≡ survivors_beside (front ++ back) root
