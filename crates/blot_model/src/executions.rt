@@ -1,6 +1,6 @@
 //! The executions that stand.
 ghost use Rattle.std.specs.Prelude.{◌≡◌, IfOk, IsTrue};
-ghost use Rattle.blot_types.specs.Laws.{HasOneSurvivorEach, BustsLeaveOthers};
+ghost use Rattle.blot_types.specs.Laws.{HasOneSurvivorEach, BustsLeaveOthers, StandsUncorrected};
 ghost use Rattle.blot_types.specs.Legal.{is_book};
 ghost use Rattle.blot_types.specs.Survivors.{links_of, stands_in, survivors};
 
@@ -14,6 +14,7 @@ pub fn survivors(alloc: Global, list: &[Entry]) -> Result<Vec<Version>, NoMemory
     ensures exact { IfOk result (λ versions. versions.items ≡ survivors list.now) }
     ensures one_each { IsTrue (is_book list.now) → HasOneSurvivorEach list.now }
     ensures busts { IsTrue (is_book list.now) → BustsLeaveOthers list.now }
+    ensures uncorrected { IsTrue (is_book list.now) → StandsUncorrected list.now }
 {
     let mut versions = Vec::new(alloc);
     for entry in list {

@@ -187,7 +187,7 @@ busted_none list root number is =
     ∙ filter-none (stands_of links root) (versions_of list)
     (all (λ version. stands_of links root version ≡ false) (versions_of list) (λ version. busted-passed links root version.number number (root_in links version.key) is))
 
-book_parts : (list : List Entry) → IsTrue (is_book list) → (numbers_rise list ≡ true) × (is_legal list ≡ true)
+pub book_parts : (list : List Entry) → IsTrue (is_book list) → (numbers_rise list ≡ true) × (is_legal list ≡ true)
 book_parts list book = grind (arith, book)
 
 pub has_one_survivor_each : (list : List Entry) → IsTrue (is_book list) → HasOneSurvivorEach list
@@ -268,7 +268,7 @@ beside-same later earlier link root number (Some other) ends =
     ]
 
 -- the links of a list around one of its entries
-links_of-around : (front back : List Entry) (entry : Entry) → links_of (front ++ entry ∷ back) ≡ links_of back ++ link_of entry ∷ links_of front
+pub links_of-around : (front back : List Entry) (entry : Entry) → links_of (front ++ entry ∷ back) ≡ links_of back ++ link_of entry ∷ links_of front
 links_of-around front back entry =
     let turned : reverse (front ++ entry ∷ back) ≡ (reverse back ++ entry ∷ []) ++ reverse front =
     reverse-append front (entry ∷ back) ∙ ap (λ later. later ++ reverse front) (reverse-append (entry ∷ []) back) in

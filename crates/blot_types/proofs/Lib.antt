@@ -5,4 +5,5 @@ pub mod LegalLemmas
 pub mod OrderLemmas
 mod Rows
 pub mod StandLemmas
+pub mod UncorrectedLemmas
 pub mod SurvivorLemmas

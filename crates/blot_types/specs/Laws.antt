@@ -1,12 +1,14 @@
 -- What always holds of the definitions.
-use Rattle.std.specs.Prelude.{◌≡◌, ℕ, Bool, not, List, [], ◌∷◌, ◌++◌, filter, Some, None}
+use Rattle.std.specs.Prelude.{◌≡◌, ℕ, Bool, true, false, ◌&&◌, not, List, [], ◌∷◌, ◌++◌, filter, Some, None, is_none}
+use Rattle.std.specs.List.{list_any}
 use Rattle.blot_types.specs.declared.command.Entry.{Entry}
 use Rattle.blot_types.specs.declared.keys.ExecKey.{ExecKey}
 use Rattle.blot_types.specs.declared.lines.Version.{Version}
 use Rattle.blot_types.specs.declared.link.Link.{Link}
-use Rattle.blot_types.specs.declared.link.Role.TheVariants.{Begins, Busts}
-use Rattle.blot_types.specs.Chains.{takes_up, is_root, bust_in}
-use Rattle.blot_types.specs.Survivors.{links_of, root_of, role_of, survivors}
+use Rattle.blot_types.specs.declared.link.Role.{Role}
+use Rattle.blot_types.specs.declared.link.Role.TheVariants.{Begins, Corrects, Busts}
+use Rattle.blot_types.specs.Chains.{takes_up, root_in, is_root, bust_in}
+use Rattle.blot_types.specs.Survivors.{links_of, root_of, role_of, version_of, stands_in, survivors}
 
 -- the references of a chain end in one Trade: one link takes up the root, and it begins the chain
 pub record IsOneTrade (links : List Link) (root : ExecKey) : Type 0 where
@@ -40,3 +42,21 @@ pub record BustsLeaveOthers (list : List Entry) : Type 0 where
       (front back : List Entry) (entry : Entry) (reference root : ExecKey) → list ≡ front ++ entry ∷ back
       → role_of entry.command ≡ Busts reference → root_of front reference ≡ Some root
       → survivors_beside list root ≡ survivors_beside (front ++ back) root
+
+-- whether a role is a Correct's
+abbrev pub is_correct : Role → Bool
+is_correct Begins = false
+is_correct (Corrects reference) = true
+is_correct (Busts reference) = false
+
+-- whether a link of a list is a Correct of the chain of a root
+abbrev pub corrects_chain : List Link → ExecKey → Link → Bool
+corrects_chain links root link = is_correct link.role && is_root root (root_in links link.key)
+
+-- a version stands exactly where its chain isn't busted, and no later Correct is of its chain
+pub record StandsUncorrected (list : List Entry) : Type 0 where
+  pub stands :
+      (front back : List Entry) (entry : Entry) (version : Version) (root : ExecKey) → list ≡ front ++ entry ∷ back
+      → version_of entry ≡ Some version → root_of list version.key ≡ Some root
+      → stands_in (links_of list) version
+      ≡ (is_none (bust_in (links_of list) root) && not (list_any (corrects_chain (links_of list) root) (links_of back)))

@@ -4,7 +4,7 @@ ghost use Rattle.blot_command.specs.Kinds.{command_meaning};
 ghost use Rattle.blot_types.specs.declared.TheConstants.{EVENTS_MAX};
 
 use crate::fixtures::{exec, expect_back, fill, order, text};
-use crate::model::{compare, expect_entry};
+use crate::model::{compare, expect_entry, expect_no_entry};
 use blot_command::{ApplyFault, Tables, Undoable};
 use blot_types::{
     Bust, Command, Correct, EVENTS_MAX, Fill, OrderKey, OrderLine, Refused, Role, Sign, Trade,
@@ -63,14 +63,16 @@ fn fill_of(peer: &[u8], words: &Filled) -> Result<Fill, Fail> {
     }
 }
 
-fn trade(peer: &[u8], id: &[u8], words: &Filled) -> Result<Trade, Fail> {
+/// A trade in words.
+pub fn trade(peer: &[u8], id: &[u8], words: &Filled) -> Result<Trade, Fail> {
     Ok(Trade {
         key: exec(peer, id)?,
         fill: fill_of(peer, words)?,
     })
 }
 
-fn correct(peer: &[u8], id: &[u8], reference: &[u8], words: &Filled) -> Result<Correct, Fail> {
+/// A correction in words.
+pub fn correct(peer: &[u8], id: &[u8], reference: &[u8], words: &Filled) -> Result<Correct, Fail> {
     Ok(Correct {
         key: exec(peer, id)?,
         reference: exec(peer, reference)?,
@@ -78,7 +80,8 @@ fn correct(peer: &[u8], id: &[u8], reference: &[u8], words: &Filled) -> Result<C
     })
 }
 
-fn bust(peer: &[u8], id: &[u8], reference: &[u8]) -> Result<Bust, Fail> {
+/// A bust in words.
+pub fn bust(peer: &[u8], id: &[u8], reference: &[u8]) -> Result<Bust, Fail> {
     Ok(Bust {
         key: exec(peer, id)?,
         reference: exec(peer, reference)?,
@@ -211,6 +214,7 @@ fn play(
             play(alloc, tables, number + 1, orders, &row.lines, rest)?;
         }
     }
+    expect_no_entry(tables, number)?;
     expect_lines(alloc, tables, orders, before, number)
 }
 

@@ -6,6 +6,7 @@ use Rattle.blot_types.specs.declared.command.Entry.{Entry}
 use Rattle.blot_types.specs.declared.lines.Version.{Version}
 use Rattle.blot_types.specs.Survivors.{links_of, stands_in, version_of, versions_of}
 use Rattle.blot_types.proofs.LawLemmas.{has_one_survivor_each, busts_leave_others}
+use Rattle.blot_types.proofs.UncorrectedLemmas.{stands_uncorrected}
 use Rattle.blot_model.proofs.executions.survivors.Goals as goal
 use Rattle.blot_model.proofs.executions.survivors.Goals.{in-Some+then-stands+in_ok-push, in-Some+else-stands, in_default}
 
@@ -59,3 +60,9 @@ returns-in_err-push-clause-one_each c = has_one_survivor_each c.args.list.now
 
 pub returns-in_err-push-clause-busts : goal.returns-in_err-push-clause-busts
 returns-in_err-push-clause-busts c = busts_leave_others c.args.list.now
+
+pub returns-clause-uncorrected : goal.returns-clause-uncorrected
+returns-clause-uncorrected c = stands_uncorrected c.args.list.now
+
+pub returns-in_err-push-clause-uncorrected : goal.returns-in_err-push-clause-uncorrected
+returns-in_err-push-clause-uncorrected c = stands_uncorrected c.args.list.now

@@ -1,0 +1,166 @@
+-- A version is its chain's last exactly where no later Correct is of its chain.
+use Rattle.std.proofs.Common.{◌≡◌, ℕ, ◌<◌, Bool, true, false, ◌&&◌, List, [], ◌∷◌, ◌++◌, map, reverse, Option, Some, None, refl, sym, ap, subst, ◌∙◌, arith, inl, inr}
+use Rattle.std.specs.Prelude.{is_none, is_some, not, IsTrue, All, nat_lt}
+use Rattle.std.specs.List.{list_any}
+use Rattle.std.specs.Option.{option_map}
+use Rattle.std.proofs.lemmas.Bool.{cases_Bool, and_parts, ltb-true, ne_eqb, eq-eqb}
+use Rattle.std.proofs.lemmas.List.Elements.{All-nil, All-cons, All-head, All-tail, All-weaker}
+use Rattle.blot_types.specs.declared.command.Entry.{Entry}
+use Rattle.blot_types.specs.declared.fill.Fill.{Fill}
+use Rattle.blot_types.specs.declared.keys.ExecKey.{ExecKey}
+use Rattle.blot_types.specs.declared.lines.Version.{Version}
+use Rattle.blot_types.specs.declared.link.Link.{Link}
+use Rattle.blot_types.specs.declared.link.Role.{Role}
+use Rattle.blot_types.specs.declared.link.Role.TheVariants.{Begins, Corrects, Busts}
+use Rattle.blot_types.specs.Keys.{same_exec}
+use Rattle.blot_types.specs.Chains.{takes_up, taker_in, own_root, root_in, is_root, bust_in, current_in, link_refusal, is_chained}
+use Rattle.blot_types.specs.Legal.{legal_in, is_book}
+use Rattle.blot_types.specs.Laws.{is_correct, corrects_chain, StandsUncorrected}
+use Rattle.blot_types.specs.Survivors.{exec_key, fill_by, link_of, links_of, is_number, stands_under}
+use Rattle.blot_types.proofs.KeyLemmas.{same_exec-true, same_exec-refl}
+use Rattle.blot_types.proofs.ChainLemmas.{none_is, root-fresh, rootless, accepted_key, clash, differing, is_below, falls}
+use Rattle.blot_types.proofs.LawLemmas.{links_of-around, book_parts}
+use Rattle.blot_types.proofs.SurvivorLemmas.{falls-links}
+
+-- a new link takes up no key that has a root
+new-other : (links : List Link) (link : Link) (key root : ExecKey) → taker_in links link.key ≡ None → root_in links key ≡ Some root → takes_up key link ≡ false
+new-other links link key root fresh is =
+    elim (cases_Bool (takes_up key link)) [
+      | inl same ↦
+          let none : root_in links key ≡ None = subst (λ k. root_in links k ≡ None) (same_exec-true link.key key same) (rootless links link.key fresh) in
+          absurd (clash (sym is ∙ none))
+      | inr other ↦ other
+    ]
+
+-- its own root is no root of theirs unless it corrects the chain
+own_correct :
+    (links : List Link) (mine key root : ExecKey) (role : Role) → taker_in links mine ≡ None → root_in links key ≡ Some root
+    → is_root root (own_root (root_in links) mine role) ≡ true → is_correct role ≡ true
+own_correct links mine key root Begins fresh is own =
+    let same : mine ≡ root = same_exec-true mine root own in
+    let none : is_root mine (root_in links key) ≡ false = root-fresh links mine key fresh in
+    let found : is_root mine (root_in links key) ≡ true = ap (is_root mine) is ∙ ap (λ k. same_exec root k) same ∙ same_exec-refl root in
+    absurd (differing found none)
+own_correct links mine key root (Corrects reference) fresh is own = refl
+own_correct links mine key root (Busts reference) fresh is own = cc
+
+-- the links behind keep their roots
+abbrev IsTaken : List Link → Link → Type 0
+IsTaken links link = is_some (taker_in links link.key) ≡ true
+
+taken-more : (link : Link) (links : List Link) (other : Link) → IsTaken links other → IsTaken (link ∷ links) other
+taken-more link links other taken =
+    elim (cases_Bool (takes_up other.key link)) [
+      | inl here ↦ rw here refl
+      | inr passed ↦ rw passed taken
+    ]
+
+all_taken : (later earlier : List Link) → All (IsTaken (later ++ earlier)) later
+all_taken [] earlier = All-nil (IsTaken earlier)
+all_taken (link ∷ later) earlier =
+    All-cons (IsTaken (link ∷ later ++ earlier)) link later (rw (same_exec-refl link.key) refl)
+    (All-weaker (IsTaken (later ++ earlier)) (IsTaken (link ∷ later ++ earlier)) (λ other taken. taken-more link (later ++ earlier) other taken) later (all_taken later earlier))
+
+same_root : (links : List Link) (link other : Link) → taker_in links link.key ≡ None → IsTaken links other → root_in (link ∷ links) other.key ≡ root_in links other.key
+same_root links link other fresh taken =
+    elim (cases_Bool (takes_up other.key link)) [
+      | inl same ↦
+          let none : is_some (taker_in links other.key) ≡ false = ap (λ k. is_some (taker_in links k)) (sym (same_exec-true link.key other.key same)) ∙ ap is_some fresh in
+          absurd (differing taken none)
+      | inr passed ↦ rw passed refl
+    ]
+
+any-agree : (p q : Link → Bool) (links : List Link) → All (λ link. p link ≡ q link) links → list_any p links ≡ list_any q links
+any-agree p q [] agree = refl
+any-agree p q (link ∷ links) agree =
+    let here : p link ≡ q link = All-head (λ l. p l ≡ q l) link links agree in
+    rw (here, any-agree p q links (All-tail (λ l. p l ≡ q l) link links agree)) refl
+
+same_corrections :
+    (later earlier : List Link) (link : Link) (root : ExecKey) → taker_in (later ++ earlier) link.key ≡ None
+    → list_any (corrects_chain (link ∷ later ++ earlier) root) later ≡ list_any (corrects_chain (later ++ earlier) root) later
+same_corrections later earlier link root fresh =
+    any-agree (corrects_chain (link ∷ later ++ earlier) root) (corrects_chain (later ++ earlier) root) later
+    (All-weaker (IsTaken (later ++ earlier)) (λ other. corrects_chain (link ∷ later ++ earlier) root other ≡ corrects_chain (later ++ earlier) root other)
+    (λ other taken. ap (λ found. is_correct other.role && is_root root found) (same_root (later ++ earlier) link other fresh taken))
+    later (all_taken later earlier))
+
+below-number : (later earlier : List Link) (link : Link) (number : ℕ) → is_below number (later ++ link ∷ earlier) ≡ true → link.number < number
+below-number [] earlier link number below =
+    let parts : (nat_lt link.number number ≡ true) × (is_below number earlier ≡ true) = and_parts _ _ below in
+    ltb-true _ _ parts.0
+below-number (other ∷ later) earlier link number below =
+    let parts : (nat_lt other.number number ≡ true) × (is_below number (later ++ link ∷ earlier) ≡ true) = and_parts _ _ below in
+    below-number later earlier link number parts.1
+
+none_of : (test : Bool) → (test && false) ≡ false
+none_of true = refl
+none_of false = refl
+
+taken-among : (later earlier : List Link) (link : Link) → IsTaken (later ++ link ∷ earlier) link
+taken-among [] earlier link = rw (same_exec-refl link.key) refl
+taken-among (other ∷ later) earlier link = taken-more other (later ++ link ∷ earlier) link (taken-among later earlier link)
+
+-- the version of a link is the chain's last where none behind it corrects the chain
+pub last-uncorrected :
+    (later earlier : List Link) (link : Link) (root : ExecKey) → is_chained (later ++ link ∷ earlier) ≡ true → falls (later ++ link ∷ earlier) ≡ true
+    → root_in (later ++ link ∷ earlier) link.key ≡ Some root
+    → is_number link.number (current_in (later ++ link ∷ earlier) root) ≡ not (list_any (corrects_chain (later ++ link ∷ earlier) root) later)
+last-uncorrected [] earlier link root chained fall is =
+    let own : own_root (root_in earlier) link.key link.role ≡ Some root = rw (same_exec-refl link.key) at is in
+    rw (own, same_exec-refl root) (eq-eqb link.number link.number refl)
+last-uncorrected (other ∷ later) earlier link root chained fall is =
+    let rest = later ++ link ∷ earlier in
+    let chains : (is_none (link_refusal rest other.key other.role) ≡ true) × (is_chained rest ≡ true) = and_parts _ _ chained in
+    let fresh : taker_in rest other.key ≡ None = (accepted_key rest other.key other.role (none_is (link_refusal rest other.key other.role) chains.0)).0 in
+    let falling : (is_below other.number rest ≡ true) × (falls rest ≡ true) = and_parts _ _ fall in
+    let stood : root_in rest link.key ≡ Some root = sym (same_root rest other link fresh (taken-among later earlier link)) ∙ is in
+    let own : root_in (other ∷ rest) other.key ≡ own_root (root_in rest) other.key other.role = rw (same_exec-refl other.key) refl in
+    let test : corrects_chain (other ∷ rest) root other ≡ (is_correct other.role && is_root root (own_root (root_in rest) other.key other.role)) =
+    ap (λ found. is_correct other.role && is_root root found) own in
+    elim (cases_Bool (is_root root (own_root (root_in rest) other.key other.role))) [
+      | inl here ↦
+          let corrects : is_correct other.role ≡ true = own_correct rest other.key link.key root other.role fresh stood here in
+          let higher : link.number < other.number = below-number later earlier link other.number falling.0 in
+          let yes_it : corrects_chain (other ∷ rest) root other ≡ true = test ∙ rw (corrects, here) refl in
+          rw (here, yes_it) (ne_eqb other.number link.number (λ same. absurd (omega (arith, higher, same))))
+      | inr passed ↦
+          let no_it : corrects_chain (other ∷ rest) root other ≡ false = test ∙ rw passed (none_of (is_correct other.role)) in
+          let before : is_number link.number (current_in rest root) ≡ not (list_any (corrects_chain rest root) later) = last-uncorrected later earlier link root chains.1 falling.1 stood in
+          rw (passed, no_it) (before ∙ ap not (sym (same_corrections later (link ∷ earlier) other root fresh)))
+    ]
+
+chained-links : (entries : List Entry) → is_chained (map link_of entries) ≡ legal_in entries
+chained-links [] = refl
+chained-links (entry ∷ entries) = rw (chained-links entries) refl
+
+abbrev number_of : Option Version → ℕ
+number_of None = 0
+number_of (Some version) = version.number
+
+abbrev key_of : ExecKey → Option Version → ExecKey
+key_of other None = other
+key_of other (Some version) = version.key
+
+brought_key :
+    (number : ℕ) (key : ExecKey) (fill : Option Fill) (version : Version) → option_map (λ f. record { number = number; key = key; fill = f }) fill ≡ Some version
+    → (version.number ≡ number) × (version.key ≡ key)
+brought_key number key None version brought = cc
+brought_key number key (Some fill) version brought = (ap number_of (sym brought), ap (key_of key) (sym brought))
+
+pub stands_uncorrected : (list : List Entry) → IsTrue (is_book list) → StandsUncorrected list
+stands_uncorrected list book = record {
+  stands = λ front back entry version root is brought rooted.
+      let parts = book_parts list book in
+      let link = link_of entry in
+      let own = brought_key entry.number (exec_key entry.command) (fill_by entry.command) version brought in
+      let seen : links_of list ≡ links_of back ++ link ∷ links_of front = ap links_of is ∙ links_of-around front back entry in
+      let chained : is_chained (links_of back ++ link ∷ links_of front) ≡ true = ap is_chained (sym seen) ∙ chained-links (reverse list) ∙ parts.1 in
+      let fall : falls (links_of back ++ link ∷ links_of front) ≡ true = ap falls (sym seen) ∙ falls-links (reverse list) ∙ parts.0 in
+      let at : root_in (links_of back ++ link ∷ links_of front) link.key ≡ Some root = ap (λ links. root_in links link.key) (sym seen) ∙ ap (root_in (links_of list)) (sym own.1) ∙ rooted in
+      let last : is_number link.number (current_in (links_of list) root) ≡ not (list_any (corrects_chain (links_of list) root) (links_of back)) =
+      subst (λ links. is_number link.number (current_in links root) ≡ not (list_any (corrects_chain links root) (links_of back))) (sym seen) (last-uncorrected (links_of back) (links_of front) link root chained fall at) in
+      ap (stands_under (links_of list) version.number) rooted
+      ∙ ap (λ n. is_none (bust_in (links_of list) root) && is_number n (current_in (links_of list) root)) own.0
+      ∙ ap (λ test. is_none (bust_in (links_of list) root) && test) last;
+}
