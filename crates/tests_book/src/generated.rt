@@ -113,7 +113,16 @@ fn expect_refused(
     Ok(())
 }
 
-// Takes commands drawn from a seed, one after the other, and then their inverses, newest first.
+// After how many steps of other commands a run ends: for one seed in four up to a quarter of the steps left.
+fn others(seed: u32, steps: u32) -> u32
+    requires { 0 < steps }
+    ensures { result < steps }
+{
+    if seed >> 9 & 3 == 0 { steps / 4 } else { 0 }
+}
+
+// Takes commands drawn from a seed, one after the other, and then their inverses, newest first. Between
+// inverses it takes other commands, under numbers that were given before, and takes those back too.
 fn explore(
     alloc: Global,
     tables: &mut Tables,
@@ -138,6 +147,14 @@ fn explore(
             expect_taken(refusal, number)?;
             expect_entry(tables, number, &sent)?;
             explore(alloc, tables, orders, number + 1, seed, steps - 1)?;
+            explore(
+                alloc,
+                tables,
+                orders,
+                number + 1,
+                !seed,
+                others(seed, steps),
+            )?;
             let back = Command::revert(inverse, tables);
             expect_back(&sent, &back, number)?;
         }

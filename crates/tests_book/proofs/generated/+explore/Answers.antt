@@ -4,7 +4,7 @@ use Rattle.blot_command.specs.Book.{before, after}
 use Rattle.blot_command.specs.Kinds.{command_meaning, command_lawful}
 use Rattle.blot_command.proofs.StepLemmas.{below_next}
 use Rattle.tests_book.proofs.generated.+explore.Goals as goal
-use Rattle.tests_book.proofs.generated.+explore.Goals.{in-Ok+in_ok-expect_taken-in-Ok+in_ok-expect_entry-in-Ok+in_ok-explore-in-Ok+in_ok-expect_back-in-Ok, in-Err+in_ok-expect_refused-in-Err+in_ok-explore-in-Err}
+use Rattle.tests_book.proofs.generated.+explore.Goals.{in-Ok+in_ok-expect_taken-in-Ok+in_ok-expect_entry-in-Ok+in_ok-explore-in-Ok+in_ok-explore-in-Ok-2+in_ok-expect_back-in-Ok, in-Err+in_ok-expect_refused-in-Err+in_ok-explore-in-Err}
 
 if_ok : {T E : Type 0} (r : Result T E) (P : Type 0) → P → IfOk r (λ _. P)
 if_ok (Ok x) P p = p
@@ -20,10 +20,10 @@ explore-requires t c =
 pub returns : goal.returns
 returns t c =
     if_ok c.compare-2.result _ (elim c.match-apply.branch [
-      | in-Ok+in_ok-expect_taken-in-Ok+in_ok-expect_entry-in-Ok+in_ok-explore-in-Ok+in_ok-expect_back-in-Ok w ↦
+      | in-Ok+in_ok-expect_taken-in-Ok+in_ok-expect_entry-in-Ok+in_ok-explore-in-Ok+in_ok-explore-in-Ok-2+in_ok-expect_back-in-Ok w ↦
           let step = w.in-Ok.ensures.accepted in
           let stood = command_lawful.before_after _ _ _ step.is_next in
-          let left = w.in_ok-explore-in-Ok.ensures ∙ step.state_is in
+          let left = w.in_ok-explore-in-Ok-2.ensures ∙ w.in_ok-explore-in-Ok.ensures ∙ step.state_is in
           w.tables-is ∙ w.revert-back.ensures.state ∙ ap (λ list. before list w.in-Ok.inverse) left
           ∙ ap (λ number. before (after c.args.tables.now c.in_ok-try_copy.field-0 c.args.number) number) step.inverse_is ∙ stood
       | in-Err+in_ok-expect_refused-in-Err+in_ok-explore-in-Err w ↦
