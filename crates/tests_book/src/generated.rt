@@ -113,6 +113,74 @@ fn expect_refused(
     Ok(())
 }
 
+// A command is taken or refused as the plain program says, and taken back.
+fn try_command(alloc: Global, tables: &mut Tables, number: u64, sent: &Command) -> Result<(), Fail>
+    requires above { All (λ earlier. earlier < number) (command_meaning.numbers tables.old) }
+    requires within { number ≤ EVENTS_MAX }
+    ensures { IfOk result (λ _. tables.new ≡ tables.old) }
+{
+    let refusal = expected(alloc, tables, number, sent)?;
+    match sent.try_copy()?.apply(tables, number) {
+        Ok(inverse) => {
+            expect_taken(refusal, number)?;
+            let back = Command::revert(inverse, tables);
+            expect_back(sent, &back, number)
+        }
+        Err((back, fault)) => expect_refused(refusal, fault, sent, &back, number),
+    }
+}
+
+// A trade under a key, which tells whether the key is taken up.
+fn trade_under(peer: &[u8], id: u32) -> Result<Command, Fail> {
+    Ok(Command::Trade(Trade {
+        key: exec(peer, drawn_id(id))?,
+        fill: drawn_fill(peer, id)?,
+    }))
+}
+
+// A bust of a key, which tells whether the key has a root, and whether its chain is busted.
+fn bust_of(peer: &[u8], id: u32) -> Result<Command, Fail> {
+    Ok(Command::Bust(Bust {
+        key: exec(peer, b"X")?,
+        reference: exec(peer, drawn_id(id))?,
+    }))
+}
+
+// A key is taken up, rooted and busted as the plain program says.
+fn try_key(
+    alloc: Global,
+    tables: &mut Tables,
+    number: u64,
+    peer: &[u8],
+    id: u32,
+) -> Result<(), Fail>
+    requires above { All (λ earlier. earlier < number) (command_meaning.numbers tables.old) }
+    requires within { number ≤ EVENTS_MAX }
+    ensures { IfOk result (λ _. tables.new ≡ tables.old) }
+{
+    match trade_under(peer, id) {
+        Ok(sent) => try_command(alloc, tables, number, &sent)?,
+        Err(fail) => return Err(fail),
+    }
+    match bust_of(peer, id) {
+        Ok(sent) => try_command(alloc, tables, number, &sent),
+        Err(fail) => Err(fail),
+    }
+}
+
+// Each key that is drawn, likewise.
+fn try_keys(alloc: Global, tables: &mut Tables, number: u64) -> Result<(), Fail>
+    requires above { All (λ earlier. earlier < number) (command_meaning.numbers tables.old) }
+    requires within { number ≤ EVENTS_MAX }
+    ensures { IfOk result (λ _. tables.new ≡ tables.old) }
+{
+    for id in 0..8u32 {
+        try_key(alloc, tables, number, b"BRKA", id)?;
+        try_key(alloc, tables, number, b"BRKB", id)?;
+    }
+    Ok(())
+}
+
 // After how many steps of other commands a run ends: for one seed in four up to a quarter of the steps left.
 fn others(seed: u32, steps: u32) -> u32
     requires { 0 < steps }
@@ -136,6 +204,7 @@ fn explore(
     ensures { IfOk result (λ _. tables.new ≡ tables.old) }
 {
     compare(alloc, tables, number, orders)?;
+    try_keys(alloc, tables, number)?;
     if steps == 0 {
         return Ok(());
     }
@@ -181,7 +250,7 @@ fn drawn_orders() -> Result<[OrderKey; 6], Fail> {
 #[test]
 fn runs_of_commands_and_their_inverses(rt: HostRuntime) -> Result<(), Fail> {
     let orders = drawn_orders()?;
-    for seed in 0..20u32 {
+    for seed in 0..12u32 {
         let mut tables = Tables::new(rt.alloc());
         let seed = seed.wrapping_mul(2_654_435_769);
         explore(rt.alloc(), &mut tables, &orders, 1, seed, 40)?;

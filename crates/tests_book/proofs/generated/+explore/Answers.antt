@@ -25,7 +25,9 @@ returns t c =
           let stood = command_lawful.before_after _ _ _ step.is_next in
           let left = w.in_ok-explore-in-Ok-2.ensures ∙ w.in_ok-explore-in-Ok.ensures ∙ step.state_is in
           w.tables-is ∙ w.revert-back.ensures.state ∙ ap (λ list. before list w.in-Ok.inverse) left
-          ∙ ap (λ number. before (after c.args.tables.now c.in_ok-try_copy.field-0 c.args.number) number) step.inverse_is ∙ stood
+          ∙ ap (λ number. before (after c.try_keys.new.tables c.in_ok-try_copy.field-0 c.args.number) number) step.inverse_is ∙ stood
+          ∙ c.in_ok-try_keys.ensures
       | in-Err+in_ok-expect_refused-in-Err+in_ok-explore-in-Err w ↦
           w.tables-is ∙ w.in_ok-explore-in-Err.ensures ∙ w.in-Err.ensures.refused.state_is
+          ∙ c.in_ok-try_keys.ensures
     ])
