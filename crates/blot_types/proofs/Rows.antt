@@ -14,7 +14,7 @@ use Rattle.blot_types.specs.declared.lines.Version.{Version}
 use Rattle.blot_types.specs.Laws.{survivors_of_chain, survivors_beside}
 use Rattle.blot_types.specs.Legal.{is_legal, refusal_of}
 use Rattle.blot_types.specs.Order.{order_of}
-use Rattle.blot_types.specs.Survivors.{root_of, survivors}
+use Rattle.blot_types.specs.Survivors.{root_of, busted_roots, survivors}
 
 abbrev exec : ℕ → ExecKey
 exec n = record { peer = 66 ∷ []; id = 69 ∷ n ∷ [] }
@@ -86,6 +86,9 @@ busted_line = refl
 
 busted_survivors : numbers busted ≡ 2 ∷ []
 busted_survivors = refl
+
+busted_chains : busted_roots busted ≡ exec 1 ∷ []
+busted_chains = refl
 
 busted_again : refusal_of busted (bust_of 5 1) ≡ Some (BustedExec 4)
 busted_again = refl

@@ -1,7 +1,7 @@
 -- A version is its chain's last exactly where no later Correct is of its chain.
 use Rattle.std.proofs.Common.{◌≡◌, ℕ, ◌<◌, Bool, true, false, ◌&&◌, List, [], ◌∷◌, ◌++◌, map, reverse, Option, Some, None, refl, sym, ap, subst, ◌∙◌, arith, inl, inr}
-use Rattle.std.specs.Prelude.{is_none, is_some, not, IsTrue, All, nat_lt}
-use Rattle.std.specs.List.{list_any}
+use Rattle.std.specs.Prelude.{◌||◌, is_none, is_some, not, IsTrue, All, nat_lt}
+use Rattle.std.specs.List.{cons_option, list_any}
 use Rattle.std.specs.Option.{option_map}
 use Rattle.std.proofs.lemmas.Bool.{cases_Bool, and_parts, ltb-true, ne_eqb, eq-eqb}
 use Rattle.std.proofs.lemmas.List.Elements.{All-nil, All-cons, All-head, All-tail, All-weaker}
@@ -13,9 +13,9 @@ use Rattle.blot_types.specs.declared.link.Link.{Link}
 use Rattle.blot_types.specs.declared.link.Role.{Role}
 use Rattle.blot_types.specs.declared.link.Role.TheVariants.{Begins, Corrects, Busts}
 use Rattle.blot_types.specs.Keys.{same_exec}
-use Rattle.blot_types.specs.Chains.{takes_up, taker_in, own_root, root_in, is_root, bust_in, current_in, link_refusal, is_chained}
+use Rattle.blot_types.specs.Chains.{takes_up, taker_in, own_root, root_in, is_root, busted_by, busted_roots_in, bust_in, current_in, link_refusal, is_chained}
 use Rattle.blot_types.specs.Legal.{legal_in, is_book}
-use Rattle.blot_types.specs.Laws.{is_correct, corrects_chain, StandsUncorrected}
+use Rattle.blot_types.specs.Laws.{is_among, is_correct, corrects_chain, StandsUncorrected}
 use Rattle.blot_types.specs.Survivors.{exec_key, fill_by, link_of, links_of, is_number, stands_under}
 use Rattle.blot_types.proofs.KeyLemmas.{same_exec-true, same_exec-refl}
 use Rattle.blot_types.proofs.ChainLemmas.{none_is, root-fresh, rootless, accepted_key, clash, differing, is_below, falls}
@@ -148,6 +148,30 @@ brought_key :
 brought_key number key None version brought = cc
 brought_key number key (Some fill) version brought = (ap number_of (sym brought), ap (key_of key) (sym brought))
 
+-- a chain has a Bust exactly where its root is one of the busted ones
+busted-one : (root : ExecKey) (found : Option ExecKey) (others : List ExecKey) → is_among (cons_option found others) root ≡ (is_root root found || is_among others root)
+busted-one root None others = refl
+busted-one root (Some other) others = refl
+
+busted-role :
+    (links : List Link) (number : ℕ) (key root : ExecKey) (role : Role) → is_some (bust_in links root) ≡ is_among (busted_roots_in links) root
+    → is_some (bust_in (record { number = number; key = key; role = role } ∷ links) root) ≡ is_among (busted_by links role (busted_roots_in links)) root
+busted-role links number key root Begins before = before
+busted-role links number key root (Corrects reference) before = before
+busted-role links number key root (Busts reference) before =
+    elim (cases_Bool (is_root root (root_in links reference))) [
+      | inl here ↦ rw (busted-one root (root_in links reference) (busted_roots_in links), here) refl
+      | inr other ↦ rw (busted-one root (root_in links reference) (busted_roots_in links), other) before
+    ]
+
+busted-among : (links : List Link) (root : ExecKey) → is_some (bust_in links root) ≡ is_among (busted_roots_in links) root
+busted-among [] root = refl
+busted-among (link ∷ earlier) root = busted-role earlier link.number link.key root link.role (busted-among earlier root)
+
+unbusted : (bust : Option ℕ) → is_none bust ≡ not (is_some bust)
+unbusted None = refl
+unbusted (Some number) = refl
+
 pub stands_uncorrected : (list : List Entry) → IsTrue (is_book list) → StandsUncorrected list
 stands_uncorrected list book = record {
   stands = λ front back entry version root is brought rooted.
@@ -162,5 +186,6 @@ stands_uncorrected list book = record {
       subst (λ links. is_number link.number (current_in links root) ≡ not (list_any (corrects_chain links root) (links_of back))) (sym seen) (last-uncorrected (links_of back) (links_of front) link root chained fall at) in
       ap (stands_under (links_of list) version.number) rooted
       ∙ ap (λ n. is_none (bust_in (links_of list) root) && is_number n (current_in (links_of list) root)) own.0
-      ∙ ap (λ test. is_none (bust_in (links_of list) root) && test) last;
+      ∙ ap (λ test. is_none (bust_in (links_of list) root) && test) last
+      ∙ ap (λ test. test && not (list_any (corrects_chain (links_of list) root) (links_of back))) (unbusted (bust_in (links_of list) root) ∙ ap not (busted-among (links_of list) root));
 }

@@ -3,6 +3,7 @@
 -- "The entries before it" is natural on a list newest first. So a word that ends in `_in` reads the links
 -- newest first: behind a link stand the earlier ones.
 use Rattle.std.specs.Prelude.{ℕ, Bool, true, false, ◌&&◌, List, [], ◌∷◌, Option, Some, None, find, is_none, if◌then◌else◌}
+use Rattle.std.specs.List.{cons_option}
 use Rattle.std.specs.Option.{option_map, option_or, option_and_then}
 use Rattle.blot_types.specs.declared.keys.ExecKey.{ExecKey}
 use Rattle.blot_types.specs.declared.link.Link.{Link}
@@ -47,6 +48,16 @@ busts earlier root (Busts reference) = is_root root (root_in earlier reference)
 abbrev pub bust_in : List Link → ExecKey → Option ℕ
 bust_in [] root = None
 bust_in (link ∷ earlier) root = if busts earlier root link.role then Some link.number else bust_in earlier root
+
+-- the roots of the chains that are busted: those of the references of the Busts
+abbrev pub busted_by : List Link → Role → List ExecKey → List ExecKey
+busted_by earlier Begins others = others
+busted_by earlier (Corrects reference) others = others
+busted_by earlier (Busts reference) others = cons_option (root_in earlier reference) others
+
+abbrev pub busted_roots_in : List Link → List ExecKey
+busted_roots_in [] = []
+busted_roots_in (link ∷ earlier) = busted_by earlier link.role (busted_roots_in earlier)
 
 -- the number of the last version of the chain of a root: the newest Trade or Correct with that root
 abbrev pub current_in : List Link → ExecKey → Option ℕ

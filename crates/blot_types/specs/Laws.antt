@@ -1,5 +1,5 @@
 -- What always holds of the definitions.
-use Rattle.std.specs.Prelude.{◌≡◌, ℕ, Bool, true, false, ◌&&◌, not, List, [], ◌∷◌, ◌++◌, filter, Some, None, is_none}
+use Rattle.std.specs.Prelude.{◌≡◌, ℕ, Bool, true, false, ◌&&◌, not, List, [], ◌∷◌, ◌++◌, filter, Some, None}
 use Rattle.std.specs.List.{list_any}
 use Rattle.blot_types.specs.declared.command.Entry.{Entry}
 use Rattle.blot_types.specs.declared.keys.ExecKey.{ExecKey}
@@ -8,7 +8,8 @@ use Rattle.blot_types.specs.declared.link.Link.{Link}
 use Rattle.blot_types.specs.declared.link.Role.{Role}
 use Rattle.blot_types.specs.declared.link.Role.TheVariants.{Begins, Corrects, Busts}
 use Rattle.blot_types.specs.Chains.{takes_up, root_in, is_root, bust_in}
-use Rattle.blot_types.specs.Survivors.{links_of, root_of, role_of, version_of, stands_in, survivors}
+use Rattle.blot_types.specs.Keys.{same_exec}
+use Rattle.blot_types.specs.Survivors.{links_of, root_of, busted_roots, role_of, version_of, stands_in, survivors}
 
 -- the references of a chain end in one Trade: one link takes up the root, and it begins the chain
 pub record IsOneTrade (links : List Link) (root : ExecKey) : Type 0 where
@@ -53,10 +54,14 @@ is_correct (Busts reference) = false
 abbrev pub corrects_chain : List Link → ExecKey → Link → Bool
 corrects_chain links root link = is_correct link.role && is_root root (root_in links link.key)
 
--- a version stands exactly where its chain isn't busted, and no later Correct is of its chain
+-- whether a root is among some
+abbrev pub is_among : List ExecKey → ExecKey → Bool
+is_among roots root = list_any (λ other. same_exec other root) roots
+
+-- a version stands exactly where its root isn't one of the busted ones, and no later Correct is of its chain
 pub record StandsUncorrected (list : List Entry) : Type 0 where
   pub stands :
       (front back : List Entry) (entry : Entry) (version : Version) (root : ExecKey) → list ≡ front ++ entry ∷ back
       → version_of entry ≡ Some version → root_of list version.key ≡ Some root
       → stands_in (links_of list) version
-      ≡ (is_none (bust_in (links_of list) root) && not (list_any (corrects_chain (links_of list) root) (links_of back)))
+      ≡ (not (is_among (busted_roots list) root) && not (list_any (corrects_chain (links_of list) root) (links_of back)))

@@ -12,7 +12,7 @@ use Rattle.blot_types.specs.declared.lines.Version.{Version}
 use Rattle.blot_types.specs.declared.link.Link.{Link}
 use Rattle.blot_types.specs.declared.link.Role.{Role}
 use Rattle.blot_types.specs.declared.link.Role.TheVariants.{Begins, Corrects, Busts}
-use Rattle.blot_types.specs.Chains.{root_in, bust_in, current_in}
+use Rattle.blot_types.specs.Chains.{root_in, busted_roots_in, bust_in, current_in}
 
 -- the ExecKey that a command takes up
 abbrev pub exec_key : Command → ExecKey
@@ -37,6 +37,10 @@ links_of list = map link_of (reverse list)
 -- the root of a key
 abbrev pub root_of : List Entry → ExecKey → Option ExecKey
 root_of list key = root_in (links_of list) key
+
+-- the roots of the chains that are busted
+abbrev pub busted_roots : List Entry → List ExecKey
+busted_roots list = busted_roots_in (links_of list)
 
 -- the fill that a command brings: a Bust brings none
 abbrev pub fill_by : Command → Option Fill
