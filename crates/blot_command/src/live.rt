@@ -1,5 +1,5 @@
 //! The live list.
-ghost use Rattle.std.specs.Prelude.{◌≡◌, ◌<◌, [], ◌∷◌, ◌++◌, length, find, None, IsTrue, OnOk, OnErr, IfErr};
+ghost use Rattle.std.specs.Prelude.{◌≡◌, ◌<◌, [], ◌∷◌, ◌++◌, length, find, None, IsTrue, OnOk, OnErr, IfOk, IfErr};
 ghost use Rattle.std.specs.Option.{option_and_then, option_copied};
 ghost use Rattle.blot_types.specs.Chains.{link_refusal, replaced_in, chain_refusal, root_in, current_in};
 ghost use Rattle.blot_types.specs.Legal.{is_book, refusal_of};
@@ -49,6 +49,18 @@ impl LiveList {
         ensures { option_copied result ≡ find (has_number number) self.now }
     {
         self.entries.iter().find(|entry| entry.number == number)
+    }
+
+    /// The entries, copied.
+    pub(crate) fn entries(&self, alloc: Global) -> Result<Vec<Entry>, NoMemory>
+        ensures { IfOk result (λ entries. entries.items ≡ self.now) }
+    {
+        let mut copies = Vec::with_capacity(alloc, self.entries.len())?;
+        for entry in &self.entries {
+            let copy = copy_of(entry)?;
+            copies.push(copy)?;
+        }
+        Ok(copies)
     }
 
     /// Why the list refuses a command.
@@ -141,6 +153,19 @@ impl LiveList {
             }
             None => unreachable!(),
         }
+    }
+}
+
+// An equal entry.
+fn copy_of(entry: &Entry) -> Result<Entry, NoMemory>
+    ensures { IfOk result (λ copy. copy ≡ entry.now) }
+{
+    match entry.command.try_copy() {
+        Ok(command) => Ok(Entry {
+            number: entry.number,
+            command,
+        }),
+        Err(fault) => Err(fault),
     }
 }
 

@@ -11,4 +11,10 @@ pub enum Refused {
     UnknownExec(ExecKey),
     /// The entry of this number busted the chain.
     BustedExec(u64),
+    /// No step is done.
+    NothingToUndo,
+    /// The newest done step has this other number.
+    Moved(u64),
+    /// No step is undone.
+    NothingToRedo,
 }
