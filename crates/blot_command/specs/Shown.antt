@@ -32,11 +32,12 @@ pub record Shows (list : List Entry) (slots : List Slot) : Type 0 where
   pub put : (number : ℕ) → put_at slots number ≡ fill_numbered number (survivors list)
   pub held : All (λ version. held_at slots version.number ≡ Some version.fill) (versions_of list)
 
--- the slots with the fill of a version put, or kept; without a version they are as they were
+-- the slots with the fill of a version put; without a version they are as they were
 abbrev pub with_put : Option Version → List Slot → List Slot
 with_put None slots = slots
 with_put (Some version) slots = with_slot version.number (Put version.fill) slots
 
+-- the slots with the fill of a version kept, likewise
 abbrev pub with_kept : Option Version → List Slot → List Slot
 with_kept None slots = slots
 with_kept (Some version) slots = with_slot version.number (Kept version.fill) slots
@@ -46,9 +47,10 @@ pub record CanPut (version : Version) (slots : List Slot) : Type 0 where
   pub unput : put_at slots version.number ≡ None
   pub within : version.number ≤ EVENTS_MAX
 
--- a version's fill is put; it is kept
+-- a version's fill is put
 abbrev pub IsPut : Version → List Slot → Type 0
 IsPut version slots = put_at slots version.number ≡ Some version.fill
 
+-- a version's fill is kept
 abbrev pub IsKept : Version → List Slot → Type 0
 IsKept version slots = kept_at slots version.number ≡ Some version.fill

@@ -32,28 +32,31 @@ pub record Outcome : Type 0 where
 abbrev pub refused_by : DeskBook → Reason → Outcome
 refused_by book reason = record { book = book; reply = Refused reason }
 
--- a command: done under the next number where the list accepts it
+-- a command, by the list's refusal of it: done under the next number where there is none
 abbrev pub submit_by : DeskBook → Command → Option Reason → Outcome
 submit_by book command None = record { book = apply_of command_meaning book command; reply = Accepted book.next }
 submit_by book command (Some reason) = refused_by book reason
 
+-- a command: done where the list accepts it
 abbrev pub submit_of : DeskBook → Command → Outcome
 submit_of book command = submit_by book command (refusal_of book.list command)
 
--- undo of the newest done step, where it has the number that the caller believes to be newest
+-- undo, by the number of the newest done step: only where it is the one that the caller believes to be newest
 abbrev pub undo_by : DeskBook → ℕ → Option ℕ → Outcome
 undo_by book newest None = refused_by book NothingToUndo
 undo_by book newest (Some number) =
     if number == newest then record { book = undone_book command_meaning book; reply = Undone number } else refused_by book (Moved number)
 
+-- undo of the newest done step
 abbrev pub undo_of : DeskBook → ℕ → Outcome
 undo_of book newest = undo_by book newest (newest_done book.done)
 
--- redo of the step that was undone last, under its own number
+-- redo, by the number of the step that was undone last, which it keeps
 abbrev pub redo_by : DeskBook → Option ℕ → Outcome
 redo_by book None = refused_by book NothingToRedo
 redo_by book (Some number) = record { book = redone_book command_meaning book; reply = Redone number }
 
+-- redo of the step that was undone last
 abbrev pub redo_of : DeskBook → Outcome
 redo_of book = redo_by book (newest_undone book.undone)
 
@@ -93,10 +96,11 @@ recorded_of journal event = record {
   history = journal.history ++ record { event = event; reply = (step_of journal.book event).reply } ∷ [];
 }
 
--- the recorded events, and the replies
+-- the recorded events
 abbrev pub events_of : List Recorded → List Event
 events_of history = map (λ recorded. recorded.event) history
 
+-- the replies to them
 abbrev pub replies_of : List Recorded → List Reply
 replies_of history = map (λ recorded. recorded.reply) history
 

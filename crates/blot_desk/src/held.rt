@@ -1,6 +1,5 @@
 //! What a desk holds.
 ghost use Rattle.std.specs.Prelude.{◌≡◌, ◌↔◌, ◌∷◌, ◌++◌, [], Err, IfOk, OnErr, IsOk, IsTrue, ◌<◌, length, vec_capacity};
-ghost use Rattle.blot_types.specs.declared.TheConstants.{EVENTS_MAX};
 ghost use Rattle.blot_types.specs.Legal.{is_book};
 ghost use Rattle.blot_types.specs.Order.{order_of};
 ghost use Rattle.blot_desk.specs.Desk.{empty_journal, step_of, recorded_of, events_of, run_of, IsRun};

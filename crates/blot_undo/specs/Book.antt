@@ -48,6 +48,7 @@ undo_in m book (step ∷ earlier) = record {
   next = book.next;
 }
 
+-- the same, by the book's own done steps
 abbrev pub undo_of : {S L C I R : Type 0} → Meaning S L C I R → Book L C I → Book L C I
 undo_of m book = undo_in m book book.done
 
@@ -62,6 +63,7 @@ redo_in m book (step ∷ later) = record {
   next = book.next;
 }
 
+-- the same, by the book's own undone steps
 abbrev pub redo_of : {S L C I R : Type 0} → Meaning S L C I R → Book L C I → Book L C I
 redo_of m book = redo_in m book book.undone
 
@@ -81,10 +83,11 @@ past m list done zero = list
 past m list [] (suc count) = list
 past m list (step ∷ earlier) (suc count) = past m (m.before list step.inverse) earlier count
 
--- the numbers of done steps, and of undone ones
+-- the number of a done step
 abbrev pub done_number : {I : Type 0} → Done I → ℕ
 done_number step = step.number
 
+-- the number of an undone step
 abbrev pub undone_number : {C : Type 0} → Undone C → ℕ
 undone_number step = step.number
 

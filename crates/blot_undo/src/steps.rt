@@ -1,6 +1,5 @@
 //! The stack of steps.
 ghost use Rattle.std.specs.Prelude.{◌≡◌, ℕ, ◌≤◌, ◌+◌, [], None, IsTrue, ◌↔◌, IfOk, IfErr, OnOk, OnErr, length, vec_capacity};
-ghost use Rattle.blot_types.specs.declared.TheConstants.{EVENTS_MAX};
 ghost use Rattle.blot_command.specs.Undoable.{numbers_in};
 ghost use Rattle.blot_undo.specs.Book.{book_of, apply_of, undo_of, redo_of, rewound, past, newest_done, newest_undone};
 ghost use Rattle.blot_undo.specs.Laws.{LeadTo, GoesBack, RoundTrips};
