@@ -2,6 +2,7 @@
 pub mod Bytes
 pub mod Results
 pub mod Fields
+pub mod FieldText
 pub mod Faults
 pub mod Views
 pub mod Frames

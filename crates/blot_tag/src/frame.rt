@@ -1,5 +1,8 @@
-ghost use Rattle.std.specs.Prelude.{◌≡◌, ◌≤◌, length};
-ghost use Rattle.blot_tag.specs.Fields.{fields_of};
+//! One valid frame.
+ghost use Rattle.std.specs.Prelude.{◌≡◌, ◌≤◌, length, None, IsNone};
+ghost use Rattle.std.specs.List.{All};
+ghost use Rattle.blot_tag.specs.Fields.{fields_of, fields_before_fault, fault_of};
+ghost use Rattle.blot_tag.specs.FieldText.{fields_text, BeginsWith, IsSlice, EachEnds};
 ghost use Rattle.blot_tag.specs.Frames.{IsFrame};
 
 use crate::fields::Fields;
@@ -27,6 +30,13 @@ impl<'a> Frame<'a> {
     /// first that can't be split off, and then that fault. FIX 4.4 volume 1, "tag=value" syntax.
     pub fn fields(&self) -> Fields<'a>
         ensures items { result ≡ fields_of (text_of self.now) }
+
+        // In plain words: the fields stand in the frame one behind the other, each value a slice of
+        // it, and without a fault they are all of it.
+        ensures front { BeginsWith (fields_text (fields_before_fault result)) (text_of self.now) }
+        ensures whole { IsNone (fault_of result) → fields_text (fields_before_fault result) ≡ text_of self.now }
+        ensures slices { All (λ field. IsSlice field.value (text_of self.now)) (fields_before_fault result) }
+        ensures ends { EachEnds None (fields_before_fault result) }
 
         // No frame is longer than 65,562 bytes.
         ensures few { length result ≤ 65562 }

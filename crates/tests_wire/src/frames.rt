@@ -7,7 +7,8 @@ use std::test::Fail;
 
 const HEARTBEAT: &str = "8=FIX.4.4|9=45|35=0|49=BRKA|56=MO|34=2|52=20240105-10:00:00|10=179|";
 
-// A stream, and then its frames' fields, a line for each frame, and how many bytes are passed over.
+// A stream, and then its frames' fields, a line for each frame, and how many bytes are passed over. `|` is
+// SOH, and `^` one within a value.
 const STREAMS: [(&str, &str, &str); 19] = [
     (
         "a heartbeat",
@@ -22,12 +23,12 @@ const STREAMS: [(&str, &str, &str); 19] = [
     (
         "a data field that looks like a trailer",
         "8=FIX.4.4|9=67|35=5|49=BRKA|56=MO|34=9|52=20240105-10:00:00|354=10|355=abc|10=000|10=046|",
-        "8=FIX.4.4|9=67|35=5|49=BRKA|56=MO|34=9|52=20240105-10:00:00|354=10|355=abc|10=000|10=046|\nskipped 0",
+        "8=FIX.4.4|9=67|35=5|49=BRKA|56=MO|34=9|52=20240105-10:00:00|354=10|355=abc^10=000|10=046|\nskipped 0",
     ),
     (
         "three frames in a row",
         "8=FIX.4.4|9=45|35=0|49=BRKA|56=MO|34=2|52=20240105-10:00:00|10=179|8=FIX.4.4|9=67|35=5|49=BRKA|56=MO|34=9|52=20240105-10:00:00|354=10|355=abc|10=000|10=046|8=FIX.4.4|9=45|35=0|49=BRKA|56=MO|34=2|52=20240105-10:00:00|10=179|",
-        "8=FIX.4.4|9=45|35=0|49=BRKA|56=MO|34=2|52=20240105-10:00:00|10=179|\n8=FIX.4.4|9=67|35=5|49=BRKA|56=MO|34=9|52=20240105-10:00:00|354=10|355=abc|10=000|10=046|\n8=FIX.4.4|9=45|35=0|49=BRKA|56=MO|34=2|52=20240105-10:00:00|10=179|\nskipped 0",
+        "8=FIX.4.4|9=45|35=0|49=BRKA|56=MO|34=2|52=20240105-10:00:00|10=179|\n8=FIX.4.4|9=67|35=5|49=BRKA|56=MO|34=9|52=20240105-10:00:00|354=10|355=abc^10=000|10=046|\n8=FIX.4.4|9=45|35=0|49=BRKA|56=MO|34=2|52=20240105-10:00:00|10=179|\nskipped 0",
     ),
     (
         "leading zeros of BodyLength",
@@ -140,87 +141,87 @@ const FRONTS: [(&str, u64); 38] = [
     ("8=FIX.4.4|9=65536|35=aaa", 0),
 ];
 
-// A frame, and its fields up to the first fault: its tag and its reason.
+// A frame, and its fields up to the first fault: its tag and its reason. `^` is an SOH within a value.
 const FIELDS: [(&str, &str, &str); 39] = [
     (
         "data 91 behind 90",
         "8=FIX.4.4|9=22|35=0|90=3|91=a|b|58=c|10=038|",
-        "8=FIX.4.4|9=22|35=0|90=3|91=a|b|58=c|10=038|",
+        "8=FIX.4.4|9=22|35=0|90=3|91=a^b|58=c|10=038|",
     ),
     (
         "data 89 behind 93",
         "8=FIX.4.4|9=22|35=0|93=3|89=a|b|58=c|10=048|",
-        "8=FIX.4.4|9=22|35=0|93=3|89=a|b|58=c|10=048|",
+        "8=FIX.4.4|9=22|35=0|93=3|89=a^b|58=c|10=048|",
     ),
     (
         "data 96 behind 95",
         "8=FIX.4.4|9=22|35=0|95=3|96=a|b|58=c|10=048|",
-        "8=FIX.4.4|9=22|35=0|95=3|96=a|b|58=c|10=048|",
+        "8=FIX.4.4|9=22|35=0|95=3|96=a^b|58=c|10=048|",
     ),
     (
         "data 213 behind 212",
         "8=FIX.4.4|9=24|35=0|212=3|213=a|b|58=c|10=128|",
-        "8=FIX.4.4|9=24|35=0|212=3|213=a|b|58=c|10=128|",
+        "8=FIX.4.4|9=24|35=0|212=3|213=a^b|58=c|10=128|",
     ),
     (
         "data 349 behind 348",
         "8=FIX.4.4|9=24|35=0|348=3|349=a|b|58=c|10=148|",
-        "8=FIX.4.4|9=24|35=0|348=3|349=a|b|58=c|10=148|",
+        "8=FIX.4.4|9=24|35=0|348=3|349=a^b|58=c|10=148|",
     ),
     (
         "data 351 behind 350",
         "8=FIX.4.4|9=24|35=0|350=3|351=a|b|58=c|10=134|",
-        "8=FIX.4.4|9=24|35=0|350=3|351=a|b|58=c|10=134|",
+        "8=FIX.4.4|9=24|35=0|350=3|351=a^b|58=c|10=134|",
     ),
     (
         "data 353 behind 352",
         "8=FIX.4.4|9=24|35=0|352=3|353=a|b|58=c|10=138|",
-        "8=FIX.4.4|9=24|35=0|352=3|353=a|b|58=c|10=138|",
+        "8=FIX.4.4|9=24|35=0|352=3|353=a^b|58=c|10=138|",
     ),
     (
         "data 355 behind 354",
         "8=FIX.4.4|9=24|35=0|354=3|355=a|b|58=c|10=142|",
-        "8=FIX.4.4|9=24|35=0|354=3|355=a|b|58=c|10=142|",
+        "8=FIX.4.4|9=24|35=0|354=3|355=a^b|58=c|10=142|",
     ),
     (
         "data 357 behind 356",
         "8=FIX.4.4|9=24|35=0|356=3|357=a|b|58=c|10=146|",
-        "8=FIX.4.4|9=24|35=0|356=3|357=a|b|58=c|10=146|",
+        "8=FIX.4.4|9=24|35=0|356=3|357=a^b|58=c|10=146|",
     ),
     (
         "data 359 behind 358",
         "8=FIX.4.4|9=24|35=0|358=3|359=a|b|58=c|10=150|",
-        "8=FIX.4.4|9=24|35=0|358=3|359=a|b|58=c|10=150|",
+        "8=FIX.4.4|9=24|35=0|358=3|359=a^b|58=c|10=150|",
     ),
     (
         "data 361 behind 360",
         "8=FIX.4.4|9=24|35=0|360=3|361=a|b|58=c|10=136|",
-        "8=FIX.4.4|9=24|35=0|360=3|361=a|b|58=c|10=136|",
+        "8=FIX.4.4|9=24|35=0|360=3|361=a^b|58=c|10=136|",
     ),
     (
         "data 363 behind 362",
         "8=FIX.4.4|9=24|35=0|362=3|363=a|b|58=c|10=140|",
-        "8=FIX.4.4|9=24|35=0|362=3|363=a|b|58=c|10=140|",
+        "8=FIX.4.4|9=24|35=0|362=3|363=a^b|58=c|10=140|",
     ),
     (
         "data 365 behind 364",
         "8=FIX.4.4|9=24|35=0|364=3|365=a|b|58=c|10=144|",
-        "8=FIX.4.4|9=24|35=0|364=3|365=a|b|58=c|10=144|",
+        "8=FIX.4.4|9=24|35=0|364=3|365=a^b|58=c|10=144|",
     ),
     (
         "data 446 behind 445",
         "8=FIX.4.4|9=24|35=0|445=3|446=a|b|58=c|10=144|",
-        "8=FIX.4.4|9=24|35=0|445=3|446=a|b|58=c|10=144|",
+        "8=FIX.4.4|9=24|35=0|445=3|446=a^b|58=c|10=144|",
     ),
     (
         "data 619 behind 618",
         "8=FIX.4.4|9=24|35=0|618=3|619=a|b|58=c|10=148|",
-        "8=FIX.4.4|9=24|35=0|618=3|619=a|b|58=c|10=148|",
+        "8=FIX.4.4|9=24|35=0|618=3|619=a^b|58=c|10=148|",
     ),
     (
         "data 622 behind 621",
         "8=FIX.4.4|9=24|35=0|621=3|622=a|b|58=c|10=136|",
-        "8=FIX.4.4|9=24|35=0|621=3|622=a|b|58=c|10=136|",
+        "8=FIX.4.4|9=24|35=0|621=3|622=a^b|58=c|10=136|",
     ),
     (
         "a data field with another's length",
@@ -250,7 +251,7 @@ const FIELDS: [(&str, &str, &str); 39] = [
     (
         "leading zeros of a length",
         "8=FIX.4.4|9=19|35=0|95=003|96=a|b|10=136|",
-        "8=FIX.4.4|9=19|35=0|95=003|96=a|b|10=136|",
+        "8=FIX.4.4|9=19|35=0|95=003|96=a^b|10=136|",
     ),
     (
         "an empty data field",
@@ -290,7 +291,7 @@ const FIELDS: [(&str, &str, &str); 39] = [
     (
         "data up to the body's end",
         "8=FIX.4.4|9=21|35=0|95=7|96=abc|10=|10=038|",
-        "8=FIX.4.4|9=21|35=0|95=7|96=abc|10=|10=038|",
+        "8=FIX.4.4|9=21|35=0|95=7|96=abc^10=|10=038|",
     ),
     (
         "a field without =",
@@ -339,6 +340,23 @@ const FIELDS: [(&str, &str, &str); 39] = [
     ),
 ];
 
+// A frame whose field 355 looks like a trailer, and its fields: that one is the ten bytes that 354 says.
+const LIKE_A_TRAILER: &[u8] =
+    b"8=FIX.4.4\x019=67\x0135=5\x0149=BRKA\x0156=MO\x0134=9\x0152=20240105-10:00:00\x01354=10\x01355=abc\x0110=000\x0110=046\x01";
+
+const LIKE_A_TRAILER_FIELDS: [(u32, &[u8]); 10] = [
+    (8, b"FIX.4.4"),
+    (9, b"67"),
+    (35, b"5"),
+    (49, b"BRKA"),
+    (56, b"MO"),
+    (34, b"9"),
+    (52, b"20240105-10:00:00"),
+    (354, b"10"),
+    (355, b"abc\x0110=000"),
+    (10, b"046"),
+];
+
 // The text with each `|` as SOH.
 fn wire(alloc: Global, text: &str) -> Result<Vec<u8>, NoMemory> {
     let mut bytes = Vec::new(alloc);
@@ -348,10 +366,10 @@ fn wire(alloc: Global, text: &str) -> Result<Vec<u8>, NoMemory> {
     Ok(bytes)
 }
 
-// Puts the bytes into the text, with each SOH as `|`.
-fn push_bytes(shown: &mut String, bytes: &[u8]) -> Result<(), NoMemory> {
+// Puts a value into the text, with each SOH in it as `^`, so that no other split looks the same.
+fn push_value(shown: &mut String, bytes: &[u8]) -> Result<(), NoMemory> {
     for byte in bytes {
-        shown.push(if *byte == 1 { '|' } else { char::from(*byte) })?;
+        shown.push(if *byte == 1 { '^' } else { char::from(*byte) })?;
     }
     Ok(())
 }
@@ -362,7 +380,7 @@ fn push_fields(shown: &mut String, frame: &Frame) -> Result<(), NoMemory> {
         match item {
             Ok(field) => {
                 write!(shown, "{}=", field.tag)?;
-                push_bytes(shown, field.value)?;
+                push_value(shown, field.value)?;
                 shown.push('|')?;
             }
             Err(fault) => write!(shown, "fault {} {}", fault.tag, fault.reason as u32)?,
@@ -436,6 +454,22 @@ fn fields_of_frames(rt: HostRuntime) -> Result<(), Fail> {
         let wanted = format!(in rt.alloc(); "{wanted}\nskipped 0")?;
         assert_eq!(rt; shown, wanted, "{row}");
     }
+    Ok(())
+}
+
+#[test]
+fn a_data_field_that_looks_like_a_trailer(rt: HostRuntime) -> Result<(), Fail> {
+    let mut reader = Reader::new(rt.alloc());
+    reader.feed(LIKE_A_TRAILER)?;
+    let frame = reader.next()?.ok_or("no frame")?;
+    let mut fields = frame.fields();
+    for (tag, value) in LIKE_A_TRAILER_FIELDS {
+        let field = fields.next().ok_or("too few fields")??;
+        assert_eq!(rt; field.tag, tag, "before field {tag}");
+        assert_eq!(rt; field.value, value, "field {tag}");
+    }
+    assert!(rt; fields.next().is_none(), "an eleventh field");
+    assert!(rt; reader.next()?.is_none(), "a second frame");
     Ok(())
 }
 
