@@ -4,12 +4,18 @@
 #[cfg(test)]
 mod allocation_rows;
 #[cfg(test)]
+mod bodies;
+#[cfg(test)]
 mod decimals;
+#[cfg(test)]
+mod expect;
 #[cfg(test)]
 mod field_rows;
 #[cfg(test)]
 mod fields;
 #[cfg(test)]
 mod frames;
+#[cfg(test)]
+mod shown;
 #[cfg(test)]
 mod times;
