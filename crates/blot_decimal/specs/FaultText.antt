@@ -1,4 +1,4 @@
--- What is printed for a fault. Source: own profile.
+-- What is printed for a fault. Source: this project's rule.
 use Rattle.std.specs.Prelude.{ℕ, List, codes}
 use Rattle.blot_decimal.specs.declared.fault.DecimalFault.{DecimalFault}
 use Rattle.blot_decimal.specs.declared.fault.DecimalFault.TheVariants.{Format, TooFine, TooLarge}

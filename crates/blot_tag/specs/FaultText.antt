@@ -5,6 +5,7 @@ use Rattle.blot_tag.specs.declared.field.SplitFault.{SplitFault}
 use Rattle.blot_tag.specs.declared.field.SplitReason.{SplitReason}
 use Rattle.blot_tag.specs.declared.field.SplitReason.TheVariants.{InvalidTagNumber, IncorrectDataFormat}
 
+-- the text of a reason at a tag
 abbrev pub reason_text : ℕ → SplitReason → List ℕ
 reason_text tag InvalidTagNumber = codes "a field has no valid tag"
 reason_text tag IncorrectDataFormat = codes "data field " ++ decimal tag ++ codes " hasn't the length given before it"

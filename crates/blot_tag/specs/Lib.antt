@@ -3,7 +3,7 @@ pub mod Bytes
 pub mod Results
 pub mod Fields
 pub mod FieldText
-pub mod Faults
+pub mod FaultText
 pub mod Views
 pub mod Frames
 pub mod Looking

@@ -1,3 +1,4 @@
+//! The bytes that a reader holds.
 ghost use Rattle.std.specs.Prelude.{◌≡◌, ℕ, ◌≤◌, ◌++◌, drop, vec_len, IfSome, OnOk, OnErr};
 ghost use Rattle.std.specs.Option.{option_map};
 ghost use Rattle.blot_tag.specs.Frames.{IsFrame};
@@ -8,15 +9,15 @@ use crate::find::find;
 use crate::frame::Frame;
 use std::alloc::AllocError as NoMemory;
 
-// Unread bytes, and the text of the frame that was taken last.
+/// Unread bytes, and the text of the frame that was taken last.
 #[derive(Drop)]
 pub(crate) struct Buffer {
-    // The first `start` bytes were taken or passed over.
+    /// The first `start` bytes were taken or passed over.
     pub(crate) bytes: Vec<u8>,
     pub(crate) start: usize,
     pub(crate) skipped: u64,
     pub(crate) frame: Vec<u8>,
-    // Whether the last step took a frame.
+    /// Whether the last step took a frame.
     pub(crate) has_frame: bool,
     pub(crate) ghost in_range: { start ≤ vec_len bytes },
 }
@@ -34,7 +35,7 @@ fn drop_front(bytes: &mut Vec<u8>, count: usize)
 impl Buffer {
     ghost use Rattle.blot_tag.specs.Buffers.{reading_of, given_of};
 
-    // Puts a piece behind the unread bytes.
+    /// Puts a piece behind the unread bytes.
     pub(crate) fn extend(&mut self, piece: &[u8]) -> Result<(), NoMemory>
         ensures ok { OnOk result (reading_of self.new
             ≡ record (reading_of self.old) { unread = (reading_of self.old).unread ++ piece.now }) }
@@ -48,7 +49,7 @@ impl Buffer {
         Ok(())
     }
 
-    // Takes the first frame, or passes over what can't become one.
+    /// Takes the first frame, or passes over what can't become one.
     pub(crate) fn advance(&mut self) -> Result<(), NoMemory>
         ensures ok { OnOk result (Advances (reading_of self.old) (given_of self.new) (reading_of self.new)) }
         ensures err { OnErr result (reading_of self.new ≡ reading_of self.old) }
@@ -71,7 +72,7 @@ impl Buffer {
         Ok(())
     }
 
-    // The frame that the last step took.
+    /// The frame that the last step took.
     pub(crate) fn given(&self) -> Option<Frame<'_>>
         requires { IfSome (given_of self.now) IsFrame }
         ensures { option_map text_of result ≡ given_of self.now }

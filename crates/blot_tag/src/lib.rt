@@ -14,6 +14,7 @@ mod look;
 mod reader;
 mod split;
 
+pub use digits::{is_number, number_of};
 pub use field::{Field, SplitFault, SplitReason};
 pub use fields::Fields;
 pub use frame::Frame;

@@ -1,4 +1,4 @@
--- Steps that may fail, one behind the other.
+-- Steps of which each may fail: a `do` block over them ends at the first fault.
 use Rattle.std.specs.Prelude.{Result, Ok, Err}
 
 -- what goes on with a step's value, or the step's fault

@@ -3,7 +3,7 @@ use Rattle.std.proofs.lemmas.Result.{err_from_is_err_and}
 use Rattle.blot_tag.specs.Views.{tag_value}
 use Rattle.blot_fields.specs.Drafts.{draft_of}
 use Rattle.blot_fields.proofs.LineLemmas.{next_front, next_fault, end_front, end_fault}
-use Rattle.blot_fields.proofs.allocating.each_line_of.Goals as goal
+use Rattle.blot_fields.proofs.allocation.each_line_of.Goals as goal
 
 pub loop-field-preserved : goal.loop-field-preserved
 loop-field-preserved c =

@@ -2,7 +2,7 @@ use Rattle.std.specs.Option.{option_map}
 use Rattle.blot_fields.specs.Drafts.{draft_of}
 use Rattle.blot_fields.specs.Groups.{each_line_of, lines_in}
 use Rattle.blot_fields.proofs.LineLemmas.{LinesFront}
-use Rattle.blot_fields.proofs.allocating.each_line_of.Given as goal
+use Rattle.blot_fields.proofs.allocation.each_line_of.Given as goal
 
 abbrev pub invariant-loop-field : goal.invariant-loop-field
 invariant-loop-field l =
