@@ -68,7 +68,7 @@ before_first_soh text k d inside same =
 
 -- ---- a tag
 
-numeral : IsNumeralModel (λ digits. list_all is_ascii_digit digits ≡ true) number_of
+pub numeral : IsNumeralModel (λ digits. list_all is_ascii_digit digits ≡ true) number_of
 numeral = numerals_by_fold _ (search rules) (fold with_digit) (search rules)
 
 -- the digits of a tag are the shortest decimal of its number

@@ -8,5 +8,6 @@ mod StepLemmas
 mod OutcomeLemmas
 pub mod FrameLemmas
 pub mod WalkLemmas
+mod WritingLemmas
 mod FindLemmas
 mod ReadingLemmas

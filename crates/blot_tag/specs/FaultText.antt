@@ -4,6 +4,8 @@ use Rattle.std.specs.Fmt.{decimal}
 use Rattle.blot_tag.specs.declared.field.SplitFault.{SplitFault}
 use Rattle.blot_tag.specs.declared.field.SplitReason.{SplitReason}
 use Rattle.blot_tag.specs.declared.field.SplitReason.TheVariants.{InvalidTagNumber, IncorrectDataFormat}
+use Rattle.blot_tag.specs.declared.write_fault.WriteFault.{WriteFault}
+use Rattle.blot_tag.specs.declared.write_fault.WriteFault.TheVariants.{TooLong, SohInValue, NoMemory}
 
 -- the text of a reason at a tag
 abbrev pub reason_text : ℕ → SplitReason → List ℕ
@@ -13,3 +15,9 @@ reason_text tag IncorrectDataFormat = codes "data field " ++ decimal tag ++ code
 -- the text of a fault
 abbrev pub fault_text : SplitFault → List ℕ
 fault_text fault = reason_text fault.tag fault.reason
+
+-- the words for a fault of writing
+abbrev pub write_fault_text : WriteFault → List ℕ
+write_fault_text TooLong = codes "the message is too long"
+write_fault_text SohInValue = codes "a value has an SOH"
+write_fault_text NoMemory = codes "out of memory"

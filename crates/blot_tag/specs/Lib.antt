@@ -6,6 +6,7 @@ pub mod FieldText
 pub mod FaultText
 pub mod Views
 pub mod Frames
+pub mod Writing
 pub mod Looking
 pub mod Finding
 pub mod Walking

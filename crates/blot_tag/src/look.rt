@@ -6,13 +6,14 @@ ghost use Rattle.blot_tag.specs.Looking.{behind, longer_size, whole_size, open_s
 
 use crate::bytes::{CHECK_SUM_LENGTH, SOH};
 
-// What begins a frame.
-const HEAD: &[u8] = b"8=FIX.4.4\x019=";
+/// What begins a frame.
+pub(crate) const HEAD: &[u8] = b"8=FIX.4.4\x019=";
 
 // BodyLength's bounds, and how many digits may write it. This project's rule.
 const SIZE_MIN: usize = 5;
 
-const SIZE_MAX: usize = 65_536;
+/// The longest body.
+pub(crate) const SIZE_MAX: usize = 65_536;
 
 const DIGITS_MAX: usize = 6;
 
@@ -107,8 +108,8 @@ fn sum_of(bytes: &[u8]) -> u8
     sum
 }
 
-// What stands behind `10=` in a frame: three digits and SOH.
-fn check_sum(front: &[u8]) -> [u8; 4]
+/// What stands behind `10=` in a frame: three digits and SOH.
+pub(crate) fn check_sum(front: &[u8]) -> [u8; 4]
     ensures { result ≡ check_sum front.now }
 {
     let sum = sum_of(front);

@@ -71,6 +71,16 @@ impl Reader {
         Ok(self.buffer.given())
     }
 
+    /// The frame that `next` would give, which stays unread.
+    pub fn peek(&mut self) -> Result<Option<Frame<'_>>, NoMemory>
+        ensures first { IfOk result (λ frame. option_map text_of frame ≡ slice_get (frames_of self.old.unread) 0) }
+        ensures valid { IfOk result (λ found. IfSome found (λ frame. IsFrame (text_of frame))) }
+        ensures* leaves { sem 𝓛 (Rests the_row self.entry (λ new. new ≡ self.old)) }
+    {
+        self.buffer.peek()?;
+        Ok(self.buffer.given())
+    }
+
     /// How many bytes `next` has passed over so far, before the last frame that it gave, or after
     /// its last `None` before the rest. It stays at `u64::MAX`.
     pub fn skipped(&self) -> u64

@@ -26,8 +26,8 @@ fn wrong_length(tag: u32) -> SplitFault
     }
 }
 
-// The tag of the data that goes with a length tag. FIX 4.4 volume 6.
-fn data_tag(length_tag: u32) -> Option<u32>
+/// The tag of the data that goes with a length tag. FIX 4.4 volume 6.
+pub(crate) fn data_tag(length_tag: u32) -> Option<u32>
     ensures { result ≡ data_tag_of length_tag }
 {
     match length_tag {
