@@ -86,14 +86,6 @@ impl FrameText {
             (more : List ℕ) → walk_of (frame.items ++ more) ≡ takes frame.items (walk_of more)) }
         ensures fields { IfOk result (λ frame. fields_of frame.items ≡ map Ok (frame_fields self)) }
     {
-        let frame = self.text()?;
-        Ok(frame)
-    }
-
-    // The text of the frame.
-    fn text(&self) -> Result<Vec<u8>, NoMemory>
-        ensures { IfOk result (λ frame. frame.items ≡ frame_of self.now) }
-    {
         let mut digits = Buffer::new();
         let mut frame = Vec::from_slice(self.alloc, HEAD)?;
         frame.extend_from_slice(digits.format(self.body.len()).as_bytes())?;

@@ -249,6 +249,26 @@ fn a_data_field_that_looks_like_a_trailer(rt: HostRuntime) -> Result<(), Fail> {
 }
 
 #[test]
+fn a_frame_is_looked_at_and_left(rt: HostRuntime) -> Result<(), Fail> {
+    let mut reader = Reader::new(rt.alloc());
+    reader.feed(b"garbage")?;
+    reader.feed(&wire(rt.alloc(), HEARTBEAT)?)?;
+    let mut shown = String::new(rt.alloc());
+    for _ in 0..2 {
+        let frame = reader.peek()?.ok_or("no frame to look at")?;
+        push_fields(&mut shown, &frame)?;
+    }
+    expect(&rt, "no byte passed over", reader.skipped() == 0);
+    let frame = reader.next()?.ok_or("no frame")?;
+    push_fields(&mut shown, &frame)?;
+    let wanted = format!(in rt.alloc(); "{HEARTBEAT}{HEARTBEAT}{HEARTBEAT}")?;
+    expect_text(&rt, "three looks", shown.as_str(), wanted.as_str());
+    let none = reader.peek()?.is_none();
+    expect(&rt, "nothing behind the frame", none);
+    Ok(())
+}
+
+#[test]
 fn one_byte_at_a_time(rt: HostRuntime) -> Result<(), Fail> {
     let mut reader = Reader::new(rt.alloc());
     let mut fields = 0;

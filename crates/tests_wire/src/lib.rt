@@ -19,3 +19,5 @@ mod frames;
 mod shown;
 #[cfg(test)]
 mod times;
+#[cfg(test)]
+mod writing;
