@@ -1,24 +1,23 @@
 -- What is written is a valid frame, and its fields are read again as they were put.
-use Rattle.std.proofs.Common.{◌≡◌, ◌≢◌, ℕ, zero, suc, ◌+◌, ◌-◌, ◌/◌, ◌%◌, ◌^◌, ◌<◌, ◌≤◌, Bool, true, false, not, ◌&&◌, ◌||◌, ◌==◌, cond, ltb, leb, List, [], ◌∷◌, ◌++◌, length, take, drop, get_or, map, sum, codes, Option, Some, None, option_and_then, Result, Ok, Err, inl, inr, refl, sym, ap, subst, ◌∙◌, arith, rules, append_assoc, length-append, lit≤, lit<}
+use Rattle.std.proofs.Common.{◌≡◌, ◌≢◌, ℕ, ◌+◌, ◌-◌, ◌/◌, ◌%◌, ◌^◌, ◌<◌, ◌≤◌, true, false, not, ◌&&◌, ◌==◌, ltb, leb, List, [], ◌∷◌, ◌++◌, length, take, drop, get_or, map, sum, codes, Option, Some, None, option_and_then, Result, Ok, inl, inr, refl, sym, ap, subst, ◌∙◌, arith, append_assoc, length-append, lit≤, lit<}
 use Rattle.std.specs.Char.{is_ascii_digit}
 use Rattle.std.specs.Fmt.{decimal}
-use Rattle.std.specs.List.{All, list_all, list_any, position, position_or_len, before_first, after_first}
+use Rattle.std.specs.List.{All, list_any, position, position_or_len, before_first, after_first}
 use Rattle.std.specs.Map.{lookup}
 use Rattle.std.specs.Option.{ok_or, option_eq}
-use Rattle.std.proofs.lemmas.Bool.{cases_Bool, cond-true, cond-false, and_from, ltb-false, or_from, or_parts, eqb-true, eq-eqb, ne_eqb, false≢true, lt-ltb, le-leb, not_from_false}
+use Rattle.std.proofs.lemmas.Bool.{cases_Bool, cond-true, cond-false, and_from, ltb-false, or_from, or_parts, eq-eqb, ne_eqb, false≢true, lt-ltb, le-leb, not_from_false}
 use Rattle.std.proofs.lemmas.Fmt.{digits_decimal, digits_value-decimal, length-decimal-le, decimal_nonempty, first_decimal, decimal_digit, decimal_step}
 use Rattle.std.proofs.lemmas.List.{get_or_append_left, get_or_at, take_at, drop_at, length_push, append-nil}
 use Rattle.std.proofs.lemmas.List.Concat.{flat_map-append}
 use Rattle.std.proofs.lemmas.List.Sums.{position_or_len_is, AllPass-from_list_all}
 use Rattle.std.proofs.lemmas.List.Folds.{list_any_at, list_any_none}
 use Rattle.blot_tag.specs.Bytes.{soh, is_soh, equals, is_equals, is_number, is_tag, number_of, tag_number}
-use Rattle.blot_tag.specs.Fields.{TagValue, Item, no_tag, wrong_length, length_and_data_tags, data_tag_of, length_before, first_tag, data_value, value_of, first_field, and_then_others, items_behind, fields_of, fields_before_fault}
+use Rattle.blot_tag.specs.Fields.{TagValue, Item, no_tag, wrong_length, length_and_data_tags, length_before, first_tag, data_value, value_of, first_field, items_behind, fields_of, fields_before_fault}
 use Rattle.blot_tag.specs.FieldText.{field_text, fields_text}
-use Rattle.blot_tag.specs.Frames.{head, three_digits, check_sum, trailer_of, first_fields, front_of, IsBodyLength, IsBody, IsFrame}
+use Rattle.blot_tag.specs.Frames.{head, three_digits, trailer_of, front_of, IsBodyLength, IsBody, IsFrame}
 use Rattle.blot_tag.specs.Results.{◌>>=◌}
 use Rattle.blot_tag.specs.Walking.{walk_of, takes}
 use Rattle.blot_tag.specs.Writing.{Written, kind_field, body_of, front_text, frame_of, begin_field, length_field, check_sum_field, frame_fields, begun, with_field, refusal_of, last_of, last_field, is_data_tag, has_soh, IsLengthOf, MayFollow, first_value, written_of, Follows, EachFollows, IsWritten, IsBodyText}
-use Rattle.blot_tag.specs.declared.digits.TheConstants.{TAG_DIGITS_MAX}
 use Rattle.blot_tag.specs.declared.look.TheConstants.{SIZE_MAX}
 use Rattle.blot_tag.specs.declared.field.SplitFault.{SplitFault}
 use Rattle.blot_tag.proofs.FieldLemmas.{items_behind-nil, items_behind-of}
@@ -217,8 +216,8 @@ written_of-body written is =
     let first = kind_field written.kind in
     let last = check_sum_field [] in
     let found : fields_before_fault (fields_of (body_of written ++ trailer_of [])) ≡ first ∷ (written.fields ++ last ∷ []) =
-        ap fields_before_fault (fields_of-written first written.fields [] (lit≤ tt) (lit< tt) is.plain is.follow)
-        ∙ fields_before_fault-map (first ∷ (written.fields ++ last ∷ [])) in
+    ap fields_before_fault (fields_of-written first written.fields [] (lit≤ tt) (lit< tt) is.plain is.follow)
+    ∙ fields_before_fault-map (first ∷ (written.fields ++ last ∷ [])) in
     let count : length (first ∷ (written.fields ++ last ∷ [])) - 2 ≡ length written.fields = omega (arith, length_push written.fields last) in
     ap (λ fields. record { kind = first_value fields; fields = take (length fields - 2) (drop 1 fields) }) found
     ∙ ap (λ n. record { kind = written.kind; fields = take n (written.fields ++ last ∷ []) }) count
@@ -311,8 +310,8 @@ front_text-fields written =
 
 decimal-without_soh : (n : ℕ) → n < 2 ^ 64 → has_soh (decimal n) ≡ false
 decimal-without_soh n small = list_any_none is_soh (decimal n) (λ k d inside.
-  let all = AllPass-from_list_all is_ascii_digit (decimal n) (digits_decimal numeral n small) in
-  ne_eqb _ soh (λ same. false≢true (sym (ap is_ascii_digit same) ∙ all k d inside)))
+    let all = AllPass-from_list_all is_ascii_digit (decimal n) (digits_decimal numeral n small) in
+    ne_eqb _ soh (λ same. false≢true (sym (ap is_ascii_digit same) ∙ all k d inside)))
 
 pub fields_of-frame_of : (written : Written) → IsWritten written → fields_of (frame_of written) ≡ map Ok (frame_fields written)
 fields_of-frame_of written is =
@@ -372,12 +371,12 @@ refusal_of-none size field none =
     elim (cases_Bool (ltb SIZE_MAX (size + length (field_text field)))) [
       | inl long ↦ cc
       | inr fits ↦ (
-          ltb-false SIZE_MAX (size + length (field_text field)) fits,
-          λ plain. elim (cases_Bool (has_soh field.value)) [
-            | inl soh_in ↦ let refused : (has_soh field.value && not (is_data_tag field.tag)) ≡ true = and_from _ _ soh_in (not_from_false _ plain) in cc
-            | inr without ↦ without
-          ],
-        )
+        ltb-false SIZE_MAX (size + length (field_text field)) fits,
+        λ plain. elim (cases_Bool (has_soh field.value)) [
+          | inl soh_in ↦ let refused : (has_soh field.value && not (is_data_tag field.tag)) ≡ true = and_from _ _ soh_in (not_from_false _ plain) in cc
+          | inr without ↦ without
+        ],
+      )
     ]
 
 -- ---- the steps of a message in the making

@@ -1,4 +1,4 @@
-use Rattle.std.proofs.Common.{◌+◌, ◌≤◌, length, vec_len, ap, arith, length-drop}
+use Rattle.std.proofs.Common.{length, ap, arith, length-drop}
 use Rattle.blot_tag.proofs.buffer.Buffer.advance.Goals as goal
 
 pub invariant_of-self : goal.invariant_of-self

@@ -1,4 +1,4 @@
-use Rattle.std.proofs.Common.{◌≡◌, [], ◌++◌, sym, ap, ◌∙◌}
+use Rattle.std.proofs.Common.{◌++◌, sym, ap, ◌∙◌}
 use Rattle.blot_tag.specs.FieldText.{field_text}
 use Rattle.blot_tag.specs.Writing.{kind_field}
 use Rattle.blot_tag.proofs.WritingLemmas.{begins}
