@@ -1,4 +1,6 @@
+mod AllocationRows
 pub mod ChainLemmas
+pub mod EntryLemmas
 pub mod KeyLemmas
 pub mod LawLemmas
 pub mod LegalLemmas

@@ -89,3 +89,7 @@ abbrev pub replaced_in : List Link → Role → Option ℕ
 replaced_in links Begins = None
 replaced_in links (Corrects reference) = option_and_then (current_in links) (root_in links reference)
 replaced_in links (Busts reference) = option_and_then (current_in links) (root_in links reference)
+
+-- the number of the version that an entry's link, if it is one, takes the place of, or busts
+abbrev pub replaced_by : List Link → Option Link → Option ℕ
+replaced_by links link = option_and_then (λ newest. replaced_in links newest.role) link

@@ -3,19 +3,23 @@
 //! the refusal of a command) stand in the specs of this crate, since every crate above speaks of them.
 #![tactic(auto)]
 
+mod allocation;
 mod command;
 mod fill;
 mod filled;
+mod items;
 mod keys;
 mod lines;
 mod link;
 mod refused;
 mod text;
 
-pub use command::{Bust, Command, Correct, Entry, Trade};
+pub use allocation::{AllocRole, Instruction, Line, Terms};
+pub use command::{AllocCancel, AllocNew, AllocReplace, Bust, Command, Correct, Entry, Trade};
 pub use fill::{Fill, Sign};
+pub use items::Items;
 pub use keys::{AllocKey, ExecKey, OrderKey};
-pub use lines::{OrderLine, Version};
+pub use lines::{OrderLine, Part, PositionLine, Version};
 pub use link::{Link, Role};
 pub use refused::Refused;
 pub use text::{TEXT_MAX, Text64};
