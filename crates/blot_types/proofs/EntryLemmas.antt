@@ -15,10 +15,10 @@ use Rattle.blot_types.specs.declared.link.Role.{Role}
 use Rattle.blot_types.specs.declared.link.Role.TheVariants.{Begins, Corrects, Busts}
 use Rattle.blot_types.specs.declared.refused.Refused.{Refused}
 use Rattle.blot_types.specs.declared.refused.Refused.TheVariants.{DuplicateExec, UnknownExec, BustedExec}
-use Rattle.blot_types.specs.Chains.{taker_in, root_in, bust_in, chain_refusal, reference_refusal, link_refusal, is_chained}
+use Rattle.blot_types.specs.Chains.{taker_in, root_in, bust_in, chain_refusal, reference_refusal, link_refusal, is_chained, is_below, falls}
 use Rattle.blot_types.specs.Legal.{is_above, rises_in, refusal_in, legal_in}
 use Rattle.blot_types.specs.Survivors.{link_by, link_of, links_in, links_of, version_by, version_of}
-use Rattle.blot_types.proofs.ChainLemmas.{none_is, is_below, falls}
+use Rattle.blot_types.proofs.ChainLemmas.{none_is}
 use Rattle.blot_types.proofs.StandLemmas.{brings}
 
 -- ---- one entry

@@ -13,11 +13,11 @@ use Rattle.blot_types.specs.declared.lines.Version.{Version}
 use Rattle.blot_types.specs.declared.link.Link.{Link}
 use Rattle.blot_types.specs.declared.link.Role.{Role}
 use Rattle.blot_types.specs.declared.link.Role.TheVariants.{Begins, Corrects, Busts}
-use Rattle.blot_types.specs.Chains.{takes_up, taker_in, own_root, root_in, is_root, bust_in, current_in, link_refusal, reference_refusal, replaced_in, replaced_by}
+use Rattle.blot_types.specs.Chains.{takes_up, taker_in, own_root, root_in, is_root, bust_in, current_in, link_refusal, reference_refusal, replaced_in, replaced_by, falls}
 use Rattle.blot_types.specs.Legal.{is_above, rises_in, numbers_rise, legal_in, is_legal, refusal_in, refusal_of}
 use Rattle.blot_types.specs.Survivors.{link_of, links_in, links_of, version_of, versions_of, is_number, stands_in, survivors}
 use Rattle.blot_types.proofs.KeyLemmas.{same_exec-true, same_exec-refl}
-use Rattle.blot_types.proofs.ChainLemmas.{falls, rootless, accepted_root, accepted_key, clash, none_is}
+use Rattle.blot_types.proofs.ChainLemmas.{rootless, accepted_root, accepted_key, clash, none_is}
 use Rattle.blot_types.proofs.EntryLemmas.{links_of-push, link-number, version-number, version-of_link, version-of_bust, version-unlinked, IsVersionOf, refusal-link, falls-links}
 use Rattle.blot_types.proofs.StandLemmas.{brings, stands-older, stands-new}
 

@@ -13,12 +13,12 @@ use Rattle.blot_types.specs.declared.link.Link.{Link}
 use Rattle.blot_types.specs.declared.link.Role.{Role}
 use Rattle.blot_types.specs.declared.link.Role.TheVariants.{Begins, Corrects, Busts}
 use Rattle.blot_types.specs.Keys.{is_among, same_exec}
-use Rattle.blot_types.specs.Chains.{takes_up, taker_in, own_root, root_in, is_root, busted_by, busted_roots_in, bust_in, current_in, link_refusal, is_chained}
+use Rattle.blot_types.specs.Chains.{takes_up, taker_in, own_root, root_in, is_root, busted_by, busted_roots_in, bust_in, current_in, link_refusal, is_chained, is_below, falls}
 use Rattle.blot_types.specs.Legal.{is_book}
 use Rattle.blot_types.specs.Laws.{is_correct, corrects_chain, StandsUncorrected}
 use Rattle.blot_types.specs.Survivors.{link_of, links_of, root_of, busted_roots, version_of, is_number, stands_under, stands_in}
 use Rattle.blot_types.proofs.KeyLemmas.{same_exec-true, same_exec-refl}
-use Rattle.blot_types.proofs.ChainLemmas.{none_is, root-fresh, rootless, accepted_key, clash, differing, is_below, falls}
+use Rattle.blot_types.proofs.ChainLemmas.{none_is, root-fresh, rootless, accepted_key, clash, differing}
 use Rattle.blot_types.proofs.LawLemmas.{links_of-around, book_parts}
 use Rattle.blot_types.proofs.EntryLemmas.{IsVersionOf, version-unlinked, chained-links, falls-links}
 use Rattle.blot_types.proofs.SurvivorLemmas.{of_its_link}
