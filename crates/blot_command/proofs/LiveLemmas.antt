@@ -67,8 +67,13 @@ version-other list entry number none other =
 
 -- ---- one entry more, and one less
 
+-- the numbers of a book rise
+pub rise-of_book : (list : List Entry) → is_book list ≡ true → numbers_rise list ≡ true
+rise-of_book list book = (and_parts _ _ (and_parts _ _ book).0).0
+
 -- an entry may stand behind a list in a book
 pub record IsNextEntry (list : List Entry) (entry : Entry) : Type 0 where
+  pub whole : is_book (list ++ entry ∷ []) ≡ true
   pub book : is_book list ≡ true
   pub rise : numbers_rise list ≡ true
   pub legal : is_legal list ≡ true
@@ -87,6 +92,7 @@ next-entry list entry book =
     let legals : (is_none (refusal_of list entry.command) ≡ true) × (is_legal list ≡ true) = and_parts _ _ legal in
     let limits : (nat_lt entry.number (EVENTS_MAX + 1) ≡ true) × (is_above (EVENTS_MAX + 1) (reverse list) ≡ true) = and_parts _ _ limited in
     record {
+      whole = book;
       book = is_book-front list entry book;
       rise = rises.1;
       legal = legals.1;

@@ -13,7 +13,6 @@ use Rattle.blot_types.specs.declared.link.Link.{Link}
 use Rattle.blot_types.specs.declared.link.Role.{Role}
 use Rattle.blot_types.specs.Chains.{reference_refusal, replaced_in}
 use Rattle.blot_types.specs.Legal.{is_above, rises_in, numbers_rise}
-use Rattle.blot_types.proofs.LegalLemmas.{numbers_rise-push}
 use Rattle.blot_types.specs.Survivors.{exec_key, role_of, link_of, links_of, version_of, versions_of, is_number, stands_in, survivors}
 use Rattle.blot_types.proofs.ChainLemmas.{accepted_key, clash}
 use Rattle.blot_types.proofs.SurvivorLemmas.{IsKnown, all_known, versions-cons, versions-known, without, survivors-push, replaced-found, find-below, find-passes}
@@ -198,7 +197,7 @@ shows-more list entry slots brought replaced next shows brings_it replaces_it =
     ∙ sym (after-entry list entry brought replaced next brings_it replaces_it) in
     let put = can_take list entry slots brought replaced next shows brings_it replaces_it in
     record {
-      rise = numbers_rise-push list entry ∙ rw (next.above, next.rise) refl;
+      book = next.whole;
       put = subst (Puts (with_kept replaced (with_put brought slots))) all (puts_kept (with_put brought slots) replaced (survivors list ++ cons_option brought []) (puts_brought list entry slots brought next shows brings_it));
       held = subst (All (λ v. held_at (with_kept replaced (with_put brought slots)) v.number ≡ Some v.fill)) (sym (versions-push list entry brought brings_it))
           (held_kept (with_put brought slots) replaced (versions_of list ++ cons_option brought []) put
@@ -221,7 +220,7 @@ pub shows-back :
     (list : List Entry) (entry : Entry) (slots : List Slot) (brought : Option Version) → IsNextEntry list entry → Shows list slots → Brings entry brought
     → Shows list (with_kept brought (with_put brought slots))
 shows-back list entry slots brought next shows brings_it = record {
-  rise = shows.rise;
+  book = shows.book;
   put = subst (Puts (with_kept brought (with_put brought slots))) (back_again (survivors list) entry.number brought (unused list entry next) brings_it.numbered)
       (puts_kept (with_put brought slots) brought (survivors list ++ cons_option brought []) (puts_brought list entry slots brought next shows brings_it));
   held = held_kept (with_put brought slots) brought (versions_of list) (put_back slots brought) (held_brought list entry slots brought next shows brings_it);
@@ -313,7 +312,7 @@ pub shows-less :
     (list : List Entry) (entry : Entry) (slots : List Slot) (brought replaced : Option Version) → IsNextEntry list entry → Shows (list ++ entry ∷ []) slots → Brings entry brought
     → Replaces list (role_of entry.command) replaced → Shows list (with_put replaced (with_kept brought slots))
 shows-less list entry slots brought replaced next shows brings_it replaces_it = record {
-  rise = next.rise;
+  book = next.book;
   put = puts_again list (with_kept brought slots) (role_of entry.command) replaced replaces_it (puts_rest list entry slots brought replaced next shows brings_it replaces_it);
   held = held_again (with_kept brought slots) replaced (versions_of list) (can_un_take list entry slots brought replaced next shows brings_it replaces_it)
       (held_rest list entry slots brought replaced next shows brings_it replaces_it);

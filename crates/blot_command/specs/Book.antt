@@ -8,9 +8,17 @@ use Rattle.blot_command.specs.declared.fault.ApplyFault.{ApplyFault}
 use Rattle.blot_command.specs.declared.fault.ApplyFault.TheVariants.{Refused, NoMemory}
 use Rattle.blot_command.specs.Undoable.{Meaning}
 
+-- what a contract sees of the book: its live list
+pub record Shown : Type 0 where
+  pub list : List Entry
+
 -- whether an entry bears a number
 abbrev pub has_number : ℕ → Entry → Bool
 has_number number entry = entry.number == number
+
+-- the numbers of a list of entries
+abbrev pub numbers_of : List Entry → List ℕ
+numbers_of list = map (λ entry. entry.number) list
 
 -- the list after a command: the command stands at its end under its number
 abbrev pub after : List Entry → Command → ℕ → List Entry
@@ -28,11 +36,15 @@ before list number = filter (λ entry. not (has_number number entry)) list
 abbrev pub command_at : List Entry → ℕ → Option Command
 command_at list number = option_map (λ entry. entry.command) (find (has_number number) list)
 
--- what a kind of command means on the book, seen as a command by `embed` and back by `project`
-abbrev pub meaning_by : {C : Type 0} → (C → Command) → (Command → Option C) → Meaning (List Entry) C ℕ ApplyFault
+-- what a kind of command means on the book, seen as a command by `embed` and back by `project`; an inverse needs
+-- nothing but the list
+abbrev pub meaning_by : {C : Type 0} → (C → Command) → (Command → Option C) → Meaning Shown (List Entry) C ℕ ApplyFault
 meaning_by embed project = record {
+  list_of = λ book. book.list;
+  spare = λ book. [];
+  kept = λ book number inverse. Unit {0};
   is_valid = is_book;
-  numbers = λ list. map (λ entry. entry.number) list;
+  numbers = numbers_of;
   refused = λ list command. option_map Refused (refusal_of list (embed command));
   after = λ list command number. after list (embed command) number;
   inverse_of = λ list command number. inverse_of list (embed command) number;

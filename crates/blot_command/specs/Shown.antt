@@ -5,7 +5,7 @@ use Rattle.blot_types.specs.declared.command.Entry.{Entry}
 use Rattle.blot_types.specs.declared.fill.Fill.{Fill}
 use Rattle.blot_types.specs.declared.lines.Version.{Version}
 use Rattle.blot_types.specs.declared.link.Link.{Link}
-use Rattle.blot_types.specs.Legal.{numbers_rise, is_book}
+use Rattle.blot_types.specs.Legal.{is_book}
 use Rattle.blot_types.specs.Survivors.{links_of, versions_of, survivors}
 use Rattle.blot_order.specs.declared.slot.Slot.{Slot}
 use Rattle.blot_types.specs.declared.TheConstants.{EVENTS_MAX}
@@ -25,10 +25,10 @@ pub record HoldsList (list : List Entry) (links : List Link) : Type 0 where
   pub book : is_book list ≡ true
   pub links_are : links ≡ links_of list
 
--- the numbers rise, the fills that are put are those of the survivors, and the fill of each version is held,
+-- the live list is a book, the fills that are put are those of the survivors, and the fill of each version is held,
 -- so that it can be put again without memory
 pub record Shows (list : List Entry) (slots : List Slot) : Type 0 where
-  pub rise : numbers_rise list ≡ true
+  pub book : is_book list ≡ true
   pub put : (number : ℕ) → put_at slots number ≡ fill_numbered number (survivors list)
   pub held : All (λ version. held_at slots version.number ≡ Some version.fill) (versions_of list)
 

@@ -1,56 +1,100 @@
--- What a command that can be undone means, for any type of command, and the law that it obeys.
-use Rattle.std.specs.Prelude.{◌≡◌, ℕ, ◌<◌, ◌≤◌, ◌⊎◌, Bool, true, List, Option, Some, None, All, Contains}
+-- What a command that can be undone means, for any type of command, and the law that it obeys. A command acts on
+-- the list that a state shows; what a state keeps beside its list serves `revert` alone.
+use Rattle.std.specs.Prelude.{◌≡◌, ℕ, ◌<◌, ◌≤◌, ◌⊎◌, Bool, true, List, ◌++◌, Option, Some, None, All, Contains}
 use Rattle.blot_types.specs.declared.TheConstants.{EVENTS_MAX}
 
--- the notions of a command C on a state S, with an inverse I and a refusal R
-pub record Meaning (S C I R : Type 0) : Type 0 where
-  -- the states that there are
-  pub is_valid : S → Bool
-  -- the numbers in a state
-  pub numbers : S → List ℕ
-  -- why a state refuses a command
-  pub refused : S → C → Option R
-  -- the state after a command under a number
-  pub after : S → C → ℕ → S
+-- the notions of a command C on a state S that shows a list L, with an inverse I and a refusal R
+pub record Meaning (S L C I R : Type 0) : Type 1 where
+  -- the list that a state shows
+  pub list_of : S → L
+  -- the numbers of what a state keeps beside its list
+  pub spare : S → List ℕ
+  -- whether a state keeps what taking back the step of a number, by its inverse, needs besides the list
+  pub kept : S → ℕ → I → Type 0
+  -- the lists that there are
+  pub is_valid : L → Bool
+  -- the numbers in a list
+  pub numbers : L → List ℕ
+  -- why a list refuses a command
+  pub refused : L → C → Option R
+  -- the list after a command under a number
+  pub after : L → C → ℕ → L
   -- the inverse that the command then hands back
-  pub inverse_of : S → C → ℕ → I
-  -- the state before, by an inverse
-  pub before : S → I → S
+  pub inverse_of : L → C → ℕ → I
+  -- the list before, by an inverse
+  pub before : L → I → L
   -- the command that an inverse takes back
-  pub command_of : S → I → Option C
+  pub command_of : L → I → Option C
   -- the refusal that says that memory ran out
   pub no_memory : R
 
--- a command may be taken next under a number: the state accepts it, and the number is above its numbers,
--- up to EVENTS_MAX
-pub record IsNext {S C I R : Type 0} (m : Meaning S C I R) (state : S) (command : C) (number : ℕ) : Type 0 where
-  pub valid : m.is_valid state ≡ true
-  pub accepted : m.refused state command ≡ None
-  pub above : All (λ earlier. earlier < number) (m.numbers state)
+-- all of some numbers are below this one
+abbrev pub AllBelow : ℕ → List ℕ → Type 0
+AllBelow number numbers = All (λ earlier. earlier < number) numbers
+
+-- the numbers in a state: those of its list, and of what it keeps beside
+abbrev pub numbers_in : {S L C I R : Type 0} → Meaning S L C I R → S → List ℕ
+numbers_in m state = m.spare state ++ m.numbers (m.list_of state)
+
+-- a number is above all numbers in a state
+abbrev pub IsAbove : {S L C I R : Type 0} → Meaning S L C I R → ℕ → S → Type 0
+IsAbove m number state = AllBelow number (numbers_in m state)
+
+-- a command may be taken next under a number: the list accepts it, and the number is above its numbers
+pub record IsNext {S L C I R : Type 0} (m : Meaning S L C I R) (list : L) (command : C) (number : ℕ) : Type 0 where
+  pub accepted : m.refused list command ≡ None
+  pub above : AllBelow number (m.numbers list)
+
+-- one step: on a valid list the command was taken under the number, up to EVENTS_MAX, which led to this inverse and
+-- this list
+pub record IsStep {S L C I R : Type 0} (m : Meaning S L C I R) (list : L) (command : C) (number : ℕ) (inverse : I) (next : L) : Type 0 where
+  pub valid : m.is_valid list ≡ true
   pub within : number ≤ EVENTS_MAX
+  pub is_next : IsNext m list command number
+  pub inverse_is : inverse ≡ m.inverse_of list command number
+  pub list_is : next ≡ m.after list command number
 
--- one step: the command was taken under the number, which led to this inverse and this state
-pub record IsStep {S C I R : Type 0} (m : Meaning S C I R) (state : S) (command : C) (number : ℕ) (inverse : I) (next : S) : Type 0 where
-  pub is_next : IsNext m state command number
-  pub inverse_is : inverse ≡ m.inverse_of state command number
-  pub state_is : next ≡ m.after state command number
+-- the law: what stands before what stands after is the list itself, and the command comes back; after a valid list
+-- and a number up to EVENTS_MAX a valid list stands
+pub record IsLawful {S L C I R : Type 0} (m : Meaning S L C I R) : Type 0 where
+  pub before_after : (list : L) (c : C) (n : ℕ) → IsNext m list c n → m.before (m.after list c n) (m.inverse_of list c n) ≡ list
+  pub command_back : (list : L) (c : C) (n : ℕ) → IsNext m list c n → m.command_of (m.after list c n) (m.inverse_of list c n) ≡ Some c
+  pub valid_after : (list : L) (c : C) (n : ℕ) → m.is_valid list ≡ true → n ≤ EVENTS_MAX → IsNext m list c n → m.is_valid (m.after list c n) ≡ true
 
--- the law: what stands before what stands after is the state itself, and the command comes back; a step
--- brings in no number but its own, and loses none
-pub record IsLawful {S C I R : Type 0} (m : Meaning S C I R) : Type 0 where
-  pub before_after : (s : S) (c : C) (n : ℕ) → IsNext m s c n → m.before (m.after s c n) (m.inverse_of s c n) ≡ s
-  pub command_back : (s : S) (c : C) (n : ℕ) → IsNext m s c n → m.command_of (m.after s c n) (m.inverse_of s c n) ≡ Some c
-  pub valid_after : (s : S) (c : C) (n : ℕ) → IsNext m s c n → m.is_valid (m.after s c n) ≡ true
-  pub brings_its_own : (s : S) (c : C) (n k : ℕ) → IsNext m s c n → Contains (m.numbers (m.after s c n)) k → Contains (m.numbers s) k ⊎ (k ≡ n)
-  pub loses_none : (s : S) (c : C) (n k : ℕ) → IsNext m s c n → Contains (m.numbers s) k → Contains (m.numbers (m.after s c n)) k
+-- what a state keeps for the steps below a number stays kept
+abbrev pub KeepsEarlier : {S L C I R : Type 0} → Meaning S L C I R → ℕ → S → S → Type 0
+KeepsEarlier {I = I} m number old new = (n : ℕ) (inverse : I) → n < number → m.kept old n inverse → m.kept new n inverse
 
--- a refusal: the command comes back and the state is as it was; the reason is the state's own, or where
--- the state accepts the command, want of memory
-pub record IsRefusal {S C I R : Type 0} (m : Meaning S C I R) (state : S) (command returned : C) (reason : R) (next : S) : Type 0 where
+-- a step brings no number but its own into the state, and keeps what taking it back needs, and what the earlier
+-- steps need
+pub record Adds {S L C I R : Type 0} (m : Meaning S L C I R) (number : ℕ) (inverse : I) (old new : S) : Type 0 where
+  pub brings : (k : ℕ) → Contains (numbers_in m new) k → Contains (numbers_in m old) k ⊎ (k ≡ number)
+  pub own : m.kept new number inverse
+  pub earlier : KeepsEarlier m number old new
+
+-- taking a step back brings no number into the state, takes the step's own out, and keeps what the earlier steps need
+pub record Leaves {S L C I R : Type 0} (m : Meaning S L C I R) (number : ℕ) (old new : S) : Type 0 where
+  pub brings_none : (k : ℕ) → Contains (numbers_in m new) k → Contains (numbers_in m old) k
+  pub gone : Contains (numbers_in m new) number → ⊥
+  pub earlier : KeepsEarlier m number old new
+
+-- a refusal: the command comes back and the state is as it was; the reason is the list's own, or where the list
+-- accepts the command, out of memory
+pub record IsRefusal {S L C I R : Type 0} (m : Meaning S L C I R) (state : S) (command returned : C) (reason : R) (next : S) : Type 0 where
   pub command_is : returned ≡ command
   pub state_is : next ≡ state
-  pub reason_is : m.refused state command ≡ Some reason ⊎ ((m.refused state command ≡ None) × (reason ≡ m.no_memory))
+  pub reason_is : m.refused (m.list_of state) command ≡ Some reason ⊎ ((m.refused (m.list_of state) command ≡ None) × (reason ≡ m.no_memory))
 
--- an inverse undoes a state: some command led to it, and handed out this inverse
-abbrev pub Undoes : {S C I R : Type 0} → Meaning S C I R → I → S → Type 0
-Undoes {S} {C} m inverse state = (earlier : S) × (command : C) × (number : ℕ) × IsStep m earlier command number inverse state
+-- an inverse undoes the step of a command under a number: the step led from a list to the state's list and handed out
+-- this inverse, and the state keeps what taking it back needs
+pub record UndoesStep {S L C I R : Type 0} (m : Meaning S L C I R) (list : L) (command : C) (number : ℕ) (inverse : I) (state : S) : Type 0 where
+  pub step : IsStep m list command number inverse (m.list_of state)
+  pub kept : m.kept state number inverse
+
+-- an inverse undoes a state: it undoes some step that led there
+abbrev pub Undoes : {S L C I R : Type 0} → Meaning S L C I R → I → S → Type 0
+Undoes {S} {L} {C} m inverse state = (list : L) × (command : C) × (number : ℕ) × UndoesStep m list command number inverse state
+
+-- whichever step an inverse undoes, its number is out
+abbrev pub TakesOut : {S L C I R : Type 0} → Meaning S L C I R → I → S → S → Type 0
+TakesOut {S} {L} {C} m inverse old new = (list : L) (command : C) (number : ℕ) → UndoesStep m list command number inverse old → Leaves m number old new

@@ -4,6 +4,8 @@ use crate::{ApplyFault, Tables, Undoable};
 use blot_types::{Command, Entry};
 
 impl Undoable for Command {
+    ghost use Rattle.std.specs.Prelude.{List};
+    ghost use Rattle.blot_types.specs.declared.command.Entry.{Entry};
     ghost use Rattle.blot_command.specs.Kinds.{command_meaning, command_lawful};
 
     type State = Tables;
@@ -11,6 +13,8 @@ impl Undoable for Command {
     type Inverse = u64;
 
     type Refusal = ApplyFault;
+
+    ghost Live = { List Entry };
 
     ghost meaning = { command_meaning };
 

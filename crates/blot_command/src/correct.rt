@@ -6,6 +6,8 @@ use crate::{ApplyFault, Tables, Undoable};
 use blot_types::{Command, Correct};
 
 impl Undoable for Correct {
+    ghost use Rattle.std.specs.Prelude.{List};
+    ghost use Rattle.blot_types.specs.declared.command.Entry.{Entry};
     ghost use Rattle.blot_command.specs.Kinds.{correct_meaning, correct_lawful};
 
     type State = Tables;
@@ -13,6 +15,8 @@ impl Undoable for Correct {
     type Inverse = u64;
 
     type Refusal = ApplyFault;
+
+    ghost Live = { List Entry };
 
     ghost meaning = { correct_meaning };
 

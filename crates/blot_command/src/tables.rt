@@ -15,7 +15,7 @@ use std::alloc::{AllocError as NoMemory, Global};
 use std::marker::Model;
 
 /// The book: its live list of entries, in rising order of number, with the chains of its executions and
-/// the fills that stand. A contract sees it as the list, which is always legal.
+/// the fills that stand. A contract sees its live list, which is always legal.
 #[derive(Drop)]
 pub struct Tables {
     live: LiveList,
@@ -23,13 +23,12 @@ pub struct Tables {
 }
 
 impl Model for Tables {
-    ghost use Rattle.std.specs.Prelude.{List};
-    ghost use Rattle.blot_types.specs.declared.command.Entry.{Entry};
+    ghost use Rattle.blot_command.specs.Book.{Shown};
     ghost use Rattle.blot_command.specs.Shown.{Shows};
 
-    ghost Value = { List Entry };
+    ghost Value = { Shown };
 
-    ghost view = { λ tables. tables.live };
+    ghost view = { λ tables. record { list = tables.live } };
 
     ghost invariant = { λ tables. Shows tables.live tables.orders };
 }
@@ -37,7 +36,8 @@ impl Model for Tables {
 impl Tables {
     /// An empty book. No memory is taken.
     pub fn new(alloc: Global) -> Tables
-        ensures { result ≡ [] }
+        ensures empty { result.list ≡ [] }
+        ensures book { IsTrue (is_book result.list) }
     {
         Tables {
             live: LiveList::new(alloc),
@@ -47,30 +47,32 @@ impl Tables {
 
     /// The line of an order, or none where no execution of it stands.
     pub fn order(&self, order: &OrderKey) -> Option<OrderLine>
-        ensures { result ≡ order_of self.now order.now }
+        ensures line { result ≡ order_of self.now.list order.now }
+        ensures book { IsTrue (is_book self.now.list) }
     {
         self.orders.get(order)
     }
 
     /// The entry of a number, if it is live.
     pub fn entry(&self, number: u64) -> Option<&Entry>
-        ensures { option_copied result ≡ find (has_number number) self.now }
+        ensures entry { option_copied result ≡ find (has_number number) self.now.list }
+        ensures book { IsTrue (is_book self.now.list) }
     {
         self.live.entry(number)
     }
 
     /// Why the book refuses a command.
     pub(crate) fn refusal(&self, command: &Command) -> Option<Refused>
-        ensures refusal { result ≡ refusal_of self.now command.now }
-        ensures book { IsTrue (is_book self.now) }
+        ensures refusal { result ≡ refusal_of self.now.list command.now }
+        ensures book { IsTrue (is_book self.now.list) }
     {
         self.live.refusal(command)
     }
 
     /// Puts an entry behind the others, or hands it back where memory runs out.
     pub(crate) fn record(&mut self, entry: Entry) -> Result<(), Entry>
-        requires { IsTrue (is_book (self.old ++ entry ∷ [])) }
-        ensures ok { OnOk result (self.new ≡ self.old ++ entry ∷ []) }
+        requires { IsTrue (is_book (self.old.list ++ entry ∷ [])) }
+        ensures ok { OnOk result (self.new.list ≡ self.old.list ++ entry ∷ []) }
         ensures err { OnErr result (self.new ≡ self.old) }
         ensures returned { IfErr result (λ back. back ≡ entry) }
     {
@@ -93,14 +95,14 @@ impl Tables {
 
     /// Takes the last entry out.
     pub(crate) fn take_last(&mut self) -> Entry
-        requires { 0 < length self.old }
-        ensures { self.old ≡ self.new ++ result ∷ [] }
+        requires { 0 < length self.old.list }
+        ensures { self.old.list ≡ self.new.list ++ result ∷ [] }
     {
         let entry = self.live.pop();
         let version = entry.version();
-        let replaced = self.live.replaced(entry.command.role());
+        let restored = self.live.replaced(entry.command.role());
         take(&mut self.orders, &version);
-        un_take(&mut self.orders, &replaced);
+        un_take(&mut self.orders, &restored);
         entry
     }
 }

@@ -6,6 +6,8 @@ use crate::{ApplyFault, Tables, Undoable};
 use blot_types::{Command, Trade};
 
 impl Undoable for Trade {
+    ghost use Rattle.std.specs.Prelude.{List};
+    ghost use Rattle.blot_types.specs.declared.command.Entry.{Entry};
     ghost use Rattle.blot_command.specs.Kinds.{trade_meaning, trade_lawful};
 
     type State = Tables;
@@ -13,6 +15,8 @@ impl Undoable for Trade {
     type Inverse = u64;
 
     type Refusal = ApplyFault;
+
+    ghost Live = { List Entry };
 
     ghost meaning = { trade_meaning };
 

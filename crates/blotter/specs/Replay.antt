@@ -1,5 +1,5 @@
 -- What a capture comes to: the commands that its frames give, the book that they lead to, and its report.
-use Rattle.std.specs.Prelude.{◌≡◌, ℕ, ◌+◌, ◌<◌, ◌≤◌, All, List, [], ◌++◌, map, fold, Option, Some, None, ⊤, is_none, if◌then◌else◌}
+use Rattle.std.specs.Prelude.{◌≡◌, ℕ, ◌+◌, ◌≤◌, List, [], ◌++◌, fold, Option, Some, None, ⊤, is_none, if◌then◌else◌}
 use Rattle.std.specs.List.{filter_map}
 use Rattle.blot_types.specs.declared.command.Command.{Command}
 use Rattle.blot_types.specs.declared.command.Command.TheVariants.{Trade, Correct, Bust}
@@ -8,7 +8,8 @@ use Rattle.blot_types.specs.declared.keys.OrderKey.{OrderKey}
 use Rattle.blot_types.specs.declared.TheConstants.{EVENTS_MAX}
 use Rattle.blot_types.specs.Legal.{refusal_of}
 use Rattle.blot_tag.specs.Walking.{frames_of}
-use Rattle.blot_command.specs.Book.{after}
+use Rattle.blot_command.specs.Book.{numbers_of, after}
+use Rattle.blot_command.specs.Undoable.{AllBelow}
 use Rattle.blotter.specs.Commands.{command_in}
 
 -- a run of commands: the live list, the next number, and how many commands came
@@ -29,7 +30,7 @@ orders_filled list = filter_map (λ entry. order_filled entry.command) list
 
 -- what the running book keeps
 pub record IsKept (list : List Entry) (orders : List OrderKey) (next came : ℕ) : Type 0 where
-  pub below : All (λ number. number < next) (map (λ entry. entry.number) list)
+  pub below : AllBelow next (numbers_of list)
   pub started : 1 ≤ next
   pub few : next ≤ came + 1
   pub limited : came ≤ EVENTS_MAX

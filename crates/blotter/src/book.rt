@@ -26,9 +26,9 @@ impl Model for Book {
 
     ghost Value = { Run };
 
-    ghost view = { λ book. record { list = book.tables; next = book.next; came = book.came } };
+    ghost view = { λ book. record { list = book.tables.list; next = book.next; came = book.came } };
 
-    ghost invariant = { λ book. IsKept book.tables book.orders.items book.next book.came };
+    ghost invariant = { λ book. IsKept book.tables.list book.orders.items book.next book.came };
 }
 
 impl Book {

@@ -1,5 +1,6 @@
 //! Generated runs of commands and their inverses, compared with the plain slow program after every step.
 ghost use Rattle.std.specs.Prelude.{◌≡◌, ◌+◌, ◌<◌, ◌≤◌, All, IfOk};
+ghost use Rattle.blot_command.specs.Undoable.{IsAbove};
 ghost use Rattle.blot_command.specs.Kinds.{command_meaning};
 
 use crate::fixtures::{exec, expect_back, fill, order};
@@ -115,9 +116,9 @@ fn expect_refused(
 
 // A command is taken or refused as the plain program says, and taken back.
 fn try_command(alloc: Global, tables: &mut Tables, number: u64, sent: &Command) -> Result<(), Fail>
-    requires above { All (λ earlier. earlier < number) (command_meaning.numbers tables.old) }
+    requires above { IsAbove command_meaning number tables.old }
     requires within { number ≤ EVENTS_MAX }
-    ensures { IfOk result (λ _. tables.new ≡ tables.old) }
+    ensures { IfOk result (λ _. tables.new.list ≡ tables.old.list) }
 {
     let refusal = expected(alloc, tables, number, sent)?;
     match sent.try_copy()?.apply(tables, number) {
@@ -154,9 +155,9 @@ fn try_key(
     peer: &[u8],
     id: u32,
 ) -> Result<(), Fail>
-    requires above { All (λ earlier. earlier < number) (command_meaning.numbers tables.old) }
+    requires above { IsAbove command_meaning number tables.old }
     requires within { number ≤ EVENTS_MAX }
-    ensures { IfOk result (λ _. tables.new ≡ tables.old) }
+    ensures { IfOk result (λ _. tables.new.list ≡ tables.old.list) }
 {
     match trade_under(peer, id) {
         Ok(sent) => try_command(alloc, tables, number, &sent)?,
@@ -170,9 +171,9 @@ fn try_key(
 
 // Each key that is drawn, likewise.
 fn try_keys(alloc: Global, tables: &mut Tables, number: u64) -> Result<(), Fail>
-    requires above { All (λ earlier. earlier < number) (command_meaning.numbers tables.old) }
+    requires above { IsAbove command_meaning number tables.old }
     requires within { number ≤ EVENTS_MAX }
-    ensures { IfOk result (λ _. tables.new ≡ tables.old) }
+    ensures { IfOk result (λ _. tables.new.list ≡ tables.old.list) }
 {
     for id in 0..8u32 {
         try_key(alloc, tables, number, b"BRKA", id)?;
@@ -199,9 +200,9 @@ fn explore(
     seed: u32,
     steps: u32,
 ) -> Result<(), Fail>
-    requires above { All (λ earlier. earlier < number) (command_meaning.numbers tables.old) }
+    requires above { IsAbove command_meaning number tables.old }
     requires within { number + steps ≤ EVENTS_MAX }
-    ensures { IfOk result (λ _. tables.new ≡ tables.old) }
+    ensures { IfOk result (λ _. tables.new.list ≡ tables.old.list) }
 {
     compare(alloc, tables, number, orders)?;
     try_keys(alloc, tables, number)?;

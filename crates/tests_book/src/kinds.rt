@@ -1,5 +1,6 @@
 //! Each kind of command by itself: taken and taken back by its own calls, and refused.
 ghost use Rattle.std.specs.Prelude.{◌≡◌, ◌<◌, ◌≤◌, [], All, IfOk};
+ghost use Rattle.blot_command.specs.Undoable.{IsAbove};
 ghost use Rattle.blot_command.specs.Kinds.{trade_meaning, correct_meaning, bust_meaning};
 
 use crate::rows::Filled::Buys;
@@ -10,7 +11,7 @@ use std::test::Fail;
 
 // A trade is taken, and its inverse hands it back.
 fn trade_and_back(tables: &mut Tables, number: u64, sent: Trade) -> Result<(), Fail>
-    requires above { All (λ earlier. earlier < number) (trade_meaning.numbers tables.old) }
+    requires above { IsAbove trade_meaning number tables.old }
     requires within { number ≤ EVENTS_MAX }
 {
     let Ok(inverse) = sent.apply(tables, number) else {
@@ -24,7 +25,7 @@ fn trade_and_back(tables: &mut Tables, number: u64, sent: Trade) -> Result<(), F
 
 // A correction is taken, and its inverse hands it back.
 fn correct_and_back(tables: &mut Tables, number: u64, sent: Correct) -> Result<(), Fail>
-    requires above { All (λ earlier. earlier < number) (correct_meaning.numbers tables.old) }
+    requires above { IsAbove correct_meaning number tables.old }
     requires within { number ≤ EVENTS_MAX }
 {
     let Ok(inverse) = sent.apply(tables, number) else {
@@ -38,7 +39,7 @@ fn correct_and_back(tables: &mut Tables, number: u64, sent: Correct) -> Result<(
 
 // A bust is taken, and its inverse hands it back.
 fn bust_and_back(tables: &mut Tables, number: u64, sent: Bust) -> Result<(), Fail>
-    requires above { All (λ earlier. earlier < number) (bust_meaning.numbers tables.old) }
+    requires above { IsAbove bust_meaning number tables.old }
     requires within { number ≤ EVENTS_MAX }
 {
     let Ok(inverse) = sent.apply(tables, number) else {
@@ -52,7 +53,7 @@ fn bust_and_back(tables: &mut Tables, number: u64, sent: Bust) -> Result<(), Fai
 
 // Refused under a number, for this reason, a bust comes back.
 fn expect_refused(tables: &mut Tables, number: u64, sent: Bust, reason: Refused) -> Result<(), Fail>
-    requires above { All (λ earlier. earlier < number) (bust_meaning.numbers tables.old) }
+    requires above { IsAbove bust_meaning number tables.old }
     requires within { number ≤ EVENTS_MAX }
 {
     match sent.apply(tables, number) {
@@ -87,8 +88,8 @@ fn a_trade_by_itself(rt: HostRuntime) -> Result<(), Fail> {
 
 // The first trade is taken under 1.
 fn take_first(tables: &mut Tables, first: Trade) -> Result<(), Fail>
-    requires { tables.old ≡ [] }
-    ensures { IfOk result (λ _. All (λ earlier. earlier < 2) (trade_meaning.numbers tables.new)) }
+    requires { tables.old.list ≡ [] }
+    ensures { IfOk result (λ _. IsAbove trade_meaning 2 tables.new) }
 {
     match first.apply(tables, 1) {
         Ok(_) => Ok(()),

@@ -1,5 +1,6 @@
 //! Rows of commands, each with what the book says to it and shows after it.
 ghost use Rattle.std.specs.Prelude.{◌≡◌, ◌<◌, ◌≤◌, All, IfOk};
+ghost use Rattle.blot_command.specs.Undoable.{IsAbove};
 ghost use Rattle.blot_command.specs.Kinds.{command_meaning};
 ghost use Rattle.blot_types.specs.declared.TheConstants.{EVENTS_MAX};
 
@@ -188,9 +189,9 @@ fn play(
     before: &[&'static str; 2],
     rows: &[Row],
 ) -> Result<(), Fail>
-    requires above { All (λ earlier. earlier < number) (command_meaning.numbers tables.old) }
+    requires above { IsAbove command_meaning number tables.old }
     requires within { number ≤ EVENTS_MAX }
-    ensures { IfOk result (λ _. tables.new ≡ tables.old) }
+    ensures { IfOk result (λ _. tables.new.list ≡ tables.old.list) }
 {
     expect_lines(alloc, tables, orders, before, number)?;
     compare(alloc, tables, number, orders)?;

@@ -13,5 +13,5 @@ returns-in_ok-expect_taken-in-Ok c =
     let step = c.in-Ok.ensures.accepted in
     let stood = command_lawful.before_after _ _ _ step.is_next in
     if_ok c.expect_back.result _
-    (c.revert-back.ensures.state ∙ ap (λ list. before list c.in-Ok.inverse) step.state_is
-    ∙ ap (λ number. before (after c.args.tables.now c.in_ok-try_copy.field-0 c.args.number) number) step.inverse_is ∙ stood)
+    (c.revert-back.ensures.list ∙ ap (λ list. before list c.in-Ok.inverse) step.list_is
+    ∙ ap (λ number. before (after c.args.tables.now.list c.in_ok-try_copy.field-0 c.args.number) number) step.inverse_is ∙ stood)

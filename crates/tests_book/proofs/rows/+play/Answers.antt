@@ -1,7 +1,8 @@
-use Rattle.std.proofs.Common.{arith, ◌+◌, ◌<◌, ap, ◌∙◌, Result, Ok, Err}
-use Rattle.std.specs.Prelude.{All, IfOk}
-use Rattle.blot_command.specs.Book.{before, after}
+use Rattle.std.proofs.Common.{arith, ◌+◌, ap, ◌∙◌, Result, Ok, Err}
+use Rattle.std.specs.Prelude.{IfOk}
+use Rattle.blot_command.specs.Book.{Shown, before, after}
 use Rattle.blot_command.specs.Kinds.{command_meaning, command_lawful}
+use Rattle.blot_command.specs.Undoable.{IsAbove}
 use Rattle.blot_command.proofs.StepLemmas.{below_next}
 use Rattle.tests_book.proofs.rows.+play.Goals as goal
 use Rattle.tests_book.proofs.rows.+play.Goals.{in-Ok+in_ok-expect_taken-in-Ok+in_ok-expect_entry-in-Ok+in_ok-play-in-Ok+in_ok-expect_back-in-Ok, in-Err+in_ok-expect_refused-in-Err+in_ok-play-in-Err}
@@ -12,9 +13,8 @@ if_ok (Err e) P p = tt
 
 pub play-requires : goal.play-requires
 play-requires t c =
-    let step = c.in-Ok.ensures.accepted in
-    let above : All (λ earlier. earlier < c.args.number + 1) (command_meaning.numbers c.apply.new.tables) =
-    rw step.state_is (below_next command_meaning command_lawful _ _ _ step.is_next) in
+    let above : IsAbove command_meaning (c.args.number + 1) c.apply.new.tables =
+    below_next command_meaning _ _ c.args.tables.now _ c.requires.above c.in-Ok.ensures.kept in
     (omega arith, (above, omega arith))
 
 pub returns : goal.returns
@@ -23,9 +23,9 @@ returns t c =
       | in-Ok+in_ok-expect_taken-in-Ok+in_ok-expect_entry-in-Ok+in_ok-play-in-Ok+in_ok-expect_back-in-Ok w ↦
           let step = w.in-Ok.ensures.accepted in
           let stood = command_lawful.before_after _ _ _ step.is_next in
-          let left = w.in_ok-play-in-Ok.ensures ∙ step.state_is in
-          w.tables-is ∙ w.revert-back.ensures.state ∙ ap (λ list. before list w.in-Ok.inverse) left
-          ∙ ap (λ number. before (after c.args.tables.now c.in_ok-try_copy.field-0 c.args.number) number) step.inverse_is ∙ stood
+          let left = w.in_ok-play-in-Ok.ensures ∙ step.list_is in
+          ap (λ (book : Shown). book.list) w.tables-is ∙ w.revert-back.ensures.list ∙ ap (λ list. before list w.in-Ok.inverse) left
+          ∙ ap (λ number. before (after c.args.tables.now.list c.in_ok-try_copy.field-0 c.args.number) number) step.inverse_is ∙ stood
       | in-Err+in_ok-expect_refused-in-Err+in_ok-play-in-Err w ↦
-          w.tables-is ∙ w.in_ok-play-in-Err.ensures ∙ w.in-Err.ensures.refused.state_is
+          ap (λ (book : Shown). book.list) w.tables-is ∙ w.in_ok-play-in-Err.ensures ∙ ap (λ (book : Shown). book.list) w.in-Err.ensures.refused.state_is
     ])

@@ -4,6 +4,7 @@ use Rattle.std.specs.Prelude.{IfSome}
 use Rattle.blot_types.specs.Chains.{replaced_in}
 use Rattle.blot_types.specs.Legal.{is_book}
 use Rattle.blot_types.specs.Survivors.{links_of}
+use Rattle.blot_command.specs.Book.{Shown}
 use Rattle.blot_command.specs.Shown.{version_numbered, Shows, with_kept, IsPut}
 use Rattle.blot_command.proofs.LiveLemmas.{next-entry}
 use Rattle.blot_command.proofs.RecordLemmas.{brings, replaces, can_put, can_take, put_back, shows-more, shows-back}
@@ -13,14 +14,14 @@ pub put-requires : goal.put-requires
 put-requires c =
     let list = c.self.inside.live in
     let entry = c.args.entry in
-    let next = next-entry list entry (ap (λ l. is_book (l ++ entry ∷ [])) c.self.view_is ∙ c.requires) in
+    let next = next-entry list entry (ap (λ (book : Shown). is_book (book.list ++ entry ∷ [])) c.self.view_is ∙ c.requires) in
     can_put list entry c.self.inside.orders c.version-version.result next c.self.invariant (brings entry c.version-version.result c.version-version.ensures)
 
 pub take-requires : goal.take-requires
 take-requires c =
     let list = c.self.inside.live in
     let entry = c.args.entry in
-    let next = next-entry list entry (ap (λ l. is_book (l ++ entry ∷ [])) c.self.view_is ∙ c.requires) in
+    let next = next-entry list entry (ap (λ (book : Shown). is_book (book.list ++ entry ∷ [])) c.self.view_is ∙ c.requires) in
     let read = c.replaced-replaced.ensures ∙ ap (λ role. option_and_then (version_numbered list) (replaced_in (links_of list) role)) c.role.ensures in
     subst (λ slots. IfSome c.replaced-replaced.result (λ version. IsPut version slots)) (sym c.in-Ok.ensures.ok)
     (can_take list entry c.self.inside.orders c.version-version.result c.replaced-replaced.result next c.self.invariant
@@ -30,7 +31,7 @@ pub invariant_of-self-in-Ok-push : goal.invariant_of-self-in-Ok-push
 invariant_of-self-in-Ok-push c =
     let list = c.self.inside.live in
     let entry = c.args.entry in
-    let next = next-entry list entry (ap (λ l. is_book (l ++ entry ∷ [])) c.self.view_is ∙ c.requires) in
+    let next = next-entry list entry (ap (λ (book : Shown). is_book (book.list ++ entry ∷ [])) c.self.view_is ∙ c.requires) in
     let read = c.replaced-replaced.ensures ∙ ap (λ role. option_and_then (version_numbered list) (replaced_in (links_of list) role)) c.role.ensures in
     let shows =
     shows-more list entry c.self.inside.orders c.version-version.result c.replaced-replaced.result next c.self.invariant
@@ -46,7 +47,7 @@ pub invariant_of-self-in-Err : goal.invariant_of-self-in-Err
 invariant_of-self-in-Err c =
     let list = c.self.inside.live in
     let entry = c.args.entry in
-    let next = next-entry list entry (ap (λ l. is_book (l ++ entry ∷ [])) c.self.view_is ∙ c.requires) in
+    let next = next-entry list entry (ap (λ (book : Shown). is_book (book.list ++ entry ∷ [])) c.self.view_is ∙ c.requires) in
     let shows = shows-back list entry c.self.inside.orders c.version-version.result next c.self.invariant (brings entry c.version-version.result c.version-version.ensures) in
     subst (λ l. Shows l c.take-in-Err.new.orders) (sym c.in-Err.ensures.err)
     (subst (Shows list) (sym (c.take-in-Err.ensures ∙ ap (with_kept c.version-version.result) c.in-Ok.ensures.ok)) shows)

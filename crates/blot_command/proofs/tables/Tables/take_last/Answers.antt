@@ -16,9 +16,9 @@ take-requires c =
     let whole : is_book (list ++ entry ∷ []) ≡ true = ap is_book (sym c.pop-entry.ensures.rest) ∙ c.pop-entry.ensures.book in
     let next = next-entry list entry whole in
     let shows : Shows (list ++ entry ∷ []) c.self.inside.orders = subst (λ l. Shows l c.self.inside.orders) c.pop-entry.ensures.rest c.self.invariant in
-    let read = c.replaced-replaced.ensures ∙ ap (λ role. option_and_then (version_numbered list) (replaced_in (links_of list) role)) c.role.ensures in
-    can_take_last list entry c.self.inside.orders c.version-version.result c.replaced-replaced.result next shows (brings entry c.version-version.result c.version-version.ensures)
-    (replaces list entry c.replaced-replaced.result next read)
+    let read = c.replaced-restored.ensures ∙ ap (λ role. option_and_then (version_numbered list) (replaced_in (links_of list) role)) c.role.ensures in
+    can_take_last list entry c.self.inside.orders c.version-version.result c.replaced-restored.result next shows (brings entry c.version-version.result c.version-version.ensures)
+    (replaces list entry c.replaced-restored.result next read)
 
 pub un_take-requires : goal.un_take-requires
 un_take-requires c =
@@ -27,10 +27,10 @@ un_take-requires c =
     let whole : is_book (list ++ entry ∷ []) ≡ true = ap is_book (sym c.pop-entry.ensures.rest) ∙ c.pop-entry.ensures.book in
     let next = next-entry list entry whole in
     let shows : Shows (list ++ entry ∷ []) c.self.inside.orders = subst (λ l. Shows l c.self.inside.orders) c.pop-entry.ensures.rest c.self.invariant in
-    let read = c.replaced-replaced.ensures ∙ ap (λ role. option_and_then (version_numbered list) (replaced_in (links_of list) role)) c.role.ensures in
-    subst (λ slots. IfSome c.replaced-replaced.result (λ version. IsKept version slots)) (sym c.take.ensures)
-    (can_un_take list entry c.self.inside.orders c.version-version.result c.replaced-replaced.result next shows (brings entry c.version-version.result c.version-version.ensures)
-    (replaces list entry c.replaced-replaced.result next read))
+    let read = c.replaced-restored.ensures ∙ ap (λ role. option_and_then (version_numbered list) (replaced_in (links_of list) role)) c.role.ensures in
+    subst (λ slots. IfSome c.replaced-restored.result (λ version. IsKept version slots)) (sym c.take.ensures)
+    (can_un_take list entry c.self.inside.orders c.version-version.result c.replaced-restored.result next shows (brings entry c.version-version.result c.version-version.ensures)
+    (replaces list entry c.replaced-restored.result next read))
 
 pub invariant_of-self : goal.invariant_of-self
 invariant_of-self c =
@@ -38,8 +38,8 @@ invariant_of-self c =
     let entry = c.pop-entry.result in
     let whole : is_book (list ++ entry ∷ []) ≡ true = ap is_book (sym c.pop-entry.ensures.rest) ∙ c.pop-entry.ensures.book in
     let next = next-entry list entry whole in
-    let read = c.replaced-replaced.ensures ∙ ap (λ role. option_and_then (version_numbered list) (replaced_in (links_of list) role)) c.role.ensures in
+    let read = c.replaced-restored.ensures ∙ ap (λ role. option_and_then (version_numbered list) (replaced_in (links_of list) role)) c.role.ensures in
     let shows : Shows (list ++ entry ∷ []) c.self.inside.orders = subst (λ l. Shows l c.self.inside.orders) c.pop-entry.ensures.rest c.self.invariant in
-    subst (Shows list) (sym (c.un_take.ensures ∙ ap (with_put c.replaced-replaced.result) c.take.ensures))
-    (shows-less list entry c.self.inside.orders c.version-version.result c.replaced-replaced.result next shows (brings entry c.version-version.result c.version-version.ensures)
-    (replaces list entry c.replaced-replaced.result next read))
+    subst (Shows list) (sym (c.un_take.ensures ∙ ap (with_put c.replaced-restored.result) c.take.ensures))
+    (shows-less list entry c.self.inside.orders c.version-version.result c.replaced-restored.result next shows (brings entry c.version-version.result c.version-version.ensures)
+    (replaces list entry c.replaced-restored.result next read))

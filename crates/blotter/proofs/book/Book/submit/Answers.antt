@@ -1,16 +1,16 @@
-use Rattle.std.proofs.Common.{arith, ℕ, ◌≡◌, ◌+◌, ◌++◌, false, List, [], Option, Some, None, inl, inr, refl, sym, ap, ◌∙◌}
+use Rattle.std.proofs.Common.{arith, ℕ, ◌≡◌, ◌+◌, ◌++◌, false, [], Option, Some, None, inl, inr, refl, sym, ap, ◌∙◌}
 use Rattle.std.specs.Prelude.{is_none, option_to_list}
 use Rattle.std.specs.Option.{option_map}
 use Rattle.std.specs.List.{cons_option}
 use Rattle.std.proofs.lemmas.List.Elements.{filter_map-append}
 use Rattle.blot_types.specs.declared.command.Command.{Command}
-use Rattle.blot_types.specs.declared.command.Entry.{Entry}
 use Rattle.blot_types.specs.declared.keys.OrderKey.{OrderKey}
 use Rattle.blot_types.specs.declared.refused.Refused.{Refused as Reason}
 use Rattle.blot_types.specs.Legal.{refusal_of}
 use Rattle.blot_command.specs.declared.fault.ApplyFault.{ApplyFault}
 use Rattle.blot_command.specs.declared.fault.ApplyFault.TheVariants.{Refused}
-use Rattle.blot_command.specs.Kinds.{command_meaning, command_lawful}
+use Rattle.blot_command.specs.Book.{Shown}
+use Rattle.blot_command.specs.Kinds.{command_meaning}
 use Rattle.blot_command.specs.Undoable.{IsRefusal}
 use Rattle.blot_command.proofs.StepLemmas.{below_next}
 use Rattle.blotter.specs.Replay.{step_of, order_filled, orders_filled}
@@ -26,23 +26,23 @@ not_none (Some found) reason is = refl
 
 -- a command that the book refuses changes no more than how many came
 passed_over :
-    (list next : List Entry) (number came : ℕ) (command returned : Command) (reason : ApplyFault) (why : Reason)
-    → IsRefusal command_meaning list command returned reason next → reason ≡ Refused why
-    → step_of (record { list = list; next = number; came = came }) command ≡ record { list = next; next = number; came = came + 1 }
-passed_over list next number came command returned reason why refusal is = elim refusal.reason_is [
-  | inl refused ↦ rw (not_none (refusal_of list command) reason refused, refusal.state_is) refl
+    (book next : Shown) (number came : ℕ) (command returned : Command) (reason : ApplyFault) (why : Reason)
+    → IsRefusal command_meaning book command returned reason next → reason ≡ Refused why
+    → step_of (record { list = book.list; next = number; came = came }) command ≡ record { list = next.list; next = number; came = came + 1 }
+passed_over book next number came command returned reason why refusal is = elim refusal.reason_is [
+  | inl refused ↦ rw (not_none (refusal_of book.list command) reason refused, refusal.state_is) refl
   | inr memory ↦ cc
 ]
 
 pub invariant_of-self-in-Ok-apply : goal.invariant_of-self-in-Ok-apply
 invariant_of-self-in-Ok-apply c =
     let step = c.in-Ok-apply.ensures.accepted in
-    let one_more : orders_filled c.apply.new.tables ≡ orders_filled c.self.inside.tables ++ option_to_list (order_filled c.args.command) =
-    ap orders_filled step.state_is
-    ∙ filter_map-append (λ entry. order_filled entry.command) c.self.inside.tables _
-    ∙ ap (λ orders. orders_filled c.self.inside.tables ++ orders) (alone (order_filled c.args.command)) in
+    let one_more : orders_filled c.apply.new.tables.list ≡ orders_filled c.self.inside.tables.list ++ option_to_list (order_filled c.args.command) =
+    ap orders_filled step.list_is
+    ∙ filter_map-append (λ entry. order_filled entry.command) c.self.inside.tables.list _
+    ∙ ap (λ orders. orders_filled c.self.inside.tables.list ++ orders) (alone (order_filled c.args.command)) in
     record {
-      below = rw step.state_is (below_next command_meaning command_lawful _ _ _ step.is_next);
+      below = below_next command_meaning _ _ c.self.inside.tables _ c.self.invariant.below c.in-Ok-apply.ensures.kept;
       started = omega arith;
       few = omega (arith, c.self.invariant.few);
       limited = omega (arith, c.self.invariant.limited);
