@@ -1,6 +1,7 @@
 mod AllocationRows
 pub mod ChainLemmas
 pub mod EntryLemmas
+pub mod InstructionLemmas
 pub mod KeyLemmas
 pub mod LawLemmas
 pub mod LegalLemmas
@@ -8,4 +9,5 @@ pub mod OrderLemmas
 mod Rows
 pub mod StandLemmas
 pub mod UncorrectedLemmas
+pub mod SumLemmas
 pub mod SurvivorLemmas

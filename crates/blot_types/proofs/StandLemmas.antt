@@ -13,7 +13,7 @@ use Rattle.blot_types.specs.Survivors.{is_number, stands_under, stands_in}
 use Rattle.blot_types.proofs.KeyLemmas.{same_exec-true, same_exec-refl, same_exec-sym}
 use Rattle.blot_types.proofs.ChainLemmas.{root-fresh, bust-fresh, accepted_key, accepted_root, current-apart, differing}
 
-and-true : (a : Bool) → (a && true) ≡ a
+pub and-true : (a : Bool) → (a && true) ≡ a
 and-true true = refl
 and-true false = refl
 

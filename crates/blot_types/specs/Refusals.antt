@@ -20,10 +20,10 @@ use Rattle.blot_types.specs.declared.refused.Refused.{Refused}
 use Rattle.blot_types.specs.declared.refused.Refused.TheVariants.{DuplicateExec, DuplicateAlloc, UnknownAlloc, DeadAlloc, UnknownExec, BustedExec, RepeatedExec, ExecTaken, Instrument, Quantity}
 use Rattle.blot_types.specs.Allocations.{Allocation, allocation_of, instructions_in}
 use Rattle.blot_types.specs.Chains.{taker_in, root_in, bust_in, current_in}
-use Rattle.blot_types.specs.Instructions.{alloc_taker_in, is_allocation_in, ended_in, holder_in}
+use Rattle.blot_types.specs.Instructions.{alloc_taker_in, is_allocation_in, ended_in, other_holder_in}
 use Rattle.blot_types.specs.Keys.{is_among, same_text}
 use Rattle.blot_types.specs.Order.{total, cum_of}
-use Rattle.blot_types.specs.Survivors.{links_in, version_of, is_number}
+use Rattle.blot_types.specs.Survivors.{links_in, version_of}
 
 -- ---- what a command says, by its kind
 
@@ -82,11 +82,9 @@ repeated_in links seen (key ∷ later) =
     if option_map_or (is_among seen) (root_in links key) false then Some key
     else repeated_in links (option_map_or (λ root. root ∷ seen) (root_in links key) seen) later
 
--- the number of the live allocation that names the chain of a key, other than that of this number
-abbrev pub other_holder : List Link → List Instruction → Option ℕ → ExecKey → Option ℕ
-other_holder links instructions replaced key =
-    option_and_then (λ number. if is_number number replaced then None else Some number)
-    (option_and_then (holder_in instructions) (root_in links key))
+-- the number of the live allocation that names the chain of a key, other than the one referred to
+abbrev pub other_holder : List Link → List Instruction → Option AllocKey → ExecKey → Option ℕ
+other_holder links instructions reference key = option_and_then (other_holder_in instructions reference) (root_in links key)
 
 -- the version of a number
 abbrev pub version_in : List Entry → ℕ → Option Version
@@ -145,8 +143,7 @@ repeated_exec entries command = option_map RepeatedExec (repeated_in (links_in e
 
 abbrev pub exec_taken : List Entry → Command → Option Refused
 exec_taken entries command =
-    let replaced = option_and_then (alloc_taker_in (instructions_in entries)) (alloc_reference command) in
-    option_map ExecTaken (first_of (other_holder (links_in entries) (instructions_in entries) replaced) (listed_by command))
+    option_map ExecTaken (first_of (other_holder (links_in entries) (instructions_in entries) (alloc_reference command)) (listed_by command))
 
 abbrev pub instrument : List Entry → Command → Option Refused
 instrument entries command =
