@@ -28,18 +28,6 @@ version_numbered-append front back number =
     ap (find (λ version. version.number == number)) (filter_map-append version_of front back)
     ∙ find-append (λ version. version.number == number) (versions_of front) (versions_of back)
 
-abbrev version_number : Option Version → ℕ
-version_number None = 0
-version_number (Some version) = version.number
-
-numbered : (number : ℕ) (key : ExecKey) (fill : Option Fill) (version : Version) → option_map (λ f. record { number = number; key = key; fill = f }) fill ≡ Some version → version.number ≡ number
-numbered number key None version brought = cc
-numbered number key (Some fill) version brought = ap version_number (sym brought)
-
--- a version bears the number of its entry
-pub version-number : (entry : Entry) (version : Version) → version_of entry ≡ Some version → version.number ≡ entry.number
-version-number entry version brought = numbered entry.number (exec_key entry.command) (fill_by entry.command) version brought
-
 one-found : (entry : Entry) (version : Version) (number : ℕ) → version_of entry ≡ Some version → entry.number ≡ number → version_numbered (entry ∷ []) number ≡ Some version
 one-found entry version number brought is = rw (brought, eq-eqb version.number number (version-number entry version brought ∙ is)) refl
 

@@ -7,10 +7,8 @@ use Rattle.blot_types.specs.declared.lines.Version.{Version}
 use Rattle.blot_types.specs.declared.link.Link.{Link}
 use Rattle.blot_types.specs.Legal.{is_book}
 use Rattle.blot_types.specs.Survivors.{links_of, versions_of, survivors}
-use Rattle.blot_order.specs.declared.slot.Slot.{Slot}
 use Rattle.blot_types.specs.declared.TheConstants.{EVENTS_MAX}
-use Rattle.blot_order.specs.declared.slot.Slot.TheVariants.{Put, Kept}
-use Rattle.blot_order.specs.Slots.{put_at, kept_at, held_at, with_slot}
+use Rattle.blot_order.specs.Fills.{Fills, put_at, kept_at, held_at, with_put as with_put_at, with_kept as with_kept_at}
 
 -- the version of a number, of those that a list's entries bring
 abbrev pub version_numbered : List Entry → ℕ → Option Version
@@ -27,28 +25,28 @@ pub record HoldsList (list : List Entry) (links : List Link) : Type 0 where
 
 -- the live list is a book, the fills that are put are those of the survivors, and the fill of each version is held,
 -- so that it can be put again without memory
-pub record Shows (list : List Entry) (slots : List Slot) : Type 0 where
+pub record Shows (list : List Entry) (fills : Fills) : Type 0 where
   pub book : is_book list ≡ true
-  pub put : (number : ℕ) → put_at slots number ≡ fill_numbered number (survivors list)
-  pub held : All (λ version. held_at slots version.number ≡ Some version.fill) (versions_of list)
+  pub put : (number : ℕ) → put_at fills number ≡ fill_numbered number (survivors list)
+  pub held : All (λ version. held_at fills version.number ≡ Some version.fill) (versions_of list)
 
--- the slots with the fill of a version put, or kept; without a version they are as they were
-abbrev pub with_put : Option Version → List Slot → List Slot
-with_put None slots = slots
-with_put (Some version) slots = with_slot version.number (Put version.fill) slots
+-- the fills by number with that of a version put, or kept; without a version they are as they were
+abbrev pub with_put : Option Version → Fills → Fills
+with_put None fills = fills
+with_put (Some version) fills = with_put_at version.number version.fill fills
 
-abbrev pub with_kept : Option Version → List Slot → List Slot
-with_kept None slots = slots
-with_kept (Some version) slots = with_slot version.number (Kept version.fill) slots
+abbrev pub with_kept : Option Version → Fills → Fills
+with_kept None fills = fills
+with_kept (Some version) fills = with_kept_at version.number version.fill fills
 
 -- a version's fill can be put: none is put under its number, up to EVENTS_MAX
-pub record CanPut (version : Version) (slots : List Slot) : Type 0 where
-  pub unput : put_at slots version.number ≡ None
+pub record CanPut (version : Version) (fills : Fills) : Type 0 where
+  pub unput : put_at fills version.number ≡ None
   pub within : version.number ≤ EVENTS_MAX
 
 -- a version's fill is put; it is kept
-abbrev pub IsPut : Version → List Slot → Type 0
-IsPut version slots = put_at slots version.number ≡ Some version.fill
+abbrev pub IsPut : Version → Fills → Type 0
+IsPut version fills = put_at fills version.number ≡ Some version.fill
 
-abbrev pub IsKept : Version → List Slot → Type 0
-IsKept version slots = kept_at slots version.number ≡ Some version.fill
+abbrev pub IsKept : Version → Fills → Type 0
+IsKept version fills = kept_at fills version.number ≡ Some version.fill

@@ -1,7 +1,7 @@
 -- The survivors of a list with one more entry, and the version whose place it takes.
 use Rattle.std.proofs.Common.{◌≡◌, ℕ, ◌+◌, ◌<◌, ◌≤◌, ◌==◌, length, Bool, true, false, ◌&&◌, List, [], ◌∷◌, ◌++◌, map, reverse, Option, Some, None, refl, sym, ap, subst, ◌∙◌, arith, inl, inr}
 use Rattle.std.specs.Prelude.{is_none, is_some, not, find, filter, nat_lt, All}
-use Rattle.std.specs.List.{cons_option}
+use Rattle.std.specs.List.{cons_option, filter_map}
 use Rattle.std.specs.Option.{option_or}
 use Rattle.std.proofs.lemmas.Bool.{cases_Bool, and_parts, ltb-true, ne_eqb, eq-eqb, eqb-true}
 use Rattle.std.proofs.lemmas.List.{reverse-append, reverse-reverse, append-nil}
@@ -15,6 +15,7 @@ use Rattle.blot_types.specs.declared.link.Role.{Role}
 use Rattle.blot_types.specs.declared.link.Role.TheVariants.{Begins, Corrects, Busts}
 use Rattle.blot_types.specs.Chains.{takes_up, taker_in, own_root, root_in, is_root, bust_in, current_in, link_refusal, reference_refusal, replaced_in, replaced_by, falls}
 use Rattle.blot_types.specs.Legal.{is_above, rises_in, numbers_rise, legal_in, is_legal, refusal_in, refusal_of}
+use Rattle.blot_types.specs.Refusals.{version_in}
 use Rattle.blot_types.specs.Survivors.{link_of, links_in, links_of, version_of, versions_of, is_number, stands_in, survivors}
 use Rattle.blot_types.proofs.KeyLemmas.{same_exec-true, same_exec-refl}
 use Rattle.blot_types.proofs.ChainLemmas.{rootless, accepted_root, accepted_key, clash, none_is}
@@ -397,3 +398,34 @@ length-kept p (x ∷ xs) =
 
 pub length-survivors : (list : List Entry) → length (survivors list) ≤ length list
 length-survivors list = omega (arith, length-kept (stands_in (links_of list)) (versions_of list), length-versions list)
+
+-- ---- the version of a number, newest first
+
+or-nothing : {A : Type 0} (o : Option A) → option_or o None ≡ o
+or-nothing None = refl
+or-nothing (Some a) = refl
+
+version-step :
+    (entry : Entry) (earlier : List Entry) (number : ℕ) (brought : Option Version) → version_of entry ≡ brought → is_above entry.number earlier ≡ true
+    → version_in earlier number ≡ find (λ v. v.number == number) (versions_of (reverse earlier))
+    → find (λ v. v.number == number) (cons_option brought (filter_map version_of earlier))
+    ≡ option_or (find (λ v. v.number == number) (versions_of (reverse earlier))) (find (λ v. v.number == number) (cons_option brought []))
+version-step entry earlier number None is above before = before ∙ sym (or-nothing (find (λ v. v.number == number) (versions_of (reverse earlier))))
+version-step entry earlier number (Some version) is above before =
+    elim (cases_Bool (version.number == number)) [
+      | inl here ↦
+          let same : entry.number ≡ number = sym (version-number entry version is) ∙ eqb-true version.number number here in
+          let none : find (λ v. v.number == number) (versions_of (reverse earlier)) ≡ None =
+          subst (λ n. find (λ v. v.number == n) (versions_of (reverse earlier)) ≡ None) same
+          (find-below entry.number (links_in earlier) (versions_of (reverse earlier)) (all_known entry.number earlier above)) in
+          rw (here, none) refl
+      | inr other ↦ rw other (before ∙ sym (or-nothing (find (λ v. v.number == number) (versions_of (reverse earlier)))))
+    ]
+
+-- among entries whose numbers rise it is the version that is found in list order
+pub version_in-rising :
+    (entries : List Entry) (number : ℕ) → rises_in entries ≡ true → version_in entries number ≡ find (λ v. v.number == number) (versions_of (reverse entries))
+version_in-rising [] number rise = refl
+version_in-rising (entry ∷ earlier) number rise =
+    let parts : (is_above entry.number earlier ≡ true) × (rises_in earlier ≡ true) = and_parts _ _ rise in
+    version-step entry earlier number (version_of entry) refl parts.0 (version_in-rising earlier number parts.1) ∙ sym (found-split entry earlier number)

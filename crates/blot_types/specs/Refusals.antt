@@ -1,6 +1,6 @@
 -- Why a list of entries refuses a command: one definition a rule. The entries are newest first.
-use Rattle.std.specs.Prelude.{ℕ, ◌==◌, Bool, true, false, ◌&&◌, ◌||◌, not, ℤ, pos, List, [], ◌∷◌, Option, Some, None, find, is_none, if◌then◌else◌}
-use Rattle.std.specs.List.{filter_map}
+use Rattle.std.specs.Prelude.{ℕ, ◌==◌, Bool, true, false, ◌&&◌, ◌||◌, not, ℤ, pos, List, [], ◌∷◌, ◌++◌, Option, Some, None, find, is_none, if◌then◌else◌}
+use Rattle.std.specs.List.{filter_map, list_any}
 use Rattle.std.specs.Option.{option_map, option_map_or, option_or, option_and_then}
 use Rattle.std.specs.Ordering.{int_eq}
 use Rattle.blot_types.specs.declared.allocation.Instruction.{Instruction}
@@ -19,9 +19,9 @@ use Rattle.blot_types.specs.declared.link.Link.{Link}
 use Rattle.blot_types.specs.declared.refused.Refused.{Refused}
 use Rattle.blot_types.specs.declared.refused.Refused.TheVariants.{DuplicateExec, DuplicateAlloc, UnknownAlloc, DeadAlloc, UnknownExec, BustedExec, RepeatedExec, ExecTaken, Instrument, Quantity}
 use Rattle.blot_types.specs.Allocations.{Allocation, allocation_of, instructions_in}
-use Rattle.blot_types.specs.Chains.{taker_in, root_in, bust_in, current_in}
+use Rattle.blot_types.specs.Chains.{taker_in, root_in, is_root, bust_in, current_in}
 use Rattle.blot_types.specs.Instructions.{alloc_taker_in, is_allocation_in, ended_in, other_holder_in}
-use Rattle.blot_types.specs.Keys.{is_among, same_text}
+use Rattle.blot_types.specs.Keys.{same_text}
 use Rattle.blot_types.specs.Order.{total, cum_of}
 use Rattle.blot_types.specs.Survivors.{links_in, version_of}
 
@@ -75,12 +75,15 @@ first_of question (item ∷ later) = option_or (question item) (first_of questio
 abbrev pub bust_of_key : List Link → ExecKey → Option ℕ
 bust_of_key links key = option_and_then (bust_in links) (root_in links key)
 
--- the first key that is of the chain of one that is listed before it; these roots were seen so far
+-- whether two keys are of one chain
+abbrev pub same_chain : List Link → ExecKey → ExecKey → Bool
+same_chain links key other = option_map_or (λ root. is_root root (root_in links other)) (root_in links key) false
+
+-- the first key that is of the chain of one listed before it
 abbrev pub repeated_in : List Link → List ExecKey → List ExecKey → Option ExecKey
-repeated_in links seen [] = None
-repeated_in links seen (key ∷ later) =
-    if option_map_or (is_among seen) (root_in links key) false then Some key
-    else repeated_in links (option_map_or (λ root. root ∷ seen) (root_in links key) seen) later
+repeated_in links before [] = None
+repeated_in links before (key ∷ later) =
+    if list_any (same_chain links key) before then Some key else repeated_in links (before ++ key ∷ []) later
 
 -- the number of the live allocation that names the chain of a key, other than the one referred to
 abbrev pub other_holder : List Link → List Instruction → Option AllocKey → ExecKey → Option ℕ
