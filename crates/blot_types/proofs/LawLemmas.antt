@@ -29,12 +29,12 @@ use Rattle.blot_types.proofs.SurvivorLemmas.{IsKnown, IsCurrent, all_known, vers
 
 -- ---- lists
 
-filter-none : {X : Type 0} (p : X → Bool) (xs : List X) → All (λ x. p x ≡ false) xs → filter p xs ≡ []
+pub filter-none : {X : Type 0} (p : X → Bool) (xs : List X) → All (λ x. p x ≡ false) xs → filter p xs ≡ []
 filter-none p [] none = refl
 filter-none p (x ∷ xs) none =
     rw (All-head (λ y. p y ≡ false) x xs none) (filter-none p xs (All-tail (λ y. p y ≡ false) x xs none))
 
-all : {X : Type 0} (P : X → Type 0) (xs : List X) → ((x : X) → P x) → All P xs
+pub all : {X : Type 0} (P : X → Type 0) (xs : List X) → ((x : X) → P x) → All P xs
 all P [] each = All-nil P
 all P (x ∷ xs) each = All-cons P x xs (each x) (all P xs each)
 
@@ -73,7 +73,7 @@ root-current (link ∷ earlier) key root is =
     ]
 
 -- what stands of a chain has the number of the chain's last version
-stands-number :
+pub stands-number :
     (links : List Link) (root : ExecKey) (n number : ℕ) (found : Option ExecKey) → current_in links root ≡ Some number
     → (stands_under links n found && is_root root found) ≡ true → n ≡ number
 stands-number links root n number None current both = cc
@@ -113,7 +113,7 @@ eqb-same : (n : ℕ) → (n == n) ≡ true
 eqb-same n = eq-eqb n n refl
 
 -- a test that only one number passes leaves one version: their numbers rise
-alone :
+pub alone :
     (p : Version → Bool) (n : ℕ) (entries : List Entry) (version : Version) → rises_in entries ≡ true → ((other : Version) → p other ≡ true → other.number ≡ n)
     → p version ≡ true → find (λ v. v.number == n) (versions_of (reverse entries)) ≡ Some version
     → filter p (versions_of (reverse entries)) ≡ version ∷ []
@@ -149,7 +149,7 @@ alone p n (entry ∷ earlier) version rise only kept found =
     ]
 
 -- whether a version stands and is of a chain
-abbrev stands_of : List Link → ExecKey → Version → Bool
+abbrev pub stands_of : List Link → ExecKey → Version → Bool
 stands_of links root version = stands_in links version && is_root root (root_in links version.key)
 
 -- each chain that isn't busted has one survivor
@@ -183,7 +183,7 @@ busted-passed links root n number (Some other) is =
       | inr apart ↦ rw apart (and-false (stands_under links n (Some other)))
     ]
 
-busted_none : (list : List Entry) (root : ExecKey) (number : ℕ) → bust_in (links_of list) root ≡ Some number → survivors_of_chain list root ≡ []
+pub busted_none : (list : List Entry) (root : ExecKey) (number : ℕ) → bust_in (links_of list) root ≡ Some number → survivors_of_chain list root ≡ []
 busted_none list root number is =
     let links = links_of list in
     sym (filter-and (stands_in links) (λ version. is_root root (root_in links version.key)) (versions_of list))

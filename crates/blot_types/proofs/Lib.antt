@@ -1,3 +1,4 @@
+pub mod AcceptLemmas
 mod AllocationRows
 pub mod ChainLemmas
 pub mod EntryLemmas
@@ -6,6 +7,7 @@ pub mod KeyLemmas
 pub mod LawLemmas
 pub mod LegalLemmas
 pub mod OrderLemmas
+pub mod PartLemmas
 mod Rows
 pub mod StandLemmas
 pub mod UncorrectedLemmas
