@@ -149,7 +149,7 @@ taken-any key (i ∷ earlier) fresh =
       | inr other ↦ rw other (taken-any key earlier (rw other at fresh))
     ]
 
-unknown_reference :
+pub unknown_reference :
     (earlier : List Instruction) (key : AllocKey) (reference : Option AllocKey) → option_map_or (is_live_key earlier) reference true ≡ true
     → is_reference reference key ≡ true → alloc_taker_in earlier key ≡ None → ⊥
 unknown_reference earlier key None refers is fresh = differing is refl

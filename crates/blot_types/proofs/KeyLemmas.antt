@@ -32,3 +32,6 @@ same_alloc-true a b same =
 
 pub same_alloc-refl : (a : AllocKey) → same_alloc a a ≡ true
 same_alloc-refl a = and_from _ _ (nat_list_eq_equiv.refl a.peer) (nat_list_eq_equiv.refl a.id)
+
+pub same_alloc-sym : (a b : AllocKey) → same_alloc a b ≡ same_alloc b a
+same_alloc-sym a b = rw (nat_list_eq_equiv.symm a.peer b.peer, nat_list_eq_equiv.symm a.id b.id)

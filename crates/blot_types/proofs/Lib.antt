@@ -1,12 +1,14 @@
 pub mod AcceptLemmas
 mod AllocationRows
 pub mod ChainLemmas
+pub mod ChangeLemmas
 pub mod EntryLemmas
 pub mod InstructionLemmas
 pub mod KeyLemmas
 pub mod LawLemmas
 pub mod LegalLemmas
 pub mod OrderLemmas
+pub mod NamedLemmas
 pub mod PartLemmas
 mod Rows
 pub mod StandLemmas
