@@ -79,7 +79,7 @@ allocations_in list = filter_map (λ entry. allocation_of entry.command) list
 abbrev live_by : List Instruction → List Allocation → List Allocation
 live_by instructions allocations = filter (λ allocation. is_none (ended_in instructions allocation.key)) allocations
 
-allocations-push : (list : List Entry) (entry : Entry) → allocations_in (list ++ entry ∷ []) ≡ allocations_in list ++ cons_option (allocation_of entry.command) []
+pub allocations-push : (list : List Entry) (entry : Entry) → allocations_in (list ++ entry ∷ []) ≡ allocations_in list ++ cons_option (allocation_of entry.command) []
 allocations-push list entry = filter_map-append (λ e. allocation_of e.command) list (entry ∷ [])
 
 pub instructions-link : (list : List Entry) (entry : Entry) (link : Link) → link_of entry ≡ Some link → instructions_of (list ++ entry ∷ []) ≡ instructions_of list

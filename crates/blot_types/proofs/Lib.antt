@@ -8,6 +8,7 @@ pub mod KeyLemmas
 pub mod LawLemmas
 pub mod LegalLemmas
 pub mod OrderLemmas
+pub mod LiveLemmas
 pub mod NamedLemmas
 pub mod PartLemmas
 mod Rows

@@ -90,7 +90,7 @@ find-true p (y ∷ ys) x found =
 -- ---- the new instruction itself
 
 -- it doesn't refer to itself, and nothing ended its allocation
-own-unended : (instructions : List Instruction) (i : Instruction) → is_instructed instructions ≡ true → Follows instructions i.key i.role i.roots → ended_in (i ∷ instructions) i.key ≡ None
+pub own-unended : (instructions : List Instruction) (i : Instruction) → is_instructed instructions ≡ true → Follows instructions i.key i.role i.roots → ended_in (i ∷ instructions) i.key ≡ None
 own-unended instructions i instructed it =
     elim (cases_Bool (ends i.key i.role)) [
       | inl ended ↦ absurd (unknown_reference instructions i.key (reference_of i.role) it.refers (sym (ends-reference i.key i.role) ∙ ended) it.fresh)
@@ -101,7 +101,7 @@ own-live : (instructions : List Instruction) (i : Instruction) → is_instructed
 own-live instructions i instructed it = ap (λ ended. brings_allocation i.role && is_none ended) (own-unended instructions i instructed it) ∙ and-true (brings_allocation i.role)
 
 -- the chains that are named with it: its own, if it brings an allocation, and those of the allocations that it doesn't end
-named-more :
+pub named-more :
     (instructions : List Instruction) (i : Instruction) (root : ExecKey) → is_instructed instructions ≡ true → Follows instructions i.key i.role i.roots
     → is_among (named_in (i ∷ instructions)) root
     ≡ ((brings_allocation i.role && is_among i.roots root) || list_any (λ j. holds_in instructions root j && not (ends j.key i.role)) instructions)
@@ -163,7 +163,7 @@ keyed-live instructions key t instructed live found =
       subst (λ k. is_live_in instructions k ≡ true) one (and_from _ _ both.1 (ap (λ k. is_none (ended_in instructions k)) own ∙ parts.1)))
 
 -- without the allocation of a live key, exactly its chains are named no more
-named-less :
+pub named-less :
     (instructions : List Instruction) (key : AllocKey) (t : Instruction) (root : ExecKey) → is_instructed instructions ≡ true → is_live_key instructions key ≡ true
     → find (is_keyed key) instructions ≡ Some t
     → list_any (λ j. holds_in instructions root j && not (same_alloc key j.key)) instructions ≡ (is_among (named_in instructions) root && not (is_among t.roots root))
