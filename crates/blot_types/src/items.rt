@@ -1,8 +1,9 @@
 //! The list within a command or a message.
-ghost use Rattle.std.specs.Prelude.{◌≡◌, IfOk};
+ghost use Rattle.std.specs.Prelude.{◌≡◌, ◌≤◌, length, IfOk};
 ghost use Rattle.std.specs.Cmp.{on_equiv, on_per};
 ghost use Rattle.std.specs.Cmp.Lexicographic.{pointwise, lists_equiv, lists_per};
 
+use crate::ITEMS_MAX;
 use std::alloc::{AllocError as NoMemory, Global};
 use std::marker::Model;
 
@@ -13,16 +14,20 @@ pub struct Items<T> {
 }
 
 impl<T> Model for Items<T> {
-    ghost use Rattle.std.specs.Prelude.{List};
+    ghost use Rattle.std.specs.Prelude.{◌≤◌, List, length};
+    ghost use Rattle.blot_types.specs.declared.TheConstants.{ITEMS_MAX};
 
     ghost Value = { List T };
 
     ghost view = { λ items. items.items.items };
+
+    ghost invariant = { λ items. length items.items.items ≤ ITEMS_MAX };
 }
 
 impl<T> Items<T> {
-    /// The items of a vector. No memory is taken.
+    /// The items of a vector of at most `ITEMS_MAX`. No memory is taken.
     pub fn new(items: Vec<T>) -> Items<T>
+        requires { length items.items ≤ ITEMS_MAX }
         ensures { result ≡ items.items }
     {
         Items { items }
@@ -30,14 +35,16 @@ impl<T> Items<T> {
 
     /// The vector of the items. No memory is taken.
     pub fn into_vec(self) -> Vec<T>
-        ensures { result.items ≡ self }
+        ensures items { result.items ≡ self }
+        ensures few { length self ≤ ITEMS_MAX }
     {
         self.items
     }
 
     /// The items, from the first to the last.
     pub fn as_slice(&self) -> &[T]
-        ensures { result.now ≡ self.now }
+        ensures items { result.now ≡ self.now }
+        ensures few { length self.now ≤ ITEMS_MAX }
     {
         self.items.as_slice()
     }
