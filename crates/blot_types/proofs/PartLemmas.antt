@@ -18,6 +18,7 @@ use Rattle.blot_types.specs.Laws.{is_of_chain, survivors_of_chain}
 use Rattle.blot_types.specs.Legal.{is_book}
 use Rattle.blot_types.specs.Order.{total}
 use Rattle.blot_types.specs.Position.{part_of_fill}
+use Rattle.blot_types.specs.Standing.{standing}
 use Rattle.blot_types.specs.Survivors.{links_of, versions_of, is_number, stands_under, stands_in, survivors}
 use Rattle.blot_types.proofs.ChainLemmas.{clash, differing}
 use Rattle.blot_types.proofs.KeyLemmas.{same_exec-true, same_exec-refl}
@@ -41,12 +42,6 @@ not_true true is = cc
 not_true false is = refl
 
 -- ---- the version that stands of a chain
-
--- the last version of a chain that isn't busted
-abbrev pub standing : List Entry → ExecKey → Option Version
-standing list root =
-    if is_none (bust_in (links_of list) root)
-    then option_and_then (λ number. find (λ v. v.number == number) (versions_of list)) (current_in (links_of list) root) else None
 
 no_last :
     (links : List Link) (root : ExecKey) (n : ℕ) (found : Option ExecKey) → current_in links root ≡ None → (stands_under links n found && is_root root found) ≡ false

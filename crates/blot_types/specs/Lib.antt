@@ -7,5 +7,6 @@ pub mod Legal
 pub mod Order
 pub mod Position
 pub mod Refusals
+pub mod Standing
 pub mod Survivors
 pub mod Text
