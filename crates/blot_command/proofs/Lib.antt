@@ -1,3 +1,4 @@
+pub mod CarryLemmas
 pub mod LiveLemmas
 pub mod RecordLemmas
 pub mod ShowLemmas

@@ -7,19 +7,14 @@ use Rattle.std.proofs.lemmas.List.{reverse-append}
 use Rattle.std.proofs.lemmas.List.Elements.{filter_map-append}
 use Rattle.std.proofs.lemmas.List.Folds.{find-append}
 use Rattle.blot_types.specs.declared.command.Entry.{Entry}
-use Rattle.blot_types.specs.declared.fill.Fill.{Fill}
-use Rattle.blot_types.specs.declared.keys.ExecKey.{ExecKey}
 use Rattle.blot_types.specs.declared.lines.Version.{Version}
-use Rattle.blot_types.specs.declared.link.Link.{Link}
-use Rattle.blot_types.specs.declared.link.Role.{Role}
 use Rattle.blot_types.specs.declared.TheConstants.{EVENTS_MAX}
 use Rattle.blot_types.specs.Legal.{is_above, numbers_rise, is_legal, is_book, refusal_of}
-use Rattle.blot_types.specs.Survivors.{exec_key, links_of, fill_by, version_of, versions_of}
+use Rattle.blot_types.specs.Survivors.{links_of, version_of, versions_of}
 use Rattle.blot_types.proofs.ChainLemmas.{none_is}
 use Rattle.blot_types.proofs.LegalLemmas.{is_legal-push, numbers_rise-push, is_book-front}
-use Rattle.blot_types.proofs.SurvivorLemmas.{links_of-push}
-use Rattle.blot_chain.specs.Steps.{Adds}
-use Rattle.blot_command.specs.Shown.{version_numbered, HoldsList}
+use Rattle.blot_types.proofs.EntryLemmas.{version-number}
+use Rattle.blot_command.specs.Shown.{version_numbered}
 
 -- ---- the version of a number
 
@@ -88,16 +83,3 @@ next-entry list entry book =
       accepted = none_is (refusal_of list entry.command) legals.0;
       within = omega (arith, ltb-true entry.number (EVENTS_MAX + 1) limits.0);
     }
-
-abbrev tail_of : List Link → List Link
-tail_of [] = []
-tail_of (link ∷ links) = links
-
--- the list without its last entry, and the chains without its link
-pub holds-less :
-    (list rest : List Entry) (entry : Entry) (key : ExecKey) (role : Role) (links earlier : List Link) → HoldsList list links → list ≡ rest ++ entry ∷ []
-    → Adds key role earlier links → HoldsList rest earlier
-holds-less list rest entry key role links earlier holds is adds = record {
-  book = is_book-front rest entry (sym (ap is_book is) ∙ holds.book);
-  links_are = ap tail_of (sym adds.1 ∙ holds.links_are ∙ ap links_of is ∙ links_of-push rest entry);
-}

@@ -1,10 +1,19 @@
 -- What ties the chains and the fills that the book keeps to its live list.
-use Rattle.std.specs.Prelude.{◌≡◌, ℕ, ◌≤◌, ◌==◌, List, Option, Some, None, true, find, All}
-use Rattle.std.specs.Option.{option_map}
+use Rattle.std.specs.Prelude.{◌≡◌, ℕ, ◌≤◌, ◌==◌, List, Option, Some, None, true, find, All, if◌then◌else◌}
+use Rattle.std.specs.List.{filter_map}
+use Rattle.std.specs.Option.{option_map, option_and_then}
+use Rattle.blot_types.specs.declared.allocation.Instruction.{Instruction}
+use Rattle.blot_types.specs.declared.allocation.Terms.{Terms}
+use Rattle.blot_types.specs.declared.command.Command.{Command}
 use Rattle.blot_types.specs.declared.command.Entry.{Entry}
 use Rattle.blot_types.specs.declared.fill.Fill.{Fill}
+use Rattle.blot_types.specs.declared.keys.AllocKey.{AllocKey}
+use Rattle.blot_types.specs.declared.keys.ExecKey.{ExecKey}
 use Rattle.blot_types.specs.declared.lines.Version.{Version}
 use Rattle.blot_types.specs.declared.link.Link.{Link}
+use Rattle.blot_types.specs.Allocations.{allocation_of, instructions_of}
+use Rattle.blot_types.specs.Instructions.{is_keyed}
+use Rattle.blot_types.specs.Keys.{same_alloc}
 use Rattle.blot_types.specs.Legal.{is_book}
 use Rattle.blot_types.specs.Survivors.{links_of, versions_of, survivors}
 use Rattle.blot_types.specs.declared.TheConstants.{EVENTS_MAX}
@@ -18,10 +27,25 @@ version_numbered list number = find (λ version. version.number == number) (vers
 abbrev pub fill_numbered : ℕ → List Version → Option Fill
 fill_numbered number versions = option_map (λ version. version.fill) (find (λ version. version.number == number) versions)
 
--- the live list is a book, and the chains are those of its entries
-pub record HoldsList (list : List Entry) (links : List Link) : Type 0 where
+-- the terms of a command, where it brings the allocation of a key
+abbrev pub terms_of_key : AllocKey → Command → Option Terms
+terms_of_key key command =
+    option_and_then (λ allocation. if same_alloc key allocation.key then Some allocation.terms else None) (allocation_of command)
+
+-- the terms of the allocation of a key
+abbrev pub terms_keyed : List Entry → AllocKey → Option Terms
+terms_keyed list key =
+    option_map (λ allocation. allocation.terms) (find (λ allocation. same_alloc key allocation.key) (filter_map (λ entry. allocation_of entry.command) list))
+
+-- the roots that the instruction of a key lists
+abbrev pub roots_keyed : List Entry → AllocKey → Option (List ExecKey)
+roots_keyed list key = option_map (λ instruction. instruction.roots) (find (is_keyed key) (instructions_of list))
+
+-- the live list is a book; the chains are those of its executions, the instructions those of its allocations
+pub record HoldsList (list : List Entry) (links : List Link) (instructions : List Instruction) : Type 0 where
   pub book : is_book list ≡ true
   pub links_are : links ≡ links_of list
+  pub instructions_are : instructions ≡ instructions_of list
 
 -- the live list is a book, the fills that are put are those of the survivors, and the fill of each version is held,
 -- so that it can be put again without memory

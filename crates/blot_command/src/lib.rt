@@ -4,11 +4,15 @@
 //! that promise on it.
 #![tactic(auto)]
 
+mod accounts;
+mod booking;
 mod bust;
 mod command;
 mod correct;
 mod fault;
+mod linking;
 mod live;
+mod refusal;
 mod tables;
 mod trade;
 mod undoable;

@@ -1,24 +1,189 @@
 //! The live list.
-ghost use Rattle.std.specs.Prelude.{◌≡◌, ◌<◌, [], ◌∷◌, ◌++◌, length, find, None, IsTrue, OnOk, OnErr, IfErr, IfSome};
+ghost use Rattle.std.specs.Prelude.{◌≡◌, ◌<◌, [], ◌∷◌, ◌++◌, length, find, None, Some, IsTrue, OnOk, OnErr, IfErr};
+ghost use Rattle.std.specs.List.{last_or};
 ghost use Rattle.std.specs.Option.{option_map, option_and_then, option_copied};
-ghost use Rattle.blot_types.specs.Chains.{link_refusal, is_below, replaced_by, current_in, root_in};
-ghost use Rattle.blot_types.specs.Legal.{is_book};
+ghost use Rattle.blot_types.specs.Allocations.{instructions_of};
+ghost use Rattle.blot_types.specs.Chains.{root_in, current_in, replaced_by};
+ghost use Rattle.blot_types.specs.Instructions.{is_keyed};
+ghost use Rattle.blot_types.specs.Legal.{is_book, refusal_of};
+ghost use Rattle.blot_types.specs.Position.{is_named};
+ghost use Rattle.blot_types.specs.Standing.{standing};
 ghost use Rattle.blot_types.specs.Survivors.{links_of};
 ghost use Rattle.blot_command.specs.Book.{has_number};
-ghost use Rattle.blot_command.specs.Shown.{version_numbered, AddsLink};
+ghost use Rattle.blot_command.specs.Shown.{version_numbered, terms_of_key, terms_keyed, roots_keyed};
 
-use crate::linking::{link, link_instruction, unlink, unlink_instruction};
+use crate::linking::{link_entry, unlink_entry};
+use crate::refusal::{refusal, version_numbered};
 use blot_alloc::Allocs;
 use blot_chain::Chains;
-use blot_types::{Entry, ExecKey, Link, Role, Version};
+use blot_types::{AllocKey, Command, Entry, ExecKey, Link, Refused, Role, Terms, Version};
 use std::alloc::Global;
 use std::marker::Model;
 
 /// The live list of entries, in rising order of number, with the chains of its executions and the
-/// allocations of its instructions. A contract sees it as the list, which is always legal.
+/// instructions of its allocations. A contract sees it as the list, which is always legal.
 #[derive(Drop)]
 pub(crate) struct LiveList {
-    pub(crate) entries: Vec<Entry>,
-    pub(crate) chains: Chains,
-    pub(crate) allocs: Allocs,
+    entries: Vec<Entry>,
+    chains: Chains,
+    allocs: Allocs,
+}
+
+impl Model for LiveList {
+    ghost use Rattle.std.specs.Prelude.{List};
+    ghost use Rattle.blot_types.specs.declared.command.Entry.{Entry};
+    ghost use Rattle.blot_command.specs.Shown.{HoldsList};
+
+    ghost Value = { List Entry };
+
+    ghost view = { λ live. live.entries.items };
+
+    ghost invariant = { λ live. HoldsList live.entries.items live.chains live.allocs };
+}
+
+impl LiveList {
+    /// An empty list. No memory is taken.
+    pub(crate) fn new(alloc: Global) -> LiveList
+        ensures { result ≡ [] }
+    {
+        LiveList {
+            entries: Vec::new(alloc),
+            chains: Chains::new(alloc),
+            allocs: Allocs::new(alloc),
+        }
+    }
+
+    /// The entry of a number, if it is live.
+    pub(crate) fn entry(&self, number: u64) -> Option<&Entry>
+        ensures { option_copied result ≡ find (has_number number) self.now }
+    {
+        self.entries.iter().find(|entry| entry.number == number)
+    }
+
+    /// The last entry of a list that has one.
+    pub(crate) fn last(&self) -> &Entry
+        requires { 0 < length self.now }
+        ensures { last_or None self.now ≡ Some result.now }
+    {
+        match self.entries.last() {
+            Some(entry) => entry,
+            None => unreachable!(),
+        }
+    }
+
+    /// Why the list refuses a command.
+    pub(crate) fn refusal(&self, command: &Command) -> Option<Refused>
+        ensures refusal { result ≡ refusal_of self.now command.now }
+        ensures book { IsTrue (is_book self.now) }
+    {
+        refusal(&self.entries, &self.chains, &self.allocs, command)
+    }
+
+    /// The version whose place an entry's link takes, or which it busts.
+    pub(crate) fn replaced(&self, link: &Option<Link>) -> Option<Version>
+        ensures { result ≡ option_and_then (version_numbered self.now) (replaced_by (links_of self.now) link.now) }
+    {
+        match link {
+            None => None,
+            Some(link) => match link.role {
+                Role::Begins => None,
+                Role::Corrects(reference) | Role::Busts(reference) => self.current(&reference),
+            },
+        }
+    }
+
+    // The last version of the chain of a reference.
+    fn current(&self, reference: &ExecKey) -> Option<Version>
+        ensures { result ≡ option_and_then (version_numbered self.now) (option_and_then (current_in (links_of self.now)) (root_in (links_of self.now) reference.now)) }
+    {
+        let root = self.chains.root_of(reference)?;
+        let number = self.chains.current(&root)?;
+        version_numbered(&self.entries, number)
+    }
+
+    /// The version that stands of the chain of a root: the last one, where the chain isn't busted.
+    pub(crate) fn standing(&self, root: &ExecKey) -> Option<Version>
+        ensures { result ≡ standing self.now root.now }
+    {
+        if self.chains.bust_of(root).is_some() {
+            return None;
+        }
+        let number = self.chains.current(root)?;
+        version_numbered(&self.entries, number)
+    }
+
+    /// Whether the chain of a key is named by a live allocation.
+    pub(crate) fn is_named(&self, key: &ExecKey) -> bool
+        ensures { result ≡ is_named self.now key.now }
+    {
+        match self.chains.root_of(key) {
+            None => false,
+            Some(root) => self.allocs.holder_of(&root).is_some(),
+        }
+    }
+
+    /// The terms of the allocation of a key.
+    pub(crate) fn terms_of(&self, key: &AllocKey) -> Option<&Terms>
+        ensures { option_copied result ≡ terms_keyed self.now key.now }
+    {
+        for entry in &self.entries {
+            if let Some(terms) = terms_under(&entry.command, key) {
+                return Some(terms);
+            }
+        }
+        None
+    }
+
+    /// The roots of the chains that the allocation of a key names.
+    pub(crate) fn roots_of(&self, key: &AllocKey) -> Option<&[ExecKey]>
+        ensures { option_map (λ roots. roots.now) result ≡ roots_keyed self.now key.now }
+    {
+        self.allocs.roots_of(key)
+    }
+
+    /// Puts an entry behind the others, or hands it back where memory runs out.
+    pub(crate) fn push(&mut self, entry: Entry) -> Result<(), Entry>
+        requires { IsTrue (is_book (self.old ++ entry ∷ [])) }
+        ensures ok { OnOk result (self.new ≡ self.old ++ entry ∷ []) }
+        ensures err { OnErr result (self.new ≡ self.old) }
+        ensures returned { IfErr result (λ back. back ≡ entry) }
+    {
+        let alloc = *self.entries.allocator();
+        if link_entry(alloc, &mut self.chains, &mut self.allocs, &entry).is_err() {
+            return Err(entry);
+        }
+        match self.entries.push(entry) {
+            Ok(()) => Ok(()),
+            Err(failed) => {
+                unlink_entry(&mut self.chains, &mut self.allocs, &failed.value);
+                Err(failed.value)
+            }
+        }
+    }
+
+    /// Takes the last entry out.
+    pub(crate) fn pop(&mut self) -> Entry
+        requires { 0 < length self.old }
+        ensures rest { self.old ≡ self.new ++ result ∷ [] }
+        ensures book { IsTrue (is_book self.old) }
+    {
+        match self.entries.pop() {
+            Some(entry) => {
+                unlink_entry(&mut self.chains, &mut self.allocs, &entry);
+                entry
+            }
+            None => unreachable!(),
+        }
+    }
+}
+
+// The terms of a command, where it brings the allocation of a key.
+fn terms_under<'a>(command: &'a Command, key: &AllocKey) -> Option<&'a Terms>
+    ensures { option_copied result ≡ terms_of_key key.now command.now }
+{
+    match command {
+        Command::AllocNew(new) if new.key == *key => Some(&new.terms),
+        Command::AllocReplace(replace) if replace.key == *key => Some(&replace.terms),
+        _ => None,
+    }
 }

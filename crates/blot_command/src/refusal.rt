@@ -1,8 +1,8 @@
 //! Why the live list refuses a command: one function a rule, in the order of the rules.
-ghost use Rattle.std.specs.Prelude.{◌≡◌, ℕ, ◌*◌, ◌^◌, pos, ◌≤ℤ◌, find, is_none, IsTrue, length};
+ghost use Rattle.std.specs.Prelude.{◌≡◌, [], pos, reverse, find, is_none, false};
 ghost use Rattle.std.specs.List.{list_any, filter_map};
 ghost use Rattle.std.specs.Option.{option_map, option_map_or, option_and_then, option_or};
-ghost use Rattle.blot_types.specs.declared.refused.Refused.TheVariants.{DuplicateExec, DuplicateAlloc, UnknownAlloc, DeadAlloc, UnknownExec, BustedExec, RepeatedExec, ExecTaken, Instrument};
+ghost use Rattle.blot_types.specs.declared.refused.Refused.TheVariants.{DuplicateExec, DuplicateAlloc, UnknownAlloc, DeadAlloc, UnknownExec, BustedExec, RepeatedExec, ExecTaken, Instrument, Quantity};
 ghost use Rattle.blot_types.specs.Allocations.{instructions_of};
 ghost use Rattle.blot_types.specs.Chains.{taker_in, root_in, bust_in, chain_refusal, link_refusal};
 ghost use Rattle.blot_types.specs.Instructions.{alloc_taker_in, is_allocation_in, ended_in};
@@ -10,7 +10,7 @@ ghost use Rattle.blot_types.specs.Legal.{numbers_rise, refusal_of};
 ghost use Rattle.blot_types.specs.Order.{cum_of};
 ghost use Rattle.blot_types.specs.Refusals.{first_of, bust_of_key, same_chain, repeated_in, other_holder, current_fill, same_sign, differs, booked, mismatch};
 ghost use Rattle.blot_types.specs.Survivors.{links_of};
-ghost use Rattle.blot_command.specs.Refusing.{HoldsBoth, terms_refusal, reference_refusal};
+ghost use Rattle.blot_command.specs.Refusing.{HoldsBoth, HoldsChainsOf, terms_refusal, reference_refusal};
 ghost use Rattle.blot_command.specs.Shown.{version_numbered};
 
 use blot_alloc::Allocs;
@@ -225,7 +225,7 @@ fn other_holder(
     ensures { result ≡ other_holder chains.now allocs.now reference.now key.now }
 {
     let root = chains.root_of(key)?;
-    allocs.other_holder_of(&root, *reference)
+    allocs.other_holder_of(*reference, &root)
 }
 
 // The first listed execution whose last version has another symbol or sign than the terms.
@@ -275,8 +275,8 @@ pub(crate) fn version_numbered(entries: &[Entry], number: u64) -> Option<Version
     ensures { result ≡ version_numbered entries.now number }
 {
     for entry in entries {
-        if let Some(version) = entry.version() {
-            if version.number == number {
+        if entry.number == number {
+            if let Some(version) = entry.version() {
                 return Some(version);
             }
         }
