@@ -1,5 +1,6 @@
 pub mod CarryLemmas
 pub mod LiveLemmas
 pub mod RecordLemmas
+pub mod RefusalLemmas
 pub mod ShowLemmas
 pub mod StepLemmas

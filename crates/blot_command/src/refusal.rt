@@ -4,7 +4,7 @@ ghost use Rattle.std.specs.List.{list_any, filter_map};
 ghost use Rattle.std.specs.Option.{option_map, option_map_or, option_and_then, option_or};
 ghost use Rattle.blot_types.specs.declared.refused.Refused.TheVariants.{DuplicateExec, DuplicateAlloc, UnknownAlloc, DeadAlloc, UnknownExec, BustedExec, RepeatedExec, ExecTaken, Instrument, Quantity};
 ghost use Rattle.blot_types.specs.Allocations.{instructions_of};
-ghost use Rattle.blot_types.specs.Chains.{taker_in, root_in, bust_in, chain_refusal, link_refusal};
+ghost use Rattle.blot_types.specs.Chains.{taker_in, root_in, current_in, bust_in, chain_refusal, link_refusal};
 ghost use Rattle.blot_types.specs.Instructions.{alloc_taker_in, is_allocation_in, ended_in};
 ghost use Rattle.blot_types.specs.Legal.{numbers_rise, refusal_of};
 ghost use Rattle.blot_types.specs.Order.{cum_of};
@@ -125,7 +125,7 @@ fn terms_refusal(
     if let Some(number) = exec_taken(chains, allocs, execs, reference) {
         return Some(Refused::ExecTaken(number));
     }
-    if let Some(key) = other_instrument(entries, chains, terms) {
+    if let Some(key) = other_instrument(entries, chains, terms, execs) {
         return Some(Refused::Instrument(key));
     }
     let wanted = wanted(entries, chains, execs);
@@ -180,12 +180,7 @@ fn repeated_exec(chains: &Chains, execs: &[ExecKey]) -> Option<ExecKey>
 fn is_repeated(chains: &Chains, key: &ExecKey, before: &[ExecKey]) -> bool
     ensures { result ≡ list_any (same_chain chains.now key.now) before.now }
 {
-    for other in before {
-        if is_same_chain(chains, key, other) {
-            return true;
-        }
-    }
-    false
+    before.iter().any(|other| is_same_chain(chains, key, other))
 }
 
 // Whether two keys are of one chain.
@@ -229,11 +224,16 @@ fn other_holder(
 }
 
 // The first listed execution whose last version has another symbol or sign than the terms.
-fn other_instrument(entries: &[Entry], chains: &Chains, terms: &Terms) -> Option<ExecKey>
+fn other_instrument(
+    entries: &[Entry],
+    chains: &Chains,
+    terms: &Terms,
+    execs: &[ExecKey],
+) -> Option<ExecKey>
     requires { HoldsChainsOf entries.now chains.now }
-    ensures { result ≡ find (λ key. option_map_or (differs terms.now) (current_fill (reverse entries.now) key) false) terms.now.execs }
+    ensures { result ≡ find (λ key. option_map_or (differs terms.now) (current_fill (reverse entries.now) key) false) execs.now }
 {
-    for key in terms.execs.as_slice() {
+    for key in execs {
         if let Some(fill) = current_fill(entries, chains, key) {
             if differs(terms, &fill) {
                 return Some(*key);
@@ -265,9 +265,20 @@ fn current_fill(entries: &[Entry], chains: &Chains, key: &ExecKey) -> Option<Fil
     requires { HoldsChainsOf entries.now chains.now }
     ensures { result ≡ current_fill (reverse entries.now) key.now }
 {
+    match current_version(entries, chains, key) {
+        None => None,
+        Some(version) => Some(version.fill),
+    }
+}
+
+// The last version of the chain of a key.
+fn current_version(entries: &[Entry], chains: &Chains, key: &ExecKey) -> Option<Version>
+    requires { chains.now ≡ links_of entries.now }
+    ensures { result ≡ option_and_then (version_numbered entries.now) (option_and_then (current_in (links_of entries.now)) (root_in (links_of entries.now) key.now)) }
+{
     let root = chains.root_of(key)?;
     let number = chains.current(&root)?;
-    version_numbered(entries, number).map(|version| version.fill)
+    version_numbered(entries, number)
 }
 
 /// The version of a number.
