@@ -2,18 +2,26 @@
 use Rattle.std.proofs.Common.{◌≡◌, ℕ, ◌+◌, ◌*◌, ◌^◌, ◌<◌, ◌≤◌, pos, ◌+ℤ◌, ◌≤ℤ◌, arith, true, List, [], ◌∷◌, ◌++◌, take, get_or, length, reverse, Option, Some, None, refl, sym, ap, ◌∙◌}
 use Rattle.std.specs.Prelude.{ℤ}
 use Rattle.std.specs.List.{cons_option, filter_map}
-use Rattle.std.specs.Option.{option_map, option_and_then}
+use Rattle.std.specs.Option.{option_map, option_or, option_and_then}
 use Rattle.std.proofs.lemmas.Int.{ints}
 use Rattle.std.proofs.lemmas.List.{reverse-reverse, take_more}
 use Rattle.std.proofs.lemmas.List.Elements.{filter_map-append}
+use Rattle.blot_types.specs.declared.command.AllocNew.{AllocNew}
+use Rattle.blot_types.specs.declared.command.AllocReplace.{AllocReplace}
+use Rattle.blot_types.specs.declared.command.Command.TheVariants.{AllocNew as NewCommand, AllocReplace as ReplaceCommand}
 use Rattle.blot_types.specs.declared.command.Entry.{Entry}
 use Rattle.blot_types.specs.declared.fill.Fill.{Fill}
 use Rattle.blot_types.specs.declared.keys.ExecKey.{ExecKey}
 use Rattle.blot_types.specs.declared.lines.Version.{Version}
 use Rattle.blot_types.specs.Chains.{root_in, current_in}
-use Rattle.blot_types.specs.Legal.{numbers_rise}
+use Rattle.blot_types.specs.Legal.{numbers_rise, refusal_of}
+use Rattle.blot_types.specs.declared.refused.Refused.TheVariants.{DuplicateAlloc}
+use Rattle.blot_types.specs.Allocations.{instructions_of}
+use Rattle.blot_types.specs.Instructions.{alloc_taker_in}
+use Rattle.blot_types.proofs.AcceptLemmas.{or_parts}
+use Rattle.blot_command.specs.Refusing.{terms_refusal, reference_refusal}
 use Rattle.blot_types.specs.Order.{total, cum_of}
-use Rattle.blot_types.specs.Refusals.{version_in, current_fill}
+use Rattle.blot_types.specs.Refusals.{version_in, current_fill, mismatch}
 use Rattle.blot_types.specs.Survivors.{links_of, versions_of}
 use Rattle.blot_types.proofs.SumLemmas.{total-append, total-cons}
 use Rattle.blot_types.proofs.SurvivorLemmas.{version_in-rising}
@@ -51,3 +59,33 @@ wanted-more entries execs index key sum within is so_far =
 
 pub one_fill : (fill : Fill) → cum_of (fill ∷ []) ≡ pos fill.qty
 one_fill fill = omega (arith, ints)
+
+-- a rule that applies is the refusal, and one that doesn't leaves it to those behind it
+pub rule_passed : {A B : Type 0} (name : A → B) (found : Option A) (rest : Option B) → found ≡ None → option_or (option_map name found) rest ≡ rest
+rule_passed name found rest none = rw none refl
+
+pub rule_applies : {A B : Type 0} (name : A → B) (found : Option A) (rest : Option B) (value : A) → found ≡ Some value → option_or (option_map name found) rest ≡ Some (name value)
+rule_applies name found rest value is = rw is refl
+
+pub or_passed : {A : Type 0} (first rest : Option A) → first ≡ None → option_or first rest ≡ rest
+or_passed first rest none = rw none refl
+
+-- why an allocation with a new key is refused
+pub refusal-new :
+    (entries : List Entry) (new : AllocNew) → option_map DuplicateAlloc (alloc_taker_in (instructions_of entries) new.key) ≡ None
+    → refusal_of entries (NewCommand new) ≡ terms_refusal entries None new.terms
+refusal-new entries new fresh = or_passed (option_map DuplicateAlloc (alloc_taker_in (instructions_of entries) new.key)) (terms_refusal entries None new.terms) fresh
+
+-- and one in the place of another, where the reference is known and live
+pub refusal-replace :
+    (entries : List Entry) (replace : AllocReplace) → option_map DuplicateAlloc (alloc_taker_in (instructions_of entries) replace.key) ≡ None
+    → reference_refusal (instructions_of entries) replace.reference ≡ None
+    → refusal_of entries (ReplaceCommand replace) ≡ terms_refusal entries (Some replace.reference) replace.terms
+refusal-replace entries replace fresh known =
+    let parts = or_parts _ _ known in
+    or_passed (option_map DuplicateAlloc (alloc_taker_in (instructions_of entries) replace.key)) _ fresh
+    ∙ or_passed _ _ parts.0 ∙ or_passed _ _ parts.1
+
+-- equal quantities are found equal
+pub same_mismatch : (wanted found wanted' found' block : ℤ) → wanted ≡ wanted' → found ≡ found' → mismatch wanted block found ≡ mismatch wanted' block found'
+same_mismatch wanted found wanted' found' block a b = rw (a, b) refl
