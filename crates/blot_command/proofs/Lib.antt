@@ -1,5 +1,6 @@
 pub mod CarryLemmas
 pub mod LiveLemmas
+pub mod ReachLemmas
 pub mod RecordLemmas
 pub mod RefusalLemmas
 pub mod ShowLemmas
