@@ -1,4 +1,5 @@
 pub mod CarryLemmas
+pub mod HouseLemmas
 pub mod LiveLemmas
 pub mod ReachLemmas
 pub mod RecordLemmas

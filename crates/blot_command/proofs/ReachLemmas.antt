@@ -78,7 +78,7 @@ abbrev pub sizes : List Part → ℕ
 sizes [] = 0
 sizes (part ∷ parts) = unsigned_abs part.qty + sizes parts
 
-less_enough : (c c' q q' : ℕ) → c' ≤ c → q' ≤ q → IsLightEnough c q → IsLightEnough c' q'
+pub less_enough : (c c' q q' : ℕ) → c' ≤ c → q' ≤ q → IsLightEnough c q → IsLightEnough c' q'
 less_enough c c' q q' fewer smaller enough = record { count_fits = omega (arith, enough.count_fits, fewer); qty_fits = omega (arith, enough.qty_fits, smaller) }
 
 -- parts are put
@@ -126,7 +126,7 @@ one_low_by : (test : Bool) → pos 0 ≤ℤ (if test then pos 1 else pos 0)
 one_low_by true = omega (arith, ints)
 one_low_by false = omega (arith, ints)
 
-one_low : (a s : List ℕ) (part : Part) → pos 0 ≤ℤ one_at a s part
+pub one_low : (a s : List ℕ) (part : Part) → pos 0 ≤ℤ one_at a s part
 one_low a s part = one_low_by (is_at a s part)
 
 pub count-total : (parts : List Part) → IsCount (λ f. total f parts)

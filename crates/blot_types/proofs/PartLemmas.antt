@@ -165,3 +165,25 @@ total-names_more f list root before after more =
     let side_after = side f true after root list more.is in
     let side_before = side f false before root list more.was in
     omega (arith, ints, split_after, split_before, same, side_after, side_before)
+
+-- the same, told apart: the parts of the chain's survivors, and the rest, which stays
+pub record MovesChain (f : Part → ℤ) (list : List Entry) (root : ExecKey) (before after : ExecKey → Bool) : Type 0 where
+  pub rest : ℤ
+  pub was : total f (parts_under before (links_of list) (survivors list)) ≡ (total (λ v. f (part_of_fill false v.fill)) (survivors_of_chain list root) +ℤ rest)
+  pub is : total f (parts_under after (links_of list) (survivors list)) ≡ (total (λ v. f (part_of_fill true v.fill)) (survivors_of_chain list root) +ℤ rest)
+  pub rest_is : rest ≡ total (λ v. f (part_under before (links_of list) v)) (filter (λ v. not (is_of_chain list root v)) (survivors list))
+
+pub moves-chain : (f : Part → ℤ) (list : List Entry) (root : ExecKey) (before after : ExecKey → Bool) → NamesMore root before after → MovesChain f list root before after
+moves-chain f list root before after more =
+    let links = links_of list in
+    let p = is_of_chain list root in
+    let others = filter (λ v. not (p v)) (survivors list) in
+    let split_before = total-map f (part_under before links) (survivors list) ∙ total-filter (λ v. f (part_under before links v)) p (survivors list) in
+    let side_before = side f false before root list more.was in
+    let whole = total-names_more f list root before after more in
+    record {
+      rest = total (λ v. f (part_under before links v)) others;
+      was = omega (arith, ints, split_before, side_before);
+      is = omega (arith, ints, split_before, side_before, whole);
+      rest_is = refl;
+    }
