@@ -162,7 +162,7 @@ without-replaced g list (Some n) rise found =
     omega (arith, ints, split_one, is)
 
 -- what a version adds to the positions of a list
-abbrev amount : (Part → ℤ) → List Entry → Version → ℤ
+abbrev pub amount : (Part → ℤ) → List Entry → Version → ℤ
 amount f list version = f (part_of list version)
 
 named-link : (list : List Entry) (entry : Entry) (link : Link) → link_of entry ≡ Some link → named_roots (list ++ entry ∷ []) ≡ named_roots list
@@ -205,6 +205,31 @@ total-link f list entry link is legal rise above accepted =
     let survived : total (amount f after) (survivors after) ≡ (total (amount f after) (without replaced (survivors list)) +ℤ total (amount f after) (versions_of (entry ∷ []))) =
     ap (total (amount f after)) (survivors-push list entry rise above accepted) ∙ total-append (amount f after) (without replaced (survivors list)) (versions_of (entry ∷ [])) in
     omega (arith, ints, stayed, gone, whole_after, whole, live, survived)
+
+-- the same, told apart: the part that goes or comes, and the rest, which stays
+pub record LinkMoves (f : Part → ℤ) (list : List Entry) (entry : Entry) : Type 0 where
+  pub rest : ℤ
+  pub was : total f (parts_of list) ≡ (total (amount f list) (cons_option (replaced_version list entry) []) +ℤ rest)
+  pub is : total f (parts_of (list ++ entry ∷ [])) ≡ (total (amount f (list ++ entry ∷ [])) (versions_of (entry ∷ [])) +ℤ rest)
+  pub rest_is :
+      rest
+      ≡ (total (amount f list) (without (replaced_by (links_of list) (link_of entry)) (survivors list))
+      +ℤ total (λ a. total f (moves_of a.terms)) (live_allocations list))
+
+pub link-moves :
+    (f : Part → ℤ) (list : List Entry) (entry : Entry) (link : Link) → link_of entry ≡ Some link → is_legal list ≡ true → numbers_rise list ≡ true
+    → is_above entry.number (reverse list) ≡ true → refusal_of list entry.command ≡ None → LinkMoves f list entry
+link-moves f list entry link is legal rise above accepted =
+    let replaced = replaced_by (links_of list) (link_of entry) in
+    let gone = without-replaced (amount f list) list replaced rise (λ n found. replaced-by_entry list entry n legal rise accepted found) in
+    let whole = total-parts f list ∙ ap (λ sum. sum +ℤ total (λ a. total f (moves_of a.terms)) (live_allocations list)) (total-map f (part_of list) (survivors list)) in
+    let changed = total-link f list entry link is legal rise above accepted in
+    record {
+      rest = total (amount f list) (without replaced (survivors list)) +ℤ total (λ a. total f (moves_of a.terms)) (live_allocations list);
+      was = omega (arith, ints, gone, whole);
+      is = omega (arith, ints, gone, whole, changed);
+      rest_is = refl;
+    }
 
 -- ---- an entry that is an instruction
 

@@ -1,5 +1,6 @@
 pub mod AcceptLemmas
 mod AllocationRows
+pub mod BookedLemmas
 pub mod ChainLemmas
 pub mod ChangeLemmas
 pub mod EntryLemmas

@@ -80,7 +80,7 @@ taken-own (Some i) (Some a) instructions is =
     let here : is_keyed a.key i ≡ true = ap (λ k. same_alloc i.key k) is.0 ∙ same_alloc-refl i.key in
     All-cons (IsTaken (i ∷ instructions)) a [] (rw here refl) (All-nil (IsTaken (i ∷ instructions)))
 
-turned : (entry : Entry) (earlier : List Entry) → allocations_in (reverse (entry ∷ earlier)) ≡ allocations_in (reverse earlier) ++ cons_option (allocation_of entry.command) []
+pub turned : (entry : Entry) (earlier : List Entry) → allocations_in (reverse (entry ∷ earlier)) ≡ allocations_in (reverse earlier) ++ cons_option (allocation_of entry.command) []
 turned entry earlier = ap allocations_in (reverse-append (entry ∷ []) earlier) ∙ filter_map-append (λ e. allocation_of e.command) (reverse earlier) (entry ∷ [])
 
 all_taken : (entries : List Entry) → All (IsTaken (instructions_in entries)) (allocations_in (reverse entries))
