@@ -136,12 +136,19 @@ rest_low list root before after more_named others some a s =
 one_part : (f : Part → ℤ) (named : Bool) (version : Version) → total (λ v. f (part_of_fill named v.fill)) (version ∷ []) ≡ f (part_of_fill named version.fill)
 one_part f named version = omega (arith, ints)
 
+-- however the chains are named, so much is carried
+abbrev pub AlwaysLight : List Entry → Whole → ℕ → ℕ → Type 0
+AlwaysLight list others count qty = (named : ExecKey → Bool) → Light count qty (beside list named others)
+
+pub relight : (changes : List Change) (cells : Cells) (count qty count' qty' : ℕ) (whole : Whole) → Reaches changes cells count qty whole → Light count' qty' whole → Reaches changes cells count' qty' whole
+relight changes cells count qty count' qty' whole reached light = record { can = reached.can; carried = reached.carried; light = light }
+
 -- one chain goes to the house account
 house_one :
     (list : List Entry) (cells : Cells) (count qty : ℕ) (root : ExecKey) (found : Option Version) (before after : ExecKey → Bool) (others : Whole) → standing list root ≡ found
-    → IsBooked list cells → NamesMore root before after → Carries (beside list before others) cells → Light count qty (beside list before others) → IsCount others
+    → IsBooked list cells → NamesMore root before after → Carries (beside list before others) cells → AlwaysLight list others count qty → IsCount others
     → IsLightEnough (count + 2) (qty + 2 * 10 ^ 16)
-    → Reaches (flat_map to_house (cons_option found [])) cells (count + 2) (qty + 2 * 10 ^ 16) (beside list after others)
+    → Reaches (flat_map to_house (cons_option found [])) cells count qty (beside list after others)
 house_one list cells count qty root None before after others is booked names carried light some enough =
     let chain : survivors_of_chain list root ≡ [] = chain-standing list root booked.book ∙ ap (λ o. cons_option o []) is in
     let same : SameWhole (beside list before others) (beside list after others) =
@@ -150,8 +157,7 @@ house_one list cells count qty root None before after others is booked names car
       let was : total f (parts_under before (links_of list) (survivors list)) ≡ (pos 0 +ℤ moved.rest) = rw chain at moved.was in
       let now : total f (parts_under after (links_of list) (survivors list)) ≡ (pos 0 +ℤ moved.rest) = rw chain at moved.is in
       omega (arith, ints, was, now) in
-    reach-weaker [] cells count (count + 2) qty (qty + 2 * 10 ^ 16) (beside list after others) (omega arith) (omega arith)
-    (reach-same [] cells count qty (beside list before others) (beside list after others) same (reach-nothing cells count qty (beside list before others) carried light))
+    reach-same [] cells count qty (beside list before others) (beside list after others) same (reach-nothing cells count qty (beside list before others) carried (light before))
 house_one list cells count qty root (Some version) before after others is booked names carried light some enough =
     let chain : survivors_of_chain list root ≡ version ∷ [] = chain-standing list root booked.book ∙ ap (λ o. cons_option o []) is in
     let fits : FillFits version.fill = standing-All list (λ v. FillFits v.fill) root version booked.fits is in
@@ -175,18 +181,18 @@ house_one list cells count qty root (Some version) before after others is booked
     let small_come = fits true in
     let small : (qty + unsigned_abs gone.qty) + unsigned_abs come.qty ≤ qty + 2 * 10 ^ 16 = omega (arith, small_gone.qty, small_come.qty) in
     let swapped =
-    reach-swap gone come cells count qty rest (Carries-same (beside list before others) (more gone rest) cells was carried) (Light-same (beside list before others) (more gone rest) count qty was light)
+    reach-swap gone come cells count qty rest (Carries-same (beside list before others) (more gone rest) cells was carried) (Light-same (beside list before others) (more gone rest) count qty was (light before))
     (rest_low list root before after names others some) small_gone small_come made.housed
     (less_enough (count + 2) (count + 2) (qty + 2 * 10 ^ 16) ((qty + unsigned_abs gone.qty) + unsigned_abs come.qty) (omega arith) small enough) in
-    reach-weaker (taken_out gone ∷ put_in come ∷ []) cells (count + 2) (count + 2) ((qty + unsigned_abs gone.qty) + unsigned_abs come.qty) (qty + 2 * 10 ^ 16) (beside list after others) (omega arith) small
-    (reach-same (taken_out gone ∷ put_in come ∷ []) cells (count + 2) ((qty + unsigned_abs gone.qty) + unsigned_abs come.qty) (more come rest) (beside list after others) now swapped)
+    relight (taken_out gone ∷ put_in come ∷ []) cells (count + 2) ((qty + unsigned_abs gone.qty) + unsigned_abs come.qty) count qty (beside list after others)
+    (reach-same (taken_out gone ∷ put_in come ∷ []) cells (count + 2) ((qty + unsigned_abs gone.qty) + unsigned_abs come.qty) (more come rest) (beside list after others) now swapped) (light after)
 
 -- and comes back from it
 home_one :
     (list : List Entry) (cells : Cells) (count qty : ℕ) (root : ExecKey) (found : Option Version) (before after : ExecKey → Bool) (others : Whole) → standing list root ≡ found
-    → IsBooked list cells → NamesMore root after before → Carries (beside list before others) cells → Light count qty (beside list before others) → IsCount others
+    → IsBooked list cells → NamesMore root after before → Carries (beside list before others) cells → AlwaysLight list others count qty → IsCount others
     → IsLightEnough (count + 2) (qty + 2 * 10 ^ 16)
-    → Reaches (flat_map from_house (cons_option found [])) cells (count + 2) (qty + 2 * 10 ^ 16) (beside list after others)
+    → Reaches (flat_map from_house (cons_option found [])) cells count qty (beside list after others)
 home_one list cells count qty root None before after others is booked names carried light some enough =
     let chain : survivors_of_chain list root ≡ [] = chain-standing list root booked.book ∙ ap (λ o. cons_option o []) is in
     let same : SameWhole (beside list before others) (beside list after others) =
@@ -195,8 +201,7 @@ home_one list cells count qty root None before after others is booked names carr
       let was : total f (parts_under after (links_of list) (survivors list)) ≡ (pos 0 +ℤ moved.rest) = rw chain at moved.was in
       let now : total f (parts_under before (links_of list) (survivors list)) ≡ (pos 0 +ℤ moved.rest) = rw chain at moved.is in
       omega (arith, ints, was, now) in
-    reach-weaker [] cells count (count + 2) qty (qty + 2 * 10 ^ 16) (beside list after others) (omega arith) (omega arith)
-    (reach-same [] cells count qty (beside list before others) (beside list after others) same (reach-nothing cells count qty (beside list before others) carried light))
+    reach-same [] cells count qty (beside list before others) (beside list after others) same (reach-nothing cells count qty (beside list before others) carried (light before))
 home_one list cells count qty root (Some version) before after others is booked names carried light some enough =
     let chain : survivors_of_chain list root ≡ version ∷ [] = chain-standing list root booked.book ∙ ap (λ o. cons_option o []) is in
     let fits : FillFits version.fill = standing-All list (λ v. FillFits v.fill) root version booked.fits is in
@@ -220,11 +225,11 @@ home_one list cells count qty root (Some version) before after others is booked 
     let small_come = fits false in
     let small : (qty + unsigned_abs gone.qty) + unsigned_abs come.qty ≤ qty + 2 * 10 ^ 16 = omega (arith, small_gone.qty, small_come.qty) in
     let swapped =
-    reach-swap gone come cells count qty rest (Carries-same (beside list before others) (more gone rest) cells was carried) (Light-same (beside list before others) (more gone rest) count qty was light)
+    reach-swap gone come cells count qty rest (Carries-same (beside list before others) (more gone rest) cells was carried) (Light-same (beside list before others) (more gone rest) count qty was (light before))
     (rest_low list root after before names others some) small_gone small_come made.own
     (less_enough (count + 2) (count + 2) (qty + 2 * 10 ^ 16) ((qty + unsigned_abs gone.qty) + unsigned_abs come.qty) (omega arith) small enough) in
-    reach-weaker (taken_out gone ∷ put_in come ∷ []) cells (count + 2) (count + 2) ((qty + unsigned_abs gone.qty) + unsigned_abs come.qty) (qty + 2 * 10 ^ 16) (beside list after others) (omega arith) small
-    (reach-same (taken_out gone ∷ put_in come ∷ []) cells (count + 2) ((qty + unsigned_abs gone.qty) + unsigned_abs come.qty) (more come rest) (beside list after others) now swapped)
+    relight (taken_out gone ∷ put_in come ∷ []) cells (count + 2) ((qty + unsigned_abs gone.qty) + unsigned_abs come.qty) count qty (beside list after others)
+    (reach-same (taken_out gone ∷ put_in come ∷ []) cells (count + 2) ((qty + unsigned_abs gone.qty) + unsigned_abs come.qty) (more come rest) (beside list after others) now swapped) (light after)
 
 -- ---- the chains of some roots
 
@@ -277,12 +282,10 @@ same-beside list a b others same f = ap (λ sum. sum +ℤ others f) (total-named
 
 pub reach-house :
     (list : List Entry) (roots : List ExecKey) (cells : Cells) (count qty : ℕ) (named : ExecKey → Bool) (others : Whole) → IsBooked list cells
-    → All (λ root. named root ≡ false) roots → are_apart roots ≡ true → Carries (beside list named others) cells → Light count qty (beside list named others) → IsCount others
-    → IsLightEnough (count + 2 * length roots) (qty + length roots * (2 * 10 ^ 16))
-    → Reaches (chains_to_house list roots) cells (count + 2 * length roots) (qty + length roots * (2 * 10 ^ 16)) (beside list (with_roots roots named) others)
-reach-house list [] cells count qty named others booked free apart carried light some enough =
-    reach-weaker [] cells count (count + 2 * 0) qty (qty + 0 * (2 * 10 ^ 16)) (beside list (with_roots [] named) others) (omega arith) (omega arith)
-    (reach-nothing cells count qty (beside list named others) carried light)
+    → All (λ root. named root ≡ false) roots → are_apart roots ≡ true → Carries (beside list named others) cells → AlwaysLight list others count qty → IsCount others
+    → IsLightEnough (count + 2) (qty + 2 * 10 ^ 16)
+    → Reaches (chains_to_house list roots) cells count qty (beside list (with_roots roots named) others)
+reach-house list [] cells count qty named others booked free apart carried light some enough = reach-nothing cells count qty (beside list named others) carried (light named)
 reach-house list (root ∷ roots) cells count qty named others booked free apart carried light some enough =
     let parts : (not (is_among roots root) ≡ true) × (are_apart roots ≡ true) = and_parts _ _ apart in
     let after : ExecKey → Bool = λ y. same_exec root y || named y in
@@ -293,32 +296,25 @@ reach-house list (root ∷ roots) cells count qty named others booked free apart
       is = own;
       others = λ other apart_from. sym (ap (λ b. b || named other) (same_exec-sym root other ∙ apart_from));
     } in
-    let enough_one = less_enough (count + 2 * length (root ∷ roots)) (count + 2) (qty + length (root ∷ roots) * (2 * 10 ^ 16)) (qty + 2 * 10 ^ 16) (omega arith) (omega arith) enough in
-    let first = house_one list cells count qty root (standing list root) named after others refl booked names carried light some enough_one in
+    let first = house_one list cells count qty root (standing list root) named after others refl booked names carried light some enough in
     let moved = flat_map to_house (cons_option (standing list root) []) in
     let cells_after = changed_all moved cells in
     let free_rest : All (λ r. after r ≡ false) roots =
     all_free root named roots (All-tail (λ r. named r ≡ false) root roots free) (not_among root roots (not_true _ parts.0)) in
-    let enough_rest = less_enough (count + 2 * length (root ∷ roots)) ((count + 2) + 2 * length roots) (qty + length (root ∷ roots) * (2 * 10 ^ 16)) ((qty + 2 * 10 ^ 16) + length roots * (2 * 10 ^ 16)) (omega arith) (omega arith) enough in
-    let rest = reach-house list roots cells_after (count + 2) (qty + 2 * 10 ^ 16) after others (booked-stays list moved cells booked) free_rest parts.1 first.carried first.light some enough_rest in
-    let whole = reach-append moved (chains_to_house list roots) cells (count + 2) (qty + 2 * 10 ^ 16) ((count + 2) + 2 * length roots) ((qty + 2 * 10 ^ 16) + length roots * (2 * 10 ^ 16))
-        (beside list after others) (beside list (with_roots roots after) others) first rest in
-    reach-weaker (chains_to_house list (root ∷ roots)) cells ((count + 2) + 2 * length roots) (count + 2 * length (root ∷ roots)) ((qty + 2 * 10 ^ 16) + length roots * (2 * 10 ^ 16))
-    (qty + length (root ∷ roots) * (2 * 10 ^ 16)) (beside list (with_roots (root ∷ roots) named) others) (omega arith) (omega arith)
-    (reach-same (chains_to_house list (root ∷ roots)) cells ((count + 2) + 2 * length roots) ((qty + 2 * 10 ^ 16) + length roots * (2 * 10 ^ 16)) (beside list (with_roots roots after) others)
-    (beside list (with_roots (root ∷ roots) named) others)
-    (same-beside list (with_roots roots after) (with_roots (root ∷ roots) named) others (λ y. or_shuffle (same_exec root y) (is_among roots y) (named y))) whole)
+    let rest = reach-house list roots cells_after count qty after others (booked-stays list moved cells booked) free_rest parts.1 first.carried light some enough in
+    let whole = reach-append moved (chains_to_house list roots) cells count qty count qty (beside list after others) (beside list (with_roots roots after) others) first rest in
+    reach-same (chains_to_house list (root ∷ roots)) cells count qty (beside list (with_roots roots after) others) (beside list (with_roots (root ∷ roots) named) others)
+    (same-beside list (with_roots roots after) (with_roots (root ∷ roots) named) others (λ y. or_shuffle (same_exec root y) (is_among roots y) (named y))) whole
 
 pub reach-home :
     (list : List Entry) (roots : List ExecKey) (cells : Cells) (count qty : ℕ) (named : ExecKey → Bool) (others : Whole) → IsBooked list cells
-    → All (λ root. named root ≡ true) roots → are_apart roots ≡ true → Carries (beside list named others) cells → Light count qty (beside list named others) → IsCount others
-    → IsLightEnough (count + 2 * length roots) (qty + length roots * (2 * 10 ^ 16))
-    → Reaches (chains_from_house list roots) cells (count + 2 * length roots) (qty + length roots * (2 * 10 ^ 16)) (beside list (without_roots roots named) others)
+    → All (λ root. named root ≡ true) roots → are_apart roots ≡ true → Carries (beside list named others) cells → AlwaysLight list others count qty → IsCount others
+    → IsLightEnough (count + 2) (qty + 2 * 10 ^ 16)
+    → Reaches (chains_from_house list roots) cells count qty (beside list (without_roots roots named) others)
 reach-home list [] cells count qty named others booked held apart carried light some enough =
-    reach-weaker [] cells count (count + 2 * 0) qty (qty + 0 * (2 * 10 ^ 16)) (beside list (without_roots [] named) others) (omega arith) (omega arith)
-    (reach-same [] cells count qty (beside list named others) (beside list (without_roots [] named) others)
+    reach-same [] cells count qty (beside list named others) (beside list (without_roots [] named) others)
     (same-beside list named (without_roots [] named) others (λ y. sym (and-true (named y))))
-    (reach-nothing cells count qty (beside list named others) carried light))
+    (reach-nothing cells count qty (beside list named others) carried (light named))
 reach-home list (root ∷ roots) cells count qty named others booked held apart carried light some enough =
     let parts : (not (is_among roots root) ≡ true) × (are_apart roots ≡ true) = and_parts _ _ apart in
     let after : ExecKey → Bool = λ y. named y && not (same_exec root y) in
@@ -329,18 +325,12 @@ reach-home list (root ∷ roots) cells count qty named others booked held apart 
       is = here;
       others = λ other apart_from. ap (λ b. named other && not b) (same_exec-sym root other ∙ apart_from) ∙ and-true (named other);
     } in
-    let enough_one = less_enough (count + 2 * length (root ∷ roots)) (count + 2) (qty + length (root ∷ roots) * (2 * 10 ^ 16)) (qty + 2 * 10 ^ 16) (omega arith) (omega arith) enough in
-    let first = home_one list cells count qty root (standing list root) named after others refl booked names carried light some enough_one in
+    let first = home_one list cells count qty root (standing list root) named after others refl booked names carried light some enough in
     let moved = flat_map from_house (cons_option (standing list root) []) in
     let cells_after = changed_all moved cells in
     let held_rest : All (λ r. after r ≡ true) roots =
     all_held root named roots (All-tail (λ r. named r ≡ true) root roots held) (not_among root roots (not_true _ parts.0)) in
-    let enough_rest = less_enough (count + 2 * length (root ∷ roots)) ((count + 2) + 2 * length roots) (qty + length (root ∷ roots) * (2 * 10 ^ 16)) ((qty + 2 * 10 ^ 16) + length roots * (2 * 10 ^ 16)) (omega arith) (omega arith) enough in
-    let rest = reach-home list roots cells_after (count + 2) (qty + 2 * 10 ^ 16) after others (booked-stays list moved cells booked) held_rest parts.1 first.carried first.light some enough_rest in
-    let whole = reach-append moved (chains_from_house list roots) cells (count + 2) (qty + 2 * 10 ^ 16) ((count + 2) + 2 * length roots) ((qty + 2 * 10 ^ 16) + length roots * (2 * 10 ^ 16))
-        (beside list after others) (beside list (without_roots roots after) others) first rest in
-    reach-weaker (chains_from_house list (root ∷ roots)) cells ((count + 2) + 2 * length roots) (count + 2 * length (root ∷ roots)) ((qty + 2 * 10 ^ 16) + length roots * (2 * 10 ^ 16))
-    (qty + length (root ∷ roots) * (2 * 10 ^ 16)) (beside list (without_roots (root ∷ roots) named) others) (omega arith) (omega arith)
-    (reach-same (chains_from_house list (root ∷ roots)) cells ((count + 2) + 2 * length roots) ((qty + 2 * 10 ^ 16) + length roots * (2 * 10 ^ 16)) (beside list (without_roots roots after) others)
-    (beside list (without_roots (root ∷ roots) named) others)
-    (same-beside list (without_roots roots after) (without_roots (root ∷ roots) named) others (λ y. and_shuffle (named y) (same_exec root y) (is_among roots y))) whole)
+    let rest = reach-home list roots cells_after count qty after others (booked-stays list moved cells booked) held_rest parts.1 first.carried light some enough in
+    let whole = reach-append moved (chains_from_house list roots) cells count qty count qty (beside list after others) (beside list (without_roots roots after) others) first rest in
+    reach-same (chains_from_house list (root ∷ roots)) cells count qty (beside list (without_roots roots after) others) (beside list (without_roots (root ∷ roots) named) others)
+    (same-beside list (without_roots roots after) (without_roots (root ∷ roots) named) others (λ y. and_shuffle (named y) (same_exec root y) (is_among roots y))) whole

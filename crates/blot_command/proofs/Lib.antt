@@ -6,3 +6,4 @@ pub mod RecordLemmas
 pub mod RefusalLemmas
 pub mod ShowLemmas
 pub mod StepLemmas
+pub mod WeightLemmas
