@@ -10,5 +10,5 @@ abbrev pub invariant-loop-line : goal.invariant-loop-line
 invariant-loop-line l = record {
   opens : Opens l.initial.positions l.positions;
   made : All (λ line. has_cell l.positions line.account l.terms.symbol ≡ true) (take l.line-index l.line-items);
-  small : All (λ line. IsSmall (part_of_line l.terms line)) (take l.line-index l.line-items)
+  small : All (λ line. IsSmall (part_of_line l.terms line)) (take l.line-index l.line-items);
 }
