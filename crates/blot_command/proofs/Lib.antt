@@ -1,6 +1,8 @@
 pub mod CarryLemmas
+pub mod ChangeListLemmas
 pub mod HouseLemmas
 pub mod LiveLemmas
+pub mod OpenLemmas
 pub mod ReachLemmas
 pub mod RecordLemmas
 pub mod RefusalLemmas
