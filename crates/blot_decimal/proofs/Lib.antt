@@ -1,3 +1,4 @@
+-- What the proofs of the functions share.
 pub mod SizeLemmas
 pub mod ValueLemmas
 pub mod MeaningLemmas

@@ -1,4 +1,5 @@
-pub mod Fault
+-- What a decimal text means, and what is printed.
+pub mod FaultText
 pub mod Text
 pub mod Meaning
 pub mod Printed

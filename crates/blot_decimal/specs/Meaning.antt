@@ -4,6 +4,9 @@ use Rattle.std.specs.Option.{ok_or}
 use Rattle.blot_decimal.specs.Text.{is_negative, unsigned_of, whole_of, fraction_of, is_size, is_decimal, are_zeros, number_of}
 use Rattle.blot_decimal.specs.declared.fault.DecimalFault.{DecimalFault}
 use Rattle.blot_decimal.specs.declared.fault.DecimalFault.TheVariants.{Format, TooFine, TooLarge}
+use Rattle.blot_decimal.specs.declared.price.TheConstants.Price as price
+use Rattle.blot_decimal.specs.declared.qty.TheConstants.Qty as qty
+use Rattle.blot_decimal.specs.declared.reading.TheConstants.{SIZE_LIMIT}
 
 -- a size with its sign
 abbrev pub signed : Bool → ℕ → ℤ
@@ -36,7 +39,7 @@ size_of places size =
 
 -- a size below 10^16, or its fault: `TooLarge` from there on
 abbrev pub limited : Result ℕ DecimalFault → Result ℕ DecimalFault
-limited (Ok units) = if nat_lt units (10 ^ 16) then Ok units else Err TooLarge
+limited (Ok units) = if nat_lt units SIZE_LIMIT then Ok units else Err TooLarge
 limited (Err fault) = Err fault
 
 -- a size with its sign, or its fault
@@ -50,12 +53,12 @@ exact_of places text = with_sign (is_negative text) (size_of places (unsigned_of
 
 -- the units of a quantity: none below zero, and none from 10^16 on
 abbrev pub qty_units : ℤ → Option ℕ
-qty_units (pos units) = if nat_lt units (10 ^ 16) then Some units else None
+qty_units (pos units) = if nat_lt units SIZE_LIMIT then Some units else None
 qty_units (negsuc units) = None
 
 -- the units of a price: none from 10^16 in size on
 abbrev pub price_units : ℤ → Option ℤ
-price_units units = if nat_lt (unsigned_abs units) (10 ^ 16) then Some units else None
+price_units units = if nat_lt (unsigned_abs units) SIZE_LIMIT then Some units else None
 
 -- a number that its kind has, or `TooLarge`
 abbrev pub within : {A : Type 0} → (ℤ → Option A) → Result ℤ DecimalFault → Result A DecimalFault
@@ -64,8 +67,8 @@ within kind (Err fault) = Err fault
 
 -- the quantity that a text writes, in units of 10^-6, or its first fault
 unfoldable pub qty_of : List ℕ → Result ℕ DecimalFault
-qty_of text = within qty_units (exact_of 6 text)
+qty_of text = within qty_units (exact_of qty.PLACES text)
 
 -- the price that a text writes, in units of 10^-8, or its first fault
 unfoldable pub price_of : List ℕ → Result ℤ DecimalFault
-price_of text = within price_units (exact_of 8 text)
+price_of text = within price_units (exact_of price.PLACES text)

@@ -16,7 +16,7 @@ pub enum DecimalFault {
 
 impl fmt::Display for DecimalFault {
     ghost use Rattle.std.specs.Prelude.{Some};
-    ghost use Rattle.blot_decimal.specs.Fault.{fault_text};
+    ghost use Rattle.blot_decimal.specs.FaultText.{fault_text};
 
     ghost output = { λ fault. Some (fault_text fault) };
 

@@ -1,6 +1,8 @@
 //! Prices.
-ghost use Rattle.std.specs.Prelude.{◌≡◌, ℕ, ◌^◌, ◌<◌, ◌↔◌, ℤ, unsigned_abs, IsTrue, IfOk, Some, Ok};
+ghost use Rattle.std.specs.Prelude.{◌≡◌, ℕ, ◌<◌, ◌↔◌, ℤ, unsigned_abs, IsTrue, IfOk, Some, Ok};
 ghost use Rattle.std.specs.Fmt.{DisplaysOnOk};
+ghost use Rattle.blot_decimal.specs.declared.price.TheConstants.Price.{PLACES};
+ghost use Rattle.blot_decimal.specs.declared.reading.TheConstants.{SIZE_LIMIT};
 ghost use Rattle.blot_decimal.specs.Text.{is_decimal, with_leading_zeros, with_trailing_zeros};
 ghost use Rattle.blot_decimal.specs.Meaning.{IsValue, with_sign, price_units, within, price_of};
 ghost use Rattle.blot_decimal.specs.Printed.{printed, IsShortest};
@@ -17,13 +19,14 @@ use std::marker::Model;
 pub struct Price(i64);
 
 impl Model for Price {
-    ghost use Rattle.std.specs.Prelude.{ℤ, ◌^◌, ◌<◌, unsigned_abs};
+    ghost use Rattle.std.specs.Prelude.{ℤ, ◌<◌, unsigned_abs};
+    ghost use Rattle.blot_decimal.specs.declared.reading.TheConstants.{SIZE_LIMIT};
 
     ghost Value = { ℤ };
 
     ghost view = { λ price. price.0 };
 
-    ghost invariant = { λ price. unsigned_abs price.0 < 10 ^ 16 };
+    ghost invariant = { λ price. unsigned_abs price.0 < SIZE_LIMIT };
 
     ghost inverse = { λ units. record { 0 = units } };
 }
@@ -35,7 +38,7 @@ impl Price {
     /// How many units of 10^-8 it is.
     pub fn units(self) -> i64
         ensures value { result ≡ self }
-        ensures range { unsigned_abs result < 10 ^ 16 }
+        ensures range { unsigned_abs result < SIZE_LIMIT }
     {
         self.0
     }
@@ -43,14 +46,14 @@ impl Price {
     /// Reads a decimal text: the exact number, or the first fault that applies.
     pub fn read(text: &[u8]) -> Result<Price, DecimalFault>
         ensures meaning { result ≡ price_of text.now }
-        ensures value { IfOk result (λ price. IsValue 8 text.now price) }
+        ensures value { IfOk result (λ price. IsValue PLACES text.now price) }
 
         // Each fault comes exactly where it is the first that applies.
         ensures format { (result ≡ Err DecimalFault.Format) ↔ ¬ (IsTrue (is_decimal text.now)) }
         ensures too_fine { (result ≡ Err DecimalFault.TooFine)
-            ↔ (IsTrue (is_decimal text.now) × ((units : ℤ) → ¬ (IsValue 8 text.now units))) }
+            ↔ (IsTrue (is_decimal text.now) × ((units : ℤ) → ¬ (IsValue PLACES text.now units))) }
         ensures too_large { (result ≡ Err DecimalFault.TooLarge)
-            ↔ ((units : ℤ) × IsValue 8 text.now units × (price_units units ≡ None)) }
+            ↔ ((units : ℤ) × IsValue PLACES text.now units × (price_units units ≡ None)) }
 
         // Zeros in front and behind change nothing.
         ensures leading_zeros { IsTrue (is_decimal text.now)
@@ -62,9 +65,9 @@ impl Price {
         Self::from_size(negative, read_size(size, Self::PLACES as usize))
     }
 
-    /// The price of a size with its sign.
+    // The price of a size with its sign.
     fn from_size(negative: bool, size: Result<u64, DecimalFault>) -> Result<Price, DecimalFault>
-        requires { IfOk size (λ units. units < 10 ^ 16) }
+        requires { IfOk size (λ units. units < SIZE_LIMIT) }
         ensures { result ≡ within price_units (with_sign negative size) }
     {
         match size {
@@ -76,17 +79,17 @@ impl Price {
 }
 
 impl fmt::Display for Price {
-    ghost output = { λ price. Some (printed 8 price) };
+    ghost output = { λ price. Some (printed PLACES price) };
 
     /// The shortest exact decimal: no point for a whole number, at least one digit before a point,
     /// and no zero at the end behind it.
     fn fmt<W: fmt::Write>(&self, f: &mut fmt::Formatter<W>) -> fmt::Result
         ensures writes { DisplaysOnOk W.write_str_gives f.old result
-            (Some (printed 8 self.now)) f.new }
+            (Some (printed PLACES self.now)) f.new }
 
         // What is printed is read again as the same number, and no such text is shorter.
-        ensures read_again { price_of (printed 8 self.now) ≡ Ok self.now }
-        ensures shortest { IsShortest 8 self.now (printed 8 self.now) }
+        ensures read_again { price_of (printed PLACES self.now) ≡ Ok self.now }
+        ensures shortest { IsShortest PLACES self.now (printed PLACES self.now) }
     {
         write_units(f, self.0, Self::PLACES)
     }

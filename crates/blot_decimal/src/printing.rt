@@ -5,10 +5,17 @@ ghost use Rattle.blot_decimal.specs.Printed.{fraction_digits, behind_point, prin
 
 use std::fmt;
 
+// The most decimals of a number.
+const PLACES_MAX: u32 = 14;
+
 /// Writes a number of units of 10^-places.
 #[tactic(auto, using(crate::proofs::PrintLemmas::written_units), unfolding(crate::specs::Printed::printed))]
-pub fn write_units<W: fmt::Write>(f: &mut fmt::Formatter<W>, units: i64, places: u32) -> fmt::Result
-    requires { places ≤ 14 }
+pub(crate) fn write_units<W: fmt::Write>(
+    f: &mut fmt::Formatter<W>,
+    units: i64,
+    places: u32,
+) -> fmt::Result
+    requires { places ≤ PLACES_MAX }
     ensures { DisplaysOnOk W.write_str_gives f.old result (Some (printed places units)) f.new }
 {
     let one = 10u64.pow(places);
@@ -21,12 +28,12 @@ pub fn write_units<W: fmt::Write>(f: &mut fmt::Formatter<W>, units: i64, places:
 
 /// Writes a number of units of 10^-places, of any size.
 #[tactic(auto, using(crate::proofs::PrintLemmas::written_units), unfolding(crate::specs::Printed::printed))]
-pub fn write_wide_units<W: fmt::Write>(
+pub(crate) fn write_wide_units<W: fmt::Write>(
     f: &mut fmt::Formatter<W>,
     units: i128,
     places: u32,
 ) -> fmt::Result
-    requires { places ≤ 14 }
+    requires { places ≤ PLACES_MAX }
     ensures { DisplaysOnOk W.write_str_gives f.old result (Some (printed places units)) f.new }
 {
     let one = 10u128.pow(places);
@@ -37,7 +44,7 @@ pub fn write_wide_units<W: fmt::Write>(
     write_fraction(f, rest, places)
 }
 
-/// Writes a minus sign before a number below zero.
+// Writes a minus sign before a number below zero.
 fn write_sign<W: fmt::Write>(f: &mut fmt::Formatter<W>, negative: bool) -> fmt::Result
     ensures { DisplaysOnOk W.write_str_gives f.old result
         (Some (if negative then 45 ∷ [] else [])) f.new }
@@ -48,12 +55,12 @@ fn write_sign<W: fmt::Write>(f: &mut fmt::Formatter<W>, negative: bool) -> fmt::
     Ok(())
 }
 
-/// Writes the decimals of a rest of fewer than 10^places units: a point and the digits as far as
-/// the last one that isn't 0, or nothing where the rest is 0.
+// Writes the decimals of a rest of fewer than 10^places units: a point and the digits as far as
+// the last one that isn't 0, or nothing where the rest is 0.
 #[tactic(auto, using(crate::proofs::PrintLemmas::written_digits))]
 fn write_fraction<W: fmt::Write>(f: &mut fmt::Formatter<W>, rest: u64, places: u32) -> fmt::Result
     requires rest { rest < 10 ^ places }
-    requires places { places ≤ 14 }
+    requires places { places ≤ PLACES_MAX }
     ensures { DisplaysOnOk W.write_str_gives f.old result
         (Some (behind_point (fraction_digits places rest))) f.new }
 {
@@ -64,11 +71,11 @@ fn write_fraction<W: fmt::Write>(f: &mut fmt::Formatter<W>, rest: u64, places: u
     write_digits(f, rest, places)
 }
 
-/// Writes the digits of a rest of fewer than 10^places units, as far as the last one that isn't 0.
+// Writes the digits of a rest of fewer than 10^places units, as far as the last one that isn't 0.
 #[tactic(auto, using(crate::proofs::PrintLemmas::written_digits))]
 fn write_digits<W: fmt::Write>(f: &mut fmt::Formatter<W>, rest: u64, places: u32) -> fmt::Result
     requires rest { rest < 10 ^ places }
-    requires places { places ≤ 14 }
+    requires places { places ≤ PLACES_MAX }
     ensures { DisplaysOnOk W.write_str_gives f.old result
         (Some (fraction_digits places rest)) f.new }
 {
@@ -80,12 +87,12 @@ fn write_digits<W: fmt::Write>(f: &mut fmt::Formatter<W>, rest: u64, places: u32
     write_digits(f, left, places - 1)
 }
 
-/// The first digit of a rest of fewer than 10^places units, and what is left behind it.
+// The first digit of a rest of fewer than 10^places units, and what is left behind it.
 #[tactic(auto, using(crate::proofs::PrintLemmas::digit_steps))]
 fn split_digit(rest: u64, places: u32) -> (u8, u64)
     requires rest { rest < 10 ^ places }
     requires above { 0 < places }
-    requires places { places ≤ 14 }
+    requires places { places ≤ PLACES_MAX }
     ensures digit { result.0 ≡ 48 + rest / 10 ^ (places - 1) }
     ensures left { result.1 ≡ rest % 10 ^ (places - 1) }
     ensures digit_range { result.0 < 58 }

@@ -1,6 +1,8 @@
 //! Quantities.
 ghost use Rattle.std.specs.Prelude.{◌≡◌, ℕ, ◌^◌, ◌<◌, ◌↔◌, ℤ, pos, ◌*ℤ◌, unsigned_abs, IsTrue, SomeIff, IfOk, Some, Ok};
 ghost use Rattle.std.specs.Fmt.{DisplaysOnOk};
+ghost use Rattle.blot_decimal.specs.declared.qty.TheConstants.Qty.{PLACES};
+ghost use Rattle.blot_decimal.specs.declared.reading.TheConstants.{SIZE_LIMIT};
 ghost use Rattle.blot_decimal.specs.Text.{is_decimal, with_leading_zeros, with_trailing_zeros};
 ghost use Rattle.blot_decimal.specs.Meaning.{IsValue, with_sign, qty_units, within, qty_of};
 ghost use Rattle.blot_decimal.specs.Printed.{printed, IsShortest};
@@ -23,7 +25,7 @@ impl Model for Qty {
 
     ghost view = { λ qty. qty.0 };
 
-    ghost invariant = { λ qty. qty.0 < 10 ^ 16 };
+    ghost invariant = { λ qty. qty.0 < SIZE_LIMIT };
 
     ghost inverse = { λ units. record { 0 = units } };
 }
@@ -34,7 +36,7 @@ impl Qty {
 
     /// The quantity of so many units of 10^-6, or none past the largest, 10^16 - 1.
     pub fn from_units(units: u64) -> Option<Qty>
-        ensures { SomeIff result (units < 10 ^ 16) units }
+        ensures { SomeIff result (units < SIZE_LIMIT) units }
     {
         if units < SIZE_LIMIT {
             Some(Qty(units))
@@ -46,7 +48,7 @@ impl Qty {
     /// How many units of 10^-6 it is.
     pub fn units(self) -> u64
         ensures value { result ≡ self }
-        ensures range { result < 10 ^ 16 }
+        ensures range { result < SIZE_LIMIT }
     {
         self.0
     }
@@ -55,14 +57,14 @@ impl Qty {
     /// zero is `TooLarge`; `-0` is 0.
     pub fn read(text: &[u8]) -> Result<Qty, DecimalFault>
         ensures meaning { result ≡ qty_of text.now }
-        ensures value { IfOk result (λ qty. IsValue 6 text.now (pos qty)) }
+        ensures value { IfOk result (λ qty. IsValue PLACES text.now (pos qty)) }
 
         // Each fault comes exactly where it is the first that applies.
         ensures format { (result ≡ Err DecimalFault.Format) ↔ ¬ (IsTrue (is_decimal text.now)) }
         ensures too_fine { (result ≡ Err DecimalFault.TooFine)
-            ↔ (IsTrue (is_decimal text.now) × ((units : ℤ) → ¬ (IsValue 6 text.now units))) }
+            ↔ (IsTrue (is_decimal text.now) × ((units : ℤ) → ¬ (IsValue PLACES text.now units))) }
         ensures too_large { (result ≡ Err DecimalFault.TooLarge)
-            ↔ ((units : ℤ) × IsValue 6 text.now units × (qty_units units ≡ None)) }
+            ↔ ((units : ℤ) × IsValue PLACES text.now units × (qty_units units ≡ None)) }
 
         // Zeros in front and behind change nothing.
         ensures leading_zeros { IsTrue (is_decimal text.now)
@@ -74,9 +76,9 @@ impl Qty {
         Self::from_size(negative, read_size(size, Self::PLACES as usize))
     }
 
-    /// The quantity of a size with its sign: none below zero.
+    // The quantity of a size with its sign: none below zero.
     fn from_size(negative: bool, size: Result<u64, DecimalFault>) -> Result<Qty, DecimalFault>
-        requires { IfOk size (λ units. units < 10 ^ 16) }
+        requires { IfOk size (λ units. units < SIZE_LIMIT) }
         ensures { result ≡ within qty_units (with_sign negative size) }
     {
         match size {
@@ -96,17 +98,17 @@ impl Qty {
 }
 
 impl fmt::Display for Qty {
-    ghost output = { λ qty. Some (printed 6 (pos qty)) };
+    ghost output = { λ qty. Some (printed PLACES (pos qty)) };
 
     /// The shortest exact decimal: no point for a whole number, at least one digit before a point,
     /// and no zero at the end behind it.
     fn fmt<W: fmt::Write>(&self, f: &mut fmt::Formatter<W>) -> fmt::Result
         ensures writes { DisplaysOnOk W.write_str_gives f.old result
-            (Some (printed 6 (pos self.now))) f.new }
+            (Some (printed PLACES (pos self.now))) f.new }
 
         // What is printed is read again as the same number, and no such text is shorter.
-        ensures read_again { qty_of (printed 6 (pos self.now)) ≡ Ok self.now }
-        ensures shortest { IsShortest 6 (pos self.now) (printed 6 (pos self.now)) }
+        ensures read_again { qty_of (printed PLACES (pos self.now)) ≡ Ok self.now }
+        ensures shortest { IsShortest PLACES (pos self.now) (printed PLACES (pos self.now)) }
     {
         write_units(f, self.0 as i64, Self::PLACES)
     }

@@ -1,6 +1,7 @@
 //! Sums of quantities.
 ghost use Rattle.std.specs.Prelude.{◌≡◌, Some, Ok};
 ghost use Rattle.std.specs.Fmt.{DisplaysOnOk};
+ghost use Rattle.blot_decimal.specs.declared.qty_sum.TheConstants.QtySum.{PLACES};
 ghost use Rattle.blot_decimal.specs.Meaning.{exact_of};
 ghost use Rattle.blot_decimal.specs.Printed.{printed, IsShortest};
 
@@ -43,17 +44,17 @@ impl QtySum {
 }
 
 impl fmt::Display for QtySum {
-    ghost output = { λ sum. Some (printed 6 sum) };
+    ghost output = { λ sum. Some (printed PLACES sum) };
 
     /// The shortest exact decimal: no point for a whole number, at least one digit before a point,
     /// and no zero at the end behind it.
     fn fmt<W: fmt::Write>(&self, f: &mut fmt::Formatter<W>) -> fmt::Result
         ensures writes { DisplaysOnOk W.write_str_gives f.old result
-            (Some (printed 6 self.now)) f.new }
+            (Some (printed PLACES self.now)) f.new }
 
         // What is printed is read again as the same number, and no such text is shorter.
-        ensures read_again { exact_of 6 (printed 6 self.now) ≡ Ok self.now }
-        ensures shortest { IsShortest 6 self.now (printed 6 self.now) }
+        ensures read_again { exact_of PLACES (printed PLACES self.now) ≡ Ok self.now }
+        ensures shortest { IsShortest PLACES self.now (printed PLACES self.now) }
     {
         write_wide_units(f, self.0, Self::PLACES)
     }

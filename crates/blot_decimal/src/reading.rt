@@ -1,5 +1,5 @@
 //! Reads the size of a number from an unsigned text.
-ghost use Rattle.std.specs.Prelude.{◌≡◌, ◌^◌, ◌≤◌, ◌++◌, length, min, fold, IsTrue};
+ghost use Rattle.std.specs.Prelude.{◌≡◌, ◌≤◌, ◌++◌, length, min, fold, IsTrue};
 ghost use Rattle.std.specs.List.{position_or_len};
 ghost use Rattle.blot_decimal.specs.Text.{is_negative, unsigned_of, is_point, whole_of, fraction_of, are_digits, are_zeros, are_parts, with_digit, number_of};
 ghost use Rattle.blot_decimal.specs.Meaning.{kept_of, size_of, limited};
@@ -7,13 +7,16 @@ ghost use Rattle.blot_decimal.specs.Meaning.{kept_of, size_of, limited};
 use crate::fault::DecimalFault;
 
 /// Quantities and prices are smaller than this many units.
-pub const SIZE_LIMIT: u64 = 10_000_000_000_000_000;
+pub(crate) const SIZE_LIMIT: u64 = 10_000_000_000_000_000;
 
-/// The decimals that a text leaves out, for up to eight places.
-const ZEROS: [u8; 8] = *b"00000000";
+// The most decimals of a quantity or a price.
+const PLACES_MAX: usize = 8;
+
+// The decimals that a text leaves out.
+const ZEROS: [u8; PLACES_MAX] = *b"00000000";
 
 /// Splits a minus sign off: whether there is one, and the rest.
-pub fn split_sign(text: &[u8]) -> (bool, &[u8])
+pub(crate) fn split_sign(text: &[u8]) -> (bool, &[u8])
     ensures negative { result.0 ≡ is_negative text.now }
     ensures rest { result.1.now ≡ unsigned_of text.now }
 {
@@ -23,7 +26,7 @@ pub fn split_sign(text: &[u8]) -> (bool, &[u8])
     }
 }
 
-/// Where the point stands, or the length of the text where there is none.
+// Where the point stands, or the length of the text where there is none.
 fn point_at(size: &[u8]) -> usize
     ensures place { result ≡ position_or_len is_point size.now }
     ensures within { result ≤ length size.now }
@@ -31,7 +34,7 @@ fn point_at(size: &[u8]) -> usize
     size.iter().take_while(|byte| **byte != b'.').count()
 }
 
-/// The parts of an unsigned text before and behind its point.
+// The parts of an unsigned text before and behind its point.
 fn split_point(size: &[u8]) -> (&[u8], &[u8])
     ensures whole { result.0.now ≡ whole_of size.now }
     ensures fraction { result.1.now ≡ fraction_of size.now }
@@ -43,21 +46,21 @@ fn split_point(size: &[u8]) -> (&[u8], &[u8])
     }
 }
 
-/// Whether every byte is a digit.
+// Whether every byte is a digit.
 fn all_digits(bytes: &[u8]) -> bool
     ensures { result ≡ are_digits bytes.now }
 {
     bytes.iter().all(|byte| byte.is_ascii_digit())
 }
 
-/// Whether every byte is a zero.
+// Whether every byte is a zero.
 fn all_zeros(bytes: &[u8]) -> bool
     ensures { result ≡ are_zeros bytes.now }
 {
     bytes.iter().all(|byte| *byte == b'0')
 }
 
-/// Whether both parts are digits, with at least one digit in them.
+// Whether both parts are digits, with at least one digit in them.
 #[tactic(auto, unfolding(crate::specs::Text::are_parts))]
 fn are_parts(whole: &[u8], fraction: &[u8]) -> bool
     ensures { result ≡ are_parts whole.now fraction.now }
@@ -65,11 +68,11 @@ fn are_parts(whole: &[u8], fraction: &[u8]) -> bool
     all_digits(whole) && all_digits(fraction) && whole.len() + fraction.len() > 0
 }
 
-/// The number with more digits behind it, or `SIZE_LIMIT` where it is that or more.
+// The number with more digits behind it, or `SIZE_LIMIT` where it is that or more.
 fn with_digits(number: u64, digits: &[u8]) -> u64
-    requires low { number ≤ 10 ^ 16 }
+    requires low { number ≤ SIZE_LIMIT }
     requires digits { IsTrue (are_digits digits.now) }
-    ensures { result ≡ min (fold with_digit number digits.now) (10 ^ 16) }
+    ensures { result ≡ min (fold with_digit number digits.now) (SIZE_LIMIT) }
 {
     let mut value = number;
     for digit in digits {
@@ -78,22 +81,22 @@ fn with_digits(number: u64, digits: &[u8]) -> u64
     value
 }
 
-/// The units of 10^-places that digits before and behind a point write, or `SIZE_LIMIT` where they
-/// are that or more.
+// The units of 10^-places that digits before and behind a point write, or `SIZE_LIMIT` where they
+// are that or more.
 fn units_of(whole: &[u8], kept: &[u8], places: usize) -> u64
     requires whole_digits { IsTrue (are_digits whole.now) }
     requires kept_digits { IsTrue (are_digits kept.now) }
     requires kept_fits { length kept.now ≤ places }
-    requires places { places ≤ 8 }
-    ensures { result ≡ min (number_of (whole.now ++ kept_of places kept.now)) (10 ^ 16) }
+    requires places { places ≤ PLACES_MAX }
+    ensures { result ≡ min (number_of (whole.now ++ kept_of places kept.now)) (SIZE_LIMIT) }
 {
     let units = with_digits(with_digits(0, whole), kept);
     with_digits(units, &ZEROS[kept.len()..places])
 }
 
 /// Reads the size of a number, in units of 10^-places, from an unsigned text.
-pub fn read_size(size: &[u8], places: usize) -> Result<u64, DecimalFault>
-    requires { places ≤ 8 }
+pub(crate) fn read_size(size: &[u8], places: usize) -> Result<u64, DecimalFault>
+    requires { places ≤ PLACES_MAX }
     ensures { result ≡ limited (size_of places size.now) }
 {
     let (whole, fraction) = split_point(size);

@@ -1,7 +1,8 @@
+-- What the proofs of the functions share.
 pub mod IndexLemmas
 pub mod WalkLemmas
 pub mod MakingLemmas
-pub mod AllocatingLemmas
+pub mod AllocationLemmas
 pub mod LineLemmas
 pub mod TableLemmas
 pub mod GroupLemmas

@@ -67,11 +67,11 @@ logon-rows fields = search (step, needs-row, may_have-row) depth 30
 
 pub test_request-rows : (fields : List TagValue) → result_err (test_request_of fields) ≡ first_fault fields test_request_rows
 unfolding test_request_of
-test_request-rows fields = search (step, needs-row, may_have-row) depth 30
+test_request-rows fields = search (step, needs-row) depth 30
 
 pub resend_request-rows : (fields : List TagValue) → result_err (resend_request_of fields) ≡ first_fault fields resend_request_rows
 unfolding resend_request_of
-resend_request-rows fields = search (step, needs-row, may_have-row) depth 30
+resend_request-rows fields = search (step, needs-row) depth 30
 
 pub sequence_reset-rows : (fields : List TagValue) → result_err (sequence_reset_of fields) ≡ first_fault fields sequence_reset_rows
 unfolding sequence_reset_of

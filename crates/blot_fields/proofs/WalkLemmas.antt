@@ -5,6 +5,7 @@ use Rattle.std.specs.Prelude.{is_none, Bool, true, false, if◌then◌else◌, n
 use Rattle.blot_fields.specs.declared.fault.Wrong.{Wrong}
 use Rattle.blot_tag.specs.Fields.{TagValue, Item}
 use Rattle.blot_fields.specs.Walk.{field_wrong, sound_field, with_others, sound_behind}
+use Rattle.blot_fields.specs.declared.sound.TheConstants.{FIELDS_MAX}
 
 -- a choice that isn't its second answer
 is_first : {A : Type 0} (first : Bool) (a : Option A) (b : A) → (if first then a else Some b) ≡ None → first ≡ true
@@ -12,17 +13,17 @@ is_first true a b none = refl
 is_first false a b none = absurd cc
 
 -- a field that isn't refused is one of the first 2,000
-pub field_wrong-few : (before : ℕ) (field : TagValue) → field_wrong before field ≡ None → before < 2000
+pub field_wrong-few : (before : ℕ) (field : TagValue) → field_wrong before field ≡ None → before < FIELDS_MAX
 unfolding field_wrong
-field_wrong-few before field sound = ltb-true before 2000 (is_first (nat_lt before 2000) _ _ sound)
+field_wrong-few before field sound = ltb-true before FIELDS_MAX (is_first (nat_lt before FIELDS_MAX) _ _ sound)
 
 -- behind 2,000 fields each is refused
-sound_field-last : (item : Item) → sound_field 2000 item ≡ None
+sound_field-last : (item : Item) → sound_field FIELDS_MAX item ≡ None
 unfolding field_wrong
 sound_field-last (Ok field) = refl
 sound_field-last (Err fault) = refl
 
-pub sound_behind-last : (items : List Item) → sound_behind 2000 items ≡ []
+pub sound_behind-last : (items : List Item) → sound_behind FIELDS_MAX items ≡ []
 sound_behind-last [] = refl
 sound_behind-last (item ∷ items) = ap (λ found. with_others found (sound_behind 2001 items)) (sound_field-last item)
 
@@ -34,22 +35,22 @@ is_none_then : (found : Option Wrong) (field other : TagValue) → (if is_none f
 is_none_then None field other some = refl
 is_none_then (Some wrong) field other some = absurd cc
 
-sound_field-few : (before : ℕ) (item : Item) (field : TagValue) → sound_field before item ≡ Some field → before < 2000
+sound_field-few : (before : ℕ) (item : Item) (field : TagValue) → sound_field before item ≡ Some field → before < FIELDS_MAX
 sound_field-few before (Ok first) field some = field_wrong-few before first (is_none_then (field_wrong before first) first field some)
 sound_field-few before (Err fault) field some = absurd cc
 
 -- behind so many fields there are at most 2,000 less these
-length-with_others : (before : ℕ) (item : Item) (others : List TagValue) (found : Option TagValue) → before ≤ 2000
-    → sound_field before item ≡ found → (before < 2000 → length others + (before + 1) ≤ 2000) → length (with_others found others) + before ≤ 2000
+length-with_others : (before : ℕ) (item : Item) (others : List TagValue) (found : Option TagValue) → before ≤ FIELDS_MAX
+    → sound_field before item ≡ found → (before < FIELDS_MAX → length others + (before + 1) ≤ FIELDS_MAX) → length (with_others found others) + before ≤ FIELDS_MAX
 length-with_others before item others None few is more = omega arith
 length-with_others before item others (Some field) few is more =
     let low = sound_field-few before item field is in
     omega (arith, more low)
 
-length-sound_behind : (before : ℕ) (items : List Item) → before ≤ 2000 → length (sound_behind before items) + before ≤ 2000
+length-sound_behind : (before : ℕ) (items : List Item) → before ≤ FIELDS_MAX → length (sound_behind before items) + before ≤ FIELDS_MAX
 length-sound_behind before [] few = omega arith
 length-sound_behind before (item ∷ items) few =
     length-with_others before item (sound_behind (before + 1) items) (sound_field before item) few refl (λ low. length-sound_behind (before + 1) items (omega arith))
 
-pub length-sound_fields : (items : List Item) → length (sound_behind 0 items) ≤ 2000
+pub length-sound_fields : (items : List Item) → length (sound_behind 0 items) ≤ FIELDS_MAX
 length-sound_fields items = omega (arith, length-sound_behind 0 items (omega arith))

@@ -38,6 +38,7 @@ allocation_by types.Cancel id fields = (do
   reference ← needed 72 text_form fields
   Ok (Cancel id reference))
 
+-- an Allocation Instruction
 unfoldable pub allocation_of : List TagValue → Result Allocation Wrong
 allocation_of fields = do
   id ← needed 70 text_form fields

@@ -58,5 +58,6 @@ abbrev pub command_of_body : List ℕ → ℤ → Body → Option Command
 command_of_body peer sending (bodies.Report report) = command_of_report peer sending report
 command_of_body peer sending _ = None
 
+-- the command that a peer's message gives the book
 abbrev pub command_of : Message → List ℕ → Option Command
 command_of message peer = command_of_body peer message.head.sending message.body

@@ -1,5 +1,5 @@
 -- What the fields of a frame mean: a message, or its first fault. First the walk from the left, then the header, then
--- the rows of the message's own table (FIX 4.4 volume 2, "Reject"; the order of the faults is own profile).
+-- the rows of the message's own table (FIX 4.4 volume 2, "Reject"; the order of the faults is this project's rule).
 use Rattle.std.specs.Prelude.{◌≡◌, Bool, true, false, List, Option, Some, None, Result, Ok, Err, IsOkAnd}
 use Rattle.std.specs.Result.{result_ok}
 use Rattle.blot_tag.specs.Fields.{TagValue, Item}
@@ -52,11 +52,12 @@ decoded items = decoded_before (refused_field items) (sound_fields items)
 abbrev pub no_memory : Message → FieldFault
 no_memory message = no_memory_under message.head
 
--- whether an answer is want of memory
+-- whether a reason is that there was no memory
 abbrev pub is_no_memory : FieldReason → Bool
 is_no_memory NoMemory = true
 is_no_memory _ = false
 
-abbrev pub wants_memory : Result Message FieldFault → Bool
-wants_memory (Ok message) = false
-wants_memory (Err fault) = is_no_memory fault.reason
+-- whether an answer is that there was no memory
+abbrev pub is_out_of_memory : Result Message FieldFault → Bool
+is_out_of_memory (Ok message) = false
+is_out_of_memory (Err fault) = is_no_memory fault.reason

@@ -21,6 +21,7 @@ pub record Draft : Type 0 where
   pub qty : Result (Option (List ℕ)) Flaw
   pub price : Result (Option (List ℕ)) Flaw
 
+-- what a line in the code knows
 abbrev pub draft_of : LineDraft → Draft
 draft_of line = record { account = line.account.now; qty = found_in line.qty; price = found_in line.price }
 

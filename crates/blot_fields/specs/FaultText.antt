@@ -1,11 +1,11 @@
--- What a fault prints. Source: own profile.
+-- What a fault prints. Source: this project's rule.
 use Rattle.std.specs.Prelude.{ℕ, List, ◌++◌, codes}
 use Rattle.std.specs.Fmt.{decimal}
 use Rattle.blot_fields.specs.declared.fault.FieldFault.{FieldFault}
 use Rattle.blot_fields.specs.declared.fault.FieldReason.{FieldReason}
 use Rattle.blot_fields.specs.declared.fault.FieldReason.TheVariants as reasons
 
--- the standard's number of a reason (FIX 4.4 volume 2, SessionRejectReason); `NoMemory` is own profile
+-- the standard's number of a reason (FIX 4.4 volume 2, SessionRejectReason); `NoMemory` is this project's rule
 abbrev pub reason_number : FieldReason → ℕ
 reason_number reasons.InvalidTagNumber = 0
 reason_number reasons.RequiredTagMissing = 1

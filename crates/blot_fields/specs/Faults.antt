@@ -24,7 +24,7 @@ reason_of flaws.IncorrectGroupCount = reasons.IncorrectGroupCount
 abbrev pub fault_under : Option Head → Wrong → FieldFault
 fault_under head wrong = record { tag = wrong.tag; reason = reason_of wrong.flaw; head = head }
 
--- want of memory for a message with this header
+-- out of memory for a message with this header
 abbrev pub no_memory_under : Head → FieldFault
 no_memory_under head = record { tag = 0; reason = reasons.NoMemory; head = Some head }
 

@@ -1,4 +1,4 @@
--- What a value says, by the form that its row asks for, or what is wrong with it (FIX 4.4 volume 1, data types; limits are own profile).
+-- What a value says, by the form that its row asks for, or what is wrong with it (FIX 4.4 volume 1, data types; limits are this project's rule).
 use Rattle.std.specs.Prelude.{ℕ, ℤ, Bool, true, false, ◌&&◌, ◌||◌, ◌==◌, nat_le, List, codes, Result, Ok, Err, if◌then◌else◌}
 use Rattle.blot_decimal.specs.Meaning.{qty_of, price_of}
 use Rattle.blot_decimal.specs.declared.fault.DecimalFault.{DecimalFault}
@@ -15,6 +15,9 @@ use Rattle.blot_types.specs.declared.fill.Sign.{Sign}
 use Rattle.blot_types.specs.declared.fill.Sign.TheVariants.{Buy, Sell}
 use Rattle.blot_fields.specs.declared.fault.Flaw.{Flaw}
 use Rattle.blot_fields.specs.declared.fault.Flaw.TheVariants.{ValueIncorrect, IncorrectDataFormat}
+use Rattle.blot_fields.specs.declared.admin.TheConstants.{HEARTBEAT_MAX}
+use Rattle.blot_fields.specs.declared.allocation.TheConstants.{ENTRIES_MAX}
+use Rattle.blot_fields.specs.declared.rows.TheConstants.{SEQUENCE_MAX}
 
 -- 1 to 64 printable bytes
 unfoldable pub text_form : List ℕ → Result (List ℕ) Flaw
@@ -31,19 +34,19 @@ number_form low high value =
 
 -- a sequence number
 abbrev pub sequence_form : List ℕ → Result ℕ Flaw
-sequence_form value = number_form 1 999_999_999 value
+sequence_form value = number_form 1 SEQUENCE_MAX value
 
 -- the last number of a range of messages, of which 0 stands for the last of all
 abbrev pub end_form : List ℕ → Result ℕ Flaw
-end_form value = number_form 0 999_999_999 value
+end_form value = number_form 0 SEQUENCE_MAX value
 
 -- seconds between heartbeats, up to a day
 abbrev pub seconds_form : List ℕ → Result ℕ Flaw
-seconds_form value = number_form 0 86_400 value
+seconds_form value = number_form 0 HEARTBEAT_MAX value
 
 -- how many entries a group has
 abbrev pub count_form : List ℕ → Result ℕ Flaw
-count_form value = number_form 1 200 value
+count_form value = number_form 1 ENTRIES_MAX value
 
 -- `Y` or `N`
 unfoldable pub flag_form : List ℕ → Result Bool Flaw
@@ -66,6 +69,7 @@ decimal_reason decimals.Format = IncorrectDataFormat
 decimal_reason decimals.TooFine = ValueIncorrect
 decimal_reason decimals.TooLarge = ValueIncorrect
 
+-- a decimal that was read, or its fault as the field's
 abbrev pub decimal_read : {A : Type 0} → Result A DecimalFault → Result A Flaw
 decimal_read (Ok number) = Ok number
 decimal_read (Err fault) = Err (decimal_reason fault)
@@ -89,6 +93,7 @@ abbrev pub time_reason : TimeFault → Flaw
 time_reason times.Format = IncorrectDataFormat
 time_reason times.NoSuchDate = ValueIncorrect
 
+-- a time that was read, or its fault as the field's
 abbrev pub time_read : {A : Type 0} → Result A TimeFault → Result A Flaw
 time_read (Ok time) = Ok time
 time_read (Err fault) = Err (time_reason fault)
@@ -101,7 +106,7 @@ moment_form value = time_read (moment_of value)
 unfoldable pub day_form : List ℕ → Result ℤ Flaw
 day_form value = time_read (day_of value)
 
--- sides 1 and 3 buy, 2, 4, 5 and 6 sell (FIX 4.4 volume 4, Side; the grouping is own profile)
+-- sides 1 and 3 buy, 2, 4, 5 and 6 sell (FIX 4.4 volume 4, Side; the grouping is this project's rule)
 unfoldable pub side_form : List ℕ → Result Sign Flaw
 side_form value =
     if same_text value (codes "1") || same_text value (codes "3") then Ok Buy

@@ -1,4 +1,4 @@
--- The groups of an Allocation Instruction: its executions and its lines (FIX 4.4 volume 5; the layout is own profile).
+-- The groups of an Allocation Instruction: its executions and its lines (FIX 4.4 volume 5; the layout is this project's rule).
 use Rattle.std.specs.Prelude.{ℕ, ℤ, ◌==◌, ◌&&◌, ◌||◌, Bool, not, List, [], ◌∷◌, count_by, Option, Some, None, Result, Ok, Err, if◌then◌else◌}
 use Rattle.std.specs.Option.{ok_or, option_or}
 use Rattle.std.specs.List.{before_first, after_first, list_any}
@@ -14,10 +14,11 @@ use Rattle.blot_fields.specs.Rows.{wrong, at, values, there, needed, optional}
 abbrev pub bears : ℕ → TagValue → Bool
 bears tag field = field.tag == tag
 
--- the fields before the first with a tag, and those behind it
+-- the fields before the first with a tag
 abbrev pub before : ℕ → List TagValue → List TagValue
 before tag fields = before_first (bears tag) fields
 
+-- the fields behind the first with a tag
 abbrev pub behind : ℕ → List TagValue → List TagValue
 behind tag fields = after_first (bears tag) fields
 
@@ -88,6 +89,7 @@ lines_of average fields = do
 abbrev pub lacks_price : List TagValue → Bool
 lacks_price line = not (list_any (bears 366) line)
 
+-- whether some line of a message has none
 abbrev pub some_line_lacks_price : List TagValue → Bool
 some_line_lacks_price fields = list_any lacks_price (lines_in (behind 78 fields))
 

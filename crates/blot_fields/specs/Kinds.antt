@@ -19,6 +19,7 @@ message_types =
     ∷ (codes "2", kinds.ResendRequest) ∷ (codes "3", kinds.Reject) ∷ (codes "4", kinds.SequenceReset)
     ∷ (codes "5", kinds.Logout) ∷ (codes "8", kinds.Report) ∷ (codes "J", kinds.Allocation) ∷ []
 
+-- the message type that a value names
 unfoldable pub kind_of : List ℕ → Kind
 kind_of value = unwrap_or (lookup (same_text value) message_types) kinds.Other
 
@@ -26,6 +27,7 @@ kind_of value = unwrap_or (lookup (same_text value) message_types) kinds.Other
 abbrev pub exec_types : List (List ℕ × ExecType)
 exec_types = (codes "F", types.Trade) ∷ (codes "G", types.Correct) ∷ (codes "H", types.Bust) ∷ []
 
+-- the type that a value names
 unfoldable pub exec_type_of : List ℕ → ExecType
 exec_type_of value = unwrap_or (lookup (same_text value) exec_types) types.Other
 
@@ -33,5 +35,6 @@ exec_type_of value = unwrap_or (lookup (same_text value) exec_types) types.Other
 abbrev pub alloc_types : List (List ℕ × AllocType)
 alloc_types = (codes "0", allocs.New) ∷ (codes "1", allocs.Replace) ∷ (codes "2", allocs.Cancel) ∷ []
 
+-- the type that a value names; there is no other
 unfoldable pub alloc_type_form : List ℕ → Result AllocType Flaw
 alloc_type_form value = ok_or (lookup (same_text value) alloc_types) ValueIncorrect

@@ -37,7 +37,7 @@ head_of fields = do
   dup ← optional 43 flag_form fields
   Ok (record { kind = kind; sender = sender; target = target; number = number; dup = is_set dup; sending = sending })
 
--- the administrative messages (FIX 4.4 volume 2)
+-- a Logon (FIX 4.4 volume 2, "Administrative messages", as the next three)
 unfoldable pub logon_of : List TagValue → Result Admin Wrong
 logon_of fields = do
   encryption ← needed 98 zero_form fields
@@ -45,17 +45,20 @@ logon_of fields = do
   reset ← optional 141 flag_form fields
   Ok (Logon heartbeat (is_set reset))
 
+-- a Test Request
 unfoldable pub test_request_of : List TagValue → Result Admin Wrong
 test_request_of fields = do
   id ← needed 112 text_form fields
   Ok (TestRequest id)
 
+-- a Resend Request
 unfoldable pub resend_request_of : List TagValue → Result Admin Wrong
 resend_request_of fields = do
   begin ← needed 7 sequence_form fields
   end ← needed 16 end_form fields
   Ok (ResendRequest begin end)
 
+-- a Sequence Reset
 unfoldable pub sequence_reset_of : List TagValue → Result Admin Wrong
 sequence_reset_of fields = do
   new_number ← needed 36 sequence_form fields
@@ -107,6 +110,7 @@ execution_of order id fields = do
     trade_date = trade_date;
   })
 
+-- a fill with its identifiers
 unfoldable pub trade_of : List TagValue → Result Report Wrong
 trade_of fields = do
   order ← needed 37 text_form fields
@@ -114,6 +118,7 @@ trade_of fields = do
   execution ← execution_of order id fields
   Ok (reports.Trade execution)
 
+-- another version of an earlier fill, which ExecRefID names
 unfoldable pub correct_of : List TagValue → Result Report Wrong
 correct_of fields = do
   order ← needed 37 text_form fields
@@ -122,6 +127,7 @@ correct_of fields = do
   execution ← execution_of order id fields
   Ok (reports.Correct reference execution)
 
+-- the end of an earlier fill, which ExecRefID names
 unfoldable pub bust_of : List TagValue → Result Report Wrong
 bust_of fields = do
   id ← needed 17 text_form fields
@@ -135,6 +141,7 @@ report_by types.Correct fields = correct_of fields
 report_by types.Bust fields = bust_of fields
 report_by types.Other fields = Ok reports.Other
 
+-- an Execution Report: its rows go by ExecType
 unfoldable pub report_of : List TagValue → Result Report Wrong
 report_of fields = do
   exec_type ← there 150 fields

@@ -34,12 +34,13 @@ only tag fields = one_of (values tag fields)
 abbrev pub found : ℕ → List TagValue → Result (Option (List ℕ)) Wrong
 found tag fields = at tag (only tag fields)
 
--- whether there is a field with a tag, once or more often
+-- whether a look-up found a field, or several
 abbrev pub is_there : Result (Option (List ℕ)) Flaw → Bool
 is_there (Ok None) = false
 is_there (Ok (Some value)) = true
 is_there (Err flaw) = true
 
+-- whether there is a field with a tag, once or more often
 unfoldable pub has : ℕ → List TagValue → Bool
 has tag fields = is_there (only tag fields)
 

@@ -44,10 +44,11 @@ optional_wrong tag form [] = None
 optional_wrong tag form (value ∷ []) = value_wrong tag form value
 optional_wrong tag form (value ∷ second ∷ more) = Some (wrong tag TagRepeated)
 
--- a row that a message needs, and one that it may have
+-- a row that a message needs
 unfoldable pub needs : {A : Type 0} → ℕ → (List ℕ → Result A Flaw) → Row
 needs tag form fields = needed_wrong tag form (values tag fields)
 
+-- a row that a message may have
 unfoldable pub may_have : {A : Type 0} → ℕ → (List ℕ → Result A Flaw) → Row
 may_have tag form fields = optional_wrong tag form (values tag fields)
 
@@ -70,16 +71,19 @@ header_rows =
     needs 35 text_form ∷ needs 49 text_form ∷ needs 56 text_form ∷ needs 34 sequence_form ∷ needs 52 moment_form
     ∷ may_have 43 flag_form ∷ []
 
--- the administrative messages
+-- a Logon
 abbrev pub logon_rows : List Row
 logon_rows = needs 98 zero_form ∷ needs 108 seconds_form ∷ may_have 141 flag_form ∷ []
 
+-- a Test Request
 abbrev pub test_request_rows : List Row
 test_request_rows = needs 112 text_form ∷ []
 
+-- a Resend Request
 abbrev pub resend_request_rows : List Row
 resend_request_rows = needs 7 sequence_form ∷ needs 16 end_form ∷ []
 
+-- a Sequence Reset
 abbrev pub sequence_reset_rows : List Row
 sequence_reset_rows = needs 36 sequence_form ∷ may_have 123 flag_form ∷ []
 
@@ -94,30 +98,35 @@ execution_rows =
     ∷ needs 55 text_form ∷ needs 32 positive_form ∷ needs 31 price_form ∷ may_have 1 text_form
     ∷ may_have 38 qty_form ∷ may_have 60 moment_form ∷ may_have 75 day_form ∷ []
 
+-- a fill with its identifiers
 abbrev pub trade_rows : List Row
 trade_rows = needs 37 text_form ∷ needs 17 text_form ∷ execution_rows
 
+-- another version of an earlier fill
 abbrev pub correct_rows : List Row
 correct_rows = needs 37 text_form ∷ needs 17 text_form ∷ needs 19 text_form ∷ execution_rows
 
+-- the end of an earlier fill
 abbrev pub bust_rows : List Row
 bust_rows = needs 17 text_form ∷ needs 19 text_form ∷ []
 
--- the first value of a tag
+-- the first of some values
 abbrev pub first_of : List (List ℕ) → List ℕ
 first_of [] = []
 first_of (value ∷ more) = value
 
+-- the first value of a tag
 abbrev pub first_value : ℕ → List TagValue → List ℕ
 first_value tag fields = first_of (values tag fields)
 
--- an Execution Report: its rows go by ExecType
+-- the rows of a type of Execution Report
 abbrev pub exec_rows : ExecType → List Row
 exec_rows execs.Trade = trade_rows
 exec_rows execs.Correct = correct_rows
 exec_rows execs.Bust = bust_rows
 exec_rows execs.Other = []
 
+-- an Execution Report: its rows go by ExecType
 abbrev pub report_rows : List TagValue → List Row
 report_rows fields = needs 150 any_form ∷ exec_rows (exec_type_of (first_value 150 fields))
 
@@ -142,10 +151,11 @@ line_rows (line ∷ lines) =
     (λ fields. needs 79 text_form line) ∷ (λ fields. needs 80 qty_form line)
     ∷ (λ fields. may_have 366 price_form line) ∷ line_rows lines
 
--- the groups of an allocation
+-- the executions of an allocation
 abbrev pub execution_group : List TagValue → List Row
 execution_group fields = needs 124 count_form ∷ group_row 124 are_executions ∷ id_rows (values 17 fields)
 
+-- the lines of an allocation
 abbrev pub line_group : List TagValue → List Row
 line_group fields = needs 78 count_form ∷ group_row 78 are_lines ∷ line_rows (lines_in (behind 78 fields))
 
@@ -155,13 +165,14 @@ terms_rows fields =
     needs 54 side_form ∷ needs 55 text_form ∷ needs 53 qty_form ∷ needs_average ∷ needs 75 day_form
     ∷ (execution_group fields ++ line_group fields)
 
--- an Allocation Instruction: its rows go by AllocTransType
+-- the rows of a type of Allocation Instruction, behind the type
 abbrev pub alloc_rows : Result AllocType Flaw → List TagValue → List Row
 alloc_rows (Ok allocs.New) fields = terms_rows fields
 alloc_rows (Ok allocs.Replace) fields = needs 72 text_form ∷ terms_rows fields
 alloc_rows (Ok allocs.Cancel) fields = needs 72 text_form ∷ []
 alloc_rows (Err flaw) fields = []
 
+-- an Allocation Instruction: its rows go by AllocTransType
 abbrev pub allocation_rows : List TagValue → List Row
 allocation_rows fields =
     needs 70 text_form ∷ needs 71 alloc_type_form ∷ alloc_rows (alloc_type_form (first_value 71 fields)) fields

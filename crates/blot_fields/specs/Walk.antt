@@ -9,19 +9,21 @@ use Rattle.blot_fields.specs.declared.fault.Flaw.{Flaw}
 use Rattle.blot_fields.specs.declared.fault.Flaw.TheVariants.{InvalidTagNumber, TagWithoutValue, IncorrectDataFormat}
 use Rattle.blot_fields.specs.declared.fault.Wrong.{Wrong}
 use Rattle.blot_fields.specs.Rows.{wrong}
+use Rattle.blot_fields.specs.declared.sound.TheConstants.{FIELDS_MAX}
 
 -- why a field can't be split off
 abbrev pub split_flaw : SplitReason → Flaw
 split_flaw splits.InvalidTagNumber = InvalidTagNumber
 split_flaw splits.IncorrectDataFormat = IncorrectDataFormat
 
+-- the same with its tag
 abbrev pub split_wrong : SplitFault → Wrong
 split_wrong fault = wrong fault.tag (split_flaw fault.reason)
 
--- what is wrong with a field behind so many others: it is the 2,001st (own profile), or empty
+-- what is wrong with a field behind so many others: it is the 2,001st (this project's rule), or empty
 unfoldable pub field_wrong : ℕ → TagValue → Option Wrong
 field_wrong before field =
-    if nat_lt before 2000 then (if length field.value == 0 then Some (wrong field.tag TagWithoutValue) else None)
+    if nat_lt before FIELDS_MAX then (if length field.value == 0 then Some (wrong field.tag TagWithoutValue) else None)
     else Some (wrong field.tag IncorrectDataFormat)
 
 -- a field behind so many others, unless it is refused

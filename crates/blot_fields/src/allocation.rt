@@ -1,11 +1,34 @@
-//! Allocation Instructions.
+//! Allocation Instructions. FIX 4.4 volume 5, "Allocation Instruction".
+ghost use Rattle.std.specs.Prelude.{◌≡◌};
+ghost use Rattle.std.specs.Option.{option_map};
+ghost use Rattle.blot_tag.specs.Views.{tag_value};
+ghost use Rattle.blot_fields.specs.Drafts.{draft_of, next_draft, Pushes, NextLine};
+ghost use Rattle.blot_fields.specs.Allocations.{allocation_of, terms_of};
+ghost use Rattle.blot_fields.specs.Faults.{Gives};
+ghost use Rattle.blot_fields.specs.Groups.{average_of, executions_of, lines_of, ids_of, each_line_of, lines_in};
+ghost use Rattle.blot_fields.specs.Making.{Makes};
+ghost use Rattle.blot_fields.specs.Rows.{values};
 
 use crate::Entries;
+use crate::drafts::LineDraft;
+use crate::fault::{Flaw, Refusal, Wrong};
+use crate::forms::Form;
+use crate::groups::{are_executions, are_lines, behind, some_line_lacks_price};
+use crate::index::FieldIndex;
+use crate::kinds::AllocType;
+use crate::making::Making;
+use crate::rows::{at, needed, number, there};
+use crate::sound::SoundFields;
 use blot_decimal::{Price, Qty};
+use blot_tag::Field;
 use blot_time::Day;
 use blot_types::{Sign, Text64};
+use std::alloc::Global;
 
-/// What an Allocation Instruction (35=J) says. FIX 4.4 volume 5, "Allocation Instruction".
+// The most entries of a group. This project's rule.
+const ENTRIES_MAX: u64 = 200;
+
+/// What an Allocation Instruction (35=J) says.
 #[derive(Debug, Drop)]
 pub enum Allocation {
     /// AllocTransType(71) 0.
@@ -52,4 +75,159 @@ pub struct AllocationLine {
     pub qty: Qty,
     /// AllocPrice(366), or else AvgPx(6).
     pub price: Price,
+}
+
+/// Reads an Allocation Instruction. Its lists take memory, which is told only where nothing is at
+/// fault.
+#[tactic(auto, unfolding(crate::specs::Allocations::allocation_of))]
+pub(crate) fn allocation_of(alloc: Global, fields: &FieldIndex) -> Result<Allocation, Refusal>
+    ensures { Gives result (allocation_of fields.now) }
+{
+    let id = needed::<Text64>(fields, 70)?;
+    match needed::<AllocType>(fields, 71)? {
+        AllocType::New => {
+            let terms = terms_of(alloc, fields)?;
+            Ok(Allocation::New { id, terms })
+        }
+        AllocType::Replace => {
+            let reference = needed::<Text64>(fields, 72)?;
+            let terms = terms_of(alloc, fields)?;
+            Ok(Allocation::Replace {
+                id,
+                reference,
+                terms,
+            })
+        }
+        AllocType::Cancel => {
+            let reference = needed::<Text64>(fields, 72)?;
+            Ok(Allocation::Cancel { id, reference })
+        }
+    }
+}
+
+// What is allocated, and to whom.
+#[tactic(auto, unfolding(crate::specs::Allocations::terms_of))]
+fn terms_of(alloc: Global, fields: &FieldIndex) -> Result<AllocationTerms, Refusal>
+    ensures { Gives result (terms_of fields.now) }
+{
+    let sign = needed::<Sign>(fields, 54)?;
+    let symbol = needed::<Text64>(fields, 55)?;
+    let block = needed::<Qty>(fields, 53)?;
+    let average = average_of(fields)?;
+    let day = needed::<Day>(fields, 75)?;
+    let executions = executions_of(alloc, fields)?;
+    let lines = lines_of(alloc, &average, fields)?;
+    Ok(AllocationTerms {
+        sign,
+        symbol,
+        block,
+        day,
+        executions: executions.finish()?,
+        lines: lines.finish()?,
+    })
+}
+
+// AvgPx, whose value is read only where some line has no AllocPrice.
+#[tactic(auto, unfolding(crate::specs::Groups::average_of))]
+fn average_of(fields: &FieldIndex) -> Result<Option<Price>, Wrong>
+    ensures { result ≡ average_of fields.now }
+{
+    if some_line_lacks_price(fields) {
+        return Ok(Some(needed::<Price>(fields, 6)?));
+    }
+    there(fields, 6)?;
+    Ok(None)
+}
+
+// NoExecs and the executions.
+#[tactic(auto, unfolding(crate::specs::Groups::executions_of))]
+fn executions_of(alloc: Global, fields: &FieldIndex) -> Result<Making<Text64>, Wrong>
+    ensures { Makes result (executions_of fields.now) }
+{
+    let count = number(fields, 124, 1, ENTRIES_MAX)?;
+    if !are_executions(count, fields) {
+        return Err(Wrong::new(124, Flaw::IncorrectGroupCount));
+    }
+    ids_of(alloc, fields)
+}
+
+// NoAllocs and the lines.
+#[tactic(auto, unfolding(crate::specs::Groups::lines_of))]
+fn lines_of(
+    alloc: Global,
+    average: &Option<Price>,
+    fields: &FieldIndex,
+) -> Result<Making<AllocationLine>, Wrong>
+    ensures { Makes result (lines_of average.now fields.now) }
+{
+    let count = number(fields, 78, 1, ENTRIES_MAX)?;
+    if !are_lines(count, fields) {
+        return Err(Wrong::new(78, Flaw::IncorrectGroupCount));
+    }
+    each_line_of(alloc, average, behind(78, fields.walk()))
+}
+
+// The ExecIDs among the fields.
+fn ids_of(alloc: Global, fields: &FieldIndex) -> Result<Making<Text64>, Wrong>
+    ensures { Makes result (ids_of (values 17 fields.now)) }
+{
+    let mut ids = Making::new(alloc);
+    for field in fields.walk() {
+        if field.tag == 17 {
+            ids.push(at(17, Text64::from_value(field.value))?);
+        }
+    }
+    Ok(ids)
+}
+
+// The lines among the fields behind NoAllocs.
+fn each_line_of(
+    alloc: Global,
+    average: &Option<Price>,
+    fields: SoundFields,
+) -> Result<Making<AllocationLine>, Wrong>
+    ensures { Makes result (each_line_of average.now (lines_in fields.entry)) }
+{
+    let mut lines = Making::new(alloc);
+    let mut line: Option<LineDraft> = None;
+    for field in fields {
+        line = next_line(average, line, field, &mut lines)?;
+    }
+    push_line(average, line, &mut lines)?;
+    Ok(lines)
+}
+
+// The line that stays open behind a field. An AllocAccount begins one and ends the one before; any
+// other field goes on with the open line, if there is one.
+fn next_line<'a>(
+    average: &Option<Price>,
+    line: Option<LineDraft<'a>>,
+    field: Field<'a>,
+    lines: &mut Making<AllocationLine>,
+) -> Result<Option<LineDraft<'a>>, Wrong>
+    ensures { NextLine average.now (option_map draft_of line.entry) (tag_value field.entry)
+        lines.old (next_draft result) lines.new }
+{
+    if field.tag == 79 {
+        push_line(average, line, lines)?;
+        return Ok(Some(LineDraft::new(field.value)));
+    }
+    match line {
+        Some(draft) => Ok(Some(draft.with(field))),
+        None => Ok(None),
+    }
+}
+
+// Puts the open line, if there is one, behind the others.
+fn push_line(
+    average: &Option<Price>,
+    line: Option<LineDraft>,
+    lines: &mut Making<AllocationLine>,
+) -> Result<(), Wrong>
+    ensures { Pushes average.now (option_map draft_of line.entry) lines.old result lines.new }
+{
+    if let Some(draft) = line {
+        lines.push(draft.line(*average)?);
+    }
+    Ok(())
 }

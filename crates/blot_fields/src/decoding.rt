@@ -2,28 +2,28 @@
 ghost use Rattle.std.specs.Prelude.{◌≡◌, ◌↔◌, Ok, Err, IsOk, IsOkAnd, IfErr, true, false};
 ghost use Rattle.blot_tag.specs.Fields.{fields_of};
 ghost use Rattle.blot_tag.specs.Views.{text_of};
-ghost use Rattle.blot_fields.specs.Decoding.{IsAllocation, GivesBody, decoded, wants_memory, no_memory};
+ghost use Rattle.blot_fields.specs.Decoding.{IsAllocation, GivesBody, decoded, is_out_of_memory, no_memory};
 ghost use Rattle.blot_fields.specs.Tables.{IsWell, IsFault};
 ghost use Rattle.blot_fields.specs.Messages.{body_of};
 
-use crate::allocating::allocation_of;
+use crate::admin::{logon_of, resend_request_of, sequence_reset_of, test_request_of};
+use crate::allocation::allocation_of;
 use crate::fault::Refusal;
-use crate::header::head_of;
+use crate::head::head_of;
 use crate::index::FieldIndex;
 use crate::kinds::{Kind, kind_of};
-use crate::reporting::report_of;
-use crate::session_layer::{logon_of, resend_request_of, sequence_reset_of, test_request_of};
+use crate::report::report_of;
 use crate::{Admin, Body, FieldFault, Message};
 use blot_tag::Frame;
 use std::alloc::Global;
 
-/// What a frame says: its message, or the first fault. Want of memory comes last, and only the
-/// lists of an Allocation Instruction take any. FIX 4.4 volume 2, "Reject"; the order of the
-/// faults is own profile.
+/// What a frame says: its message, or the first fault. `NoMemory` comes last, and only the lists of
+/// an Allocation Instruction take any. FIX 4.4 volume 2, "Reject"; the order of the faults is this
+/// project's rule.
 #[tactic(auto, using(crate::proofs::DecodingLemmas::decoded_well, crate::proofs::DecodingLemmas::decoded_fault), unfolding(crate::specs::Decoding::decoded))]
 pub fn decode(alloc: Global, frame: &Frame) -> Result<Message, FieldFault>
-    ensures meaning { wants_memory result ≡ false → result ≡ decoded (fields_of (text_of frame.now)) }
-    ensures memory { wants_memory result ≡ true
+    ensures meaning { is_out_of_memory result ≡ false → result ≡ decoded (fields_of (text_of frame.now)) }
+    ensures memory { is_out_of_memory result ≡ true
         → IsOkAnd (decoded (fields_of (text_of frame.now)))
         (λ message. (result ≡ Err (no_memory message)) × IsAllocation message.body) }
 

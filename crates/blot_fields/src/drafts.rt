@@ -7,11 +7,12 @@ ghost use Rattle.blot_fields.specs.Slots.{found_in};
 
 use crate::AllocationLine;
 use crate::fault::{Flaw, Wrong};
-use crate::forms::{price_form, qty_form, text_form};
+use crate::forms::Form;
 use crate::rows::at;
 use crate::slot::Slot;
-use blot_decimal::Price;
+use blot_decimal::{Price, Qty};
 use blot_tag::Field;
+use blot_types::Text64;
 
 /// A line whose fields are still to come: AllocAccount(79), AllocQty(80) and AllocPrice(366).
 #[derive(Clone, Copy)]
@@ -57,9 +58,9 @@ impl<'a> LineDraft<'a> {
     pub(crate) fn line(self, average: Option<Price>) -> Result<AllocationLine, Wrong>
         ensures { result ≡ line_from average (draft_of self.entry) }
     {
-        let account = at(79, text_form(self.account))?;
+        let account = at(79, Text64::from_value(self.account))?;
         let qty = at(80, self.qty.lone())?.ok_or(Wrong::new(80, Flaw::RequiredTagMissing))?;
-        let qty = at(80, qty_form(qty))?;
+        let qty = at(80, Qty::from_value(qty))?;
         let own = own_price(self.price)?;
         let price = own
             .or(average)
@@ -78,6 +79,6 @@ fn own_price(price: Slot) -> Result<Option<Price>, Wrong>
 {
     match at(366, price.lone())? {
         None => Ok(None),
-        Some(value) => Ok(Some(at(366, price_form(value))?)),
+        Some(value) => Ok(Some(at(366, Price::from_value(value))?)),
     }
 }

@@ -6,7 +6,7 @@ use std::alloc::AllocError as NoMemory;
 use std::error::Error;
 use std::fmt;
 
-/// Why a message is refused. FIX 4.4 volume 2, SessionRejectReason(373); `NoMemory` is own profile.
+/// Why a message is refused. FIX 4.4 volume 2, SessionRejectReason(373); `NoMemory` is this project's rule.
 #[derive(Clone, Copy, Debug, PartialEq, Eq)]
 pub enum FieldReason {
     /// A field has no valid tag.
@@ -31,7 +31,7 @@ impl FieldReason {
     ghost use Rattle.std.specs.Prelude.{◌≡◌};
     ghost use Rattle.blot_fields.specs.FaultText.{reason_number};
 
-    /// The standard's number of it.
+    // The standard's number of it.
     fn number(self) -> u8
         ensures { result ≡ reason_number self }
     {
@@ -80,7 +80,7 @@ impl Flaw {
     ghost use Rattle.std.specs.Prelude.{◌≡◌};
     ghost use Rattle.blot_fields.specs.Faults.{reason_of};
 
-    /// The reason that the standard gives it.
+    // The reason that the standard gives it.
     fn reason(self) -> FieldReason
         ensures { result ≡ reason_of self }
     {
@@ -109,6 +109,7 @@ impl Wrong {
     ghost use Rattle.blot_fields.specs.Walk.{split_wrong};
     ghost use Rattle.blot_fields.specs.Faults.{fault_under};
 
+    /// A flaw of the field with a tag.
     pub(crate) fn new(tag: u32, flaw: Flaw) -> Wrong
         ensures { result ≡ wrong tag flaw }
     {
@@ -145,7 +146,7 @@ impl FieldFault {
     ghost use Rattle.std.specs.Prelude.{◌≡◌};
     ghost use Rattle.blot_fields.specs.Faults.{no_memory_under};
 
-    /// Want of memory for a message with this header.
+    /// Out of memory for a message with this header.
     pub(crate) fn no_memory(head: Head) -> FieldFault
         ensures { result ≡ no_memory_under head }
     {

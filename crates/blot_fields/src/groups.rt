@@ -2,6 +2,7 @@
 ghost use Rattle.std.specs.Prelude.{◌≡◌, ◌≤◌, length};
 ghost use Rattle.std.specs.List.{list_any};
 ghost use Rattle.blot_tag.specs.Views.{tag_value};
+ghost use Rattle.blot_fields.specs.declared.sound.TheConstants.{FIELDS_MAX};
 ghost use Rattle.blot_fields.specs.Groups.{count_of, before, behind, is_of_line, are_executions, are_lines, lacks_price, lines_in, some_line_lacks_price};
 
 use crate::index::FieldIndex;
@@ -27,7 +28,7 @@ pub(crate) fn are_lines(count: u64, fields: &FieldIndex) -> bool
 
 // How many fields have a tag.
 fn count_of(tag: u32, fields: SoundFields) -> u64
-    requires { length fields ≤ 2000 }
+    requires { length fields ≤ FIELDS_MAX }
     ensures { result ≡ count_of tag fields.entry }
 {
     let mut count = 0;
@@ -68,6 +69,7 @@ fn is_line_begun(tag: u32, fields: SoundFields) -> bool
     false
 }
 
+// Whether only a line has the field.
 fn is_of_line(field: Field) -> bool
     ensures { result ≡ is_of_line (tag_value field.entry) }
 {

@@ -1,5 +1,10 @@
 //! The header of a message.
+ghost use Rattle.std.specs.Prelude.{◌≡◌};
+ghost use Rattle.blot_fields.specs.Messages.{head_of};
 
+use crate::fault::Wrong;
+use crate::index::FieldIndex;
+use crate::rows::{SEQUENCE_MAX, needed, number, optional};
 use blot_time::Moment;
 use blot_types::Text64;
 
@@ -18,4 +23,25 @@ pub struct Head {
     pub dup: bool,
     /// SendingTime(52).
     pub sending: Moment,
+}
+
+/// Reads the header. FIX 4.4 volume 2, "Standard message header".
+#[tactic(auto, unfolding(crate::specs::Messages::head_of))]
+pub(crate) fn head_of(fields: &FieldIndex) -> Result<Head, Wrong>
+    ensures { result ≡ head_of fields.now }
+{
+    let kind = needed::<Text64>(fields, 35)?;
+    let sender = needed::<Text64>(fields, 49)?;
+    let target = needed::<Text64>(fields, 56)?;
+    let number = number(fields, 34, 1, SEQUENCE_MAX)?;
+    let sending = needed::<Moment>(fields, 52)?;
+    let dup = optional::<bool>(fields, 43)?.unwrap_or(false);
+    Ok(Head {
+        kind,
+        sender,
+        target,
+        number,
+        dup,
+        sending,
+    })
 }

@@ -2,6 +2,7 @@
 ghost use Rattle.std.specs.Prelude.{◌≡◌, ◌<◌, ◌≤◌, length};
 ghost use Rattle.blot_tag.specs.Fields.{fields_of};
 ghost use Rattle.blot_tag.specs.Views.{text_of, tag_value};
+ghost use Rattle.blot_fields.specs.declared.sound.TheConstants.{FIELDS_MAX};
 ghost use Rattle.blot_fields.specs.Rows.{only};
 ghost use Rattle.blot_fields.specs.Slots.{lone_value};
 ghost use Rattle.blot_fields.specs.Index.{KnowsNothing, Notes};
@@ -14,7 +15,7 @@ use blot_tag::{Field, Frame};
 use std::marker::Model;
 
 /// More than the tags that have a row: each of them is below it.
-const ROW_TAGS: usize = 152;
+pub(crate) const ROW_TAGS: usize = 152;
 
 /// The fields of a frame, up to the first that is refused. A contract sees it as their list.
 #[derive(Drop)]
@@ -63,7 +64,7 @@ impl<'a> FieldIndex<'a> {
     /// The fields from left to right.
     pub(crate) fn walk(&self) -> SoundFields<'a>
         ensures value { result ≡ self.now }
-        ensures few { length result ≤ 2000 }
+        ensures few { length result ≤ FIELDS_MAX }
     {
         SoundFields::of(self.frame)
     }
@@ -71,7 +72,7 @@ impl<'a> FieldIndex<'a> {
     /// The value of the only field with a tag that has a row, none without one.
     #[tactic(auto, unfolding(crate::specs::Rows::only))]
     pub(crate) fn only(&self, tag: u32) -> Result<Option<&'a [u8]>, Flaw>
-        requires { tag < 152 }
+        requires { tag < ROW_TAGS }
         ensures { lone_value result ≡ only tag self.now }
     {
         self.slots[tag as usize].lone()

@@ -1,8 +1,9 @@
 //! Which message it is, by the values that name it.
 ghost use Rattle.std.specs.Prelude.{◌≡◌};
-ghost use Rattle.blot_fields.specs.Kinds.{kind_of, exec_type_of, alloc_type_form};
+ghost use Rattle.blot_fields.specs.Kinds.{kind_of, exec_type_of};
 
 use crate::fault::Flaw;
+use crate::forms::Form;
 
 /// The message types that have a table. FIX 4.4 volume 1, MsgType(35).
 #[derive(Clone, Copy)]
@@ -68,15 +69,18 @@ pub(crate) enum AllocType {
     Cancel,
 }
 
-/// The type that a value of AllocTransType(71) names.
-#[tactic(auto, unfolding(crate::specs::Kinds::alloc_type_form))]
-pub(crate) fn alloc_type_form(value: &[u8]) -> Result<AllocType, Flaw>
-    ensures { result ≡ alloc_type_form value.now }
-{
-    match value {
-        b"0" => Ok(AllocType::New),
-        b"1" => Ok(AllocType::Replace),
-        b"2" => Ok(AllocType::Cancel),
-        _ => Err(Flaw::ValueIncorrect),
+impl Form for AllocType {
+    ghost use Rattle.blot_fields.specs.Kinds.{alloc_type_form};
+
+    ghost form = { alloc_type_form };
+
+    #[tactic(auto, unfolding(crate::specs::Kinds::alloc_type_form))]
+    fn from_value(value: &[u8]) -> Result<AllocType, Flaw> {
+        match value {
+            b"0" => Ok(AllocType::New),
+            b"1" => Ok(AllocType::Replace),
+            b"2" => Ok(AllocType::Cancel),
+            _ => Err(Flaw::ValueIncorrect),
+        }
     }
 }

@@ -4,27 +4,22 @@
 #![tactic(auto)]
 
 mod admin;
-mod allocating;
 mod allocation;
 mod command;
 mod decoding;
-mod digits;
 mod drafts;
 mod entries;
 mod fault;
 mod forms;
 mod groups;
 mod head;
-mod header;
 mod index;
 mod kinds;
 mod making;
 mod message;
 mod report;
-mod reporting;
 mod rows;
 mod sender;
-mod session_layer;
 mod slot;
 mod sound;
 

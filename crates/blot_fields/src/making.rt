@@ -5,7 +5,7 @@ ghost use Rattle.blot_fields.specs.Making.{Grows};
 use crate::Entries;
 use std::alloc::{AllocError as NoMemory, Global};
 
-/// A list in the making. Want of memory is told at its end, since each fault comes before it.
+/// A list in the making. That memory ran out is told at its end, since each fault comes before it.
 #[derive(Drop)]
 pub(crate) struct Making<T> {
     items: Vec<T>,

@@ -10,7 +10,7 @@ use crate::fault::{Flaw, Wrong};
 use blot_tag::{Field, Fields, Frame, SplitFault};
 use std::marker::Model;
 
-/// The most fields of a message. Own profile.
+// The most fields of a message. This project's rule.
 const FIELDS_MAX: usize = 2000;
 
 /// The fields of a frame, from left to right, up to the first that is refused.
@@ -35,7 +35,7 @@ impl<'a> SoundFields<'a> {
     /// The fields of a whole frame.
     pub(crate) fn of(frame: &Frame<'a>) -> SoundFields<'a>
         ensures value { result ≡ sound_fields (fields_of (text_of frame.now)) }
-        ensures few { length result ≤ 2000 }
+        ensures few { length result ≤ FIELDS_MAX }
     {
         SoundFields {
             before: 0,
@@ -69,7 +69,7 @@ impl<'a> Iterator for SoundFields<'a> {
 // The field, unless it is refused.
 fn sound_field<'a>(before: usize, item: Result<Field<'a>, SplitFault>) -> Option<Field<'a>>
     ensures field { option_map tag_value result ≡ sound_field before (item_of item.entry) }
-    ensures few { IfSome result (λ _. before < 2000) }
+    ensures few { IfSome result (λ _. before < FIELDS_MAX) }
 {
     let field = item.ok()?;
     match field_wrong(before, field) {
@@ -81,7 +81,7 @@ fn sound_field<'a>(before: usize, item: Result<Field<'a>, SplitFault>) -> Option
 /// Why a field is refused that stands behind so many others.
 #[tactic(auto, unfolding(crate::specs::Walk::field_wrong))]
 pub(crate) fn field_wrong(before: usize, field: Field) -> Option<Wrong>
-    ensures few { IfNone result (before < 2000) }
+    ensures few { IfNone result (before < FIELDS_MAX) }
     ensures value { result ≡ field_wrong before (tag_value field.entry) }
 {
     if before >= FIELDS_MAX {

@@ -30,7 +30,7 @@ length-value_of (Some digits) tag rest cut e = by_value (data_value digits rest)
     by_value (Some got) short is = let same : got ≡ cut = cc in omega (arith, short got refl, ap (λ x. length x.1) same)
 
 -- the text behind a field is shorter
-length-first_field : (before : Option TagValue) (text : List ℕ) (split : TagValue × List ℕ) → 0 < length text → first_field before text ≡ Ok split → length split.1 < length text
+pub length-first_field : (before : Option TagValue) (text : List ℕ) (split : TagValue × List ℕ) → 0 < length text → first_field before text ≡ Ok split → length split.1 < length text
 unfolding first_field
 length-first_field before text split some e = by_tag (first_tag text) e
   where

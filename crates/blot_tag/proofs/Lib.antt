@@ -1,11 +1,13 @@
 -- What the proofs of the functions share.
 mod ByteLemmas
 mod FieldLemmas
+mod FieldTextLemmas
 mod MatchLemmas
 mod SizeLemmas
 mod StepLemmas
 mod OutcomeLemmas
 pub mod FrameLemmas
 pub mod WalkLemmas
+mod WritingLemmas
 mod FindLemmas
 mod ReadingLemmas

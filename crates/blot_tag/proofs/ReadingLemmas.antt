@@ -1,11 +1,14 @@
 -- What a step over the unread bytes finds.
-use Rattle.std.proofs.Common.{◌≡◌, ℕ, ◌+◌, ◌-◌, ◌≤◌, ◌++◌, List, [], length, take, drop, slice_get, Option, Some, None, IfSome, Ok, Err, refl, sym, ap, subst, ◌∙◌, arith}
+use Rattle.std.proofs.Common.{◌≡◌, ℕ, ◌+◌, ◌-◌, ◌≤◌, ◌++◌, List, [], length, take, drop, slice_get, unwrap_or, Option, Some, None, IfSome, Ok, Err, refl, sym, ap, subst, ◌∙◌, arith}
 use Rattle.std.proofs.lemmas.List.{drop-drop, take-append-drop, length-drop}
 use Rattle.blot_tag.specs.Frames.{IsFrame}
 use Rattle.blot_tag.specs.Looking.{look_of}
-use Rattle.blot_tag.specs.Finding.{NeitherBefore}
+use Rattle.std.specs.Option.{ok_or}
+use Rattle.blot_tag.specs.Buffers.{behind_found}
+use Rattle.blot_tag.specs.Finding.{NeitherBefore, IsFound}
 use Rattle.blot_tag.specs.Walking.{passes_by, frames_of}
 use Rattle.blot_tag.specs.Reading.{Reading, counted, TakesFirst, FindsNone, Advances}
+use Rattle.blot_tag.specs.declared.find.Found.{Found}
 use Rattle.blot_tag.specs.declared.look.Miss.TheVariants.{Partial}
 use Rattle.blot_tag.proofs.FrameLemmas.{look_of-ok, look_of-partial, look_of-garbled}
 use Rattle.blot_tag.proofs.WalkLemmas.{walk_of-frame, walk_of-prefix, walk_of-garbled}
@@ -38,29 +41,32 @@ finds_part unread place skipped inside before here =
     }
 
 -- the same, in the words of the code, which keeps an offset into its bytes
-pub takes_at : (bytes seen frame : List ℕ) (start place n skipped later : ℕ) → seen ≡ drop start bytes → place ≤ length seen → NeitherBefore place seen → look_of (drop place seen) ≡ Ok n → frame ≡ take n (drop (start + place) bytes) → later ≡ counted skipped place → TakesFirst (record { unread = drop start bytes; skipped = skipped }) frame (record { unread = drop (start + place + n) bytes; skipped = later })
-takes_at bytes seen frame start place n skipped later seen_is inside before here frame_is later_is =
-    let text : drop place (drop start bytes) ≡ drop (start + place) bytes = drop-drop place start bytes in
-    let old : Reading = record { unread = drop start bytes; skipped = skipped } in
-    let frame_same : take n (drop place (drop start bytes)) ≡ frame = ap (take n) text ∙ sym frame_is in
-    let rest_same : drop n (drop place (drop start bytes)) ≡ drop (start + place + n) bytes = ap (drop n) text ∙ drop-drop n (start + place) bytes in
-    let taken = takes_frame (drop start bytes) place n skipped
-    (subst (λ xs. place ≤ length xs) seen_is inside)
-    (subst (NeitherBefore place) seen_is before)
-    (ap (λ xs. look_of (drop place xs)) (sym seen_is) ∙ here) in
-    subst (λ k. TakesFirst old frame (record { unread = drop (start + place + n) bytes; skipped = k })) (sym later_is)
-    (subst (λ rest. TakesFirst old frame (record { unread = rest; skipped = counted skipped place })) rest_same
-    (subst (λ f. TakesFirst old f (record { unread = drop n (drop place (drop start bytes)); skipped = counted skipped place })) frame_same taken))
+pub takes_found : (bytes seen frame : List ℕ) (start n skipped : ℕ) (found : Found) → seen ≡ drop start bytes → IsFound seen found → found.length ≡ Some n → frame ≡ take n (drop (start + found.place) bytes) → TakesFirst (record { unread = drop start bytes; skipped = skipped }) frame (behind_found (record { unread = drop start bytes; skipped = skipped }) found)
+takes_found bytes seen frame start n skipped found seen_is is some frame_is =
+    let place = found.place in
+    let unread = drop start bytes in
+    let old : Reading = record { unread = unread; skipped = skipped } in
+    let size : unwrap_or found.length 0 ≡ n = ap (λ length. unwrap_or length 0) some in
+    let inside : place ≤ length unread = omega (arith, is.inside, ap length seen_is) in
+    let taken = takes_frame unread place n skipped inside
+    (subst (NeitherBefore place) seen_is is.before)
+    (ap (λ text. look_of (drop place text)) (sym seen_is) ∙ is.here ∙ ap (λ length. ok_or length Partial) some) in
+    let rest : drop n (drop place unread) ≡ drop (place + unwrap_or found.length 0) unread = drop-drop n place unread ∙ ap (λ k. drop (place + k) unread) (sym size) in
+    let copied : take n (drop place unread) ≡ frame = ap (take n) (drop-drop place start bytes) ∙ sym frame_is in
+    subst (λ text. TakesFirst old frame (record { unread = text; skipped = counted skipped place })) rest
+    (subst (λ f. TakesFirst old f (record { unread = drop n (drop place unread); skipped = counted skipped place })) copied taken)
 
-pub finds_at : (bytes seen : List ℕ) (start place skipped later : ℕ) → seen ≡ drop start bytes → place ≤ length seen → NeitherBefore place seen → look_of (drop place seen) ≡ Err Partial → later ≡ counted skipped place → FindsNone (record { unread = drop start bytes; skipped = skipped }) (record { unread = drop (start + place) bytes; skipped = later })
-finds_at bytes seen start place skipped later seen_is inside before here later_is =
-    let old : Reading = record { unread = drop start bytes; skipped = skipped } in
-    let found = finds_part (drop start bytes) place skipped
-    (subst (λ xs. place ≤ length xs) seen_is inside)
-    (subst (NeitherBefore place) seen_is before)
-    (ap (λ xs. look_of (drop place xs)) (sym seen_is) ∙ here) in
-    subst (λ k. FindsNone old (record { unread = drop (start + place) bytes; skipped = k })) (sym later_is)
-    (subst (λ rest. FindsNone old (record { unread = rest; skipped = counted skipped place })) (drop-drop place start bytes) found)
+pub finds_found : (bytes seen : List ℕ) (start skipped : ℕ) (found : Found) → seen ≡ drop start bytes → IsFound seen found → found.length ≡ None → FindsNone (record { unread = drop start bytes; skipped = skipped }) (behind_found (record { unread = drop start bytes; skipped = skipped }) found)
+finds_found bytes seen start skipped found seen_is is none =
+    let place = found.place in
+    let unread = drop start bytes in
+    let old : Reading = record { unread = unread; skipped = skipped } in
+    let size : place ≡ place + unwrap_or found.length 0 = omega (arith, ap (λ length. unwrap_or length 0) none) in
+    let inside : place ≤ length unread = omega (arith, is.inside, ap length seen_is) in
+    subst (λ k. FindsNone old (record { unread = drop k unread; skipped = counted skipped place })) size
+    (finds_part unread place skipped inside
+    (subst (NeitherBefore place) seen_is is.before)
+    (ap (λ text. look_of (drop place text)) (sym seen_is) ∙ is.here ∙ ap (λ length. ok_or length Partial) none))
 
 -- the frame is a copy of the bytes from place `at` on
 pub copied : (copy cleared bytes seen : List ℕ) (at n : ℕ) → copy ≡ cleared ++ take (at + n - at) (drop at seen) → cleared ≡ [] → seen ≡ bytes → copy ≡ take n (drop at bytes)

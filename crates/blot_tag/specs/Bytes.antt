@@ -2,11 +2,13 @@
 use Rattle.std.specs.Prelude.{◌≡◌, ℕ, ◌<◌, ◌+◌, ◌*◌, ◌-◌, Bool, ◌&&◌, ◌==◌, not, nat_le, List, length, fold, Option, Some, None, if◌then◌else◌, slice_index, MatchOption}
 use Rattle.std.specs.Char.{is_ascii_digit}
 use Rattle.std.specs.List.{list_all, position_or_len}
+use Rattle.blot_tag.specs.declared.digits.TheConstants.{TAG_DIGITS_MAX}
 
 -- the byte that ends each field
 abbrev pub soh : ℕ
 soh = 1
 
+-- whether a byte is SOH
 abbrev pub is_soh : ℕ → Bool
 is_soh byte = byte == soh
 
@@ -14,6 +16,7 @@ is_soh byte = byte == soh
 abbrev pub equals : ℕ
 equals = 61
 
+-- whether a byte is `=`
 abbrev pub is_equals : ℕ → Bool
 is_equals byte = byte == equals
 
@@ -29,9 +32,9 @@ with_digit number digit = number * 10 + (digit - 48)
 abbrev pub number_of : List ℕ → ℕ
 number_of digits = fold with_digit 0 digits
 
--- one to nine decimal digits, the first not `0` (own profile)
+-- one to nine decimal digits, the first not `0` (this project's rule)
 abbrev pub is_tag : List ℕ → Bool
-is_tag digits = is_number digits && nat_le (length digits) 9 && not (slice_index digits 0 == 48)
+is_tag digits = is_number digits && nat_le (length digits) TAG_DIGITS_MAX && not (slice_index digits 0 == 48)
 
 -- the tag that these bytes write, if they write one
 unfoldable pub tag_number : List ℕ → Option ℕ

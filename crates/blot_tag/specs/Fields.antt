@@ -7,6 +7,7 @@ use Rattle.blot_tag.specs.Bytes.{is_soh, is_equals, is_number, number_of, tag_nu
 use Rattle.blot_tag.specs.Results.{◌>>=◌}
 use Rattle.blot_tag.specs.declared.field.SplitFault.{SplitFault}
 use Rattle.blot_tag.specs.declared.field.SplitReason.TheVariants.{InvalidTagNumber, IncorrectDataFormat}
+use Rattle.blot_tag.specs.declared.bytes.TheConstants.{CHECK_SUM_LENGTH}
 
 -- a field as plain data
 pub record TagValue : Type 0 where
@@ -48,7 +49,7 @@ first_tag text = option_and_then (λ place. tag_number (take place text)) (posit
 unfoldable pub data_value : List ℕ → List ℕ → Option (List ℕ × List ℕ)
 data_value digits rest =
     let size = number_of digits in
-    if is_number digits && nat_lt (size + 7) (length rest) && is_soh (slice_index rest size)
+    if is_number digits && nat_lt (size + CHECK_SUM_LENGTH) (length rest) && is_soh (slice_index rest size)
     then Some (take size rest, drop (size + 1) rest) else None
 
 -- a value and the text behind its SOH: an ordinary one ends at the next SOH, a data field's is as long as the length says

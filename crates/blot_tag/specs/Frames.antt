@@ -1,6 +1,8 @@
 -- What a valid frame is (FIX 4.4 volume 1, "Message format"; volume 2, "Standard message header" and "trailer").
 use Rattle.std.specs.Prelude.{◌≡◌, ℕ, ◌+◌, ◌/◌, ◌%◌, ◌<◌, ◌≤◌, true, List, [], ◌∷◌, ◌++◌, length, sum, codes}
 use Rattle.blot_tag.specs.Bytes.{soh, is_number, number_of}
+use Rattle.blot_tag.specs.declared.look.TheConstants.{SIZE_MIN, SIZE_MAX, DIGITS_MAX}
+use Rattle.blot_tag.specs.declared.bytes.TheConstants.{CHECK_SUM_LENGTH}
 
 -- the bytes that begin a frame: `8=FIX.4.4`, SOH and `9=`
 abbrev pub head : List ℕ
@@ -26,13 +28,13 @@ first_fields digits = head ++ digits ++ soh ∷ []
 abbrev pub front_of : List ℕ → List ℕ → List ℕ
 front_of digits body = first_fields digits ++ body
 
--- digits that write the length of a body; leading zeros are accepted (the limits are own profile)
+-- digits that write the length of a body; leading zeros are accepted (the limits are this project's rule)
 pub record IsBodyLength (digits : List ℕ) (size : ℕ) : Type 0 where
   pub number : is_number digits ≡ true
-  pub short : length digits ≤ 6
+  pub short : length digits ≤ DIGITS_MAX
   pub value : number_of digits ≡ size
-  pub low : 5 ≤ size
-  pub high : size ≤ 65536
+  pub low : SIZE_MIN ≤ size
+  pub high : size ≤ SIZE_MAX
 
 -- a body begins with `35=` and ends with SOH
 pub record IsBody (body : List ℕ) : Type 0 where
@@ -46,6 +48,10 @@ pub record IsFrame (text : List ℕ) : Type 0 where
   pub body_length : IsBodyLength digits (length body)
   pub body_form : IsBody body
   pub whole : text ≡ front_of digits body ++ trailer_of (front_of digits body)
+
+-- how long a frame can be: its first two fields, its body and CheckSum
+abbrev pub longest_frame : ℕ
+longest_frame = length head + DIGITS_MAX + 1 + SIZE_MAX + CHECK_SUM_LENGTH
 
 -- the text is a proper prefix of some valid frame: with more bytes it is one
 pub record IsFramePrefix (text : List ℕ) : Type 0 where

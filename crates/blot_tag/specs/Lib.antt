@@ -2,9 +2,11 @@
 pub mod Bytes
 pub mod Results
 pub mod Fields
-pub mod Faults
+pub mod FieldText
+pub mod FaultText
 pub mod Views
 pub mod Frames
+pub mod Writing
 pub mod Looking
 pub mod Finding
 pub mod Walking

@@ -6,6 +6,8 @@ use Rattle.blot_tag.specs.Frames.{head, check_sum}
 use Rattle.blot_tag.specs.Results.{◌>>=◌}
 use Rattle.blot_tag.specs.declared.look.Miss.{Miss}
 use Rattle.blot_tag.specs.declared.look.Miss.TheVariants.{Partial, Neither}
+use Rattle.blot_tag.specs.declared.look.TheConstants.{SIZE_MIN, SIZE_MAX, DIGITS_MAX}
+use Rattle.blot_tag.specs.declared.bytes.TheConstants.{CHECK_SUM_LENGTH}
 
 -- the text behind the bytes that are expected at its beginning
 unfoldable pub behind : List ℕ → List ℕ → Result (List ℕ) Miss
@@ -13,18 +15,18 @@ behind [] text = Ok text
 behind (byte ∷ expected) [] = Err Partial
 behind (byte ∷ expected) (first ∷ text) = if byte == first then behind expected text else Err Neither
 
--- a number with one more digit of BodyLength, behind `count` others: six digits at most, and 65,536
+-- a number with one more digit of BodyLength, behind `count` others: no more digits than six, and no more than 65,536
 unfoldable pub longer_size : ℕ → ℕ → ℕ → Result ℕ Miss
 longer_size count value byte =
-    if is_ascii_digit byte && nat_lt count 6 && nat_le (with_digit value byte) 65536 then Ok (with_digit value byte) else Err Neither
+    if is_ascii_digit byte && nat_lt count DIGITS_MAX && nat_le (with_digit value byte) SIZE_MAX then Ok (with_digit value byte) else Err Neither
 
 -- the number that all digits of BodyLength write, and how many they are
 unfoldable pub whole_size : ℕ → ℕ → Result (ℕ × ℕ) Miss
-whole_size count value = if nat_le 5 value then Ok (value, count) else Err Neither
+whole_size count value = if nat_le SIZE_MIN value then Ok (value, count) else Err Neither
 
 -- the digits of BodyLength, where the text ends behind `count` of them
 unfoldable pub open_size : ℕ → ℕ → Miss
-open_size count value = if nat_lt count 6 || nat_le 5 value then Partial else Neither
+open_size count value = if nat_lt count DIGITS_MAX || nat_le SIZE_MIN value then Partial else Neither
 
 -- the number that BodyLength's digits write and how many they are, where `count` digits of that value came before
 unfoldable pub size_of : ℕ → ℕ → List ℕ → Result (ℕ × ℕ) Miss
@@ -40,7 +42,7 @@ unfoldable pub trailer_look : List ℕ → List ℕ → Result ℕ Miss
 trailer_look front rest = do
   digits ← behind (codes "10=") rest
   more ← behind (check_sum front) digits
-  Ok (length front + 7)
+  Ok (length front + CHECK_SUM_LENGTH)
 
 -- a body of this size that is all there, and CheckSum
 abbrev pub whole_body_look : List ℕ → ℕ → List ℕ → Result ℕ Miss

@@ -1,3 +1,5 @@
+//! A field, and why one can't be split off.
+
 use std::error::Error;
 use std::fmt;
 
@@ -29,7 +31,7 @@ pub struct SplitFault {
 
 impl fmt::Display for SplitFault {
     ghost use Rattle.std.specs.Prelude.{Some};
-    ghost use Rattle.blot_tag.specs.Faults.{fault_text};
+    ghost use Rattle.blot_tag.specs.FaultText.{fault_text};
 
     ghost output = { λ fault. Some (fault_text fault) };
 

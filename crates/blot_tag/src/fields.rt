@@ -1,3 +1,4 @@
+//! The fields of a frame, one at a time.
 ghost use Rattle.std.specs.Prelude.{◌≡◌, Option, Some, None};
 ghost use Rattle.std.specs.Iterator.{YieldsFirstBy, item_count};
 ghost use Rattle.blot_tag.specs.Fields.{fields_of};
@@ -27,7 +28,7 @@ impl<'a> Model for Fields<'a> {
 }
 
 impl<'a> Fields<'a> {
-    // The fields of a whole text.
+    /// The fields of a whole text.
     pub(crate) fn of(text: &'a [u8]) -> Fields<'a>
         ensures { result ≡ fields_of text.now }
     {

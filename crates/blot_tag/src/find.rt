@@ -1,14 +1,15 @@
+//! The first place where a frame begins.
 ghost use Rattle.std.specs.Prelude.{◌≤◌, length};
 ghost use Rattle.blot_tag.specs.Finding.{IsFound, IsNextStart};
 
 use crate::bytes::find_byte;
 use crate::look::{Miss, look};
 
-// Where a frame begins, or a part of one that reaches to the end of the text.
+/// Where a frame begins, or a part of one that reaches to the end of the text.
 #[derive(Clone, Copy)]
 pub(crate) struct Found {
     pub(crate) place: usize,
-    // The frame's length; none for a part.
+    /// The frame's length; none for a part.
     pub(crate) length: Option<usize>,
 }
 
@@ -23,7 +24,7 @@ fn next_start(text: &[u8], start: usize) -> usize
     }
 }
 
-// The first frame, or part of one that reaches to the end of the text.
+/// The first frame, or part of one that reaches to the end of the text.
 pub(crate) fn find(text: &[u8]) -> Found
     ensures { IsFound text.now result }
 {

@@ -1,6 +1,9 @@
-ghost use Rattle.std.specs.Prelude.{◌≡◌, ◌≤◌, length};
-ghost use Rattle.blot_tag.specs.Fields.{fields_of};
-ghost use Rattle.blot_tag.specs.Frames.{IsFrame};
+//! One valid frame.
+ghost use Rattle.std.specs.Prelude.{◌≡◌, ◌≤◌, length, None, IsNone};
+ghost use Rattle.std.specs.List.{All};
+ghost use Rattle.blot_tag.specs.Fields.{fields_of, fields_before_fault, fault_of};
+ghost use Rattle.blot_tag.specs.FieldText.{fields_text, BeginsWith, IsSlice, EachEnds};
+ghost use Rattle.blot_tag.specs.Frames.{IsFrame, longest_frame};
 
 use crate::fields::Fields;
 
@@ -15,7 +18,7 @@ pub struct Frame<'a> {
 impl<'a> Frame<'a> {
     ghost use Rattle.blot_tag.specs.Views.{text_of};
 
-    // A text that is known to be a frame.
+    /// A text that is known to be a frame.
     pub(crate) fn new(text: &'a [u8]) -> Frame<'a>
         requires { IsFrame text.now }
         ensures { text_of result ≡ text.now }
@@ -28,8 +31,14 @@ impl<'a> Frame<'a> {
     pub fn fields(&self) -> Fields<'a>
         ensures items { result ≡ fields_of (text_of self.now) }
 
-        // No frame is longer than 65,562 bytes.
-        ensures few { length result ≤ 65562 }
+        // In plain words: the fields stand in the frame one behind the other, each value a slice of
+        // it, and without a fault they are all of it.
+        ensures front { BeginsWith (fields_text (fields_before_fault result)) (text_of self.now) }
+        ensures whole { IsNone (fault_of result) → fields_text (fields_before_fault result) ≡ text_of self.now }
+        ensures slices { All (λ field. IsSlice field.value (text_of self.now)) (fields_before_fault result) }
+        ensures ends { EachEnds None (fields_before_fault result) }
+
+        ensures few { length result ≤ longest_frame }
         ensures valid { IsFrame (text_of self.now) }
     {
         Fields::of(self.text)

@@ -1,21 +1,23 @@
+//! What stands at the beginning of a text: a frame, a part of one, or neither.
 ghost use Rattle.std.specs.Prelude.{◌≡◌, ℕ, ◌+◌, ◌-◌, ◌<◌, ◌≤◌, ◌%◌, ◌++◌, sum, length, take, drop, Ok, OnOk, IfOk};
 ghost use Rattle.std.specs.Result.{result_map_both};
 ghost use Rattle.blot_tag.specs.Frames.{head, check_sum};
 ghost use Rattle.blot_tag.specs.Looking.{behind, longer_size, whole_size, open_size, size_of, trailer_look, body_look, length_look, look_of};
 
-use crate::bytes::SOH;
+use crate::bytes::{CHECK_SUM_LENGTH, SOH};
 
-// What begins a frame.
-const HEAD: &[u8] = b"8=FIX.4.4\x019=";
+/// What begins a frame.
+pub(crate) const HEAD: &[u8] = b"8=FIX.4.4\x019=";
 
-// BodyLength's bounds, and how many digits may write it. Own profile.
+// BodyLength's bounds, and how many digits may write it. This project's rule.
 const SIZE_MIN: usize = 5;
 
-const SIZE_MAX: usize = 65_536;
+/// The longest body.
+pub(crate) const SIZE_MAX: usize = 65_536;
 
 const DIGITS_MAX: usize = 6;
 
-// Why a text doesn't begin with a frame.
+/// Why a text doesn't begin with a frame.
 #[derive(Clone, Copy)]
 pub(crate) enum Miss {
     // It is a proper prefix of one.
@@ -57,7 +59,7 @@ fn longer_size(count: usize, size: usize, byte: u8) -> Result<usize, Miss>
 #[tactic(auto, unfolding(crate::specs::Looking::whole_size))]
 fn whole_size(count: usize, size: usize) -> Result<(usize, usize), Miss>
     ensures value { result ≡ whole_size count size }
-    ensures low { IfOk result (λ whole. 5 ≤ whole.0) }
+    ensures low { IfOk result (λ whole. SIZE_MIN ≤ whole.0) }
     ensures count { IfOk result (λ whole. whole.1 ≡ count) }
 {
     if size >= SIZE_MIN {
@@ -82,7 +84,7 @@ fn open_size(count: usize, size: usize) -> Miss
 // The number that BodyLength's digits write, and how many they are.
 fn size_of(rest: &[u8]) -> Result<(usize, usize), Miss>
     ensures value { result ≡ size_of 0 0 rest.now }
-    ensures low { IfOk result (λ size. 5 ≤ size.0) }
+    ensures low { IfOk result (λ size. SIZE_MIN ≤ size.0) }
     ensures within { IfOk result (λ size. size.1 < length rest.now) }
 {
     let mut size = 0;
@@ -106,8 +108,8 @@ fn sum_of(bytes: &[u8]) -> u8
     sum
 }
 
-// What stands behind `10=` in a frame: three digits and SOH.
-fn check_sum(front: &[u8]) -> [u8; 4]
+/// What stands behind `10=` in a frame: three digits and SOH.
+pub(crate) fn check_sum(front: &[u8]) -> [u8; 4]
     ensures { result ≡ check_sum front.now }
 {
     let sum = sum_of(front);
@@ -121,14 +123,14 @@ fn trailer_look(front: &[u8], rest: &[u8]) -> Result<usize, Miss>
 {
     let digits = behind(b"10=", rest)?;
     behind(&check_sum(front), digits)?;
-    Ok(front.len() + 7)
+    Ok(front.len() + CHECK_SUM_LENGTH)
 }
 
 // The length of the frame whose body begins at `start` and has this size.
 #[tactic(auto, unfolding(crate::specs::Looking::body_look))]
 fn body_look(text: &[u8], start: usize, size: usize) -> Result<usize, Miss>
     requires inside { start ≤ length text.now }
-    requires low { 5 ≤ size }
+    requires low { SIZE_MIN ≤ size }
     ensures { result ≡ body_look (take start text.now) size (drop start text.now) }
 {
     let rest = &text[start..];
@@ -143,7 +145,7 @@ fn body_look(text: &[u8], start: usize, size: usize) -> Result<usize, Miss>
     trailer_look(front, rest)
 }
 
-// The length of the frame that begins the text.
+/// The length of the frame that begins the text.
 #[tactic(auto, unfolding(crate::specs::Looking::look_of, crate::specs::Looking::length_look))]
 pub(crate) fn look(text: &[u8]) -> Result<usize, Miss>
     ensures { result ≡ look_of text.now }

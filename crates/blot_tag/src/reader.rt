@@ -1,3 +1,4 @@
+//! The frames of a stream.
 ghost use Rattle.std.specs.Prelude.{◌≡◌, ◌↔◌, ◌≤◌, [], ◌++◌, length, drop, slice_get, vec_len, IfOk, IfSome, OnOk, OnErr};
 ghost use Rattle.std.specs.Option.{option_map};
 ghost use Rattle.blot_tag.specs.Views.{text_of};
@@ -67,6 +68,16 @@ impl Reader {
         ensures* leaves { sem 𝓛 (Rests the_row self.entry (Leaves self.old result)) }
     {
         self.buffer.advance()?;
+        Ok(self.buffer.given())
+    }
+
+    /// The frame that `next` would give, which stays unread.
+    pub fn peek(&mut self) -> Result<Option<Frame<'_>>, NoMemory>
+        ensures first { IfOk result (λ frame. option_map text_of frame ≡ slice_get (frames_of self.old.unread) 0) }
+        ensures valid { IfOk result (λ found. IfSome found (λ frame. IsFrame (text_of frame))) }
+        ensures* leaves { sem 𝓛 (Rests the_row self.entry (λ new. new ≡ self.old)) }
+    {
+        self.buffer.peek()?;
         Ok(self.buffer.given())
     }
 

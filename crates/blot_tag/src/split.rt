@@ -1,3 +1,4 @@
+//! Splits the first field off a text.
 ghost use Rattle.std.specs.Prelude.{◌≡◌, Option, Some, None, IfSome};
 ghost use Rattle.std.specs.Option.{option_map, option_copied};
 ghost use Rattle.std.specs.List.{before_first, after_first};
@@ -5,18 +6,17 @@ ghost use Rattle.blot_tag.specs.Bytes.{is_soh, is_equals};
 ghost use Rattle.blot_tag.specs.Fields.{no_tag, wrong_length, data_tag_of, length_before, first_tag, data_value, first_field};
 ghost use Rattle.blot_tag.specs.Views.{tag_value, split_of};
 
-use crate::bytes::{SOH, find_byte};
+use crate::bytes::{CHECK_SUM_LENGTH, SOH, find_byte};
 use crate::digits::{is_number, number_of, tag_number};
 use crate::field::{Field, SplitFault, SplitReason};
 
+// The field doesn't begin with a tag and `=`.
 const NO_TAG: SplitFault = SplitFault {
     tag: 0,
     reason: SplitReason::InvalidTagNumber,
 };
 
-// `10=`, three digits and SOH.
-const CHECK_SUM_LENGTH: usize = 7;
-
+// The length before a data field doesn't fit it.
 fn wrong_length(tag: u32) -> SplitFault
     ensures { result ≡ wrong_length tag }
 {
@@ -26,8 +26,8 @@ fn wrong_length(tag: u32) -> SplitFault
     }
 }
 
-// The tag of the data that goes with a length tag. FIX 4.4 volume 6.
-fn data_tag(length_tag: u32) -> Option<u32>
+/// The tag of the data that goes with a length tag. FIX 4.4 volume 6.
+pub(crate) fn data_tag(length_tag: u32) -> Option<u32>
     ensures { result ≡ data_tag_of length_tag }
 {
     match length_tag {
@@ -101,7 +101,7 @@ fn split_data<'a>(digits: &[u8], text: &'a [u8]) -> Option<(&'a [u8], &'a [u8])>
     }
 }
 
-// The field that begins a text, right behind the field `before`, and the text behind it.
+/// The field that begins a text, right behind the field `before`, and the text behind it.
 #[tactic(auto, unfolding(crate::specs::Fields::first_field))]
 pub(crate) fn first_field<'a>(
     before: Option<Field<'a>>,

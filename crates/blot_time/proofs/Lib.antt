@@ -1,3 +1,4 @@
+-- What the proofs of the functions share.
 pub mod CalendarLemmas
 pub mod ClockLemmas
 pub mod DayLemmas

@@ -15,9 +15,11 @@ is_date year month day =
 pub in_year : (year : ℕ) → IsYear (pos (min year 9999))
 in_year year = (omega (arith, ints), omega (arith, ints))
 
+-- a number moved into a range is in it
 pub in_range : (low high n : ℕ) → low ≤ high → IsInRange low high (max low (min n high))
 in_range low high n h = (omega arith, omega arith)
 
+-- each month has a day
 pub month_not_empty : (year : ℤ) (month : ℕ) → 1 ≤ days_in_month year month
 month_not_empty year month = grind arith
 

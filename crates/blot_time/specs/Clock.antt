@@ -1,26 +1,29 @@
--- What the text of a time of day says (FIX 4.4 volume 1, "UTCTimestamp"; digits past the third of a fraction, and second 60: own profile).
+-- What the text of a time of day says (FIX 4.4 volume 1, "UTCTimestamp"; digits past the third of a fraction, and second 60: this project's rule).
 use Rattle.std.specs.Prelude.{ℕ, ◌+◌, ◌*◌, ◌/◌, ◌%◌, min, ◌==◌, nat_le, ◌&&◌, Bool, if◌then◌else◌, List, [], ◌∷◌, ◌++◌, length, take, drop, codes, Result, Ok, Err}
 use Rattle.std.specs.Char.{is_ascii_digit}
 use Rattle.std.specs.List.{list_all}
 use Rattle.blot_time.specs.declared.fault.TimeFault.{TimeFault}
 use Rattle.blot_time.specs.declared.fault.TimeFault.TheVariants.{Format}
 use Rattle.blot_time.specs.Digits.{fits, number, padded}
-use Rattle.blot_time.specs.Fault.{◌>>=◌}
+use Rattle.blot_time.specs.Results.{◌>>=◌}
+use Rattle.blot_time.specs.declared.clock.TheConstants.{FRACTION_MIN, FRACTION_MAX}
 
--- the hour, the minute and the second in `-HH:MM:SS`
+-- the hour in `-HH:MM:SS`
 abbrev pub hour_part : List ℕ → ℕ
 hour_part text = number (take 2 (drop 1 text))
 
+-- the minute
 abbrev pub minute_part : List ℕ → ℕ
 minute_part text = number (take 2 (drop 4 text))
 
+-- the second
 abbrev pub second_part : List ℕ → ℕ
 second_part text = number (take 2 (drop 7 text))
 
 -- a point, and 3 to 9 digits
 abbrev pub is_fraction : ℕ → List ℕ → Bool
 is_fraction byte digits =
-    byte == 46 && (nat_le 3 (length digits) && nat_le (length digits) 9) && list_all is_ascii_digit digits
+    byte == 46 && (nat_le FRACTION_MIN (length digits) && nat_le (length digits) FRACTION_MAX) && list_all is_ascii_digit digits
 
 -- the thousandths of a second in what stands behind the seconds: nothing, or a fraction, of which three digits count
 unfoldable pub fraction_of : List ℕ → Result ℕ TimeFault

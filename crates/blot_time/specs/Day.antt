@@ -1,4 +1,4 @@
--- What the text of a day says (FIX 4.4 volume 1, "LocalMktDate"; that the calendar has the date: own profile).
+-- What the text of a day says (FIX 4.4 volume 1, "LocalMktDate"; that the calendar has the date: this project's rule).
 use Rattle.std.specs.Prelude.{ℕ, Bool, if◌then◌else◌, List, ◌++◌, take, drop, codes, ℤ, pos, IsTrue, Result, Ok, Err}
 use Rattle.jiff.specs.Words.{IsDate}
 use Rattle.blot_time.specs.declared.fault.TimeFault.{TimeFault}
@@ -10,13 +10,15 @@ use Rattle.blot_time.specs.Digits.{fits, number, padded}
 abbrev pub is_day_shape : List ℕ → Bool
 is_day_shape text = fits (codes "00000000") text
 
--- the year, the month and the day of the month in eight digits
+-- the year in eight digits
 abbrev pub year_part : List ℕ → ℕ
 year_part text = number (take 4 text)
 
+-- the month
 abbrev pub month_part : List ℕ → ℕ
 month_part text = number (take 2 (drop 4 text))
 
+-- the day of the month
 abbrev pub day_part : List ℕ → ℕ
 day_part text = number (take 2 (drop 6 text))
 

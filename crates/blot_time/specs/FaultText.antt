@@ -1,4 +1,4 @@
--- What a fault prints. Source: own profile.
+-- What a fault prints. Source: this project's rule.
 use Rattle.std.specs.Prelude.{ℕ, List, codes}
 use Rattle.blot_time.specs.declared.fault.TimeFault.{TimeFault}
 use Rattle.blot_time.specs.declared.fault.TimeFault.TheVariants.{Format, NoSuchDate}

@@ -5,15 +5,16 @@ use Rattle.blot_time.specs.declared.fault.TimeFault.{TimeFault}
 use Rattle.blot_time.specs.Calendar.{IsDay}
 use Rattle.blot_time.specs.Clock.{clock_of, clock_text}
 use Rattle.blot_time.specs.Day.{day_of, day_text, IsDayText}
-use Rattle.blot_time.specs.Fault.{◌>>=◌}
+use Rattle.blot_time.specs.Results.{◌>>=◌}
+use Rattle.blot_time.specs.declared.clock.TheConstants.{DAY_MILLIS}
 
 -- the UTC day of a moment: its whole days of 86,400,000 milliseconds, rounded down
 abbrev pub utc_day : ℤ → ℤ
-utc_day moment = int_div_euclid moment (pos 86_400_000)
+utc_day moment = int_div_euclid moment (pos DAY_MILLIS)
 
 -- the milliseconds since that day's midnight
 abbrev pub since_midnight : ℤ → ℕ
-since_midnight moment = unsigned_abs (int_rem_euclid moment (pos 86_400_000))
+since_midnight moment = unsigned_abs (int_rem_euclid moment (pos DAY_MILLIS))
 
 -- a moment of the years 0000 to 9999
 abbrev pub IsMoment : ℤ → Type 0
@@ -24,7 +25,7 @@ unfoldable pub moment_of : List ℕ → Result ℤ TimeFault
 moment_of text = do
   millis ← clock_of (drop 8 text)
   day ← day_of (take 8 text)
-  Ok (day *ℤ pos 86_400_000 +ℤ pos millis)
+  Ok (day *ℤ pos DAY_MILLIS +ℤ pos millis)
 
 -- a text of a moment: that of a day, and behind it that of a time of day
 abbrev pub IsMomentText : List ℕ → Type 0

@@ -5,10 +5,18 @@ ghost use Rattle.blot_time.specs.Clock.{clock_of, clock_text, fraction_of, is_fr
 use crate::TimeFault;
 use crate::digits::{are_digits, has_shape, number_of, three_digits, two_digits};
 
+/// The milliseconds of a day.
+pub(crate) const DAY_MILLIS: u32 = 86_400_000;
+
+// How many digits a fraction of a second has at least, and at most. This project's rule.
+const FRACTION_MIN: usize = 3;
+
+const FRACTION_MAX: usize = 9;
+
 /// The milliseconds since midnight that `-HH:MM:SS` names, with a fraction or without.
 pub(crate) fn read_clock(text: &[u8]) -> Result<u32, TimeFault>
     ensures value { result ≡ clock_of text.now }
-    ensures range { IfOk result (λ millis. millis < 86_400_000) }
+    ensures range { IfOk result (λ millis. millis < DAY_MILLIS) }
 {
     if text.len() < 9 {
         return Err(TimeFault::Format);
@@ -27,7 +35,7 @@ pub(crate) fn read_clock(text: &[u8]) -> Result<u32, TimeFault>
     Ok(seconds * 1000 + read_fraction(fraction)?)
 }
 
-/// The thousandths of a second in what stands behind the seconds.
+// The thousandths of a second in what stands behind the seconds.
 #[tactic(auto, unfolding(crate::specs::Clock::fraction_of))]
 fn read_fraction(text: &[u8]) -> Result<u32, TimeFault>
     ensures value { result ≡ fraction_of text.now }
@@ -42,16 +50,18 @@ fn read_fraction(text: &[u8]) -> Result<u32, TimeFault>
     Ok(number_of(&digits[..3]))
 }
 
-/// Whether a byte and what stands behind it are a point and 3 to 9 digits.
+// Whether a byte and what stands behind it are a point and 3 to 9 digits.
 fn is_fraction(byte: u8, digits: &[u8]) -> bool
     ensures { result ≡ is_fraction byte digits.now }
 {
-    byte == b'.' && (3 <= digits.len() && digits.len() <= 9) && are_digits(digits)
+    byte == b'.'
+        && (FRACTION_MIN <= digits.len() && digits.len() <= FRACTION_MAX)
+        && are_digits(digits)
 }
 
 /// `-HH:MM:SS.sss` of the milliseconds since midnight.
 pub(crate) fn write_clock(millis: u32) -> [u8; 13]
-    requires { millis < 86_400_000 }
+    requires { millis < DAY_MILLIS }
     ensures { result ≡ clock_text millis }
 {
     let [h1, h0] = two_digits(millis / 3_600_000);

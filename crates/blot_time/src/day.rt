@@ -1,3 +1,4 @@
+//! Days of the calendar.
 ghost use Rattle.std.specs.Prelude.{◌≡◌, ◌↔◌, ◌<◌, Ok, IsOk, pos};
 ghost use Rattle.jiff.specs.Words.{epoch_day, IsDate};
 ghost use Rattle.blot_time.specs.Calendar.{IsDay, year_of, month_of, day_of_month};
@@ -69,6 +70,7 @@ impl Day {
         self.number
     }
 
+    // The day of a date, where the calendar has it.
     fn of_date(year: u32, month: u32, day: u32) -> Result<Day, TimeFault>
         requires year { year < 10000 }
         requires month { month < 100 }
@@ -84,6 +86,7 @@ impl Day {
         }
     }
 
+    // The date of the day, in jiff's calendar.
     fn date(self) -> Date
         ensures number { epoch_day result ≡ self }
         ensures year { result.year ≡ pos (year_of self) }
@@ -95,6 +98,7 @@ impl Day {
     }
 }
 
+// `YYYYMMDD` of a date.
 fn write_date(year: u32, month: u32, day: u32) -> [u8; 8]
     ensures { result ≡ date_text year month day }
 {

@@ -1,3 +1,4 @@
+//! Digits, and texts of a fixed shape.
 ghost use Rattle.std.specs.Prelude.{◌≡◌, ◌+◌, ◌%◌, ◌<◌, ◌≤◌, ◌^◌, IsTrue, length};
 ghost use Rattle.std.specs.Char.{is_ascii_digit};
 ghost use Rattle.std.specs.List.{list_all};
@@ -14,6 +15,7 @@ pub(crate) fn has_shape(text: &[u8], shape: &[u8]) -> bool
             .all(|(sign, byte)| stands(*sign, *byte))
 }
 
+// Whether a byte is what a sign of a shape stands for.
 fn stands(sign: u8, byte: u8) -> bool
     ensures { result ≡ stands_for sign byte }
 {
@@ -69,6 +71,7 @@ pub(crate) fn four_digits(number: u32) -> [u8; 4]
     [thousands, hundreds, tens, ones]
 }
 
+// The last digit of a number.
 fn digit(number: u32) -> u8
     ensures { result ≡ 48 + number % 10 }
 {

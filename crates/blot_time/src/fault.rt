@@ -1,3 +1,5 @@
+//! Why a text is no moment or day.
+
 use std::error::Error;
 use std::fmt;
 

@@ -1,11 +1,13 @@
+//! Moments in UTC.
 ghost use Rattle.std.specs.Prelude.{◌≡◌, ◌↔◌, ◌<◌, Ok, IsOk, IsSome, IfSome, pos, ◌+ℤ◌, ◌*ℤ◌, ◌≤ℤ◌, ◌<ℤ◌};
 ghost use Rattle.blot_time.specs.Moment.{IsMoment, IsMomentText, moment_of, moment_text, utc_day, since_midnight};
 
-use crate::clock::{read_clock, write_clock};
+use crate::clock::{DAY_MILLIS, read_clock, write_clock};
 use crate::{Day, TimeFault};
 use std::marker::Model;
 
-const DAY_MILLIS: i64 = 86_400_000;
+// The milliseconds of a day, to divide those of a moment by.
+const DAY: i64 = DAY_MILLIS as i64;
 
 // 0000-01-01 at 00:00:00.000 and 9999-12-31 at 23:59:59.999.
 const FIRST: i64 = -62_167_219_200_000;
@@ -81,25 +83,27 @@ impl Moment {
     /// The UTC day.
     pub fn day(self) -> Day
         ensures value { result ≡ utc_day self }
-        ensures begun { (result *ℤ pos 86_400_000) ≤ℤ self }
-        ensures not_over { self <ℤ ((result +ℤ pos 1) *ℤ pos 86_400_000) }
+        ensures begun { (result *ℤ pos DAY_MILLIS) ≤ℤ self }
+        ensures not_over { self <ℤ ((result +ℤ pos 1) *ℤ pos DAY_MILLIS) }
     {
-        Day::numbered(self.millis.div_euclid(DAY_MILLIS) as i32)
+        Day::numbered(self.millis.div_euclid(DAY) as i32)
     }
 
+    // The moment so many milliseconds after a day's midnight.
     fn of_day(day: Day, millis: u32) -> Moment
-        requires { millis < 86_400_000 }
-        ensures { result ≡ day *ℤ pos 86_400_000 +ℤ pos millis }
+        requires { millis < DAY_MILLIS }
+        ensures { result ≡ day *ℤ pos DAY_MILLIS +ℤ pos millis }
     {
         Moment {
-            millis: i64::from(day.number()) * DAY_MILLIS + i64::from(millis),
+            millis: i64::from(day.number()) * DAY + i64::from(millis),
         }
     }
 
+    // The milliseconds since the UTC day's midnight.
     fn since_midnight(self) -> u32
         ensures value { result ≡ since_midnight self }
-        ensures below { result < 86_400_000 }
+        ensures below { result < DAY_MILLIS }
     {
-        self.millis.rem_euclid(DAY_MILLIS) as u32
+        self.millis.rem_euclid(DAY) as u32
     }
 }

@@ -1,6 +1,6 @@
-//! The rows of the Allocation Instructions, of senders, of whole messages and of commands.
+//! The rows of the Allocation Instructions, of senders, of whole messages, of commands and of limits.
 
-// The rows of the Allocation Instructions, and their groups.
+/// The rows of the Allocation Instructions, and their groups.
 pub const ALLOCATIONS: &str = "\
 J => ok
 R => ok
@@ -163,7 +163,7 @@ K +124=1 +17=E1 +78=1 +78=1 +79=A +80=1 6=x => 6 6 head
 K +124=1 +17=E1 +78=1 +79=A +80=1 +78=1 +366=1 6=x => 78 13 head
 ";
 
-// Who sends a frame.
+/// Who sends a frame.
 pub const SENDERS: &str = "\
 0 => BRKA
 0 49=BRKB => BRKB
@@ -180,43 +180,43 @@ pub const SENDERS: &str = "\
 0 +x=1 => BRKA
 ";
 
-// What messages say: number, whether sent again, moment, and then the fields of each.
+/// What messages say: number, whether sent again, moment, and then the fields of each.
 pub const MESSAGES: &str = "\
-0 => 2 false 20240105-10:00:00.000 Heartbeat
-0 34=000999999999 52=20240105-23:59:60.1234567 +43=Y => 999999999 true 20240105-23:59:59.123 Heartbeat
-0 52=00000229-00:00:00 +43=N => 2 false 00000229-00:00:00.000 Heartbeat
-A => 1 false 20240105-09:59:59.000 Logon 30 false
-A +141=Y 108=086400 => 1 false 20240105-09:59:59.000 Logon 86400 true
-A +141=N 108=0 => 1 false 20240105-09:59:59.000 Logon 0 false
-1 => 2 false 20240105-10:00:00.000 TestRequest T1
-1 112=#64 => 2 false 20240105-10:00:00.000 TestRequest xxxxxxxxxxxxxxxxxxxxxxxxxxxxxxxxxxxxxxxxxxxxxxxxxxxxxxxxxxxxxxxx
-2 => 2 false 20240105-10:00:00.000 ResendRequest 1 0
-2 7=007 16=9 => 2 false 20240105-10:00:00.000 ResendRequest 7 9
-3 => 2 false 20240105-10:00:00.000 Reject
-5 => 2 false 20240105-10:00:00.000 Logout
-4 => 2 false 20240105-10:00:00.000 SequenceReset 9 false
-4 36=012 +123=Y => 2 false 20240105-10:00:00.000 SequenceReset 12 true
-4 +123=N => 2 false 20240105-10:00:00.000 SequenceReset 9 false
-F => 2 false 20240105-10:00:00.000 Trade O1 E1 Buy 300 XYZ 100 10.5 A1 20240105-10:00:00.000 20240105
-F -38 -1 -60 -75 => 2 false 20240105-10:00:00.000 Trade O1 E1 Buy 100+200 XYZ 100 10.5 - - -
-F 32=00023.230 31=.5 38=1. 54=6 => 2 false 20240105-10:00:00.000 Trade O1 E1 Sell 1 XYZ 23.23 0.5 A1 20240105-10:00:00.000 20240105
-F 32=1.0000000000 31=-0 1=* 60=20240105-23:59:60 75=20000229 => 2 false 20240105-10:00:00.000 Trade O1 E1 Buy 300 XYZ 1 0 * 20240105-23:59:59.000 20000229
-P => 2 false 20240105-10:00:00.000 Trade O1 E1 Sell 6+2 XYZ 10 -0.5 - - -
-G => 2 false 20240105-10:00:00.000 Correct E1 O1 E3 Sell 300 XYZ 80 10.25 - - -
-H => 2 false 20240105-10:00:00.000 Bust E4 E3
-X => 2 false 20240105-10:00:00.000 OtherReport
-F 150=Z => 2 false 20240105-10:00:00.000 OtherReport
-D => 2 false 20240105-10:00:00.000 Other
-8a => 2 false 20240105-10:00:00.000 Other
-J => 2 false 20240105-10:00:00.000 New AL1 Buy XYZ 100 20240105: E1: A 60 10.25 B 40 10.5
-J 71=1 +72=AL0 54=5 => 2 false 20240105-10:00:00.000 Replace AL1 AL0 Sell XYZ 100 20240105: E1: A 60 10.25 B 40 10.5
-R => 2 false 20240105-10:00:00.000 Replace AL2 AL1 Sell XYZ 50 20240105: E1 E2: A 50 11
-C => 2 false 20240105-10:00:00.000 Cancel AL3 AL2
-K +124=3 +17=E3 +31=x +17=E1 +17=E3 +78=3 +79=A +366=1 +80=0 +79=A +80=2.5 +58=a +79=C +80=1 +366=-2 => 2 false 20240105-10:00:00.000 New AL1 Buy XYZ 100 20240105: E3 E1 E3: A 0 1 A 2.5 10.5 C 1 -2
-K +124=1 +78=1 +79=A +80=100 +17=E1 => 2 false 20240105-10:00:00.000 New AL1 Buy XYZ 100 20240105: E1: A 100 10.5
+0 => 2 false 20240105-10:00:00.000 BRKA MO Heartbeat
+0 34=000999999999 52=20240105-23:59:60.1234567 +43=Y => 999999999 true 20240105-23:59:59.123 BRKA MO Heartbeat
+0 52=00000229-00:00:00 +43=N => 2 false 00000229-00:00:00.000 BRKA MO Heartbeat
+A => 1 false 20240105-09:59:59.000 BRKA MO Logon 30 false
+A +141=Y 108=086400 => 1 false 20240105-09:59:59.000 BRKA MO Logon 86400 true
+A +141=N 108=0 => 1 false 20240105-09:59:59.000 BRKA MO Logon 0 false
+1 => 2 false 20240105-10:00:00.000 BRKA MO TestRequest T1
+1 112=#64 => 2 false 20240105-10:00:00.000 BRKA MO TestRequest xxxxxxxxxxxxxxxxxxxxxxxxxxxxxxxxxxxxxxxxxxxxxxxxxxxxxxxxxxxxxxxx
+2 => 2 false 20240105-10:00:00.000 BRKA MO ResendRequest 1 0
+2 7=007 16=9 => 2 false 20240105-10:00:00.000 BRKA MO ResendRequest 7 9
+3 => 2 false 20240105-10:00:00.000 BRKA MO Reject
+5 => 2 false 20240105-10:00:00.000 BRKA MO Logout
+4 => 2 false 20240105-10:00:00.000 BRKA MO SequenceReset 9 false
+4 36=012 +123=Y => 2 false 20240105-10:00:00.000 BRKA MO SequenceReset 12 true
+4 +123=N => 2 false 20240105-10:00:00.000 BRKA MO SequenceReset 9 false
+F => 2 false 20240105-10:00:00.000 BRKA MO Trade O1 E1 Buy 300 XYZ 100 10.5 A1 20240105-10:00:00.000 20240105
+F -38 -1 -60 -75 => 2 false 20240105-10:00:00.000 BRKA MO Trade O1 E1 Buy 100+200 XYZ 100 10.5 - - -
+F 32=00023.230 31=.5 38=1. 54=6 => 2 false 20240105-10:00:00.000 BRKA MO Trade O1 E1 Sell 1 XYZ 23.23 0.5 A1 20240105-10:00:00.000 20240105
+F 32=1.0000000000 31=-0 1=* 60=20240105-23:59:60 75=20000229 => 2 false 20240105-10:00:00.000 BRKA MO Trade O1 E1 Buy 300 XYZ 1 0 * 20240105-23:59:59.000 20000229
+P => 2 false 20240105-10:00:00.000 BRKA MO Trade O1 E1 Sell 6+2 XYZ 10 -0.5 - - -
+G => 2 false 20240105-10:00:00.000 BRKA MO Correct E1 O1 E3 Sell 300 XYZ 80 10.25 - - -
+H => 2 false 20240105-10:00:00.000 BRKA MO Bust E4 E3
+X => 2 false 20240105-10:00:00.000 BRKA MO OtherReport
+F 150=Z => 2 false 20240105-10:00:00.000 BRKA MO OtherReport
+D => 2 false 20240105-10:00:00.000 BRKA MO Other
+8a => 2 false 20240105-10:00:00.000 BRKA MO Other
+J => 2 false 20240105-10:00:00.000 BRKA MO New AL1 Buy XYZ 100 20240105: E1: A 60 10.25 B 40 10.5
+J 71=1 +72=AL0 54=5 => 2 false 20240105-10:00:00.000 BRKA MO Replace AL1 AL0 Sell XYZ 100 20240105: E1: A 60 10.25 B 40 10.5
+R => 2 false 20240105-10:00:00.000 BRKA MO Replace AL2 AL1 Sell XYZ 50 20240105: E1 E2: A 50 11
+C => 2 false 20240105-10:00:00.000 BRKA MO Cancel AL3 AL2
+K +124=3 +17=E3 +31=x +17=E1 +17=E3 +78=3 +79=A +366=1 +80=0 +79=A +80=2.5 +58=a +79=C +80=1 +366=-2 => 2 false 20240105-10:00:00.000 BRKA MO New AL1 Buy XYZ 100 20240105: E3 E1 E3: A 0 1 A 2.5 10.5 C 1 -2
+K +124=1 +78=1 +79=A +80=100 +17=E1 => 2 false 20240105-10:00:00.000 BRKA MO New AL1 Buy XYZ 100 20240105: E1: A 100 10.5
 ";
 
-// The commands of a peer BRKA's messages.
+/// The commands of a peer BRKA's messages.
 pub const COMMANDS: &str = "\
 F => Trade BRKA E1: BRKA O1 A1 XYZ Buy 300 100 10.5 20240105
 F 54=1 => Trade BRKA E1: BRKA O1 A1 XYZ Buy 300 100 10.5 20240105
@@ -267,4 +267,24 @@ J => none
 R => none
 C => none
 D => none
+";
+
+/// Long messages: a row's changes, a field, how many times it stands behind the others, and a last field.
+/// A heartbeat has eight fields with 8, 9 and 10.
+pub const LONGER: &str = "\
+0; 9999=a; 1992 => ok
+0; 9999=a; 1993 => 10 6 head
+0; 9999=a; 1994 => 9999 6 head
+0; 9999=a; 1991; 58=a => ok
+0; 9999=a; 1991; 58= => 58 4 head
+0; 9999=a; 1992; 58= => 58 4 head
+0; 9999=a; 1993; 58= => 58 6 head
+0; 9999=a; 1993; x=1 => 0 0 head
+0; 9999=a; 1994; 58= => 9999 6 head
+K +124=200; 17=E; 200; 78=1 => 78 16 head
+K +124=201; 17=E; 201; 78=1 => 124 5 head
+K +124=200; 17=E; 201; 78=1 => 124 16 head
+K +124=1 +17=E +78=200; 79=A; 200 => 80 1 head
+K +124=1 +17=E +78=201; 79=A; 201 => 78 5 head
+K +124=1 +17=E +78=200; 79=A; 201 => 78 16 head
 ";

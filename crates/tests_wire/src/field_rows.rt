@@ -1,7 +1,7 @@
 //! The rows of the header, of the session's messages and of the Execution Reports: what is changed in a
 //! message, and the answer.
 
-// The header's rows: missing, repeated, ill-formed, out of range, and their order.
+/// The header's rows: missing, repeated, ill-formed, out of range, and their order.
 pub const HEADER: &str = "\
 0 => ok
 0 35= => 35 4 none
@@ -66,7 +66,7 @@ A 98=1 52=x => 52 6 none
 J -70 +56=X => 56 13 none
 ";
 
-// What a field is refused for while the fields are walked from the left, and when the header is given.
+/// What a field is refused for while the fields are walked from the left, and when the header is given.
 pub const WALK: &str = "\
 F +x=1 => 0 0 head
 F +017=1 => 0 0 head
@@ -111,7 +111,7 @@ F +95=3 +96=abcd +58= => 96 6 head
 0 +58= +43=Q => 58 4 head
 ";
 
-// The rows of the administrative messages.
+/// The rows of the administrative messages.
 pub const ADMIN: &str = "\
 A => ok
 A -98 => 98 1 head
@@ -193,7 +193,7 @@ A +98=0 108=x ~ => 98 13 head
 4 36=x +123=Q ~ => 36 6 head
 ";
 
-// The rows of the Execution Reports.
+/// The rows of the Execution Reports.
 pub const REPORTS: &str = "\
 F => ok
 G => ok

@@ -4,7 +4,11 @@
 #[cfg(test)]
 mod allocation_rows;
 #[cfg(test)]
+mod bodies;
+#[cfg(test)]
 mod decimals;
+#[cfg(test)]
+mod expect;
 #[cfg(test)]
 mod field_rows;
 #[cfg(test)]
@@ -12,4 +16,8 @@ mod fields;
 #[cfg(test)]
 mod frames;
 #[cfg(test)]
+mod shown;
+#[cfg(test)]
 mod times;
+#[cfg(test)]
+mod writing;

@@ -1,119 +1,161 @@
 //! Moments and days: what texts name, what is written, and both ends of the range.
-use blot_time::{Day, Moment, TimeFault};
+
+use crate::expect::{expect, expect_text};
+use blot_time::{Day, Moment};
+use std::alloc::{AllocError as NoMemory, Global};
 use std::test::Fail;
 
-fn millis(text: &[u8]) -> Result<i64, TimeFault> {
-    Ok(Moment::read(text)?.millis())
+// Texts of moments, and what they name: the milliseconds (by GNU date), the text that is written and
+// the day, or the fault.
+const MOMENTS: &str = "\
+19700101-00:00:00 => 0 19700101-00:00:00.000 19700101
+20240105-10:00:01.000 => 1704448801000 20240105-10:00:01.000 20240105
+20240105-23:59:60 => 1704499199000 20240105-23:59:59.000 20240105
+20240105-23:59:59 => 1704499199000 20240105-23:59:59.000 20240105
+20240105-10:00:60.250 => 1704448859250 20240105-10:00:59.250 20240105
+20240105-10:00:00.1234567 => 1704448800123 20240105-10:00:00.123 20240105
+20240105-10:00:00.123 => 1704448800123 20240105-10:00:00.123 20240105
+20240105-10:00:00.999999999 => 1704448800999 20240105-10:00:00.999 20240105
+20000229-00:00:00 => 951782400000 20000229-00:00:00.000 20000229
+19691231-23:59:59.999 => -1 19691231-23:59:59.999 19691231
+19000301-00:00:00 => -2203891200000 19000301-00:00:00.000 19000301
+00000101-00:00:00.000 => -62167219200000 00000101-00:00:00.000 00000101
+99991231-23:59:59.999 => 253402300799999 99991231-23:59:59.999 99991231
+ => not a date or time in FIX's form
+20240105 => not a date or time in FIX's form
+20240105- => not a date or time in FIX's form
+2024-01-05 => not a date or time in FIX's form
+20240105 10:00:00 => not a date or time in FIX's form
+20240105T10:00:00 => not a date or time in FIX's form
+20240105-10.00:00 => not a date or time in FIX's form
+20240105-10:00:00Z => not a date or time in FIX's form
+20240105-10:00:00. => not a date or time in FIX's form
+20240105-10:00:00.1 => not a date or time in FIX's form
+20240105-10:00:00.12 => not a date or time in FIX's form
+20240105-10:00:00.1234567890 => not a date or time in FIX's form
+20240105-10:00:00.12x => not a date or time in FIX's form
+20240105-10:00:00,123 => not a date or time in FIX's form
+20240105-1:00:00 => not a date or time in FIX's form
+20240105-24:00:00 => not a date or time in FIX's form
+20240105-10:60:00 => not a date or time in FIX's form
+20240105-10:00:61 => not a date or time in FIX's form
++0240105-10:00:00 => not a date or time in FIX's form
+20240230-24:00:00 => not a date or time in FIX's form
+20240230-10:00:00 => no such date in the calendar
+20240005-10:00:00 => no such date in the calendar
+20241305-10:00:00.123 => no such date in the calendar
+20240100-10:00:00 => no such date in the calendar
+";
+
+// Milliseconds since 1970, and the text and the day of their moment.
+const MILLIS: &str = "\
+0 => 0 19700101-00:00:00.000 19700101
+-1 => -1 19691231-23:59:59.999 19691231
+86399999 => 86399999 19700101-23:59:59.999 19700101
+86400000 => 86400000 19700102-00:00:00.000 19700102
+951825845067 => 951825845067 20000229-12:04:05.067 20000229
+-2203891200001 => -2203891200001 19000228-23:59:59.999 19000228
+-62167219200000 => -62167219200000 00000101-00:00:00.000 00000101
+253402300799999 => 253402300799999 99991231-23:59:59.999 99991231
+-62167219200001 => none
+253402300800000 => none
+";
+
+// Texts of days, and the text that is written, or the fault.
+const DAYS: &str = "\
+20240105 => 20240105
+20000229 => 20000229
+20240229 => 20240229
+00000229 => 00000229
+00000101 => 00000101
+99991231 => 99991231
+19000229 => no such date in the calendar
+20230229 => no such date in the calendar
+20240230 => no such date in the calendar
+20240431 => no such date in the calendar
+20240001 => no such date in the calendar
+20241301 => no such date in the calendar
+20240100 => no such date in the calendar
+2024-01-05 => not a date or time in FIX's form
+2024010 => not a date or time in FIX's form
+2024010x => not a date or time in FIX's form
+";
+
+// Puts bytes that are ASCII into a text.
+fn push_ascii(shown: &mut String, bytes: &[u8]) -> Result<(), NoMemory> {
+    for byte in bytes {
+        shown.push(char::from(*byte))?;
+    }
+    Ok(())
 }
 
-#[test]
-fn moments_are_read(rt: HostRuntime) {
-    // Milliseconds by GNU date.
-    let rows: [(&[u8], i64); 13] = [
-        (b"19700101-00:00:00", 0),
-        (b"20240105-10:00:01.000", 1_704_448_801_000),
-        (b"20240105-23:59:60", 1_704_499_199_000),
-        (b"20240105-23:59:59", 1_704_499_199_000),
-        (b"20240105-10:00:60.250", 1_704_448_859_250),
-        (b"20240105-10:00:00.1234567", 1_704_448_800_123),
-        (b"20240105-10:00:00.123", 1_704_448_800_123),
-        (b"20240105-10:00:00.999999999", 1_704_448_800_999),
-        (b"20000229-00:00:00", 951_782_400_000),
-        (b"19691231-23:59:59.999", -1),
-        (b"19000301-00:00:00", -2_203_891_200_000),
-        (b"00000101-00:00:00.000", -62_167_219_200_000),
-        (b"99991231-23:59:59.999", 253_402_300_799_999),
-    ];
-    for (text, want) in rows {
-        assert_eq!(rt; millis(text), Ok(want), "at {text:?}");
+// A moment as the rows have it.
+fn moment_text(alloc: Global, moment: Moment) -> Result<String, NoMemory> {
+    let mut shown = format!(in alloc; "{} ", moment.millis())?;
+    push_ascii(&mut shown, &moment.write())?;
+    shown.push(' ')?;
+    push_ascii(&mut shown, &moment.day().write())?;
+    Ok(shown)
+}
+
+// What the text of a moment names.
+fn named_moment(alloc: Global, text: &str) -> Result<String, NoMemory> {
+    match Moment::read(text.as_bytes()) {
+        Ok(moment) => moment_text(alloc, moment),
+        Err(fault) => format!(in alloc; "{fault}"),
+    }
+}
+
+// The moment of so many milliseconds.
+fn counted_moment(alloc: Global, millis: i64) -> Result<String, NoMemory> {
+    match Moment::from_millis(millis) {
+        Some(moment) => moment_text(alloc, moment),
+        None => String::from_str(alloc, "none"),
+    }
+}
+
+// What the text of a day names.
+fn named_day(alloc: Global, text: &str) -> Result<String, NoMemory> {
+    match Day::read(text.as_bytes()) {
+        Ok(day) => {
+            let mut shown = String::new(alloc);
+            push_ascii(&mut shown, &day.write())?;
+            Ok(shown)
+        }
+        Err(fault) => format!(in alloc; "{fault}"),
     }
 }
 
 #[test]
-fn wrong_moments_are_refused(rt: HostRuntime) {
-    let rows: [(&[u8], TimeFault); 24] = [
-        (b"", TimeFault::Format),
-        (b"20240105", TimeFault::Format),
-        (b"20240105-", TimeFault::Format),
-        (b"2024-01-05", TimeFault::Format),
-        (b"20240105 10:00:00", TimeFault::Format),
-        (b"20240105T10:00:00", TimeFault::Format),
-        (b"20240105-10.00:00", TimeFault::Format),
-        (b"20240105-10:00:00Z", TimeFault::Format),
-        (b"20240105-10:00:00.", TimeFault::Format),
-        (b"20240105-10:00:00.1", TimeFault::Format),
-        (b"20240105-10:00:00.12", TimeFault::Format),
-        (b"20240105-10:00:00.1234567890", TimeFault::Format),
-        (b"20240105-10:00:00.12x", TimeFault::Format),
-        (b"20240105-10:00:00,123", TimeFault::Format),
-        (b"20240105-1:00:00", TimeFault::Format),
-        (b"20240105-24:00:00", TimeFault::Format),
-        (b"20240105-10:60:00", TimeFault::Format),
-        (b"20240105-10:00:61", TimeFault::Format),
-        (b"+0240105-10:00:00", TimeFault::Format),
-        (b"20240230-24:00:00", TimeFault::Format),
-        (b"20240230-10:00:00", TimeFault::NoSuchDate),
-        (b"20240005-10:00:00", TimeFault::NoSuchDate),
-        (b"20241305-10:00:00.123", TimeFault::NoSuchDate),
-        (b"20240100-10:00:00", TimeFault::NoSuchDate),
-    ];
-    for (text, want) in rows {
-        assert_eq!(rt; millis(text), Err(want), "at {text:?}");
+fn moments_are_read(rt: HostRuntime) -> Result<(), Fail> {
+    for row in MOMENTS.lines() {
+        let (text, wanted) = row.split_once(" => ").ok_or("a row without an answer")?;
+        let found = named_moment(rt.alloc(), text)?;
+        expect_text(&rt, row, found.as_str(), wanted);
     }
-}
-
-#[test]
-fn days_are_read(rt: HostRuntime) -> Result<(), Fail> {
-    let rows: [(&[u8], Option<TimeFault>); 16] = [
-        (b"20240105", None),
-        (b"20000229", None),
-        (b"20240229", None),
-        (b"00000229", None),
-        (b"00000101", None),
-        (b"99991231", None),
-        (b"19000229", Some(TimeFault::NoSuchDate)),
-        (b"20230229", Some(TimeFault::NoSuchDate)),
-        (b"20240230", Some(TimeFault::NoSuchDate)),
-        (b"20240431", Some(TimeFault::NoSuchDate)),
-        (b"20240001", Some(TimeFault::NoSuchDate)),
-        (b"20241301", Some(TimeFault::NoSuchDate)),
-        (b"20240100", Some(TimeFault::NoSuchDate)),
-        (b"2024-01-05", Some(TimeFault::Format)),
-        (b"2024010", Some(TimeFault::Format)),
-        (b"2024010x", Some(TimeFault::Format)),
-    ];
-    for (text, want) in rows {
-        assert_eq!(rt; Day::read(text).err(), want, "at {text:?}");
-    }
-    assert_eq!(rt; &Day::read(b"20240105")?.write(), b"20240105");
-    assert_eq!(rt; &Day::read(b"00000229")?.write(), b"00000229");
-    assert_eq!(rt; &Day::read(b"99991231")?.write(), b"99991231");
-    assert!(rt; Day::read(b"20240105")? < Day::read(b"20240201")?);
-    assert!(rt; Day::read(b"19691231")? < Day::read(b"19700101")?);
     Ok(())
 }
 
 #[test]
-fn moments_are_written(rt: HostRuntime) -> Result<(), Fail> {
-    let rows: [(i64, &[u8; 21], &[u8; 8]); 8] = [
-        (0, b"19700101-00:00:00.000", b"19700101"),
-        (-1, b"19691231-23:59:59.999", b"19691231"),
-        (86_399_999, b"19700101-23:59:59.999", b"19700101"),
-        (86_400_000, b"19700102-00:00:00.000", b"19700102"),
-        (951_825_845_067, b"20000229-12:04:05.067", b"20000229"),
-        (-2_203_891_200_001, b"19000228-23:59:59.999", b"19000228"),
-        (-62_167_219_200_000, b"00000101-00:00:00.000", b"00000101"),
-        (253_402_300_799_999, b"99991231-23:59:59.999", b"99991231"),
-    ];
-    for (millis, text, day) in rows {
-        let Some(moment) = Moment::from_millis(millis) else {
-            return Err(Fail::from(TimeFault::Format));
-        };
-        assert_eq!(rt; &moment.write(), text, "at {millis}");
-        assert_eq!(rt; &moment.day().write(), day, "at {millis}");
-        assert_eq!(rt; Moment::read(text)?, moment, "at {millis}");
+fn moments_are_counted(rt: HostRuntime) -> Result<(), Fail> {
+    for row in MILLIS.lines() {
+        let (millis, wanted) = row.split_once(" => ").ok_or("a row without an answer")?;
+        let found = counted_moment(rt.alloc(), millis.parse::<i64>()?)?;
+        expect_text(&rt, row, found.as_str(), wanted);
     }
-    assert!(rt; Moment::from_millis(-62_167_219_200_001).is_none());
-    assert!(rt; Moment::from_millis(253_402_300_800_000).is_none());
+    Ok(())
+}
+
+#[test]
+fn days_are_read(rt: HostRuntime) -> Result<(), Fail> {
+    for row in DAYS.lines() {
+        let (text, wanted) = row.split_once(" => ").ok_or("a row without an answer")?;
+        let found = named_day(rt.alloc(), text)?;
+        expect_text(&rt, row, found.as_str(), wanted);
+    }
+    let earlier = Day::read(b"20240105")? < Day::read(b"20240201")?;
+    expect(&rt, "days of one year in order", earlier);
+    let earlier = Day::read(b"19691231")? < Day::read(b"19700101")?;
+    expect(&rt, "days round 1970 in order", earlier);
     Ok(())
 }

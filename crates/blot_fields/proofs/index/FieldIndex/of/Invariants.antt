@@ -4,11 +4,12 @@ use Rattle.blot_tag.specs.Views.{text_of}
 use Rattle.blot_fields.specs.Walk.{sound_behind, refused_behind, sound_fields, refused_field}
 use Rattle.blot_fields.specs.Index.{IsIndexBefore}
 use Rattle.blot_fields.proofs.index.FieldIndex.of.Given as goal
+use Rattle.blot_fields.specs.declared.sound.TheConstants.{FIELDS_MAX}
 
 abbrev pub invariant-loop-item : goal.invariant-loop-item
 invariant-loop-item l =
     record {
       known : IsIndexBefore (sound_fields (fields_of (text_of l.frame))) (sound_behind l.before l.item-iterator) l.slots;
       refused : refused_behind l.before l.item-iterator ≡ refused_field (fields_of (text_of l.frame));
-      few : l.before ≤ 2000;
+      few : l.before ≤ FIELDS_MAX;
     }

@@ -1,0 +1,36 @@
+-- How fields stand in a text (FIX 4.4 volume 1, "tag=value" syntax): what a reader believes of the fields of a frame.
+use Rattle.std.specs.Prelude.{◌≡◌, ◌≢◌, ℕ, true, List, [], ◌∷◌, ◌++◌, length, Option, Some, MatchOption}
+use Rattle.std.specs.Fmt.{decimal}
+use Rattle.std.specs.List.{All, flat_map}
+use Rattle.blot_tag.specs.Bytes.{soh, equals, is_number, number_of}
+use Rattle.blot_tag.specs.Fields.{TagValue, length_before}
+
+-- a field as it stands in a text: its tag in shortest decimal, `=`, its value, SOH
+abbrev pub field_text : TagValue → List ℕ
+field_text field = decimal field.tag ++ equals ∷ (field.value ++ soh ∷ [])
+
+-- fields one behind the other
+abbrev pub fields_text : List TagValue → List ℕ
+fields_text fields = flat_map field_text fields
+
+-- the text begins with these bytes
+pub record BeginsWith (bytes text : List ℕ) : Type 0 where
+  pub behind : List ℕ
+  pub whole : text ≡ bytes ++ behind
+
+-- the bytes are a slice of the text
+pub record IsSlice (bytes text : List ℕ) : Type 0 where
+  pub before : List ℕ
+  pub behind : List ℕ
+  pub whole : text ≡ before ++ (bytes ++ behind)
+
+-- where a field's value ends, right behind the field `before`: at the first SOH, or after as many bytes as that field says
+abbrev pub EndsBehind : Option TagValue → TagValue → Type 0
+EndsBehind before field =
+    MatchOption (length_before before field.tag) (All (λ byte. byte ≢ soh) field.value)
+    (λ digits. (is_number digits ≡ true) × (length field.value ≡ number_of digits))
+
+-- each of the fields ends so behind the one before it
+abbrev pub EachEnds : Option TagValue → List TagValue → Type 0
+EachEnds before [] = Unit {0}
+EachEnds before (field ∷ fields) = EndsBehind before field × EachEnds (Some field) fields
