@@ -1,5 +1,5 @@
 //! The live list with the positions of its accounts.
-ghost use Rattle.std.specs.Prelude.{◌≡◌, ◌<◌, [], ◌∷◌, ◌++◌, length, find, None, Some, IsTrue, OnOk, OnErr, IfErr, IfSome};
+ghost use Rattle.std.specs.Prelude.{◌≡◌, ◌<◌, [], ◌∷◌, ◌++◌, length, find, None, Some, IsTrue, OnOk, OnErr, IfOk, IfErr, IfSome};
 ghost use Rattle.std.specs.Option.{option_map, option_and_then, option_copied};
 ghost use Rattle.blot_types.specs.Chains.{replaced_by};
 ghost use Rattle.blot_types.specs.Legal.{is_book, refusal_of};
@@ -18,7 +18,7 @@ use blot_position::Positions;
 use blot_types::{
     AllocKey, Command, Entry, ExecKey, Link, Part, PositionLine, Refused, Text64, Version,
 };
-use std::alloc::Global;
+use std::alloc::{AllocError as NoMemory, Global};
 use std::marker::Model;
 
 /// The live list with the positions of its accounts. A contract sees it as the list, which is always legal.
@@ -56,6 +56,13 @@ impl Accounts {
         ensures { option_copied result ≡ find (has_number number) self.now }
     {
         self.live.entry(number)
+    }
+
+    /// The entries, copied.
+    pub(crate) fn entries(&self, alloc: Global) -> Result<Vec<Entry>, NoMemory>
+        ensures { IfOk result (λ entries. entries.items ≡ self.now) }
+    {
+        self.live.entries(alloc)
     }
 
     /// Why the list refuses a command.

@@ -1,5 +1,5 @@
 //! The live list.
-ghost use Rattle.std.specs.Prelude.{◌≡◌, ◌<◌, [], ◌∷◌, ◌++◌, length, find, None, Some, IsTrue, OnOk, OnErr, IfErr};
+ghost use Rattle.std.specs.Prelude.{◌≡◌, ◌<◌, [], ◌∷◌, ◌++◌, length, find, None, Some, IsTrue, OnOk, OnErr, IfOk, IfErr};
 ghost use Rattle.std.specs.List.{last_or};
 ghost use Rattle.std.specs.Option.{option_map, option_and_then, option_copied};
 ghost use Rattle.blot_types.specs.Allocations.{instructions_of};
@@ -17,7 +17,7 @@ use crate::refusal::{refusal, version_numbered};
 use blot_alloc::Allocs;
 use blot_chain::Chains;
 use blot_types::{AllocKey, Command, Entry, ExecKey, Link, Refused, Role, Terms, Version};
-use std::alloc::Global;
+use std::alloc::{AllocError as NoMemory, Global};
 use std::marker::Model;
 
 /// The live list of entries, in rising order of number, with the chains of its executions and the
@@ -58,6 +58,18 @@ impl LiveList {
         ensures { option_copied result ≡ find (has_number number) self.now }
     {
         self.entries.iter().find(|entry| entry.number == number)
+    }
+
+    /// The entries, copied.
+    pub(crate) fn entries(&self, alloc: Global) -> Result<Vec<Entry>, NoMemory>
+        ensures { IfOk result (λ entries. entries.items ≡ self.now) }
+    {
+        let mut copies = Vec::with_capacity(alloc, self.entries.len())?;
+        for entry in &self.entries {
+            let copy = copy_of(alloc, entry)?;
+            copies.push(copy)?;
+        }
+        Ok(copies)
     }
 
     /// The last entry of a list that has one.
@@ -174,6 +186,19 @@ impl LiveList {
             }
             None => unreachable!(),
         }
+    }
+}
+
+// An equal entry.
+fn copy_of(alloc: Global, entry: &Entry) -> Result<Entry, NoMemory>
+    ensures { IfOk result (λ copy. copy ≡ entry.now) }
+{
+    match entry.command.try_copy(alloc) {
+        Ok(command) => Ok(Entry {
+            number: entry.number,
+            command,
+        }),
+        Err(fail) => Err(fail),
     }
 }
 

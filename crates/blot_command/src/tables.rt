@@ -1,5 +1,5 @@
 //! The book.
-ghost use Rattle.std.specs.Prelude.{◌≡◌, ◌<◌, [], ◌∷◌, ◌++◌, None, Some, IsSome, length, find, IsTrue, OnOk, OnErr, IfErr, IfSome};
+ghost use Rattle.std.specs.Prelude.{◌≡◌, ◌<◌, [], ◌∷◌, ◌++◌, None, Some, IsSome, length, find, IsTrue, OnOk, OnErr, IfOk, IfErr, IfSome};
 ghost use Rattle.std.specs.Option.{option_copied};
 ghost use Rattle.blot_types.specs.Legal.{is_book, refusal_of};
 ghost use Rattle.blot_types.specs.Order.{order_of};
@@ -68,6 +68,14 @@ impl Tables {
         ensures book { IsTrue (is_book self.now.list) }
     {
         self.accounts.entry(number)
+    }
+
+    /// The live entries, copied, in rising order of number.
+    pub fn entries(&self, alloc: Global) -> Result<Vec<Entry>, NoMemory>
+        ensures entries { IfOk result (λ entries. entries.items ≡ self.now.list) }
+        ensures book { IsTrue (is_book self.now.list) }
+    {
+        self.accounts.entries(alloc)
     }
 
     /// Why the book refuses a command.

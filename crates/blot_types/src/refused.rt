@@ -26,4 +26,10 @@ pub enum Refused {
     Instrument(ExecKey),
     /// The quantity of the executions, in units of 10^-6, and the block's or the lines' that differs from it.
     Quantity(QtySum, QtySum),
+    /// No step is done.
+    NothingToUndo,
+    /// The newest done step has this other number.
+    Moved(u64),
+    /// No step is undone.
+    NothingToRedo,
 }

@@ -5,6 +5,8 @@
 #[cfg(test)]
 mod chains;
 #[cfg(test)]
+mod desk;
+#[cfg(test)]
 mod fixtures;
 #[cfg(test)]
 mod generated;

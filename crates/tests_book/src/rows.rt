@@ -14,6 +14,7 @@ use std::alloc::{AllocError, Global};
 use std::test::Fail;
 
 /// A fill in words: the order, the quantity, the price and the order's size.
+#[derive(Drop)]
 pub enum Filled {
     /// XYZ, bought for account A1.
     Buys(&'static [u8], &'static [u8], &'static [u8], &'static [u8]),

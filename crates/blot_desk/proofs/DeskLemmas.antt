@@ -1,0 +1,97 @@
+-- A refused command, and a run with one event more.
+use Rattle.std.proofs.Common.{◌≡◌, ◌⊎◌, ℕ, ◌+◌, ◌<◌, ◌≤◌, ◌==◌, List, [], ◌∷◌, ◌++◌, length, Option, Some, None, refl, sym, ap, subst, ◌∙◌, arith, inl, inr}
+use Rattle.std.proofs.lemmas.Bool.{cases_Bool}
+use Rattle.std.proofs.lemmas.Grind.{fold-append}
+use Rattle.std.proofs.lemmas.List.{map_push, length_push}
+use Rattle.std.specs.Option.{option_map}
+use Rattle.blot_types.specs.declared.command.Command.{Command}
+use Rattle.blot_types.specs.declared.refused.Refused.{Refused as Reason}
+use Rattle.blot_types.specs.Legal.{refusal_of}
+use Rattle.blot_command.specs.declared.fault.ApplyFault.{ApplyFault}
+use Rattle.blot_command.specs.declared.fault.ApplyFault.TheVariants.{Refused, NoMemory}
+use Rattle.blot_command.specs.Kinds.{command_meaning}
+use Rattle.blot_undo.specs.declared.fault.StepFault.TheVariants.{Refused as RefusedStep}
+use Rattle.blot_undo.specs.Faults.{IsFault}
+use Rattle.blot_undo.specs.Book.{undo_in, redo_in, newest_done, newest_undone}
+use Rattle.blot_undo.specs.declared.step.Done.{Done}
+use Rattle.blot_undo.specs.declared.step.Undone.{Undone}
+use Rattle.blot_types.specs.declared.TheConstants.{EVENTS_MAX}
+use Rattle.blot_desk.specs.declared.event.Event.{Event}
+use Rattle.blot_desk.specs.declared.event.Event.TheVariants.{Submit, Undo, Redo, AskOrder}
+use Rattle.blot_desk.specs.declared.event.Recorded.{Recorded}
+use Rattle.blot_desk.specs.declared.event.Reply.{Reply}
+use Rattle.blot_desk.specs.Desk.{DeskBook, Outcome, empty_book, submit_by, submit_of, refused_by, undo_by, redo_by, step_of, run_on, run_of, events_of, replies_of, IsRunOf, IsJournal}
+
+-- the list's own reason, where the fault gives one
+reason_in : (found : Option Reason) (reason : ApplyFault) (why : Reason) → (option_map Refused found ≡ Some reason) ⊎ ((option_map Refused found ≡ None) × (reason ≡ NoMemory)) → reason ≡ Refused why → found ≡ Some why
+reason_in None reason why (inl is) same = cc
+reason_in (Some found) reason why (inl is) same = cc
+reason_in found reason why (inr memory) same = cc
+
+-- a refused command leaves the book, and the reply names the reason
+pub refused_submit :
+    (book next : DeskBook) (command returned : Command) (reason : ApplyFault) (why : Reason)
+    → IsFault command_meaning book.list command (RefusedStep returned reason) → reason ≡ Refused why → next ≡ book
+    → refused_by next why ≡ submit_of book command
+refused_submit book next command returned reason why fault same stays =
+    let found : refusal_of book.list command ≡ Some why = reason_in (refusal_of book.list command) reason why fault.1 same in
+    ap (λ b. refused_by b why) stays ∙ sym (ap (submit_by book command) found)
+
+-- ---- one event more
+
+-- a step gives at most one number
+undo_next : (book : DeskBook) (done : List (Done ℕ)) → (undo_in command_meaning book done).next ≡ book.next
+undo_next book [] = refl
+undo_next book (step ∷ earlier) = refl
+
+redo_next : (book : DeskBook) (undone : List (Undone Command)) → (redo_in command_meaning book undone).next ≡ book.next
+redo_next book [] = refl
+redo_next book (step ∷ later) = refl
+
+submit_next : (book : DeskBook) (command : Command) (refusal : Option Reason) → (submit_by book command refusal).book.next ≤ book.next + 1
+submit_next book command None = omega arith
+submit_next book command (Some reason) = omega arith
+
+undo_by_next : (book : DeskBook) (newest : ℕ) (found : Option ℕ) → (undo_by book newest found).book.next ≤ book.next + 1
+undo_by_next book newest None = omega arith
+undo_by_next book newest (Some number) =
+    elim (cases_Bool (number == newest)) [
+      | inl same ↦ rw same (omega (arith, undo_next book book.done))
+      | inr moved ↦ rw moved (omega arith)
+    ]
+
+redo_by_next : (book : DeskBook) (found : Option ℕ) → (redo_by book found).book.next ≤ book.next + 1
+redo_by_next book None = omega arith
+redo_by_next book (Some number) = omega (arith, redo_next book book.undone)
+
+step_next : (book : DeskBook) (event : Event) → (step_of book event).book.next ≤ book.next + 1
+step_next book (Submit command) = submit_next book command (refusal_of book.list command)
+step_next book (Undo newest) = undo_by_next book newest (newest_done book.done)
+step_next book Redo = redo_by_next book (newest_undone book.undone)
+step_next book (AskOrder order) = omega arith
+
+-- the run of a history with one more record
+run_more :
+    (book next : DeskBook) (history : List Recorded) (event : Event) (reply : Reply) → IsRunOf book history → record { book = next; reply = reply } ≡ step_of book event
+    → IsRunOf next (history ++ record { event = event; reply = reply } ∷ [])
+run_more book next history event reply run is =
+    let last : Recorded = record { event = event; reply = reply } in
+    ap run_of (map_push (λ (r : Recorded). r.event) history last)
+    ∙ fold-append run_on (record { book = empty_book; replies = [] }) (events_of history) (event ∷ [])
+    ∙ ap (λ run. run_on run event) run
+    ∙ ap (λ (outcome : Outcome). record { book = outcome.book; replies = replies_of history ++ outcome.reply ∷ [] }) (sym is)
+    ∙ ap (λ replies. record { book = next; replies = replies }) (sym (map_push (λ (r : Recorded). r.reply) history last))
+
+-- what a desk keeps after one event more
+pub journal_more :
+    (book next : DeskBook) (history later : List Recorded) (event copy : Event) (reply : Reply) → IsJournal book history → length history < EVENTS_MAX
+    → record { book = next; reply = reply } ≡ step_of book event → copy ≡ event → later ≡ history ++ record { event = copy; reply = reply } ∷ []
+    → IsJournal next later
+journal_more book next history later event copy reply journal room is same items =
+    let grown : next.next ≤ book.next + 1 = subst (λ (outcome : Outcome). outcome.book.next ≤ book.next + 1) (sym is) (step_next book event) in
+    let long : length later ≡ length history + 1 = ap length items ∙ length_push history (record { event = copy; reply = reply }) in
+    record {
+      run = rw (items, same) (run_more book next history event reply journal.run is);
+      few = omega (arith, long, room);
+      next = omega (arith, long, grown, journal.next);
+    }

@@ -1,0 +1,120 @@
+-- What a desk does: one event on the book, and a run of events from the empty book.
+use Rattle.std.specs.Prelude.{◌≡◌, ℕ, ◌+◌, ◌≤◌, ◌==◌, List, [], ◌∷◌, ◌++◌, length, map, fold, Option, Some, None, if◌then◌else◌}
+use Rattle.blot_types.specs.declared.command.Command.{Command}
+use Rattle.blot_types.specs.declared.command.Entry.{Entry}
+use Rattle.blot_types.specs.declared.refused.Refused.{Refused as Reason}
+use Rattle.blot_types.specs.declared.refused.Refused.TheVariants.{NothingToUndo, Moved, NothingToRedo}
+use Rattle.blot_types.specs.declared.TheConstants.{EVENTS_MAX}
+use Rattle.blot_types.specs.Legal.{refusal_of}
+use Rattle.blot_types.specs.Order.{order_of}
+use Rattle.blot_command.specs.Kinds.{command_meaning}
+use Rattle.blot_undo.specs.Book.{Book, apply_of, undo_of as undone_book, redo_of as redone_book, newest_done, newest_undone}
+use Rattle.blot_desk.specs.declared.event.Event.{Event}
+use Rattle.blot_desk.specs.declared.event.Event.TheVariants.{Submit, Undo, Redo, AskOrder}
+use Rattle.blot_desk.specs.declared.event.Recorded.{Recorded}
+use Rattle.blot_desk.specs.declared.event.Reply.{Reply}
+use Rattle.blot_desk.specs.declared.event.Reply.TheVariants.{Accepted, Refused, Undone, Redone, Order}
+
+-- the book of a desk: the live list, the done and the undone steps, newest first, and the next number
+abbrev pub DeskBook : Type 0
+DeskBook = Book (List Entry) Command ℕ
+
+-- the empty book: the first number is 1
+abbrev pub empty_book : DeskBook
+empty_book = record { list = []; done = []; undone = []; next = 1 }
+
+-- what an event comes to: the book after it, and the reply
+pub record Outcome : Type 0 where
+  pub book : DeskBook
+  pub reply : Reply
+
+-- a refused event leaves the book as it is
+abbrev pub refused_by : DeskBook → Reason → Outcome
+refused_by book reason = record { book = book; reply = Refused reason }
+
+-- a command, by the list's refusal of it: done under the next number where there is none
+abbrev pub submit_by : DeskBook → Command → Option Reason → Outcome
+submit_by book command None = record { book = apply_of command_meaning book command; reply = Accepted book.next }
+submit_by book command (Some reason) = refused_by book reason
+
+-- a command: done where the list accepts it
+abbrev pub submit_of : DeskBook → Command → Outcome
+submit_of book command = submit_by book command (refusal_of book.list command)
+
+-- undo, by the number of the newest done step: only where it is the one that the caller believes to be newest
+abbrev pub undo_by : DeskBook → ℕ → Option ℕ → Outcome
+undo_by book newest None = refused_by book NothingToUndo
+undo_by book newest (Some number) =
+    if number == newest then record { book = undone_book command_meaning book; reply = Undone number } else refused_by book (Moved number)
+
+-- undo of the newest done step
+abbrev pub undo_of : DeskBook → ℕ → Outcome
+undo_of book newest = undo_by book newest (newest_done book.done)
+
+-- redo, by the number of the step that was undone last, which it keeps
+abbrev pub redo_by : DeskBook → Option ℕ → Outcome
+redo_by book None = refused_by book NothingToRedo
+redo_by book (Some number) = record { book = redone_book command_meaning book; reply = Redone number }
+
+-- redo of the step that was undone last
+abbrev pub redo_of : DeskBook → Outcome
+redo_of book = redo_by book (newest_undone book.undone)
+
+-- one event; to ask changes nothing
+abbrev pub step_of : DeskBook → Event → Outcome
+step_of book (Submit command) = submit_of book command
+step_of book (Undo newest) = undo_of book newest
+step_of book Redo = redo_of book
+step_of book (AskOrder order) = record { book = book; reply = Order (order_of book.list order) }
+
+-- a run of events: the book after them, and the reply to each
+pub record Run : Type 0 where
+  pub book : DeskBook
+  pub replies : List Reply
+
+-- one event more
+abbrev pub run_on : Run → Event → Run
+run_on run event = record { book = (step_of run.book event).book; replies = run.replies ++ (step_of run.book event).reply ∷ [] }
+
+-- the run of events from the empty book
+abbrev pub run_of : List Event → Run
+run_of events = fold run_on (record { book = empty_book; replies = [] }) events
+
+-- what a desk holds: the book, and the recorded events with their replies
+pub record Journal : Type 0 where
+  pub book : DeskBook
+  pub history : List Recorded
+
+-- an empty book without history
+abbrev pub empty_journal : Journal
+empty_journal = record { book = empty_book; history = [] }
+
+-- what a desk holds after an event: its book, and the event with the reply to it at the end of the history
+abbrev pub recorded_of : Journal → Event → Journal
+recorded_of journal event = record {
+  book = (step_of journal.book event).book;
+  history = journal.history ++ record { event = event; reply = (step_of journal.book event).reply } ∷ [];
+}
+
+-- the recorded events
+abbrev pub events_of : List Recorded → List Event
+events_of history = map (λ recorded. recorded.event) history
+
+-- the replies to them
+abbrev pub replies_of : List Recorded → List Reply
+replies_of history = map (λ recorded. recorded.reply) history
+
+-- a book and the replies of a history are those of the run of its events
+abbrev pub IsRunOf : DeskBook → List Recorded → Type 0
+IsRunOf book history = run_of (events_of history) ≡ record { book = book; replies = replies_of history }
+
+-- the same of what a desk holds
+abbrev pub IsRun : Journal → Type 0
+IsRun journal = IsRunOf journal.book journal.history
+
+-- what a desk keeps: its book and replies are the run of its events, of which there are at most EVENTS_MAX; no more
+-- numbers are given than there are events
+pub record IsJournal (book : DeskBook) (history : List Recorded) : Type 0 where
+  pub run : IsRunOf book history
+  pub few : length history ≤ EVENTS_MAX
+  pub next : book.next ≤ length history + 1

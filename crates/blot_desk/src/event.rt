@@ -1,0 +1,57 @@
+//! What comes to a desk, what it replies, and the record of both.
+ghost use Rattle.std.specs.Prelude.{◌≡◌, IfOk};
+
+use blot_types::{Command, OrderKey, OrderLine, Refused};
+use std::alloc::AllocError as NoMemory;
+
+/// What comes to a desk.
+#[derive(Debug, PartialEq, Eq, Drop)]
+pub enum Event {
+    /// A command for the book.
+    Submit(Command),
+    /// The newest done step is to be undone, which the caller believes to be this one.
+    Undo { newest: u64 },
+    /// The step that was undone last is to be done again.
+    Redo,
+    /// The line of an order is asked for.
+    AskOrder(OrderKey),
+}
+
+impl Event {
+    /// An equal event, or out of memory.
+    pub fn try_copy(&self) -> Result<Event, NoMemory>
+        ensures { IfOk result (λ copy. copy ≡ self.now) }
+    {
+        match self {
+            Event::Submit(command) => match command.try_copy() {
+                Ok(command) => Ok(Event::Submit(command)),
+                Err(fault) => Err(fault),
+            },
+            Event::Undo { newest } => Ok(Event::Undo { newest: *newest }),
+            Event::Redo => Ok(Event::Redo),
+            Event::AskOrder(order) => Ok(Event::AskOrder(*order)),
+        }
+    }
+}
+
+/// What a desk replies to an event.
+#[derive(Clone, Copy, Debug, PartialEq, Eq)]
+pub enum Reply {
+    /// The command is done under this number.
+    Accepted(u64),
+    /// The event is refused, and the book is as it was.
+    Refused(Refused),
+    /// The step of this number is undone.
+    Undone(u64),
+    /// The step of this number is done again.
+    Redone(u64),
+    /// The line of the order, or none where no execution of it stands.
+    Order(Option<OrderLine>),
+}
+
+/// An event with the reply to it.
+#[derive(Debug, PartialEq, Eq, Drop)]
+pub struct Recorded {
+    pub event: Event,
+    pub reply: Reply,
+}

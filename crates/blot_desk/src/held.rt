@@ -1,0 +1,110 @@
+//! What a desk holds.
+ghost use Rattle.std.specs.Prelude.{◌≡◌, ◌↔◌, ◌∷◌, ◌++◌, [], Err, IfOk, OnErr, IsOk, IsTrue, ◌<◌, length, vec_capacity};
+ghost use Rattle.blot_types.specs.Legal.{is_book};
+ghost use Rattle.blot_types.specs.Order.{order_of};
+ghost use Rattle.blot_desk.specs.Desk.{empty_journal, step_of, recorded_of, events_of, run_of, IsRun};
+
+use crate::taking::take;
+use crate::{DeskFault, Event, Recorded, Reply, Snapshot};
+use blot_command::Tables;
+use blot_types::{Command, EVENTS_MAX, OrderKey};
+use blot_undo::Steps;
+use std::alloc::{AllocError as NoMemory, Global};
+use std::marker::Model;
+
+/// The book with its steps, done and undone, and the history of the day: each event with the reply to it. A
+/// contract sees the book and the history, which are those of the run of the recorded events.
+#[derive(Drop)]
+pub struct Held {
+    alloc: Global,
+    steps: Steps<Command>,
+    history: Vec<Recorded>,
+}
+
+impl Model for Held {
+    ghost use Rattle.blot_command.specs.Kinds.{command_meaning};
+    ghost use Rattle.blot_undo.specs.Book.{book_of};
+    ghost use Rattle.blot_desk.specs.Desk.{Journal, IsJournal};
+
+    ghost Value = { Journal };
+
+    ghost view = { λ held. record { book = book_of command_meaning held.steps; history = held.history.items } };
+
+    ghost invariant = { λ held. IsJournal (book_of command_meaning held.steps) held.history.items };
+}
+
+impl Held {
+    /// An empty book without history. No memory is taken.
+    pub fn new(alloc: Global) -> Held
+        ensures { result ≡ empty_journal }
+    {
+        Held {
+            alloc,
+            steps: Steps::new(alloc, Tables::new(alloc)),
+            history: Vec::new(alloc),
+        }
+    }
+
+    /// Takes an event: the reply to it, which is recorded with the event. Where the record is full, or memory
+    /// runs out, nothing is recorded and nothing changes.
+    pub fn step(&mut self, event: Event) -> Result<Reply, DeskFault>
+        ensures reply { IfOk result (λ reply. reply ≡ (step_of self.old.book event).reply) }
+        ensures taken { IfOk result (λ reply. self.new ≡ recorded_of self.old event) }
+
+        // The line of an order, after any events, is that of the run of these events.
+        ensures order { (order : OrderKey) → event ≡ Event.AskOrder order
+            → IfOk result (λ reply. reply ≡ Reply.Order (order_of (run_of (events_of self.old.history)).book.list order)) }
+
+        ensures full { (result ≡ Err DeskFault.Full) ↔ (length self.old.history ≡ EVENTS_MAX) }
+        ensures err { OnErr result (self.new ≡ self.old) }
+    {
+        if self.history.len() as u64 == EVENTS_MAX {
+            return Err(DeskFault::Full);
+        }
+        let Ok(()) = self.history.reserve(1) else {
+            return Err(DeskFault::NoMemory);
+        };
+        let Ok(copy) = event.try_copy() else {
+            return Err(DeskFault::NoMemory);
+        };
+        let reply = match take(&mut self.steps, event) {
+            Ok(reply) => reply,
+            Err(_) => return Err(DeskFault::NoMemory),
+        };
+        let _ = record(&mut self.history, copy, &reply);
+        Ok(reply)
+    }
+
+    /// The live list as it is now.
+    pub fn snapshot(&self) -> Result<Snapshot, NoMemory>
+        ensures list { IfOk result (λ snapshot. snapshot ≡ self.now.book.list) }
+        ensures run { IfOk result (λ snapshot. snapshot ≡ (run_of (events_of self.now.history)).book.list) }
+        ensures book { IfOk result (λ snapshot. IsTrue (is_book snapshot)) }
+    {
+        match self.steps.state().entries(self.alloc) {
+            Ok(entries) => Ok(Snapshot::of(entries)),
+            Err(fault) => Err(fault),
+        }
+    }
+
+    /// The recorded events with their replies, in the order in which they came.
+    pub fn history(&self) -> &[Recorded]
+        ensures history { result.now ≡ self.now.history }
+        ensures run { IsRun self.now }
+    {
+        &self.history
+    }
+}
+
+// Puts an event and the reply to it at the end of a history that has room.
+fn record(history: &mut Vec<Recorded>, event: Event, reply: &Reply) -> Result<(), Recorded>
+    requires { length history.old.items < vec_capacity history.old }
+    ensures items { history.new.items ≡ history.old.items ++ record { event = event; reply = reply.now } ∷ [] }
+    ensures ok { IsOk result }
+{
+    let reply = *reply;
+    match history.push(Recorded { event, reply }) {
+        Ok(()) => Ok(()),
+        Err(failed) => Err(failed.value),
+    }
+}

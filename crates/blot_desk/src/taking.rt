@@ -1,0 +1,64 @@
+//! Each kind of event on the book.
+ghost use Rattle.std.specs.Prelude.{◌≡◌, ◌≤◌, IfOk, OnErr};
+ghost use Rattle.blot_command.specs.Kinds.{command_meaning};
+ghost use Rattle.blot_undo.specs.Book.{book_of};
+ghost use Rattle.blot_desk.specs.Desk.{step_of, submit_of, undo_of, redo_of};
+
+use crate::{Event, Reply};
+use blot_command::ApplyFault;
+use blot_types::{Command, EVENTS_MAX, Refused};
+use blot_undo::{StepFault, Steps};
+use std::alloc::AllocError as NoMemory;
+
+/// Takes an event, and gives the reply to it.
+pub(crate) fn take(steps: &mut Steps<Command>, event: Event) -> Result<Reply, NoMemory>
+    requires { steps.old.next ≤ EVENTS_MAX }
+    ensures ok { IfOk result (λ reply. record { book = book_of command_meaning steps.new; reply = reply } ≡ step_of (book_of command_meaning steps.old) event) }
+    ensures err { OnErr result (book_of command_meaning steps.new ≡ book_of command_meaning steps.old) }
+{
+    match event {
+        Event::Submit(command) => submit(steps, command),
+        Event::Undo { newest } => Ok(undo(steps, newest)),
+        Event::Redo => redo(steps),
+        Event::AskOrder(order) => Ok(Reply::Order(steps.state().order(&order))),
+    }
+}
+
+// Takes a command, or refuses it.
+fn submit(steps: &mut Steps<Command>, command: Command) -> Result<Reply, NoMemory>
+    requires { steps.old.next ≤ EVENTS_MAX }
+    ensures ok { IfOk result (λ reply. record { book = book_of command_meaning steps.new; reply = reply } ≡ submit_of (book_of command_meaning steps.old) command) }
+    ensures err { OnErr result (book_of command_meaning steps.new ≡ book_of command_meaning steps.old) }
+{
+    match steps.apply(command) {
+        Ok(number) => Ok(Reply::Accepted(number)),
+        Err(StepFault::Refused(_, ApplyFault::Refused(reason))) => Ok(Reply::Refused(reason)),
+        Err(_) => Err(NoMemory),
+    }
+}
+
+// Undoes the newest step, where it has this number.
+fn undo(steps: &mut Steps<Command>, newest: u64) -> Reply
+    ensures { record { book = book_of command_meaning steps.new; reply = result } ≡ undo_of (book_of command_meaning steps.old) newest }
+{
+    match steps.newest() {
+        None => Reply::Refused(Refused::NothingToUndo),
+        Some(number) if number != newest => Reply::Refused(Refused::Moved(number)),
+        Some(number) => {
+            steps.undo();
+            Reply::Undone(number)
+        }
+    }
+}
+
+// Does the step that was undone last again.
+fn redo(steps: &mut Steps<Command>) -> Result<Reply, NoMemory>
+    ensures ok { IfOk result (λ reply. record { book = book_of command_meaning steps.new; reply = reply } ≡ redo_of (book_of command_meaning steps.old)) }
+    ensures err { OnErr result (book_of command_meaning steps.new ≡ book_of command_meaning steps.old) }
+{
+    match steps.redo() {
+        Ok(Some(number)) => Ok(Reply::Redone(number)),
+        Ok(None) => Ok(Reply::Refused(Refused::NothingToRedo)),
+        Err(fault) => Err(fault),
+    }
+}

@@ -1,0 +1,25 @@
+use Rattle.std.proofs.Common.{◌≤◌, ◌+◌, ap, arith, length}
+use Rattle.std.specs.Vec.{vec_capacity}
+use Rattle.blot_types.specs.declared.TheConstants.{EVENTS_MAX}
+use Rattle.blot_undo.specs.Book.{Stack}
+use Rattle.blot_undo.proofs.StackLemmas.{above_next, apply_keeps, turned_back}
+use Rattle.blot_undo.proofs.steps.Steps.apply.Goals as goal
+
+pub apply-requires-clause-above : goal.apply-requires-clause-above
+apply-requires-clause-above g c = above_next g.C.Undoable.meaning c.self.inside.state _ _ c.self.inside.next _ _ c.self.invariant
+
+pub invariant_of-self-in_default : goal.invariant_of-self-in_default
+invariant_of-self-in_default g c =
+    rw (c.make_room.ensures.done, c.make_room.ensures.undone)
+    (turned_back g.C.Undoable.meaning g.met.C.Undoable.lawful c.self.inside.state _ _ _ _ _ _ _ _ _ _ _
+    c.self.invariant c.in-Ok.ensures.accepted c.in-Ok.ensures.kept c.revert.ensures.list c.revert.ensures.kept c.make_room.ensures.kept.0 c.make_room.ensures.kept.1).1
+
+pub invariant_of-self-2 : goal.invariant_of-self-2
+invariant_of-self-2 g c =
+    let within : c.self.inside.next ≤ EVENTS_MAX = rw (ap (λ (stack : Stack _ _ _). stack.next) c.self.view_is) c.requires in
+    let done_fits : length c.self.inside.done.items + 1 ≤ vec_capacity c.push_reserved.new.self = rw (← c.make_room.ensures.done) (omega (arith, c.in-Ok-make_room.ensures.ok)) in
+    let undone_fits : length c.self.inside.done.items + 1 ≤ vec_capacity c.clear.new.self = rw (← c.make_room.ensures.done) (omega (arith, c.in-Ok-make_room.ensures.ok)) in
+    apply_keeps g.C.Undoable.meaning g.met.C.Undoable.lawful c.self.inside.state _ c.self.inside.done.items c.push_reserved.new.self.items c.self.inside.undone.items c.clear.new.self.items
+    c.self.inside.next _ _ _ _ _ c.in-Ok.inverse
+    c.self.invariant within c.in-Ok.ensures.accepted c.in-Ok.ensures.kept
+    (rw (← c.make_room.ensures.done) c.push_reserved.ensures.items) c.clear.ensures.items done_fits undone_fits

@@ -1,0 +1,184 @@
+//! The stack of steps.
+ghost use Rattle.std.specs.Prelude.{◌≡◌, ℕ, ◌≤◌, ◌+◌, [], None, IsTrue, ◌↔◌, IfOk, IfErr, OnOk, OnErr, length, vec_capacity};
+ghost use Rattle.blot_command.specs.Undoable.{numbers_in};
+ghost use Rattle.blot_undo.specs.Book.{book_of, apply_of, undo_of, redo_of, rewound, past, newest_done, newest_undone};
+ghost use Rattle.blot_undo.specs.Laws.{LeadTo, GoesBack, RoundTrips};
+ghost use Rattle.blot_undo.specs.Faults.{IsFault};
+ghost use Rattle.blot_undo.specs.Laws.{LeadTo, GoesBack, RoundTrips};
+
+use crate::{Done, StepFault, Undone};
+use blot_command::Undoable;
+use blot_types::EVENTS_MAX;
+use std::alloc::{AllocError as NoMemory, Global};
+use std::marker::Model;
+
+/// A state with the steps that led to it, and those that were undone since. A contract sees the state, the
+/// done steps, newest first, the undone ones, the one undone last first, and the next number; what a call
+/// does is said of the book that these show (`book_of`).
+#[derive(Drop)]
+pub struct Steps<C: Undoable> {
+    state: C::State,
+    done: Vec<Done<C::Inverse>>,
+    undone: Vec<Undone<C>>,
+    next: u64,
+}
+
+impl<C: Undoable> Model for Steps<C> {
+    ghost use Rattle.std.specs.Prelude.{reverse, vec_capacity};
+    ghost use Rattle.blot_undo.specs.Book.{Stack};
+    ghost use Rattle.blot_undo.specs.Stacks.{IsStack};
+
+    ghost Value = { Stack C.State C C.Inverse };
+
+    ghost view = { λ steps. record {
+      state = steps.state;
+      done = reverse steps.done.items;
+      undone = reverse steps.undone.items;
+      next = steps.next;
+    } };
+
+    ghost invariant = { λ steps.
+        IsStack C.meaning steps.state (reverse steps.done.items) (reverse steps.undone.items) steps.next (vec_capacity steps.done) (vec_capacity steps.undone) };
+}
+
+impl<C: Undoable> Steps<C> {
+    /// The stack of a state that holds no number yet, with no steps. No memory is taken.
+    pub fn new(alloc: Global, state: C::State) -> Steps<C>
+        requires { numbers_in C.meaning state ≡ [] }
+        ensures { result ≡ record { state = state; done = []; undone = []; next = 1 } }
+    {
+        Steps {
+            state,
+            done: Vec::new(alloc),
+            undone: Vec::new(alloc),
+            next: 1,
+        }
+    }
+
+    /// Whether a number is left for one more step.
+    pub fn room(&self) -> bool
+        ensures { IsTrue result ↔ (self.now.next ≤ EVENTS_MAX) }
+    {
+        self.next <= EVENTS_MAX
+    }
+
+    /// How many steps are done.
+    pub fn done(&self) -> usize
+        ensures count { result ≡ length self.now.done }
+
+        // Each done step led from the list before it to the list after it.
+        ensures lead { LeadTo C.meaning self.now.done (C.meaning.list_of self.now.state) }
+
+        // Any count of them undone, and as many redone, give the book as it is.
+        ensures round_trip { RoundTrips C.meaning (book_of C.meaning self.now) }
+    {
+        self.done.len()
+    }
+
+    /// The number of the newest done step, if a step is done.
+    pub fn newest(&self) -> Option<u64>
+        ensures { result ≡ newest_done self.now.done }
+    {
+        match self.done.last() {
+            Some(step) => Some(step.number),
+            None => None,
+        }
+    }
+
+    /// The state.
+    pub fn state(&self) -> &C::State
+        ensures { result.now ≡ self.now.state }
+    {
+        &self.state
+    }
+
+    /// Takes a command under the next number, which it answers. No step is undone then. A command that is
+    /// refused, or finds no memory, comes back, and the undone steps stay.
+    pub fn apply(&mut self, command: C) -> Result<u64, StepFault<C>>
+        requires { self.old.next ≤ EVENTS_MAX }
+        ensures number { IfOk result (λ number. number ≡ self.old.next) }
+        ensures accepted { OnOk result (C.meaning.refused (C.meaning.list_of self.old.state) command ≡ None) }
+        ensures taken { OnOk result (book_of C.meaning self.new ≡ apply_of C.meaning (book_of C.meaning self.old) command) }
+        ensures before { OnOk result (past C.meaning (C.meaning.list_of self.new.state) self.new.done 1 ≡ C.meaning.list_of self.old.state) }
+        ensures fault { IfErr result (IsFault C.meaning (C.meaning.list_of self.old.state) command) }
+        ensures err { OnErr result (book_of C.meaning self.new ≡ book_of C.meaning self.old) }
+    {
+        let number = self.next;
+        let inverse = match command.apply(&mut self.state, number) {
+            Ok(inverse) => inverse,
+            Err((back, refusal)) => return Err(StepFault::Refused(back, refusal)),
+        };
+        let Ok(()) = make_room(&mut self.done, &mut self.undone) else {
+            return Err(StepFault::NoMemory(C::revert(inverse, &mut self.state)));
+        };
+        self.undone.clear();
+        self.done.push_reserved(Done { number, inverse });
+        self.next += 1;
+        Ok(number)
+    }
+
+    /// Takes the newest done step back and answers its number, or none where no step is done. No memory is
+    /// taken.
+    pub fn undo(&mut self) -> Option<u64>
+        ensures book { book_of C.meaning self.new ≡ undo_of C.meaning (book_of C.meaning self.old) }
+        ensures number { result ≡ newest_done self.old.done }
+    {
+        let Some(step) = self.done.pop() else {
+            return None;
+        };
+        let Done { number, inverse } = step;
+        let command = C::revert(inverse, &mut self.state);
+        self.undone.push_reserved(Undone { number, command });
+        Some(number)
+    }
+
+    /// Takes the step that was undone last again, under its old number, which it answers, or none where no
+    /// step is undone. Where memory runs out the step stays undone.
+    pub fn redo(&mut self) -> Result<Option<u64>, NoMemory>
+        ensures book { OnOk result (book_of C.meaning self.new ≡ redo_of C.meaning (book_of C.meaning self.old)) }
+        ensures number { IfOk result (λ number. number ≡ newest_undone self.old.undone) }
+        ensures err { OnErr result (book_of C.meaning self.new ≡ book_of C.meaning self.old) }
+    {
+        let Some(step) = self.undone.pop() else {
+            return Ok(None);
+        };
+        let Undone { number, command } = step;
+        match command.apply(&mut self.state, number) {
+            Ok(inverse) => {
+                self.done.push_reserved(Done { number, inverse });
+                Ok(Some(number))
+            }
+            Err((back, _)) => {
+                self.undone.push_reserved(Undone {
+                    number,
+                    command: back,
+                });
+                Err(NoMemory)
+            }
+        }
+    }
+
+    /// Undoes a number of steps, newest first. No memory is taken.
+    pub fn rewind(&mut self, count: usize)
+        requires { count ≤ length self.old.done }
+        ensures book { book_of C.meaning self.new ≡ rewound C.meaning count (book_of C.meaning self.old) }
+        ensures back { GoesBack C.meaning count (book_of C.meaning self.old) (book_of C.meaning self.new) }
+    {
+        // What the stack keeps is known once a field is looked at.
+        let _ = &self.state;
+        for _ in 0..count {
+            self.undo();
+        }
+    }
+}
+
+// Room for one more done step, and for each of them undone.
+fn make_room<I, C>(done: &mut Vec<Done<I>>, undone: &mut Vec<Undone<C>>) -> Result<(), NoMemory>
+    ensures done { done.new.items ≡ done.old.items }
+    ensures undone { undone.new.items ≡ undone.old.items }
+    ensures kept { (vec_capacity done.old ≤ vec_capacity done.new) × (vec_capacity undone.old ≤ vec_capacity undone.new) }
+    ensures ok { OnOk result ((length done.new.items + 1 ≤ vec_capacity done.new) × (length done.new.items + 1 ≤ vec_capacity undone.new)) }
+{
+    done.reserve(1)?;
+    undone.reserve(done.capacity())
+}
