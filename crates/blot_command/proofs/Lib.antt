@@ -2,6 +2,7 @@ pub mod CarryLemmas
 pub mod ChangeListLemmas
 pub mod HouseLemmas
 pub mod LiveLemmas
+pub mod MoveLemmas
 pub mod OpenLemmas
 pub mod ReachLemmas
 pub mod RecordLemmas
