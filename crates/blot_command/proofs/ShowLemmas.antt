@@ -9,8 +9,11 @@ use Rattle.blot_types.specs.declared.lines.Version.{Version}
 use Rattle.blot_types.specs.Survivors.{is_number}
 use Rattle.blot_types.proofs.SurvivorLemmas.{without}
 use Rattle.blot_order.specs.Fills.{Fills, put_at, held_at}
-use Rattle.blot_order.proofs.FillLemmas.{put_at-with_put, put_at-with_put_same, put_at-with_kept, kept_at-with_kept_same, held_at-with_put, held_at-with_put_same, held_at-with_put_other, held_at-with_kept, held_at-put, held_at-kept, kept_at-held}
-use Rattle.blot_command.specs.Shown.{fill_numbered, with_put, with_kept, IsPut, IsKept}
+use Rattle.blot_order.proofs.FillLemmas.{put_at-empty, put_at-with_put, put_at-with_put_same, put_at-with_kept, kept_at-with_kept_same, held_at-with_put, held_at-with_put_same, held_at-with_put_other, held_at-with_kept, held_at-put, held_at-kept, kept_at-held}
+use Rattle.std.specs.FinMap as finite
+use Rattle.std.proofs.lemmas.List.Elements.{All-nil}
+use Rattle.blot_types.specs.declared.command.Entry.{Entry}
+use Rattle.blot_command.specs.Shown.{Shows, fill_numbered, with_put, with_kept, IsPut, IsKept}
 
 or_none : {A : Type 0} (o : Option A) → option_or o None ≡ o
 or_none None = refl
@@ -144,3 +147,8 @@ put-own fills version = put_at-with_put_same version.number version.fill fills
 -- a fill that is held and not put is kept
 pub kept-from_held : (fills : Fills) (version : Version) → put_at fills version.number ≡ None → held_at fills version.number ≡ Some version.fill → IsKept version fills
 kept-from_held fills version unput held = kept_at-held fills version.number version.fill unput held
+
+-- an empty book shows nothing
+pub shows-empty : (list : List Entry) (fills : Fills) → list ≡ [] → fills ≡ finite.empty → Shows list fills
+shows-empty list fills none empty =
+    rw (none, empty) (record { book = refl; put = put_at-empty; held = All-nil _ })

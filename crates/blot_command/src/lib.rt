@@ -4,8 +4,9 @@
 //! that promise on it.
 #![tactic(auto)]
 
-mod accounts;
-mod booking;
+mod alloc_cancel;
+mod alloc_new;
+mod alloc_replace;
 mod bust;
 mod command;
 mod correct;

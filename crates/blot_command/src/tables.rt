@@ -3,23 +3,22 @@ ghost use Rattle.std.specs.Prelude.{◌≡◌, ◌<◌, [], ◌∷◌, ◌++◌,
 ghost use Rattle.std.specs.Option.{option_copied};
 ghost use Rattle.blot_types.specs.Legal.{is_book, refusal_of};
 ghost use Rattle.blot_types.specs.Order.{order_of};
-ghost use Rattle.blot_types.specs.Position.{position_of};
 ghost use Rattle.blot_types.specs.declared.TheConstants.{EVENTS_MAX};
 ghost use Rattle.blot_order.specs.Fills.{put_at, kept_at};
 ghost use Rattle.blot_command.specs.Book.{has_number};
 ghost use Rattle.blot_command.specs.Shown.{with_put, with_kept, IsPut, IsKept, CanPut};
 
-use crate::accounts::Accounts;
+use crate::live::LiveList;
 use blot_order::Orders;
-use blot_types::{Command, Entry, OrderKey, OrderLine, PositionLine, Refused, Text64, Version};
+use blot_types::{Command, Entry, OrderKey, OrderLine, Refused, Version};
 use std::alloc::{AllocError as NoMemory, Global};
 use std::marker::Model;
 
-/// The book: its live list of entries, in rising order of number, with the positions of its accounts and the
-/// fills that stand. A contract sees its live list, which is always legal.
+/// The book: its live list of entries, in rising order of number, with the chains and the allocations of
+/// its entries and the fills that stand. A contract sees its live list, which is always legal.
 #[derive(Drop)]
 pub struct Tables {
-    accounts: Accounts,
+    live: LiveList,
     orders: Orders,
 }
 
@@ -29,9 +28,9 @@ impl Model for Tables {
 
     ghost Value = { Shown };
 
-    ghost view = { λ tables. record { list = tables.accounts } };
+    ghost view = { λ tables. record { list = tables.live } };
 
-    ghost invariant = { λ tables. Shows tables.accounts tables.orders };
+    ghost invariant = { λ tables. Shows tables.live tables.orders };
 }
 
 impl Tables {
@@ -41,7 +40,7 @@ impl Tables {
         ensures book { IsTrue (is_book result.list) }
     {
         Tables {
-            accounts: Accounts::new(alloc),
+            live: LiveList::new(alloc),
             orders: Orders::new(alloc),
         }
     }
@@ -54,20 +53,12 @@ impl Tables {
         self.orders.get(order)
     }
 
-    /// The position of an account in a symbol, or none without a part.
-    pub fn position(&self, account: &Text64, symbol: &Text64) -> Option<PositionLine>
-        ensures line { result ≡ position_of self.now.list account.now symbol.now }
-        ensures book { IsTrue (is_book self.now.list) }
-    {
-        self.accounts.position(account, symbol)
-    }
-
     /// The entry of a number, if it is live.
     pub fn entry(&self, number: u64) -> Option<&Entry>
         ensures entry { option_copied result ≡ find (has_number number) self.now.list }
         ensures book { IsTrue (is_book self.now.list) }
     {
-        self.accounts.entry(number)
+        self.live.entry(number)
     }
 
     /// The live entries, copied, in rising order of number.
@@ -75,7 +66,7 @@ impl Tables {
         ensures entries { IfOk result (λ entries. entries.items ≡ self.now.list) }
         ensures book { IsTrue (is_book self.now.list) }
     {
-        self.accounts.entries(alloc)
+        self.live.entries(alloc)
     }
 
     /// Why the book refuses a command.
@@ -83,7 +74,7 @@ impl Tables {
         ensures refusal { result ≡ refusal_of self.now.list command.now }
         ensures book { IsTrue (is_book self.now.list) }
     {
-        self.accounts.refusal(command)
+        self.live.refusal(command)
     }
 
     /// Puts an entry behind the others, or hands it back where memory runs out.
@@ -94,11 +85,11 @@ impl Tables {
         ensures returned { IfErr result (λ back. back ≡ entry) }
     {
         let version = entry.version();
-        let replaced = self.accounts.replaced(&entry.link());
+        let replaced = self.live.replaced(&entry.link());
         let Ok(()) = put(&mut self.orders, &version) else {
             return Err(entry);
         };
-        match self.accounts.push(entry) {
+        match self.live.push(entry) {
             Ok(()) => {
                 take(&mut self.orders, &replaced);
                 Ok(())
@@ -115,9 +106,9 @@ impl Tables {
         requires { 0 < length self.old.list }
         ensures { self.old.list ≡ self.new.list ++ result ∷ [] }
     {
-        let entry = self.accounts.pop();
+        let entry = self.live.pop();
         let version = entry.version();
-        let restored = self.accounts.replaced(&entry.link());
+        let restored = self.live.replaced(&entry.link());
         take(&mut self.orders, &version);
         un_take(&mut self.orders, &restored);
         entry
