@@ -1,4 +1,5 @@
 pub mod AcceptLemmas
+pub mod AllocationLawLemmas
 mod AllocationRows
 pub mod ChainLemmas
 pub mod ChangeLemmas
