@@ -12,6 +12,7 @@ pub mod OrderLemmas
 pub mod LiveLemmas
 pub mod NamedLemmas
 pub mod PartLemmas
+pub mod QuantityLemmas
 mod Rows
 pub mod StandLemmas
 pub mod UncorrectedLemmas
