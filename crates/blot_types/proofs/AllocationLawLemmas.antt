@@ -1,6 +1,6 @@
 -- The laws of allocations: a chain is named by at most one live allocation, and they make and lose nothing.
-use Rattle.std.proofs.Common.{◌≡◌, ℕ, ◌≤◌, Bool, true, false, ◌&&◌, pos, ◌+ℤ◌, ◌*ℤ◌, arith, List, [], ◌∷◌, ◌++◌, map, length, reverse, refl, sym, ap, ◌∙◌, inl, inr}
-use Rattle.std.specs.Prelude.{ℤ, neg_ℤ, filter, not, All, IsTrue, if◌then◌else◌}
+use Rattle.std.proofs.Common.{◌≡◌, ℕ, Bool, true, false, ◌&&◌, pos, ◌+ℤ◌, ◌*ℤ◌, arith, List, [], ◌∷◌, map, reverse, refl, sym, ap, ◌∙◌, inl, inr}
+use Rattle.std.specs.Prelude.{ℤ, filter, not, All, IsTrue, if◌then◌else◌}
 use Rattle.std.specs.Cmp.Lexicographic.{same_text as text_told}
 use Rattle.std.specs.List.{flat_map, list_any}
 use Rattle.std.specs.Option.{option_map_or}
@@ -14,7 +14,7 @@ use Rattle.blot_types.specs.declared.lines.Part.{Part}
 use Rattle.blot_types.specs.declared.lines.Version.{Version}
 use Rattle.blot_types.specs.Allocations.{Allocation, instructions_of, live_allocations}
 use Rattle.blot_types.specs.Keys.{same_text}
-use Rattle.blot_types.specs.Laws.{IsNamedOnce, are_distinct, position_qty, position_value, is_of_symbol, HoldsAllParts, ConservesAmounts, IsConserving}
+use Rattle.blot_types.specs.Laws.{IsNamedOnce, are_distinct, position_qty, position_value, is_of_symbol, IsConserving}
 use Rattle.blot_types.specs.Legal.{is_book}
 use Rattle.blot_types.specs.Order.{total}
 use Rattle.blot_types.specs.Position.{signed, from_house, part_of_line, moves_of_line, moves_of, part_of, parts_of, is_at, position_by}
