@@ -1,39 +1,35 @@
 -- What one more entry changes in the parts of the positions.
-use Rattle.std.proofs.Common.{◌≡◌, ℕ, ◌==◌, ◌+◌, ◌<◌, ◌≤◌, Bool, true, false, ◌&&◌, pos, ◌+ℤ◌, arith, List, [], ◌∷◌, ◌++◌, length, map, reverse, Option, Some, None, refl, sym, ap, subst, ◌∙◌, inl, inr}
-use Rattle.std.specs.Prelude.{ℤ, ◌||◌, filter, find, is_none, is_some, not, All, IsTrue}
+use Rattle.std.proofs.Common.{◌≡◌, ℕ, ◌==◌, Bool, true, false, ◌&&◌, ◌+ℤ◌, arith, List, [], ◌∷◌, ◌++◌, reverse, Option, Some, None, refl, sym, ap, subst, ◌∙◌, inl, inr}
+use Rattle.std.specs.Prelude.{ℤ, ◌||◌, filter, find, is_none, is_some, not, All}
 use Rattle.std.specs.List.{cons_option, filter_map, list_any, flat_map}
-use Rattle.std.specs.Option.{option_map_or, option_and_then}
+use Rattle.std.specs.Option.{option_and_then}
 use Rattle.std.proofs.lemmas.Bool.{cases_Bool, and_from, and_parts, eqb-true, eq-eqb}
 use Rattle.std.proofs.lemmas.Int.{ints}
-use Rattle.std.proofs.lemmas.List.{reverse-reverse, append-nil, map-append}
-use Rattle.std.proofs.lemmas.List.Elements.{All-nil, All-cons, All-head, All-tail, All-weaker, All-filter, filter-append, filter_map-append}
-use Rattle.blot_types.specs.declared.allocation.AllocRole.{AllocRole}
-use Rattle.blot_types.specs.declared.allocation.AllocRole.TheVariants.{Allocates, Replaces, Cancels}
+use Rattle.std.proofs.lemmas.List.{reverse-reverse, append-nil}
+use Rattle.std.proofs.lemmas.List.Elements.{All-weaker, All-filter, filter_map-append}
 use Rattle.blot_types.specs.declared.allocation.Instruction.{Instruction}
 use Rattle.blot_types.specs.declared.command.Command.{Command}
 use Rattle.blot_types.specs.declared.command.Command.TheVariants.{Trade, Correct, Bust, AllocNew, AllocReplace, AllocCancel}
 use Rattle.blot_types.specs.declared.command.Entry.{Entry}
-use Rattle.blot_types.specs.declared.keys.AllocKey.{AllocKey}
 use Rattle.blot_types.specs.declared.keys.ExecKey.{ExecKey}
 use Rattle.blot_types.specs.declared.lines.Part.{Part}
 use Rattle.blot_types.specs.declared.lines.Version.{Version}
 use Rattle.blot_types.specs.declared.link.Link.{Link}
-use Rattle.blot_types.specs.Allocations.{Allocation, allocation_of, instruction_by, instructions_in, instructions_of, live_allocations, named_roots}
-use Rattle.blot_types.specs.Chains.{takes_up, taker_in, root_in, replaced_by, link_refusal}
-use Rattle.blot_types.specs.Instructions.{is_keyed, alloc_taker_in, brings_allocation, ends, ended_in, is_live_in, names, holds_in, named_in, reference_of, is_instructed}
-use Rattle.blot_types.specs.Keys.{is_among, same_exec, same_alloc}
-use Rattle.blot_types.specs.Legal.{is_above, numbers_rise, legal_in, is_legal, refusal_of}
+use Rattle.blot_types.specs.Allocations.{Allocation, allocation_of, instruction_by, instructions_of, live_allocations, named_roots}
+use Rattle.blot_types.specs.Chains.{takes_up, taker_in, root_in, replaced_by}
+use Rattle.blot_types.specs.Instructions.{ended_in, is_live_in, names, holds_in, named_in}
+use Rattle.blot_types.specs.Keys.{is_among, same_exec}
+use Rattle.blot_types.specs.Legal.{is_above, numbers_rise, is_legal, refusal_of}
 use Rattle.blot_types.specs.Order.{total}
 use Rattle.blot_types.specs.Position.{part_of_fill, moves_of, part_of, parts_of}
-use Rattle.blot_types.specs.Survivors.{link_by, link_of, links_in, links_of, version_of, versions_of, is_number, stands_in, survivors}
-use Rattle.blot_types.proofs.AcceptLemmas.{accepted-instruction, instructed, instructions_of-push}
-use Rattle.blot_types.proofs.ChainLemmas.{clash, accepted_key}
+use Rattle.blot_types.specs.Survivors.{link_by, link_of, links_in, links_of, versions_of, is_number, stands_in, survivors}
+use Rattle.blot_types.proofs.AcceptLemmas.{instructions_of-push}
+use Rattle.blot_types.proofs.ChainLemmas.{accepted_key}
 use Rattle.blot_types.proofs.EntryLemmas.{links_of-push, refusal-link}
-use Rattle.blot_types.proofs.InstructionLemmas.{live-step, holds-step, unended, follows}
 use Rattle.blot_types.proofs.LawLemmas.{alone}
-use Rattle.blot_types.proofs.PartLemmas.{named_at, part_under, parts_under, total-named}
+use Rattle.blot_types.proofs.PartLemmas.{named_at, parts_under}
 use Rattle.blot_types.proofs.StandLemmas.{taken_other}
-use Rattle.blot_types.proofs.SumLemmas.{total-append, total-map, total-filter, total-agree, total-same, total-flat_map}
+use Rattle.blot_types.proofs.SumLemmas.{total-append, total-map, total-filter, total-agree, total-flat_map}
 use Rattle.blot_types.proofs.SurvivorLemmas.{IsKnown, filter-and, find-passes, versions-known, without, survivors-push, replaced-by_entry}
 
 -- ---- the parts as they are made up

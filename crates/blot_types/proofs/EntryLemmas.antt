@@ -1,6 +1,6 @@
 -- Entries, read as the links and the versions that they are.
-use Rattle.std.proofs.Common.{◌≡◌, ℕ, ◌<◌, Bool, true, false, ◌&&◌, List, [], ◌∷◌, ◌++◌, reverse, Option, Some, None, refl, sym, ap, ◌∙◌, subst}
-use Rattle.std.specs.Prelude.{is_none, nat_lt, IfSome, find}
+use Rattle.std.proofs.Common.{◌≡◌, ℕ, true, false, List, [], ◌∷◌, ◌++◌, Option, Some, None, refl, sym, ap, ◌∙◌, subst}
+use Rattle.std.specs.Prelude.{is_none, nat_lt, find}
 use Rattle.std.specs.List.{cons_option}
 use Rattle.std.specs.Option.{option_map, option_or, option_and_then}
 use Rattle.std.proofs.lemmas.Bool.{and_from, and_parts}
@@ -11,9 +11,7 @@ use Rattle.blot_types.specs.declared.command.Entry.{Entry}
 use Rattle.blot_types.specs.declared.keys.ExecKey.{ExecKey}
 use Rattle.blot_types.specs.declared.lines.Version.{Version}
 use Rattle.blot_types.specs.declared.link.Link.{Link}
-use Rattle.blot_types.specs.declared.link.Role.{Role}
-use Rattle.blot_types.specs.declared.link.Role.TheVariants.{Begins, Corrects, Busts}
-use Rattle.blot_types.specs.declared.refused.Refused.{Refused}
+use Rattle.blot_types.specs.declared.link.Role.TheVariants.{Corrects}
 use Rattle.blot_types.specs.declared.refused.Refused.TheVariants.{DuplicateExec, UnknownExec, BustedExec}
 use Rattle.blot_types.specs.Chains.{taker_in, root_in, bust_in, chain_refusal, reference_refusal, link_refusal, is_chained, is_below, falls}
 use Rattle.blot_types.specs.Legal.{is_above, rises_in, refusal_in, legal_in}

@@ -1,16 +1,16 @@
 -- Instructions as they come: which allocations are live, and the chains that they name.
-use Rattle.std.proofs.Common.{◌≡◌, ℕ, ◌+◌, ◌≤◌, Bool, true, false, ◌&&◌, List, [], ◌∷◌, ◌++◌, length, Option, Some, None, refl, sym, ap, subst, ◌∙◌, arith, inl, inr}
-use Rattle.std.specs.Prelude.{◌||◌, not, filter, find, is_none, is_some, All}
-use Rattle.std.specs.List.{list_any, list_all, flat_map}
+use Rattle.std.proofs.Common.{◌≡◌, ℕ, ◌≤◌, Bool, true, false, ◌&&◌, List, [], ◌∷◌, length, Option, Some, None, refl, sym, ap, subst, ◌∙◌, arith, inl, inr}
+use Rattle.std.specs.Prelude.{not, filter, find, is_none}
+use Rattle.std.specs.List.{list_any, list_all}
 use Rattle.std.specs.Option.{option_map, option_map_or}
-use Rattle.std.proofs.lemmas.Bool.{cases_Bool, and_from, and_parts}
+use Rattle.std.proofs.lemmas.Bool.{cases_Bool, and_parts}
 use Rattle.blot_types.specs.declared.allocation.AllocRole.{AllocRole}
 use Rattle.blot_types.specs.declared.allocation.AllocRole.TheVariants.{Allocates, Replaces, Cancels}
 use Rattle.blot_types.specs.declared.allocation.Instruction.{Instruction}
 use Rattle.blot_types.specs.declared.keys.AllocKey.{AllocKey}
 use Rattle.blot_types.specs.declared.keys.ExecKey.{ExecKey}
-use Rattle.blot_types.specs.Instructions.{is_keyed, alloc_taker_in, brings_allocation, is_allocation_of, is_allocation_in, ends, ended_in, is_live_in, names, holds_in, holder_in, named_in, is_reference, holds_beside, other_holder_in, reference_of, is_live_key, are_apart, may_follow, is_instructed}
-use Rattle.blot_types.specs.Keys.{is_among, same_exec, same_alloc}
+use Rattle.blot_types.specs.Instructions.{is_keyed, alloc_taker_in, brings_allocation, is_allocation_of, is_allocation_in, ends, ended_in, is_live_in, names, holds_in, is_reference, holds_beside, other_holder_in, reference_of, is_live_key, are_apart, may_follow, is_instructed}
+use Rattle.blot_types.specs.Keys.{same_exec}
 use Rattle.blot_types.proofs.ChainLemmas.{clash, differing, none_is}
 use Rattle.blot_types.proofs.KeyLemmas.{same_exec-true, same_alloc-true}
 use Rattle.blot_types.proofs.StandLemmas.{and-true, and-false}
@@ -85,7 +85,7 @@ pub record Follows (earlier : List Instruction) (key : AllocKey) (role : AllocRo
 pub follows : (earlier : List Instruction) (key : AllocKey) (role : AllocRole) (roots : List ExecKey) → may_follow earlier key role roots ≡ true → Follows earlier key role roots
 follows earlier key role roots may =
     let last : ((is_none (alloc_taker_in earlier key) && option_map_or (is_live_key earlier) (reference_of role) true && are_apart roots) ≡ true)
-        × (list_all (λ root. is_none (other_holder_in earlier (reference_of role) root)) roots ≡ true) = and_parts _ _ may in
+    × (list_all (λ root. is_none (other_holder_in earlier (reference_of role) root)) roots ≡ true) = and_parts _ _ may in
     let middle : ((is_none (alloc_taker_in earlier key) && option_map_or (is_live_key earlier) (reference_of role) true) ≡ true) × (are_apart roots ≡ true) = and_parts _ _ last.0 in
     let first : (is_none (alloc_taker_in earlier key) ≡ true) × (option_map_or (is_live_key earlier) (reference_of role) true ≡ true) = and_parts _ _ middle.0 in
     record { fresh = none_is (alloc_taker_in earlier key) first.0; refers = first.1; apart = middle.1; unnamed = last.1 }

@@ -1,4 +1,5 @@
 pub mod AcceptLemmas
+pub mod AllocationLawLemmas
 mod AllocationRows
 pub mod BookedLemmas
 pub mod ChainLemmas
@@ -12,6 +13,7 @@ pub mod OrderLemmas
 pub mod LiveLemmas
 pub mod NamedLemmas
 pub mod PartLemmas
+pub mod QuantityLemmas
 mod Rows
 pub mod StandLemmas
 pub mod UncorrectedLemmas

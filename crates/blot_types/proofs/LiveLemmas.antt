@@ -1,5 +1,5 @@
 -- What one more instruction changes in the allocations that are live.
-use Rattle.std.proofs.Common.{◌≡◌, ℕ, Bool, true, false, ◌&&◌, pos, ◌+ℤ◌, arith, List, [], ◌∷◌, ◌++◌, reverse, Option, Some, None, refl, sym, ap, subst, ◌∙◌, inl, inr}
+use Rattle.std.proofs.Common.{◌≡◌, ℕ, Bool, true, false, ◌&&◌, ◌+ℤ◌, arith, List, [], ◌∷◌, ◌++◌, reverse, Option, Some, None, refl, sym, ap, subst, ◌∙◌, inl, inr}
 use Rattle.std.specs.Prelude.{ℤ, filter, find, is_none, is_some, not, All}
 use Rattle.std.specs.List.{cons_option}
 use Rattle.std.specs.Option.{option_or}
@@ -8,7 +8,6 @@ use Rattle.std.proofs.lemmas.Int.{ints}
 use Rattle.std.proofs.lemmas.List.{reverse-reverse, reverse-append, append-nil}
 use Rattle.std.proofs.lemmas.List.Elements.{All-nil, All-cons, All-head, All-tail, All-append, All-weaker, filter-append, filter_map-append}
 use Rattle.std.proofs.lemmas.List.Folds.{find-append}
-use Rattle.blot_types.specs.declared.allocation.AllocRole.{AllocRole}
 use Rattle.blot_types.specs.declared.allocation.Instruction.{Instruction}
 use Rattle.blot_types.specs.declared.command.Command.{Command}
 use Rattle.blot_types.specs.declared.command.Command.TheVariants.{Trade, Correct, Bust, AllocNew, AllocReplace, AllocCancel}
@@ -22,15 +21,15 @@ use Rattle.blot_types.specs.Legal.{refusal_in, legal_in, is_legal, refusal_of}
 use Rattle.blot_types.specs.Order.{total}
 use Rattle.blot_types.specs.Survivors.{links_in}
 use Rattle.blot_types.proofs.AcceptLemmas.{accepted-instruction, instructed, instructions_of-push}
-use Rattle.blot_types.proofs.ChainLemmas.{clash, differing, none_is}
+use Rattle.blot_types.proofs.ChainLemmas.{differing, none_is}
 use Rattle.blot_types.proofs.ChangeLemmas.{allocations_in, allocations-push}
-use Rattle.blot_types.proofs.InstructionLemmas.{Follows, follows}
+use Rattle.blot_types.proofs.InstructionLemmas.{follows}
 use Rattle.blot_types.proofs.KeyLemmas.{same_alloc-true, same_alloc-refl}
 use Rattle.blot_types.proofs.LawLemmas.{filter-none}
 use Rattle.blot_types.proofs.NamedLemmas.{own-unended}
 use Rattle.blot_types.proofs.StandLemmas.{and-true, and-false}
-use Rattle.blot_types.proofs.SumLemmas.{total-append, total-filter}
-use Rattle.blot_types.proofs.SurvivorLemmas.{filter-and, filter-agree}
+use Rattle.blot_types.proofs.SumLemmas.{total-filter}
+use Rattle.blot_types.proofs.SurvivorLemmas.{filter-and}
 
 -- ---- lists
 
@@ -102,12 +101,12 @@ none_keyed : (instructions : List Instruction) (key : AllocKey) (allocations : L
 none_keyed instructions key allocations fresh taken =
     All-weaker (IsTaken instructions) (λ a. has_alloc_key key a ≡ false)
     (λ a is.
-      elim (cases_Bool (has_alloc_key key a)) [
-        | inl same ↦
-            let none : is_some (alloc_taker_in instructions a.key) ≡ false = ap (λ k. is_some (alloc_taker_in instructions k)) (sym (same_alloc-true key a.key same)) ∙ ap is_some fresh in
-            absurd (differing is none)
-        | inr other ↦ other
-      ]) allocations taken
+    elim (cases_Bool (has_alloc_key key a)) [
+      | inl same ↦
+          let none : is_some (alloc_taker_in instructions a.key) ≡ false = ap (λ k. is_some (alloc_taker_in instructions k)) (sym (same_alloc-true key a.key same)) ∙ ap is_some fresh in
+          absurd (differing is none)
+      | inr other ↦ other
+    ]) allocations taken
 
 find-none : {X : Type 0} (p : X → Bool) (xs : List X) → All (λ x. p x ≡ false) xs → find p xs ≡ None
 find-none p [] none = refl
@@ -223,10 +222,10 @@ total-ended g list key legal live =
     let keyed : filter (has_alloc_key key) (live_allocations list) ≡ filter (has_alloc_key key) (allocations_in list) =
     sym (filter-and alive (has_alloc_key key) (allocations_in list))
     ∙ filter-same (λ a. alive a && has_alloc_key key a) (has_alloc_key key) (allocations_in list) (λ a.
-      elim (cases_Bool (has_alloc_key key a)) [
-        | inl here ↦ rw here (and-true (alive a) ∙ ap (λ k. is_none (ended_in (instructions_of list) k)) (sym (same_alloc-true key a.key here)) ∙ parts.1)
-        | inr other ↦ rw other (and-false (alive a))
-      ]) in
+    elim (cases_Bool (has_alloc_key key a)) [
+      | inl here ↦ rw here (and-true (alive a) ∙ ap (λ k. is_none (ended_in (instructions_of list) k)) (sym (same_alloc-true key a.key here)) ∙ parts.1)
+      | inr other ↦ rw other (and-false (alive a))
+    ]) in
     let split = total-filter g (has_alloc_key key) (live_allocations list) in
     let one : total g (filter (has_alloc_key key) (live_allocations list)) ≡ total g (cons_option (find (has_alloc_key key) (allocations_in list)) []) =
     ap (total g) (keyed ∙ alloc_once list key legal) in

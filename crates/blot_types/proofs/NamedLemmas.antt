@@ -1,35 +1,20 @@
 -- What one more instruction changes: the chains that are named, and the allocations that are live.
-use Rattle.std.proofs.Common.{◌≡◌, ℕ, ◌+◌, ◌≤◌, Bool, true, false, ◌&&◌, pos, ◌+ℤ◌, arith, List, [], ◌∷◌, ◌++◌, length, reverse, Option, Some, None, refl, sym, ap, subst, ◌∙◌, inl, inr}
-use Rattle.std.specs.Prelude.{ℤ, ◌||◌, filter, find, is_none, is_some, not, All}
-use Rattle.std.specs.List.{cons_option, filter_map, list_any}
-use Rattle.std.specs.Option.{option_map_or}
+use Rattle.std.proofs.Common.{◌≡◌, ◌+◌, ◌≤◌, Bool, true, false, ◌&&◌, arith, List, [], ◌∷◌, length, Some, None, refl, sym, ap, subst, ◌∙◌, inl, inr}
+use Rattle.std.specs.Prelude.{◌||◌, filter, find, is_none, not, All}
+use Rattle.std.specs.List.{list_any}
 use Rattle.std.proofs.lemmas.Bool.{cases_Bool, and_from, and_parts}
-use Rattle.std.proofs.lemmas.Int.{ints}
-use Rattle.std.proofs.lemmas.List.{reverse-reverse, reverse-append}
-use Rattle.std.proofs.lemmas.List.Elements.{All-nil, All-cons, All-head, All-tail, All-append, All-weaker, All-filter, filter-append, filter_map-append}
-use Rattle.blot_types.specs.declared.allocation.AllocRole.{AllocRole}
-use Rattle.blot_types.specs.declared.allocation.AllocRole.TheVariants.{Allocates, Replaces, Cancels}
+use Rattle.std.proofs.lemmas.List.Elements.{All-nil, All-cons, All-head, All-tail, All-weaker}
 use Rattle.blot_types.specs.declared.allocation.Instruction.{Instruction}
-use Rattle.blot_types.specs.declared.command.Command.{Command}
-use Rattle.blot_types.specs.declared.command.Command.TheVariants.{Trade, Correct, Bust, AllocNew, AllocReplace, AllocCancel}
-use Rattle.blot_types.specs.declared.command.Entry.{Entry}
 use Rattle.blot_types.specs.declared.keys.AllocKey.{AllocKey}
 use Rattle.blot_types.specs.declared.keys.ExecKey.{ExecKey}
-use Rattle.blot_types.specs.declared.link.Link.{Link}
-use Rattle.blot_types.specs.Allocations.{Allocation, allocation_of, instruction_by, instructions_in, instructions_of, live_allocations, named_roots}
-use Rattle.blot_types.specs.Instructions.{is_keyed, alloc_taker_in, brings_allocation, is_allocation_of, is_allocation_in, ends, ended_in, is_live_in, names, holds_in, named_in, is_reference, reference_of, is_live_key, may_follow, is_instructed}
+use Rattle.blot_types.specs.Instructions.{is_keyed, alloc_taker_in, brings_allocation, is_allocation_of, is_allocation_in, ends, ended_in, is_live_in, names, holds_in, named_in, reference_of, is_live_key, may_follow, is_instructed}
 use Rattle.blot_types.specs.Keys.{is_among, same_alloc}
-use Rattle.blot_types.specs.Legal.{refusal_in, legal_in, is_legal}
-use Rattle.blot_types.specs.Order.{total}
-use Rattle.blot_types.specs.Survivors.{links_in}
-use Rattle.blot_types.proofs.AcceptLemmas.{accepted-instruction, instructed, instructions_of-push}
-use Rattle.blot_types.proofs.ChainLemmas.{clash, differing, none_is}
-use Rattle.blot_types.proofs.ChangeLemmas.{allocations_in, named-held}
-use Rattle.blot_types.proofs.InstructionLemmas.{Follows, follows, live-step, holds-step, ends-reference, unknown_reference, unended, named_once}
-use Rattle.blot_types.proofs.KeyLemmas.{same_alloc-true, same_alloc-refl, same_alloc-sym}
+use Rattle.blot_types.proofs.AcceptLemmas.{instructed}
+use Rattle.blot_types.proofs.ChainLemmas.{clash, differing}
+use Rattle.blot_types.proofs.ChangeLemmas.{named-held}
+use Rattle.blot_types.proofs.InstructionLemmas.{Follows, follows, holds-step, ends-reference, unknown_reference, unended, named_once}
+use Rattle.blot_types.proofs.KeyLemmas.{same_alloc-true, same_alloc-sym}
 use Rattle.blot_types.proofs.StandLemmas.{and-true, and-false}
-use Rattle.blot_types.proofs.SumLemmas.{total-append, total-filter}
-use Rattle.blot_types.proofs.SurvivorLemmas.{filter-and, filter-agree}
 
 -- ---- lists
 
@@ -157,10 +142,10 @@ keyed-live instructions key t instructed live found =
     let parts : (is_allocation_in instructions key ≡ true) × (is_none (ended_in instructions key) ≡ true) = and_parts _ _ live in
     any-all (is_allocation_of key) (λ j. is_keyed key j ≡ true → j ≡ t) (is_live_in instructions t ≡ true) instructions parts.0 (keyed-same key instructions t instructed found)
     (λ j is same.
-      let both : (is_keyed key j ≡ true) × (brings_allocation j.role ≡ true) = and_parts _ _ is in
-      let one : j ≡ t = same both.0 in
-      let own : j.key ≡ key = same_alloc-true j.key key both.0 in
-      subst (λ k. is_live_in instructions k ≡ true) one (and_from _ _ both.1 (ap (λ k. is_none (ended_in instructions k)) own ∙ parts.1)))
+    let both : (is_keyed key j ≡ true) × (brings_allocation j.role ≡ true) = and_parts _ _ is in
+    let one : j ≡ t = same both.0 in
+    let own : j.key ≡ key = same_alloc-true j.key key both.0 in
+    subst (λ k. is_live_in instructions k ≡ true) one (and_from _ _ both.1 (ap (λ k. is_none (ended_in instructions k)) own ∙ parts.1)))
 
 -- without the allocation of a live key, exactly its chains are named no more
 pub named-less :
@@ -187,12 +172,12 @@ named-less instructions key t root instructed live found =
           any-agree-all (λ j. holds j && not (keyed j)) holds instructions
           (All-weaker (λ j. is_keyed key j ≡ true → j ≡ t) (λ j. (holds j && not (keyed j)) ≡ holds j)
           (λ j same.
-            elim (cases_Bool (keyed j)) [
-              | inl here ↦
-                  let is : j ≡ t = same (same_alloc-sym j.key key ∙ here) in
-                  let passed : holds j ≡ false = ap holds is ∙ ap (λ b. is_live_in instructions t && b) unnamed ∙ and-false (is_live_in instructions t) in
-                  rw passed refl
-              | inr other ↦ rw other (and-true (holds j))
-            ]) instructions all_same)
+          elim (cases_Bool (keyed j)) [
+            | inl here ↦
+                let is : j ≡ t = same (same_alloc-sym j.key key ∙ here) in
+                let passed : holds j ≡ false = ap holds is ∙ ap (λ b. is_live_in instructions t && b) unnamed ∙ and-false (is_live_in instructions t) in
+                rw passed refl
+            | inr other ↦ rw other (and-true (holds j))
+          ]) instructions all_same)
           ∙ sym (named-held instructions root) ∙ sym (ap (λ b. is_among (named_in instructions) root && not b) unnamed ∙ and-true (is_among (named_in instructions) root))
     ]

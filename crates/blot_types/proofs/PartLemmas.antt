@@ -1,9 +1,9 @@
 -- The parts of the positions: what moves where a chain is named, or isn't any more.
-use Rattle.std.proofs.Common.{◌≡◌, ℕ, ◌==◌, Bool, true, false, ◌&&◌, pos, ◌+ℤ◌, arith, List, [], ◌∷◌, ◌++◌, map, reverse, Option, Some, None, refl, sym, ap, subst, ◌∙◌, inl, inr}
+use Rattle.std.proofs.Common.{◌≡◌, ℕ, ◌==◌, Bool, true, false, ◌&&◌, ◌+ℤ◌, arith, List, [], ◌∷◌, map, reverse, Option, Some, None, refl, sym, ap, subst, ◌∙◌, inl, inr}
 use Rattle.std.specs.Prelude.{ℤ, filter, find, is_none, not, All, IsTrue, if◌then◌else◌}
 use Rattle.std.specs.List.{cons_option}
 use Rattle.std.specs.Option.{option_map_or, option_and_then}
-use Rattle.std.proofs.lemmas.Bool.{cases_Bool, and_parts, eqb-true, eq-eqb}
+use Rattle.std.proofs.lemmas.Bool.{cases_Bool, eqb-true, eq-eqb}
 use Rattle.std.proofs.lemmas.Int.{ints}
 use Rattle.std.proofs.lemmas.List.{reverse-reverse}
 use Rattle.std.proofs.lemmas.List.Elements.{All-nil, All-cons, All-weaker}
@@ -19,8 +19,7 @@ use Rattle.blot_types.specs.Legal.{is_book}
 use Rattle.blot_types.specs.Order.{total}
 use Rattle.blot_types.specs.Position.{part_of_fill}
 use Rattle.blot_types.specs.Standing.{standing}
-use Rattle.blot_types.specs.Survivors.{links_of, versions_of, is_number, stands_under, stands_in, survivors}
-use Rattle.blot_types.proofs.ChainLemmas.{clash, differing}
+use Rattle.blot_types.specs.Survivors.{links_of, versions_of, stands_under, stands_in, survivors}
 use Rattle.blot_types.proofs.KeyLemmas.{same_exec-true, same_exec-refl}
 use Rattle.blot_types.proofs.LawLemmas.{filter-none, all, alone, stands-number, busted_none, stands_of, book_parts}
 use Rattle.blot_types.proofs.StandLemmas.{and-false}

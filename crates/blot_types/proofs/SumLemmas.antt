@@ -1,7 +1,7 @@
 -- Signed sums over lists.
-use Rattle.std.proofs.Common.{◌≡◌, ℕ, Bool, true, false, pos, ◌+ℤ◌, ◌-ℤ◌, arith, List, [], ◌∷◌, ◌++◌, map, Option, Some, None, refl, sym, ap, ◌∙◌, inl, inr}
-use Rattle.std.specs.Prelude.{ℤ, neg_ℤ, filter, not, fold, All, if◌then◌else◌}
-use Rattle.std.specs.List.{flat_map, filter_map, cons_option}
+use Rattle.std.proofs.Common.{◌≡◌, Bool, pos, ◌+ℤ◌, arith, List, [], ◌∷◌, ◌++◌, map, refl, sym, ap, ◌∙◌, inl, inr}
+use Rattle.std.specs.Prelude.{ℤ, filter, not, fold, All, if◌then◌else◌}
+use Rattle.std.specs.List.{flat_map}
 use Rattle.std.proofs.lemmas.Bool.{cases_Bool}
 use Rattle.std.proofs.lemmas.Int.{ints}
 use Rattle.std.proofs.lemmas.List.Elements.{All-head, All-tail}

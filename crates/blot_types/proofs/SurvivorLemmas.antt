@@ -1,5 +1,5 @@
 -- The survivors of a list with one more entry, and the version whose place it takes.
-use Rattle.std.proofs.Common.{◌≡◌, ℕ, ◌+◌, ◌<◌, ◌≤◌, ◌==◌, length, Bool, true, false, ◌&&◌, List, [], ◌∷◌, ◌++◌, map, reverse, Option, Some, None, refl, sym, ap, subst, ◌∙◌, arith, inl, inr}
+use Rattle.std.proofs.Common.{◌≡◌, ℕ, ◌+◌, ◌<◌, ◌≤◌, ◌==◌, length, Bool, true, false, ◌&&◌, List, [], ◌∷◌, ◌++◌, reverse, Option, Some, None, refl, sym, ap, subst, ◌∙◌, arith, inl, inr}
 use Rattle.std.specs.Prelude.{is_none, is_some, not, find, filter, nat_lt, All}
 use Rattle.std.specs.List.{cons_option, filter_map}
 use Rattle.std.specs.Option.{option_or}
@@ -155,11 +155,11 @@ last_stands :
     → filter (stands_in (link ∷ links)) (versions_of (entry ∷ [])) ≡ versions_of (entry ∷ [])
 last_stands links entry link is accepted =
     one-stands (stands_in (link ∷ links)) (version_of entry) (λ version brought.
-      let own = of_its_link entry link is version brought in
-      elim (cases_Bool (brings link.role)) [
-        | inl one ↦ stands-new links link version accepted one own.number own.key
-        | inr none ↦ absurd (clash (sym brought ∙ version-of_bust entry link is none))
-      ])
+    let own = of_its_link entry link is version brought in
+    elim (cases_Bool (brings link.role)) [
+      | inl one ↦ stands-new links link version accepted one own.number own.key
+      | inr none ↦ absurd (clash (sym brought ∙ version-of_bust entry link is none))
+    ])
 
 -- the survivors with one more link: the version whose place it takes is gone, and its own is there
 push-link :

@@ -1,5 +1,5 @@
 -- Why a list of entries refuses a command: one definition a rule. The entries are newest first.
-use Rattle.std.specs.Prelude.{ℕ, ◌==◌, Bool, true, false, ◌&&◌, ◌||◌, not, ℤ, pos, List, [], ◌∷◌, ◌++◌, Option, Some, None, find, is_none, if◌then◌else◌}
+use Rattle.std.specs.Prelude.{ℕ, ◌==◌, Bool, true, false, ◌&&◌, not, ℤ, pos, List, [], ◌∷◌, ◌++◌, Option, Some, None, find, is_none, if◌then◌else◌}
 use Rattle.std.specs.List.{filter_map, list_any}
 use Rattle.std.specs.Option.{option_map, option_map_or, option_or, option_and_then}
 use Rattle.std.specs.Ordering.{int_eq}
@@ -18,7 +18,7 @@ use Rattle.blot_types.specs.declared.lines.Version.{Version}
 use Rattle.blot_types.specs.declared.link.Link.{Link}
 use Rattle.blot_types.specs.declared.refused.Refused.{Refused}
 use Rattle.blot_types.specs.declared.refused.Refused.TheVariants.{DuplicateExec, DuplicateAlloc, UnknownAlloc, DeadAlloc, UnknownExec, BustedExec, RepeatedExec, ExecTaken, Instrument, Quantity}
-use Rattle.blot_types.specs.Allocations.{Allocation, allocation_of, instructions_in}
+use Rattle.blot_types.specs.Allocations.{allocation_of, instructions_in}
 use Rattle.blot_types.specs.Chains.{taker_in, root_in, is_root, bust_in, current_in}
 use Rattle.blot_types.specs.Instructions.{alloc_taker_in, is_allocation_in, ended_in, other_holder_in}
 use Rattle.blot_types.specs.Keys.{same_text}

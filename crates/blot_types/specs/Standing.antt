@@ -12,4 +12,3 @@ abbrev pub standing : List Entry → ExecKey → Option Version
 standing list root =
     if is_none (bust_in (links_of list) root)
     then option_and_then (λ number. find (λ v. v.number == number) (versions_of list)) (current_in (links_of list) root) else None
-

@@ -92,7 +92,10 @@ impl Command {
             Command::Correct(correct) => Ok(Command::Correct(*correct)),
             Command::Bust(bust) => Ok(Command::Bust(*bust)),
             Command::AllocNew(new) => match new.terms.try_copy(alloc) {
-                Ok(terms) => Ok(Command::AllocNew(AllocNew { key: new.key, terms })),
+                Ok(terms) => Ok(Command::AllocNew(AllocNew {
+                    key: new.key,
+                    terms,
+                })),
                 Err(fail) => Err(fail),
             },
             Command::AllocReplace(replace) => match replace.terms.try_copy(alloc) {
