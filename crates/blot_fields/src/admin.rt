@@ -46,7 +46,7 @@ pub enum Admin {
     Logout,
 }
 
-/// Logon.
+/// Reads a Logon.
 #[tactic(auto, unfolding(crate::specs::Messages::logon_of))]
 pub(crate) fn logon_of(fields: &FieldIndex) -> Result<Admin, Wrong>
     ensures { result ≡ logon_of fields.now }
@@ -57,7 +57,7 @@ pub(crate) fn logon_of(fields: &FieldIndex) -> Result<Admin, Wrong>
     Ok(Admin::Logon { heartbeat, reset })
 }
 
-/// Test Request.
+/// Reads a Test Request.
 #[tactic(auto, unfolding(crate::specs::Messages::test_request_of))]
 pub(crate) fn test_request_of(fields: &FieldIndex) -> Result<Admin, Wrong>
     ensures { result ≡ test_request_of fields.now }
@@ -66,7 +66,7 @@ pub(crate) fn test_request_of(fields: &FieldIndex) -> Result<Admin, Wrong>
     Ok(Admin::TestRequest { id })
 }
 
-/// Resend Request.
+/// Reads a Resend Request.
 #[tactic(auto, unfolding(crate::specs::Messages::resend_request_of))]
 pub(crate) fn resend_request_of(fields: &FieldIndex) -> Result<Admin, Wrong>
     ensures { result ≡ resend_request_of fields.now }
@@ -76,7 +76,7 @@ pub(crate) fn resend_request_of(fields: &FieldIndex) -> Result<Admin, Wrong>
     Ok(Admin::ResendRequest { begin, end })
 }
 
-/// Sequence Reset.
+/// Reads a Sequence Reset.
 #[tactic(auto, unfolding(crate::specs::Messages::sequence_reset_of))]
 pub(crate) fn sequence_reset_of(fields: &FieldIndex) -> Result<Admin, Wrong>
     ensures { result ≡ sequence_reset_of fields.now }

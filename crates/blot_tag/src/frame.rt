@@ -38,6 +38,7 @@ impl<'a> Frame<'a> {
         ensures slices { All (λ field. IsSlice field.value (text_of self.now)) (fields_before_fault result) }
         ensures ends { EachEnds None (fields_before_fault result) }
 
+        // No more than the longest frame has bytes.
         ensures few { length result ≤ longest_frame }
         ensures valid { IsFrame (text_of self.now) }
     {
