@@ -89,7 +89,7 @@ fn expected(
 ) -> Result<Option<Refused>, Fail>
     requires { next ≤ EVENTS_MAX }
 {
-    Ok(accepts(&live(alloc, tables, next)?, command)?)
+    Ok(accepts(alloc, &live(alloc, tables, next)?, command)?)
 }
 
 // A command was taken where the plain program accepts it.
@@ -121,7 +121,7 @@ fn try_command(alloc: Global, tables: &mut Tables, number: u64, sent: &Command) 
     ensures { IfOk result (λ _. tables.new.list ≡ tables.old.list) }
 {
     let refusal = expected(alloc, tables, number, sent)?;
-    match sent.try_copy()?.apply(tables, number) {
+    match sent.try_copy(alloc)?.apply(tables, number) {
         Ok(inverse) => {
             expect_taken(refusal, number)?;
             let back = Command::revert(inverse, tables);
@@ -212,7 +212,7 @@ fn explore(
     let sent = drawn(seed >> 7)?;
     let seed = seed.wrapping_mul(1_664_525).wrapping_add(1_013_904_223);
     let refusal = expected(alloc, tables, number, &sent)?;
-    match sent.try_copy()?.apply(tables, number) {
+    match sent.try_copy(alloc)?.apply(tables, number) {
         Ok(inverse) => {
             expect_taken(refusal, number)?;
             expect_entry(tables, number, &sent)?;
