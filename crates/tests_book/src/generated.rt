@@ -105,10 +105,10 @@ fn expect_refused(
     expected: Option<Refused>,
     fault: ApplyFault,
     sent: &Command,
-    back: &Command,
+    back: Command,
     number: u64,
 ) -> Result<(), Fail> {
-    if expected.map(ApplyFault::Refused) != Some(fault) || back != sent {
+    if expected.map(ApplyFault::Refused) != Some(fault) || back != *sent {
         return Err(Fail::new(format_args!("refused under {number} with {fault:?}")));
     }
     Ok(())
@@ -125,9 +125,9 @@ fn try_command(alloc: Global, tables: &mut Tables, number: u64, sent: &Command) 
         Ok(inverse) => {
             expect_taken(refusal, number)?;
             let back = Command::revert(inverse, tables);
-            expect_back(sent, &back, number)
+            expect_back(sent, back, number)
         }
-        Err((back, fault)) => expect_refused(refusal, fault, sent, &back, number),
+        Err((back, fault)) => expect_refused(refusal, fault, sent, back, number),
     }
 }
 
@@ -226,10 +226,10 @@ fn explore(
                 others(seed, steps),
             )?;
             let back = Command::revert(inverse, tables);
-            expect_back(&sent, &back, number)?;
+            expect_back(&sent, back, number)?;
         }
         Err((back, fault)) => {
-            expect_refused(refusal, fault, &sent, &back, number)?;
+            expect_refused(refusal, fault, &sent, back, number)?;
             explore(alloc, tables, orders, number + 1, seed, steps - 1)?;
         }
     }

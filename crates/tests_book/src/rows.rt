@@ -132,12 +132,12 @@ fn expect_taken(row: &Row, number: u64) -> Result<(), Fail> {
 fn expect_refused(
     row: &Row,
     sent: &Command,
-    back: &Command,
+    back: Command,
     fault: ApplyFault,
     number: u64,
 ) -> Result<(), Fail> {
     let expected = refusal(&row.outcome, reference(sent));
-    if expected.map(ApplyFault::Refused) != Some(fault) || back != sent {
+    if expected.map(ApplyFault::Refused) != Some(fault) || back != *sent {
         return Err(Fail::new(format_args!("refused under {number} with {fault:?}")));
     }
     Ok(())
@@ -213,10 +213,10 @@ fn play(
             expect_entry(tables, number, &sent)?;
             play(alloc, tables, number + 1, orders, &row.lines, rest)?;
             let back = Command::revert(inverse, tables);
-            expect_back(&sent, &back, number)?;
+            expect_back(&sent, back, number)?;
         }
         Err((back, fault)) => {
-            expect_refused(row, &sent, &back, fault, number)?;
+            expect_refused(row, &sent, back, fault, number)?;
             play(alloc, tables, number + 1, orders, &row.lines, rest)?;
         }
     }
