@@ -148,37 +148,40 @@ fn fifty_and_forty_nine() -> Reply {
     Reply::Refused(Refused::Quantity(fifty, forty_nine))
 }
 
+// Of E2, 30 to A.
+fn thirty_to_a(block: &'static [u8], b: &'static [u8]) -> Booked {
+    Booked {
+        execs: &[b"E2"],
+        block,
+        a: b"30",
+        b,
+    }
+}
+
 #[test]
 fn the_block_and_the_lines_are_the_quantity(rt: HostRuntime) -> Result<(), Fail> {
     let mut held = Held::new(rt.alloc());
     expect_trade(&mut held, b"E2", &Buys(b"O1", b"50", b"11", b"300"), 1)?;
-    let execs: &'static [&'static [u8]] = &[b"E2"];
-    let booked = |block, b| Booked {
-        execs,
-        block,
-        a: b"30",
-        b,
-    };
     let alloc = rt.alloc();
     expect_new(
         alloc,
         &mut held,
         b"AL1",
-        &booked(b"50", b"19"),
+        &thirty_to_a(b"50", b"19"),
         fifty_and_forty_nine(),
     )?;
     expect_new(
         alloc,
         &mut held,
         b"AL1",
-        &booked(b"49", b"20"),
+        &thirty_to_a(b"49", b"20"),
         fifty_and_forty_nine(),
     )?;
     expect_new(
         alloc,
         &mut held,
         b"AL1",
-        &booked(b"50", b"20"),
+        &thirty_to_a(b"50", b"20"),
         Reply::Accepted(2),
     )
 }
@@ -220,9 +223,12 @@ fn an_execution_and_its_correction_are_one(rt: HostRuntime) -> Result<(), Fail> 
 fn references_of_allocations(rt: HostRuntime) -> Result<(), Fail> {
     let mut held = Held::new(rt.alloc());
     let alloc = rt.alloc();
-    let unknown = Refused::UnknownAlloc;
     expect_trade(&mut held, b"E1", &bought(), 1)?;
-    expect_cancel(&mut held, (b"C1", b"AL1"), Reply::Refused(unknown))?;
+    expect_cancel(
+        &mut held,
+        (b"C1", b"AL1"),
+        Reply::Refused(Refused::UnknownAlloc),
+    )?;
     expect_new(alloc, &mut held, b"AL1", &FIRST, Reply::Accepted(2))?;
     expect_replace(
         alloc,
@@ -234,7 +240,11 @@ fn references_of_allocations(rt: HostRuntime) -> Result<(), Fail> {
     let replaced = Reply::Refused(Refused::DeadAlloc(3));
     expect_cancel(&mut held, (b"C1", b"AL1"), replaced)?;
     expect_cancel(&mut held, (b"C1", b"AL2"), Reply::Accepted(4))?;
-    expect_cancel(&mut held, (b"C2", b"C1"), Reply::Refused(unknown))?;
+    expect_cancel(
+        &mut held,
+        (b"C2", b"C1"),
+        Reply::Refused(Refused::UnknownAlloc),
+    )?;
     let cancelled = Reply::Refused(Refused::DeadAlloc(4));
     expect_replace(alloc, &mut held, (b"AL3", b"AL2"), &FIRST, cancelled)?;
     expect_new(alloc, &mut held, b"AL3", &FIRST, Reply::Accepted(5))
