@@ -1,5 +1,5 @@
 -- The positions after a change: the sums and the cell of the same position, and of another one.
-use Rattle.std.proofs.Common.{◌≡◌, ℕ, ◌<◌, ℤ, List, Option, Some, None, Bool, true, false, ◌||◌, refl, sym, ap, ◌∙◌, arith, inl, inr}
+use Rattle.std.proofs.Common.{◌≡◌, ℕ, ◌+◌, ◌-◌, ◌<◌, ℤ, ◌+ℤ◌, ◌-ℤ◌, List, Option, Some, None, Bool, true, false, ◌||◌, refl, sym, ap, ◌∙◌, arith, inl, inr}
 use Rattle.std.specs.Prelude.{if◌then◌else◌, is_some}
 use Rattle.std.specs.Cmp.{IsTotalOrder, on_total, then_total, tied_then}
 use Rattle.std.specs.Cmp.Lexicographic.{slice_cmp, nat_list_cmp_total, nat_list_eq_equiv, texts_ties, same_text as text_told}
@@ -7,6 +7,7 @@ use Rattle.std.specs.FinMap as finite
 use Rattle.std.specs.Option.{unwrap_or}
 use Rattle.std.specs.Ordering.{nat_cmp, eq_by_cmp}
 use Rattle.std.proofs.lemmas.Bool.{cases_Bool, and_from, and_parts}
+use Rattle.std.proofs.lemmas.Int.{ints}
 use Rattle.std.proofs.lemmas.Map.Lookups.{exact_bytes, exact_pairs}
 use Rattle.blot_types.specs.Keys.{same_text}
 use Rattle.blot_position.specs.declared.sums.Sums.{Sums}
@@ -209,3 +210,21 @@ pub with_part-with_cell : (a s : List ℕ) (qty value : ℤ) (cells : Cells) →
 with_part-with_cell a s qty value cells =
     insert-insert a s (sums_at cells a s) (with_one qty value (sums_at (with_cell a s cells) a s)) cells
     ∙ ap (λ sums. finite.insert cells (a, s) (with_one qty value sums)) (sums_at-with_cell a s a s cells)
+
+-- ---- one part more, and the same part less
+
+added-taken : (sum amount : ℤ) → ((sum +ℤ amount) -ℤ amount) ≡ sum
+added-taken sum amount = omega (arith, ints)
+
+taken-added : (sum amount : ℤ) → ((sum -ℤ amount) +ℤ amount) ≡ sum
+taken-added sum amount = omega (arith, ints)
+
+pub without_one-with_one : (qty value : ℤ) (sums : Sums) → without_one qty value (with_one qty value sums) ≡ sums
+without_one-with_one qty value sums =
+    let parts : (sums.parts + 1) - 1 ≡ sums.parts = omega arith in
+    λ i. record { parts = parts i; qty = added-taken sums.qty qty i; value = added-taken sums.value value i }
+
+pub with_one-without_one : (qty value : ℤ) (sums : Sums) → 0 < sums.parts → with_one qty value (without_one qty value sums) ≡ sums
+with_one-without_one qty value sums some =
+    let parts : (sums.parts - 1) + 1 ≡ sums.parts = omega arith in
+    λ i. record { parts = parts i; qty = taken-added sums.qty qty i; value = taken-added sums.value value i }
