@@ -1,5 +1,5 @@
 -- The fill of the last version of a chain, as the code finds it; and sums of such fills.
-use Rattle.std.proofs.Common.{◌≡◌, ℕ, ◌+◌, ◌*◌, ◌^◌, ◌<◌, ◌≤◌, pos, ◌+ℤ◌, ◌≤ℤ◌, arith, true, List, [], ◌∷◌, ◌++◌, take, get_or, length, reverse, Option, Some, None, refl, sym, ap, ◌∙◌}
+use Rattle.std.proofs.Common.{◌≡◌, ℕ, ◌+◌, ◌<◌, pos, ◌+ℤ◌, arith, true, List, [], ◌∷◌, ◌++◌, take, get_or, length, reverse, Option, Some, None, refl, sym, ap, ◌∙◌}
 use Rattle.std.specs.Prelude.{ℤ}
 use Rattle.std.specs.List.{cons_option, filter_map}
 use Rattle.std.specs.Option.{option_map, option_or, option_and_then}
@@ -20,10 +20,10 @@ use Rattle.blot_types.specs.Allocations.{instructions_of}
 use Rattle.blot_types.specs.Instructions.{alloc_taker_in}
 use Rattle.blot_types.proofs.AcceptLemmas.{or_parts}
 use Rattle.blot_command.specs.Refusing.{terms_refusal, reference_refusal}
-use Rattle.blot_types.specs.Order.{total, cum_of}
+use Rattle.blot_types.specs.Order.{cum_of}
 use Rattle.blot_types.specs.Refusals.{version_in, current_fill, mismatch}
-use Rattle.blot_types.specs.Survivors.{links_of, versions_of}
-use Rattle.blot_types.proofs.SumLemmas.{total-append, total-cons}
+use Rattle.blot_types.specs.Survivors.{links_of}
+use Rattle.blot_types.proofs.SumLemmas.{total-append}
 use Rattle.blot_types.proofs.SurvivorLemmas.{version_in-rising}
 use Rattle.blot_command.specs.Shown.{version_numbered}
 

@@ -1,5 +1,5 @@
 -- An entry as the chains and the allocations see it.
-use Rattle.std.specs.Prelude.{◌≡◌, true, List, [], ◌∷◌, Option, Some, None, IfSome}
+use Rattle.std.specs.Prelude.{◌≡◌, true, List, [], ◌∷◌, None, IfSome}
 use Rattle.std.specs.List.{cons_option}
 use Rattle.blot_types.specs.declared.allocation.Instruction.{Instruction}
 use Rattle.blot_types.specs.declared.command.Command.{Command}
@@ -9,7 +9,7 @@ use Rattle.blot_types.specs.declared.link.Link.{Link}
 use Rattle.blot_types.specs.Allocations.{instruction_by}
 use Rattle.blot_types.specs.Chains.{link_refusal, is_below}
 use Rattle.blot_types.specs.Instructions.{may_follow, is_above_all}
-use Rattle.blot_types.specs.Survivors.{link_by, link_of}
+use Rattle.blot_types.specs.Survivors.{link_of}
 
 -- a link may come next: it is accepted, and its number is above the others
 pub record CanLinkNext (links : List Link) (link : Link) : Type 0 where

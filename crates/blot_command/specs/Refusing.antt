@@ -1,5 +1,5 @@
 -- The rules as the code asks them: over the chains and the allocations that the live list keeps.
-use Rattle.std.specs.Prelude.{◌≡◌, Bool, true, false, List, [], reverse, Option, pos, find, is_none, if◌then◌else◌, Some, None}
+use Rattle.std.specs.Prelude.{◌≡◌, true, false, List, [], reverse, Option, pos, find, is_none, if◌then◌else◌, Some, None}
 use Rattle.std.specs.List.{filter_map}
 use Rattle.std.specs.Option.{option_map, option_map_or, option_or}
 use Rattle.blot_types.specs.declared.allocation.Instruction.{Instruction}

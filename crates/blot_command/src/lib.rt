@@ -7,6 +7,7 @@
 mod alloc_cancel;
 mod alloc_new;
 mod alloc_replace;
+mod booking;
 mod bust;
 mod command;
 mod correct;

@@ -2,7 +2,7 @@ use mir.Syntax.{w128}
 use Rattle.std.proofs.Common.{◌≡◌, arith, to_z, of_z, [], reverse, false, pos, sym, ◌∙◌, ap, Some, None}
 use Rattle.std.specs.Prelude.{find, is_none}
 use Rattle.std.specs.List.{filter_map}
-use Rattle.std.specs.Option.{option_map, option_map_or, option_or}
+use Rattle.std.specs.Option.{option_map_or}
 use Rattle.std.proofs.lemmas.Int.{ints}
 use Rattle.blot_types.specs.declared.refused.Refused.TheVariants.{UnknownExec, BustedExec, RepeatedExec, ExecTaken, Instrument}
 use Rattle.blot_types.specs.Allocations.{instructions_of}
