@@ -7,6 +7,6 @@ pub returns-in-Err-Refused-default-Refused-clause-ok : goal.returns-in-Err-Refus
 returns-in-Err-Refused-default-Refused-clause-ok c = let a = c.in-Err-Refused-default-Refused in let o = c.apply-outcome in
     let fault : a.field-0 ≡ RefusedStep a.field-0-0 a.field-0-1 = rw a.is at a.field-0-is in
     refused_submit _ _ c.args.command a.field-0-0 a.field-0-1 a.reason
-        (rw fault at (rw a.is at o.ensures.fault))
-        (rw fault at (rw a.is at a.field-0-1-is))
-        (rw a.is at o.ensures.err)
+    (rw fault at (rw a.is at o.ensures.fault))
+    (rw fault at (rw a.is at a.field-0-1-is))
+    (rw a.is at o.ensures.err)
