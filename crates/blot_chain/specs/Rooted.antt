@@ -5,7 +5,7 @@ use Rattle.blot_types.specs.declared.keys.ExecKey.{ExecKey}
 use Rattle.blot_types.specs.declared.link.Link.{Link}
 use Rattle.blot_types.specs.declared.link.Role.{Role}
 use Rattle.blot_types.specs.declared.link.Role.TheVariants.{Begins, Corrects, Busts}
-use Rattle.blot_types.specs.Chains.{root_in, is_chained}
+use Rattle.blot_types.specs.Chains.{root_in, is_chained, falls}
 use Rattle.blot_types.specs.Keys.{same_exec}
 use Rattle.blot_chain.specs.declared.rooted.Rooted.{Rooted}
 
@@ -53,7 +53,9 @@ abbrev pub AreRooted : List Rooted → Type 0
 AreRooted [] = ⊤
 AreRooted (item ∷ earlier) = (chain_root (links_in earlier) item.link.key item.link.role ≡ Some item.root) × AreRooted earlier
 
--- what the chains keep: each link was accepted after those before it, and has its root beside it
+-- what the chains keep: each link was accepted after those before it, the numbers fall from the newest to the
+-- oldest, and each link has its root beside it
 pub record HoldsChains (items : List Rooted) : Type 0 where
+  pub fall : falls (links_in items) ≡ true
   pub chained : is_chained (links_in items) ≡ true
   pub rooted : AreRooted items

@@ -1,7 +1,7 @@
 //! `Chains`.
-ghost use Rattle.std.specs.Prelude.{◌≡◌, [], ◌∷◌, Some, None, IfSome, OnOk, OnErr};
+ghost use Rattle.std.specs.Prelude.{◌≡◌, [], ◌∷◌, Some, None, IfSome, IsTrue, OnOk, OnErr};
 ghost use Rattle.blot_types.specs.declared.link.Role.TheVariants.{Begins, Corrects, Busts};
-ghost use Rattle.blot_types.specs.Chains.{root_in, current_in, bust_in, taker_in, chain_refusal, link_refusal};
+ghost use Rattle.blot_types.specs.Chains.{root_in, current_in, bust_in, taker_in, chain_refusal, link_refusal, is_below};
 ghost use Rattle.blot_types.specs.Laws.{IsOneTrade};
 ghost use Rattle.blot_chain.specs.Rooted.{chain_root};
 ghost use Rattle.blot_chain.specs.Steps.{IsNewest, Adds};
@@ -12,7 +12,7 @@ use std::alloc::{AllocError as NoMemory, Global};
 use std::marker::Model;
 
 /// The links of the executions that are taken up, in the order in which they came. A contract sees them as
-/// a list, newest first, in which each link was accepted after those before it.
+/// a list, newest first, in which each link was accepted after those before it, and the numbers fall.
 #[derive(Drop)]
 pub struct Chains {
     links: Vec<Rooted>,
@@ -40,10 +40,12 @@ impl Chains {
         }
     }
 
-    /// Adds a Trade, which begins a chain. Its key is taken up by no link so far. An error leaves the
+    /// Adds a Trade, which begins a chain. Its key is taken up by no link so far, and its
+    /// number is above theirs. An error leaves the
     /// chains as they were. FIX 4.4 volume 4, ExecType(150).
     pub fn add(&mut self, number: u64, key: &ExecKey) -> Result<(), NoMemory>
         requires accepted { link_refusal self.old key.now Begins ≡ None }
+        requires above { IsTrue (is_below number self.old) }
         ensures ok { OnOk result (self.new ≡ record { number = number; key = key.now; role = Begins } ∷ self.old) }
         ensures err { OnErr result (self.new ≡ self.old) }
     {
@@ -60,6 +62,7 @@ impl Chains {
         reference: &ExecKey,
     ) -> Result<(), NoMemory>
         requires accepted { link_refusal self.old key.now (Corrects reference.now) ≡ None }
+        requires above { IsTrue (is_below number self.old) }
         ensures ok { OnOk result (self.new ≡ record { number = number; key = key.now; role = Corrects reference.now } ∷ self.old) }
         ensures err { OnErr result (self.new ≡ self.old) }
     {
@@ -72,6 +75,7 @@ impl Chains {
     /// ExecRefID(19).
     pub fn bust(&mut self, number: u64, key: &ExecKey, reference: &ExecKey) -> Result<(), NoMemory>
         requires accepted { link_refusal self.old key.now (Busts reference.now) ≡ None }
+        requires above { IsTrue (is_below number self.old) }
         ensures ok { OnOk result (self.new ≡ record { number = number; key = key.now; role = Busts reference.now } ∷ self.old) }
         ensures err { OnErr result (self.new ≡ self.old) }
     {
@@ -79,7 +83,7 @@ impl Chains {
         self.push_link(number, key, Role::Busts(*reference), root)
     }
 
-    /// Takes back a Trade of this key, the newest link. No memory is taken. Own profile.
+    /// Takes back a Trade of this key, the newest link. No memory is taken. This project's rule.
     pub fn un_add(&mut self, key: &ExecKey)
         requires newest { IsNewest key.now Begins self.old }
         ensures { Adds key.now Begins self.new self.old }
@@ -87,7 +91,7 @@ impl Chains {
         self.pop_link(key, Role::Begins);
     }
 
-    /// Takes back a Correct of this key and reference, the newest link. No memory is taken. Own profile.
+    /// Takes back a Correct of this key and reference, the newest link. No memory is taken. This project's rule.
     pub fn un_correct(&mut self, key: &ExecKey, reference: &ExecKey)
         requires newest { IsNewest key.now (Corrects reference.now) self.old }
         ensures { Adds key.now (Corrects reference.now) self.new self.old }
@@ -95,7 +99,7 @@ impl Chains {
         self.pop_link(key, Role::Corrects(*reference));
     }
 
-    /// Takes back a Bust of this key and reference, the newest link. No memory is taken. Own profile.
+    /// Takes back a Bust of this key and reference, the newest link. No memory is taken. This project's rule.
     pub fn un_bust(&mut self, key: &ExecKey, reference: &ExecKey)
         requires newest { IsNewest key.now (Busts reference.now) self.old }
         ensures { Adds key.now (Busts reference.now) self.new self.old }
@@ -113,7 +117,7 @@ impl Chains {
     }
 
     /// The number of the last version of the chain of a root, busted or not. None where the key is no root.
-    /// Own profile.
+    /// This project's rule.
     pub fn current(&self, root: &ExecKey) -> Option<u64>
         ensures { result ≡ current_in self.now root.now }
     {
@@ -121,14 +125,14 @@ impl Chains {
     }
 
     /// The number of the Bust of the chain of a root. None where the chain isn't busted, or the key is no
-    /// root. Own profile.
+    /// root. This project's rule.
     pub fn bust_of(&self, root: &ExecKey) -> Option<u64>
         ensures { result ≡ bust_in self.now root.now }
     {
         bust_among(&self.links, root)
     }
 
-    /// The number of the Trade, Correct or Bust that takes up a key. Own profile.
+    /// The number of the Trade, Correct or Bust that takes up a key. This project's rule.
     pub fn number_of(&self, key: &ExecKey) -> Option<u64>
         ensures { result ≡ taker_in self.now key.now }
     {
@@ -155,6 +159,7 @@ impl Chains {
         root: ExecKey,
     ) -> Result<(), NoMemory>
         requires accepted { link_refusal self.old key.now role ≡ None }
+        requires above { IsTrue (is_below number self.old) }
         requires rooted { chain_root self.old key.now role ≡ Some root }
         ensures ok { OnOk result (self.new ≡ record { number = number; key = key.now; role = role } ∷ self.old) }
         ensures err { OnErr result (self.new ≡ self.old) }

@@ -1,4 +1,11 @@
+pub mod CarryLemmas
+pub mod ChangeListLemmas
+pub mod HouseLemmas
 pub mod LiveLemmas
+pub mod OpenLemmas
+pub mod ReachLemmas
 pub mod RecordLemmas
+pub mod RefusalLemmas
 pub mod ShowLemmas
 pub mod StepLemmas
+pub mod WeightLemmas

@@ -1,6 +1,6 @@
 -- What the book shows after one entry more, and one less. `brought` is the version that the entry brings,
 -- `replaced` the one whose place it takes.
-use Rattle.std.proofs.Common.{◌≡◌, ℕ, ◌+◌, ◌<◌, ◌≤◌, ◌==◌, map, Bool, true, List, [], ◌∷◌, ◌++◌, reverse, Option, Some, None, refl, sym, ap, subst, ◌∙◌, arith, inl, inr}
+use Rattle.std.proofs.Common.{◌≡◌, ℕ, ◌+◌, ◌<◌, ◌≤◌, ◌==◌, Bool, true, List, [], ◌∷◌, ◌++◌, reverse, Option, Some, None, refl, sym, ap, subst, ◌∙◌, arith, inl, inr}
 use Rattle.std.specs.Prelude.{nat_le, not, find, filter, All, IfSome}
 use Rattle.std.specs.List.{cons_option}
 use Rattle.std.specs.Option.{option_map, option_and_then}
@@ -10,17 +10,16 @@ use Rattle.std.proofs.lemmas.List.Elements.{All-nil, All-cons, All-head, All-tai
 use Rattle.blot_types.specs.declared.command.Entry.{Entry}
 use Rattle.blot_types.specs.declared.lines.Version.{Version}
 use Rattle.blot_types.specs.declared.link.Link.{Link}
-use Rattle.blot_types.specs.declared.link.Role.{Role}
-use Rattle.blot_types.specs.Chains.{reference_refusal, replaced_in}
+use Rattle.blot_types.specs.Chains.{replaced_by}
 use Rattle.blot_types.specs.Legal.{is_above, rises_in, numbers_rise}
-use Rattle.blot_types.specs.Survivors.{exec_key, role_of, link_of, links_of, version_of, versions_of, is_number, stands_in, survivors}
-use Rattle.blot_types.proofs.ChainLemmas.{accepted_key, clash}
-use Rattle.blot_types.proofs.SurvivorLemmas.{IsKnown, all_known, versions-cons, versions-known, without, survivors-push, replaced-found, find-below, find-passes}
-use Rattle.blot_order.proofs.SlotLemmas.{rise_from}
-use Rattle.blot_order.specs.declared.slot.Slot.{Slot}
-use Rattle.blot_order.specs.Slots.{put_at, held_at}
+use Rattle.blot_types.specs.Survivors.{link_of, links_in, links_of, version_of, versions_of, is_number, stands_in, survivors}
+use Rattle.blot_types.proofs.ChainLemmas.{clash}
+use Rattle.blot_types.proofs.EntryLemmas.{version-number}
+use Rattle.blot_types.proofs.SurvivorLemmas.{IsKnown, all_known, versions-cons, versions-known, without, without-none, survivors-push, replaced-by_entry, find-below, find-passes}
+use Rattle.blot_order.proofs.FillLemmas.{rise_from}
+use Rattle.blot_order.specs.Fills.{Fills, put_at, held_at}
 use Rattle.blot_command.specs.Shown.{version_numbered, fill_numbered, Shows, with_put, with_kept, CanPut, IsPut, IsKept}
-use Rattle.blot_command.proofs.LiveLemmas.{IsNextEntry, version-number}
+use Rattle.blot_command.proofs.LiveLemmas.{IsNextEntry}
 use Rattle.blot_command.proofs.ShowLemmas.{Puts, IsUnused, Puts-put, Puts-kept, Puts-again, held-kept, held-again, held-put, held-own, put-own, kept-from_held, fill_numbered-append, fill_one, find-without}
 
 -- ---- the version that the entry brings
@@ -45,33 +44,33 @@ unused : (list : List Entry) (entry : Entry) → IsNextEntry list entry → IsUn
 unused list entry next = find-below entry.number (links_of list) (survivors list) (survivors-known list entry next)
 
 pub can_put :
-    (list : List Entry) (entry : Entry) (slots : List Slot) (brought : Option Version) → IsNextEntry list entry → Shows list slots → Brings entry brought
-    → IfSome brought (λ version. CanPut version slots)
-can_put list entry slots None next shows brought = tt
-can_put list entry slots (Some version) next shows brought = record {
-  unput = ap (put_at slots) brought.numbered ∙ shows.put entry.number ∙ ap (option_map (λ v. v.fill)) (unused list entry next);
+    (list : List Entry) (entry : Entry) (fills : Fills) (brought : Option Version) → IsNextEntry list entry → Shows list fills → Brings entry brought
+    → IfSome brought (λ version. CanPut version fills)
+can_put list entry fills None next shows brought = tt
+can_put list entry fills (Some version) next shows brought = record {
+  unput = ap (put_at fills) brought.numbered ∙ shows.put entry.number ∙ ap (option_map (λ v. v.fill)) (unused list entry next);
   within = omega (arith, brought.numbered, next.within);
 }
 
 -- ---- the version whose place it takes
 
 -- a survivor, whose number is that of the definition
-pub record Replaces (list : List Entry) (role : Role) (replaced : Option Version) : Type 0 where
-  pub number_is : replaced_in (links_of list) role ≡ option_map (λ version. version.number) replaced
+pub record Replaces (list : List Entry) (link : Option Link) (replaced : Option Version) : Type 0 where
+  pub number_is : replaced_by (links_of list) link ≡ option_map (λ version. version.number) replaced
   pub among_versions : IfSome replaced (λ version. find (λ v. v.number == version.number) (versions_of list) ≡ Some version)
   pub survives : IfSome replaced (λ version. find (λ v. v.number == version.number) (survivors list) ≡ Some version)
 
 replace :
-    (list : List Entry) (role : Role) (number : Option ℕ) (replaced : Option Version) → replaced_in (links_of list) role ≡ number
+    (list : List Entry) (link : Option Link) (number : Option ℕ) (replaced : Option Version) → replaced_by (links_of list) link ≡ number
     → replaced ≡ option_and_then (version_numbered list) number
     → ((m : ℕ) → number ≡ Some m → (version : Version) × (find (λ v. v.number == m) (versions_of list) ≡ Some version) × (find (λ v. v.number == m) (survivors list) ≡ Some version))
-    → Replaces list role replaced
-replace list role None replaced is read found = subst (Replaces list role) (sym read) (record { number_is = is; among_versions = tt; survives = tt })
-replace list role (Some m) replaced is read found =
+    → Replaces list link replaced
+replace list link None replaced is read found = subst (Replaces list link) (sym read) (record { number_is = is; among_versions = tt; survives = tt })
+replace list link (Some m) replaced is read found =
     let one = found m refl in
     let version = one.0 in
     let same : version.number ≡ m = eqb-true version.number m (find-passes (λ v. v.number == m) (versions_of list) version one.1) in
-    subst (Replaces list role) (sym (read ∙ one.1)) (record {
+    subst (Replaces list link) (sym (read ∙ one.1)) (record {
       number_is = is ∙ ap Some (sym same);
       among_versions = ap (λ n. find (λ v. v.number == n) (versions_of list)) same ∙ one.1;
       survives = ap (λ n. find (λ v. v.number == n) (survivors list)) same ∙ one.2;
@@ -79,18 +78,12 @@ replace list role (Some m) replaced is read found =
 
 pub replaces :
     (list : List Entry) (entry : Entry) (replaced : Option Version) → IsNextEntry list entry
-    → replaced ≡ option_and_then (version_numbered list) (replaced_in (links_of list) (role_of entry.command)) → Replaces list (role_of entry.command) replaced
+    → replaced ≡ option_and_then (version_numbered list) (replaced_by (links_of list) (link_of entry)) → Replaces list (link_of entry) replaced
 replaces list entry replaced next read =
-    let role = role_of entry.command in
-    let accepted : reference_refusal (links_of list) role ≡ None = (accepted_key (links_of list) (exec_key entry.command) role next.accepted).1 in
-    replace list role (replaced_in (links_of list) role) replaced refl read
-    (λ m is. replaced-found list role m next.legal next.rise accepted is)
+    replace list (link_of entry) (replaced_by (links_of list) (link_of entry)) replaced refl read
+    (λ m is. replaced-by_entry list entry m next.legal next.rise next.accepted is)
 
 -- ---- lists of versions
-
-without-none : (versions : List Version) → without None versions ≡ versions
-without-none [] = refl
-without-none (version ∷ versions) = ap (λ rest. version ∷ rest) (without-none versions)
 
 without-unused : (n : ℕ) (versions : List Version) → IsUnused n versions → without (Some n) versions ≡ versions
 without-unused n [] free = refl
@@ -135,7 +128,7 @@ kept_last n (Some w) (Some v) versions free among numbered =
 
 -- the survivors with the entry
 after-entry :
-    (list : List Entry) (entry : Entry) (brought replaced : Option Version) → IsNextEntry list entry → Brings entry brought → Replaces list (role_of entry.command) replaced
+    (list : List Entry) (entry : Entry) (brought replaced : Option Version) → IsNextEntry list entry → Brings entry brought → Replaces list (link_of entry) replaced
     → survivors (list ++ entry ∷ []) ≡ without (option_map (λ v. v.number) replaced) (survivors list) ++ cons_option brought []
 after-entry list entry brought replaced next brings_it replaces_it =
     survivors-push list entry next.rise next.above next.accepted
@@ -148,67 +141,67 @@ versions-push list entry brought brings_it = filter_map-append version_of list (
 -- ---- one entry more
 
 puts_brought :
-    (list : List Entry) (entry : Entry) (slots : List Slot) (brought : Option Version) → IsNextEntry list entry → Shows list slots → Brings entry brought
-    → Puts (with_put brought slots) (survivors list ++ cons_option brought [])
-puts_brought list entry slots None next shows brought = subst (Puts slots) (sym (append-nil (survivors list))) shows.put
-puts_brought list entry slots (Some version) next shows brought =
-    Puts-put slots (survivors list) version shows.put (subst (λ n. IsUnused n (survivors list)) (sym brought.numbered) (unused list entry next))
+    (list : List Entry) (entry : Entry) (fills : Fills) (brought : Option Version) → IsNextEntry list entry → Shows list fills → Brings entry brought
+    → Puts (with_put brought fills) (survivors list ++ cons_option brought [])
+puts_brought list entry fills None next shows brought = subst (Puts fills) (sym (append-nil (survivors list))) shows.put
+puts_brought list entry fills (Some version) next shows brought =
+    Puts-put fills (survivors list) version shows.put (subst (λ n. IsUnused n (survivors list)) (sym brought.numbered) (unused list entry next))
 
 -- the fill of the version that is replaced is put
 pub can_take :
-    (list : List Entry) (entry : Entry) (slots : List Slot) (brought replaced : Option Version) → IsNextEntry list entry → Shows list slots → Brings entry brought
-    → Replaces list (role_of entry.command) replaced → IfSome replaced (λ version. IsPut version (with_put brought slots))
-can_take list entry slots brought None next shows brings_it replaces_it = tt
-can_take list entry slots brought (Some w) next shows brings_it replaces_it =
-    puts_brought list entry slots brought next shows brings_it w.number
+    (list : List Entry) (entry : Entry) (fills : Fills) (brought replaced : Option Version) → IsNextEntry list entry → Shows list fills → Brings entry brought
+    → Replaces list (link_of entry) replaced → IfSome replaced (λ version. IsPut version (with_put brought fills))
+can_take list entry fills brought None next shows brings_it replaces_it = tt
+can_take list entry fills brought (Some w) next shows brings_it replaces_it =
+    puts_brought list entry fills brought next shows brings_it w.number
     ∙ fill_numbered-append w.number (survivors list) (cons_option brought []) ∙ rw replaces_it.survives refl
 
 held_brought :
-    (list : List Entry) (entry : Entry) (slots : List Slot) (brought : Option Version) → IsNextEntry list entry → Shows list slots → Brings entry brought
-    → All (λ v. held_at (with_put brought slots) v.number ≡ Some v.fill) (versions_of list)
-held_brought list entry slots None next shows brought = shows.held
-held_brought list entry slots (Some version) next shows brought =
+    (list : List Entry) (entry : Entry) (fills : Fills) (brought : Option Version) → IsNextEntry list entry → Shows list fills → Brings entry brought
+    → All (λ v. held_at (with_put brought fills) v.number ≡ Some v.fill) (versions_of list)
+held_brought list entry fills None next shows brought = shows.held
+held_brought list entry fills (Some version) next shows brought =
     λ k d less.
     let held = shows.held k d less in
     let known = versions-known entry.number list next.above k d less in
-    held-put slots version _ (λ same. absurd (omega (arith, known.below, same, brought.numbered))) ∙ held
+    held-put fills version _ (λ same. absurd (omega (arith, known.below, same, brought.numbered))) ∙ held
 
-held_last : (slots : List Slot) (brought : Option Version) → All (λ v. held_at (with_put brought slots) v.number ≡ Some v.fill) (cons_option brought [])
-held_last slots None = All-nil (λ v. held_at slots v.number ≡ Some v.fill)
-held_last slots (Some version) = All-cons (λ v. held_at (with_put (Some version) slots) v.number ≡ Some v.fill) version [] (held-own slots version) (All-nil (λ v. held_at (with_put (Some version) slots) v.number ≡ Some v.fill))
+held_last : (fills : Fills) (brought : Option Version) → All (λ v. held_at (with_put brought fills) v.number ≡ Some v.fill) (cons_option brought [])
+held_last fills None = All-nil (λ v. held_at fills v.number ≡ Some v.fill)
+held_last fills (Some version) = All-cons (λ v. held_at (with_put (Some version) fills) v.number ≡ Some v.fill) version [] (held-own fills version) (All-nil (λ v. held_at (with_put (Some version) fills) v.number ≡ Some v.fill))
 
-held_kept : (slots : List Slot) (kept : Option Version) (versions : List Version) → IfSome kept (λ v. IsPut v slots)
-    → All (λ v. held_at slots v.number ≡ Some v.fill) versions → All (λ v. held_at (with_kept kept slots) v.number ≡ Some v.fill) versions
-held_kept slots None versions put held = held
-held_kept slots (Some w) versions put held = All-weaker (λ v. held_at slots v.number ≡ Some v.fill) (λ v. held_at (with_kept (Some w) slots) v.number ≡ Some v.fill) (λ v here. held-kept slots w v.number put ∙ here) versions held
+held_kept : (fills : Fills) (kept : Option Version) (versions : List Version) → IfSome kept (λ v. IsPut v fills)
+    → All (λ v. held_at fills v.number ≡ Some v.fill) versions → All (λ v. held_at (with_kept kept fills) v.number ≡ Some v.fill) versions
+held_kept fills None versions put held = held
+held_kept fills (Some w) versions put held = All-weaker (λ v. held_at fills v.number ≡ Some v.fill) (λ v. held_at (with_kept (Some w) fills) v.number ≡ Some v.fill) (λ v here. held-kept fills w v.number put ∙ here) versions held
 
-puts_kept : (slots : List Slot) (kept : Option Version) (versions : List Version) → Puts slots versions → Puts (with_kept kept slots) (without (option_map (λ v. v.number) kept) versions)
-puts_kept slots None versions puts = subst (Puts slots) (sym (without-none versions)) puts
-puts_kept slots (Some w) versions puts = Puts-kept slots versions w puts
+puts_kept : (fills : Fills) (kept : Option Version) (versions : List Version) → Puts fills versions → Puts (with_kept kept fills) (without (option_map (λ v. v.number) kept) versions)
+puts_kept fills None versions puts = subst (Puts fills) (sym (without-none versions)) puts
+puts_kept fills (Some w) versions puts = Puts-kept fills versions w puts
 
 pub shows-more :
-    (list : List Entry) (entry : Entry) (slots : List Slot) (brought replaced : Option Version) → IsNextEntry list entry → Shows list slots → Brings entry brought
-    → Replaces list (role_of entry.command) replaced → Shows (list ++ entry ∷ []) (with_kept replaced (with_put brought slots))
-shows-more list entry slots brought replaced next shows brings_it replaces_it =
+    (list : List Entry) (entry : Entry) (fills : Fills) (brought replaced : Option Version) → IsNextEntry list entry → Shows list fills → Brings entry brought
+    → Replaces list (link_of entry) replaced → Shows (list ++ entry ∷ []) (with_kept replaced (with_put brought fills))
+shows-more list entry fills brought replaced next shows brings_it replaces_it =
     let number = option_map (λ v. v.number) replaced in
     let all : without number (survivors list ++ cons_option brought []) ≡ survivors (list ++ entry ∷ []) =
     filter-append (λ v. not (is_number v.number number)) (survivors list) (cons_option brought [])
     ∙ ap (λ back. without number (survivors list) ++ back) (kept_last entry.number replaced brought (survivors list) (unused list entry next) replaces_it.survives brings_it.numbered)
     ∙ sym (after-entry list entry brought replaced next brings_it replaces_it) in
-    let put = can_take list entry slots brought replaced next shows brings_it replaces_it in
+    let put = can_take list entry fills brought replaced next shows brings_it replaces_it in
     record {
       book = next.whole;
-      put = subst (Puts (with_kept replaced (with_put brought slots))) all (puts_kept (with_put brought slots) replaced (survivors list ++ cons_option brought []) (puts_brought list entry slots brought next shows brings_it));
-      held = subst (All (λ v. held_at (with_kept replaced (with_put brought slots)) v.number ≡ Some v.fill)) (sym (versions-push list entry brought brings_it))
-          (held_kept (with_put brought slots) replaced (versions_of list ++ cons_option brought []) put
-          (All-append (λ v. held_at (with_put brought slots) v.number ≡ Some v.fill) (versions_of list) (cons_option brought [])
-          (held_brought list entry slots brought next shows brings_it) (held_last slots brought)));
+      put = subst (Puts (with_kept replaced (with_put brought fills))) all (puts_kept (with_put brought fills) replaced (survivors list ++ cons_option brought []) (puts_brought list entry fills brought next shows brings_it));
+      held = subst (All (λ v. held_at (with_kept replaced (with_put brought fills)) v.number ≡ Some v.fill)) (sym (versions-push list entry brought brings_it))
+          (held_kept (with_put brought fills) replaced (versions_of list ++ cons_option brought []) put
+          (All-append (λ v. held_at (with_put brought fills) v.number ≡ Some v.fill) (versions_of list) (cons_option brought [])
+          (held_brought list entry fills brought next shows brings_it) (held_last fills brought)));
     }
 
 -- where memory ran out, the fill that was put is kept, and the book shows what it showed
-pub put_back : (slots : List Slot) (brought : Option Version) → IfSome brought (λ version. IsPut version (with_put brought slots))
-put_back slots None = tt
-put_back slots (Some version) = put-own slots version
+pub put_back : (fills : Fills) (brought : Option Version) → IfSome brought (λ version. IsPut version (with_put brought fills))
+put_back fills None = tt
+put_back fills (Some version) = put-own fills version
 
 back_again :
     (versions : List Version) (n : ℕ) (brought : Option Version) → IsUnused n versions → IfSome brought (λ v. v.number ≡ n)
@@ -217,47 +210,47 @@ back_again versions n None free numbered = without-none (versions ++ []) ∙ app
 back_again versions n (Some version) free numbered = without-last version versions (subst (λ k. IsUnused k versions) (sym numbered) free)
 
 pub shows-back :
-    (list : List Entry) (entry : Entry) (slots : List Slot) (brought : Option Version) → IsNextEntry list entry → Shows list slots → Brings entry brought
-    → Shows list (with_kept brought (with_put brought slots))
-shows-back list entry slots brought next shows brings_it = record {
+    (list : List Entry) (entry : Entry) (fills : Fills) (brought : Option Version) → IsNextEntry list entry → Shows list fills → Brings entry brought
+    → Shows list (with_kept brought (with_put brought fills))
+shows-back list entry fills brought next shows brings_it = record {
   book = shows.book;
-  put = subst (Puts (with_kept brought (with_put brought slots))) (back_again (survivors list) entry.number brought (unused list entry next) brings_it.numbered)
-      (puts_kept (with_put brought slots) brought (survivors list ++ cons_option brought []) (puts_brought list entry slots brought next shows brings_it));
-  held = held_kept (with_put brought slots) brought (versions_of list) (put_back slots brought) (held_brought list entry slots brought next shows brings_it);
+  put = subst (Puts (with_kept brought (with_put brought fills))) (back_again (survivors list) entry.number brought (unused list entry next) brings_it.numbered)
+      (puts_kept (with_put brought fills) brought (survivors list ++ cons_option brought []) (puts_brought list entry fills brought next shows brings_it));
+  held = held_kept (with_put brought fills) brought (versions_of list) (put_back fills brought) (held_brought list entry fills brought next shows brings_it);
 }
 
 -- ---- one entry less
 
 puts_whole :
-    (list : List Entry) (entry : Entry) (slots : List Slot) (brought replaced : Option Version) → IsNextEntry list entry → Shows (list ++ entry ∷ []) slots → Brings entry brought
-    → Replaces list (role_of entry.command) replaced → Puts slots (without (option_map (λ v. v.number) replaced) (survivors list) ++ cons_option brought [])
-puts_whole list entry slots brought replaced next shows brings_it replaces_it = subst (Puts slots) (after-entry list entry brought replaced next brings_it replaces_it) shows.put
+    (list : List Entry) (entry : Entry) (fills : Fills) (brought replaced : Option Version) → IsNextEntry list entry → Shows (list ++ entry ∷ []) fills → Brings entry brought
+    → Replaces list (link_of entry) replaced → Puts fills (without (option_map (λ v. v.number) replaced) (survivors list) ++ cons_option brought [])
+puts_whole list entry fills brought replaced next shows brings_it replaces_it = subst (Puts fills) (after-entry list entry brought replaced next brings_it replaces_it) shows.put
 
 -- the fill of the last version is put
 last_put :
-    (versions : List Version) (n : ℕ) (slots : List Slot) (brought : Option Version) → IsUnused n versions → IfSome brought (λ v. v.number ≡ n) → Puts slots (versions ++ cons_option brought [])
-    → IfSome brought (λ version. IsPut version slots)
-last_put versions n slots None free numbered puts = tt
-last_put versions n slots (Some version) free numbered puts =
+    (versions : List Version) (n : ℕ) (fills : Fills) (brought : Option Version) → IsUnused n versions → IfSome brought (λ v. v.number ≡ n) → Puts fills (versions ++ cons_option brought [])
+    → IfSome brought (λ version. IsPut version fills)
+last_put versions n fills None free numbered puts = tt
+last_put versions n fills (Some version) free numbered puts =
     let none : fill_numbered version.number versions ≡ None = ap (λ k. fill_numbered k versions) numbered ∙ ap (option_map (λ v. v.fill)) free in
     puts version.number ∙ fill_numbered-append version.number versions (version ∷ []) ∙ rw (none, fill_one version.number version, eq-eqb version.number version.number refl) refl
 
 pub can_take_last :
-    (list : List Entry) (entry : Entry) (slots : List Slot) (brought replaced : Option Version) → IsNextEntry list entry → Shows (list ++ entry ∷ []) slots → Brings entry brought
-    → Replaces list (role_of entry.command) replaced → IfSome brought (λ version. IsPut version slots)
-can_take_last list entry slots brought replaced next shows brings_it replaces_it =
+    (list : List Entry) (entry : Entry) (fills : Fills) (brought replaced : Option Version) → IsNextEntry list entry → Shows (list ++ entry ∷ []) fills → Brings entry brought
+    → Replaces list (link_of entry) replaced → IfSome brought (λ version. IsPut version fills)
+can_take_last list entry fills brought replaced next shows brings_it replaces_it =
     let number = option_map (λ v. v.number) replaced in
-    last_put (without number (survivors list)) entry.number slots brought (unused-without entry.number number (survivors list) (unused list entry next)) brings_it.numbered
-    (puts_whole list entry slots brought replaced next shows brings_it replaces_it)
+    last_put (without number (survivors list)) entry.number fills brought (unused-without entry.number number (survivors list) (unused list entry next)) brings_it.numbered
+    (puts_whole list entry fills brought replaced next shows brings_it replaces_it)
 
 puts_rest :
-    (list : List Entry) (entry : Entry) (slots : List Slot) (brought replaced : Option Version) → IsNextEntry list entry → Shows (list ++ entry ∷ []) slots → Brings entry brought
-    → Replaces list (role_of entry.command) replaced → Puts (with_kept brought slots) (without (option_map (λ v. v.number) replaced) (survivors list))
-puts_rest list entry slots brought replaced next shows brings_it replaces_it =
+    (list : List Entry) (entry : Entry) (fills : Fills) (brought replaced : Option Version) → IsNextEntry list entry → Shows (list ++ entry ∷ []) fills → Brings entry brought
+    → Replaces list (link_of entry) replaced → Puts (with_kept brought fills) (without (option_map (λ v. v.number) replaced) (survivors list))
+puts_rest list entry fills brought replaced next shows brings_it replaces_it =
     let number = option_map (λ v. v.number) replaced in
     let left = without number (survivors list) in
-    subst (Puts (with_kept brought slots)) (back_again left entry.number brought (unused-without entry.number number (survivors list) (unused list entry next)) brings_it.numbered)
-    (puts_kept slots brought (left ++ cons_option brought []) (puts_whole list entry slots brought replaced next shows brings_it replaces_it))
+    subst (Puts (with_kept brought fills)) (back_again left entry.number brought (unused-without entry.number number (survivors list) (unused list entry next)) brings_it.numbered)
+    (puts_kept fills brought (left ++ cons_option brought []) (puts_whole list entry fills brought replaced next shows brings_it replaces_it))
 
 All-front : {X : Type 0} (P : X → Type 0) (xs ys : List X) → All P (xs ++ ys) → All P xs
 All-front P [] ys all = All-nil P
@@ -272,50 +265,50 @@ All-found P p (y ∷ ys) x all found =
     ]
 
 held_rest :
-    (list : List Entry) (entry : Entry) (slots : List Slot) (brought replaced : Option Version) → IsNextEntry list entry → Shows (list ++ entry ∷ []) slots → Brings entry brought
-    → Replaces list (role_of entry.command) replaced → All (λ v. held_at (with_kept brought slots) v.number ≡ Some v.fill) (versions_of list)
-held_rest list entry slots brought replaced next shows brings_it replaces_it =
-    held_kept slots brought (versions_of list) (can_take_last list entry slots brought replaced next shows brings_it replaces_it)
-    (All-front (λ v. held_at slots v.number ≡ Some v.fill) (versions_of list) (cons_option brought [])
-    (subst (All (λ v. held_at slots v.number ≡ Some v.fill)) (versions-push list entry brought brings_it) shows.held))
+    (list : List Entry) (entry : Entry) (fills : Fills) (brought replaced : Option Version) → IsNextEntry list entry → Shows (list ++ entry ∷ []) fills → Brings entry brought
+    → Replaces list (link_of entry) replaced → All (λ v. held_at (with_kept brought fills) v.number ≡ Some v.fill) (versions_of list)
+held_rest list entry fills brought replaced next shows brings_it replaces_it =
+    held_kept fills brought (versions_of list) (can_take_last list entry fills brought replaced next shows brings_it replaces_it)
+    (All-front (λ v. held_at fills v.number ≡ Some v.fill) (versions_of list) (cons_option brought [])
+    (subst (All (λ v. held_at fills v.number ≡ Some v.fill)) (versions-push list entry brought brings_it) shows.held))
 
 -- the fill of the version that was replaced is kept
 kept_replaced :
-    (list : List Entry) (slots : List Slot) (role : Role) (replaced : Option Version) → Replaces list role replaced
-    → Puts slots (without (option_map (λ v. v.number) replaced) (survivors list)) → All (λ v. held_at slots v.number ≡ Some v.fill) (versions_of list)
-    → IfSome replaced (λ version. IsKept version slots)
-kept_replaced list slots role None replaces_it puts held = tt
-kept_replaced list slots role (Some w) replaces_it puts held =
-    kept-from_held slots w
+    (list : List Entry) (fills : Fills) (link : Option Link) (replaced : Option Version) → Replaces list link replaced
+    → Puts fills (without (option_map (λ v. v.number) replaced) (survivors list)) → All (λ v. held_at fills v.number ≡ Some v.fill) (versions_of list)
+    → IfSome replaced (λ version. IsKept version fills)
+kept_replaced list fills link None replaces_it puts held = tt
+kept_replaced list fills link (Some w) replaces_it puts held =
+    kept-from_held fills w
     (puts w.number ∙ find-without w.number (Some w.number) (survivors list) ∙ rw (eq-eqb w.number w.number refl) refl)
-    (All-found (λ v. held_at slots v.number ≡ Some v.fill) (λ v. v.number == w.number) (versions_of list) w held replaces_it.among_versions)
+    (All-found (λ v. held_at fills v.number ≡ Some v.fill) (λ v. v.number == w.number) (versions_of list) w held replaces_it.among_versions)
 
 pub can_un_take :
-    (list : List Entry) (entry : Entry) (slots : List Slot) (brought replaced : Option Version) → IsNextEntry list entry → Shows (list ++ entry ∷ []) slots → Brings entry brought
-    → Replaces list (role_of entry.command) replaced → IfSome replaced (λ version. IsKept version (with_kept brought slots))
-can_un_take list entry slots brought replaced next shows brings_it replaces_it =
-    kept_replaced list (with_kept brought slots) (role_of entry.command) replaced replaces_it
-    (puts_rest list entry slots brought replaced next shows brings_it replaces_it) (held_rest list entry slots brought replaced next shows brings_it replaces_it)
+    (list : List Entry) (entry : Entry) (fills : Fills) (brought replaced : Option Version) → IsNextEntry list entry → Shows (list ++ entry ∷ []) fills → Brings entry brought
+    → Replaces list (link_of entry) replaced → IfSome replaced (λ version. IsKept version (with_kept brought fills))
+can_un_take list entry fills brought replaced next shows brings_it replaces_it =
+    kept_replaced list (with_kept brought fills) (link_of entry) replaced replaces_it
+    (puts_rest list entry fills brought replaced next shows brings_it replaces_it) (held_rest list entry fills brought replaced next shows brings_it replaces_it)
 
 puts_again :
-    (list : List Entry) (slots : List Slot) (role : Role) (replaced : Option Version) → Replaces list role replaced
-    → Puts slots (without (option_map (λ v. v.number) replaced) (survivors list)) → Puts (with_put replaced slots) (survivors list)
-puts_again list slots role None replaces_it puts = subst (Puts slots) (without-none (survivors list)) puts
-puts_again list slots role (Some w) replaces_it puts = Puts-again slots (survivors list) w puts replaces_it.survives
+    (list : List Entry) (fills : Fills) (link : Option Link) (replaced : Option Version) → Replaces list link replaced
+    → Puts fills (without (option_map (λ v. v.number) replaced) (survivors list)) → Puts (with_put replaced fills) (survivors list)
+puts_again list fills link None replaces_it puts = subst (Puts fills) (without-none (survivors list)) puts
+puts_again list fills link (Some w) replaces_it puts = Puts-again fills (survivors list) w puts replaces_it.survives
 
-held_again : (slots : List Slot) (again : Option Version) (versions : List Version) → IfSome again (λ v. IsKept v slots)
-    → All (λ v. held_at slots v.number ≡ Some v.fill) versions → All (λ v. held_at (with_put again slots) v.number ≡ Some v.fill) versions
-held_again slots None versions kept held = held
-held_again slots (Some w) versions kept held = All-weaker (λ v. held_at slots v.number ≡ Some v.fill) (λ v. held_at (with_put (Some w) slots) v.number ≡ Some v.fill) (λ v here. held-again slots w v.number kept ∙ here) versions held
+held_again : (fills : Fills) (again : Option Version) (versions : List Version) → IfSome again (λ v. IsKept v fills)
+    → All (λ v. held_at fills v.number ≡ Some v.fill) versions → All (λ v. held_at (with_put again fills) v.number ≡ Some v.fill) versions
+held_again fills None versions kept held = held
+held_again fills (Some w) versions kept held = All-weaker (λ v. held_at fills v.number ≡ Some v.fill) (λ v. held_at (with_put (Some w) fills) v.number ≡ Some v.fill) (λ v here. held-again fills w v.number kept ∙ here) versions held
 
 pub shows-less :
-    (list : List Entry) (entry : Entry) (slots : List Slot) (brought replaced : Option Version) → IsNextEntry list entry → Shows (list ++ entry ∷ []) slots → Brings entry brought
-    → Replaces list (role_of entry.command) replaced → Shows list (with_put replaced (with_kept brought slots))
-shows-less list entry slots brought replaced next shows brings_it replaces_it = record {
+    (list : List Entry) (entry : Entry) (fills : Fills) (brought replaced : Option Version) → IsNextEntry list entry → Shows (list ++ entry ∷ []) fills → Brings entry brought
+    → Replaces list (link_of entry) replaced → Shows list (with_put replaced (with_kept brought fills))
+shows-less list entry fills brought replaced next shows brings_it replaces_it = record {
   book = next.book;
-  put = puts_again list (with_kept brought slots) (role_of entry.command) replaced replaces_it (puts_rest list entry slots brought replaced next shows brings_it replaces_it);
-  held = held_again (with_kept brought slots) replaced (versions_of list) (can_un_take list entry slots brought replaced next shows brings_it replaces_it)
-      (held_rest list entry slots brought replaced next shows brings_it replaces_it);
+  put = puts_again list (with_kept brought fills) (link_of entry) replaced replaces_it (puts_rest list entry fills brought replaced next shows brings_it replaces_it);
+  held = held_again (with_kept brought fills) replaced (versions_of list) (can_un_take list entry fills brought replaced next shows brings_it replaces_it)
+      (held_rest list entry fills brought replaced next shows brings_it replaces_it);
 }
 
 -- ---- the survivors' numbers rise
@@ -353,7 +346,7 @@ versions-rise (entry ∷ earlier) rise =
     let parts : (is_above entry.number earlier ≡ true) × (rises_in earlier ≡ true) = and_parts _ _ rise in
     let own = brings entry (version_of entry) refl in
     subst (λ versions. rise_from 0 versions ≡ true) (sym (versions-cons entry earlier))
-    (rise-push 0 entry.number (map link_of earlier) (versions_of (reverse earlier)) (version_of entry) (versions-rise earlier parts.1) (all_known entry.number earlier parts.0) (omega arith) own.numbered)
+    (rise-push 0 entry.number (links_in earlier) (versions_of (reverse earlier)) (version_of entry) (versions-rise earlier parts.1) (all_known entry.number earlier parts.0) (omega arith) own.numbered)
 
 pub survivors-rise : (list : List Entry) → numbers_rise list ≡ true → rise_from 0 (survivors list) ≡ true
 survivors-rise list rise =

@@ -8,34 +8,12 @@ use Rattle.blot_types.specs.declared.fill.Fill.{Fill}
 use Rattle.blot_types.specs.declared.lines.Version.{Version}
 use Rattle.blot_types.specs.Survivors.{is_number}
 use Rattle.blot_types.proofs.SurvivorLemmas.{without}
-use Rattle.blot_order.specs.declared.slot.Slot.{Slot}
-use Rattle.blot_order.specs.declared.slot.Slot.TheVariants.{Empty, Kept, Put}
-use Rattle.blot_order.specs.Slots.{fill_put, fill_kept, fill_held, slot_at, put_at, held_at, with_slot}
-use Rattle.blot_order.proofs.SlotLemmas.{slot_at-with_slot_same, slot_at-with_slot_other}
-use Rattle.blot_command.specs.Shown.{fill_numbered, with_put, with_kept, IsPut, IsKept}
-
--- the slot under a number, after that of a number is replaced
-slot_at-with_slot : (n k : ℕ) (slot : Slot) (slots : List Slot) → slot_at (with_slot n slot slots) k ≡ (if k == n then slot else slot_at slots k)
-slot_at-with_slot n k slot slots =
-    elim (cases_Bool (k == n)) [
-      | inl same ↦
-          let is : k ≡ n = eqb-true k n same in
-          rw same (ap (slot_at (with_slot n slot slots)) is ∙ slot_at-with_slot_same n slot slots)
-      | inr other ↦ rw other (slot_at-with_slot_other n k slot slots (eqb-false k n other))
-    ]
-
-of_slot : (test : Bool) (a b : Slot) → fill_put (if test then a else b) ≡ (if test then fill_put a else fill_put b)
-of_slot true a b = refl
-of_slot false a b = refl
-
-of_held : (test : Bool) (a b : Slot) → fill_held (if test then a else b) ≡ (if test then fill_held a else fill_held b)
-of_held true a b = refl
-of_held false a b = refl
-
-by_slot : (slot : Slot) (fill : Fill) → fill_put slot ≡ None → fill_held slot ≡ Some fill → fill_kept slot ≡ Some fill
-by_slot Empty fill unput held = cc
-by_slot (Kept f) fill unput held = held
-by_slot (Put f) fill unput held = cc
+use Rattle.blot_order.specs.Fills.{Fills, put_at, held_at}
+use Rattle.blot_order.proofs.FillLemmas.{put_at-empty, put_at-with_put, put_at-with_put_same, put_at-with_kept, kept_at-with_kept_same, held_at-with_put, held_at-with_put_same, held_at-with_put_other, held_at-with_kept, held_at-put, held_at-kept, kept_at-held}
+use Rattle.std.specs.FinMap as finite
+use Rattle.std.proofs.lemmas.List.Elements.{All-nil}
+use Rattle.blot_types.specs.declared.command.Entry.{Entry}
+use Rattle.blot_command.specs.Shown.{Shows, fill_numbered, with_put, with_kept, IsPut, IsKept}
 
 or_none : {A : Type 0} (o : Option A) → option_or o None ≡ o
 or_none None = refl
@@ -46,8 +24,8 @@ cond-same true = refl
 cond-same false = refl
 
 -- the fills put are those of these versions
-abbrev pub Puts : List Slot → List Version → Type 0
-Puts slots versions = (k : ℕ) → put_at slots k ≡ fill_numbered k versions
+abbrev pub Puts : Fills → List Version → Type 0
+Puts fills versions = (k : ℕ) → put_at fills k ≡ fill_numbered k versions
 
 mapped : (a b : Option Version) → option_map (λ v. v.fill) (option_or a b) ≡ option_or (option_map (λ v. v.fill) a) (option_map (λ v. v.fill) b)
 mapped None b = refl
@@ -94,13 +72,10 @@ fill_one k version =
       | inr other ↦ rw other refl
     ]
 
-put_at-with_slot : (n k : ℕ) (slot : Slot) (slots : List Slot) → put_at (with_slot n slot slots) k ≡ (if k == n then fill_put slot else put_at slots k)
-put_at-with_slot n k slot slots = ap fill_put (slot_at-with_slot n k slot slots) ∙ of_slot (k == n) slot (slot_at slots k)
-
 -- a version's fill put behind the others
-pub Puts-put : (slots : List Slot) (versions : List Version) (version : Version) → Puts slots versions → IsUnused version.number versions → Puts (with_put (Some version) slots) (versions ++ version ∷ [])
-Puts-put slots versions version puts unused k =
-    put_at-with_slot version.number k (Put version.fill) slots
+pub Puts-put : (fills : Fills) (versions : List Version) (version : Version) → Puts fills versions → IsUnused version.number versions → Puts (with_put (Some version) fills) (versions ++ version ∷ [])
+Puts-put fills versions version puts unused k =
+    put_at-with_put version.number k version.fill fills
     ∙ elim (cases_Bool (version.number == k)) [
       | inl same ↦
           let is : version.number ≡ k = eqb-true version.number k same in
@@ -112,9 +87,9 @@ Puts-put slots versions version puts unused k =
     ]
 
 -- a version's fill kept: that number is gone
-pub Puts-kept : (slots : List Slot) (versions : List Version) (version : Version) → Puts slots versions → Puts (with_kept (Some version) slots) (without (Some version.number) versions)
-Puts-kept slots versions version puts k =
-    put_at-with_slot version.number k (Kept version.fill) slots
+pub Puts-kept : (fills : Fills) (versions : List Version) (version : Version) → Puts fills versions → Puts (with_kept (Some version) fills) (without (Some version.number) versions)
+Puts-kept fills versions version puts k =
+    put_at-with_kept version.number k version.fill fills
     ∙ elim (cases_Bool (version.number == k)) [
       | inl same ↦ rw (eq-eqb k version.number (sym (eqb-true version.number k same))) (sym (find-without k (Some version.number) versions ∙ rw same refl))
       | inr other ↦
@@ -124,10 +99,10 @@ Puts-kept slots versions version puts k =
 
 -- a version's fill put again, where it is one of them
 pub Puts-again :
-    (slots : List Slot) (versions : List Version) (version : Version) → Puts slots (without (Some version.number) versions)
-    → find (λ v. v.number == version.number) versions ≡ Some version → Puts (with_put (Some version) slots) versions
-Puts-again slots versions version puts found k =
-    put_at-with_slot version.number k (Put version.fill) slots
+    (fills : Fills) (versions : List Version) (version : Version) → Puts fills (without (Some version.number) versions)
+    → find (λ v. v.number == version.number) versions ≡ Some version → Puts (with_put (Some version) fills) versions
+Puts-again fills versions version puts found k =
+    put_at-with_put version.number k version.fill fills
     ∙ elim (cases_Bool (version.number == k)) [
       | inl same ↦
           let is : version.number ≡ k = eqb-true version.number k same in
@@ -140,48 +115,40 @@ Puts-again slots versions version puts found k =
 
 -- ---- what is held
 
-put_held : (slot : Slot) (fill : Fill) → fill_put slot ≡ Some fill → fill_held slot ≡ Some fill
-put_held Empty fill is = cc
-put_held (Kept f) fill is = cc
-put_held (Put f) fill is = is
-
-kept_held : (slot : Slot) (fill : Fill) → fill_kept slot ≡ Some fill → fill_held slot ≡ Some fill
-kept_held Empty fill is = cc
-kept_held (Kept f) fill is = is
-kept_held (Put f) fill is = cc
-
-held_at-with_slot : (n k : ℕ) (slot : Slot) (slots : List Slot) → held_at (with_slot n slot slots) k ≡ (if k == n then fill_held slot else held_at slots k)
-held_at-with_slot n k slot slots = ap fill_held (slot_at-with_slot n k slot slots) ∙ of_held (k == n) slot (slot_at slots k)
-
-same_held : (n k : ℕ) (slot : Slot) (slots : List Slot) → fill_held slot ≡ held_at slots n → held_at (with_slot n slot slots) k ≡ held_at slots k
-same_held n k slot slots same =
-    held_at-with_slot n k slot slots
-    ∙ elim (cases_Bool (k == n)) [
-      | inl is ↦ rw is (same ∙ ap (held_at slots) (sym (eqb-true k n is)))
+-- the same fill under a number is no change
+same_held : (n k : ℕ) (fill : Fill) (fills : Fills) (changed : Option Fill) → changed ≡ (if k == n then Some fill else held_at fills k) → held_at fills n ≡ Some fill → changed ≡ held_at fills k
+same_held n k fill fills changed is same =
+    is ∙ elim (cases_Bool (k == n)) [
+      | inl here ↦ rw here (sym same ∙ ap (held_at fills) (sym (eqb-true k n here)))
       | inr other ↦ rw other refl
     ]
 
 -- keeping a fill that is put, and putting one that is kept, changes nothing that is held
-pub held-kept : (slots : List Slot) (version : Version) (k : ℕ) → IsPut version slots → held_at (with_kept (Some version) slots) k ≡ held_at slots k
-held-kept slots version k put = same_held version.number k (Kept version.fill) slots (sym (put_held (slot_at slots version.number) version.fill put))
+pub held-kept : (fills : Fills) (version : Version) (k : ℕ) → IsPut version fills → held_at (with_kept (Some version) fills) k ≡ held_at fills k
+held-kept fills version k put = same_held version.number k version.fill fills _ (held_at-with_kept version.number k version.fill fills) (held_at-put fills version.number version.fill put)
 
-pub held-again : (slots : List Slot) (version : Version) (k : ℕ) → IsKept version slots → held_at (with_put (Some version) slots) k ≡ held_at slots k
-held-again slots version k kept = same_held version.number k (Put version.fill) slots (sym (kept_held (slot_at slots version.number) version.fill kept))
+pub held-again : (fills : Fills) (version : Version) (k : ℕ) → IsKept version fills → held_at (with_put (Some version) fills) k ≡ held_at fills k
+held-again fills version k kept = same_held version.number k version.fill fills _ (held_at-with_put version.number k version.fill fills) (held_at-kept fills version.number version.fill kept)
 
 -- putting a fill changes nothing under another number, and it is held then
-pub held-put : (slots : List Slot) (version : Version) (k : ℕ) → (k ≡ version.number → ⊥) → held_at (with_put (Some version) slots) k ≡ held_at slots k
-held-put slots version k other = held_at-with_slot version.number k (Put version.fill) slots ∙ rw (ne_eqb k version.number other) refl
+pub held-put : (fills : Fills) (version : Version) (k : ℕ) → (k ≡ version.number → ⊥) → held_at (with_put (Some version) fills) k ≡ held_at fills k
+held-put fills version k other = held_at-with_put_other version.number k version.fill fills other
 
-pub held-own : (slots : List Slot) (version : Version) → held_at (with_put (Some version) slots) version.number ≡ Some version.fill
-held-own slots version = held_at-with_slot version.number version.number (Put version.fill) slots ∙ rw (eq-eqb version.number version.number refl) refl
+pub held-own : (fills : Fills) (version : Version) → held_at (with_put (Some version) fills) version.number ≡ Some version.fill
+held-own fills version = held_at-with_put_same version.number version.fill fills
 
 -- a fill that is put is put no more once it is kept, and the other way round
-pub kept-own : (slots : List Slot) (version : Version) → IsKept version (with_kept (Some version) slots)
-kept-own slots version = ap fill_kept (slot_at-with_slot_same version.number (Kept version.fill) slots)
+pub kept-own : (fills : Fills) (version : Version) → IsKept version (with_kept (Some version) fills)
+kept-own fills version = kept_at-with_kept_same version.number version.fill fills
 
-pub put-own : (slots : List Slot) (version : Version) → IsPut version (with_put (Some version) slots)
-put-own slots version = ap fill_put (slot_at-with_slot_same version.number (Put version.fill) slots)
+pub put-own : (fills : Fills) (version : Version) → IsPut version (with_put (Some version) fills)
+put-own fills version = put_at-with_put_same version.number version.fill fills
 
 -- a fill that is held and not put is kept
-pub kept-from_held : (slots : List Slot) (version : Version) → put_at slots version.number ≡ None → held_at slots version.number ≡ Some version.fill → IsKept version slots
-kept-from_held slots version unput held = by_slot (slot_at slots version.number) version.fill unput held
+pub kept-from_held : (fills : Fills) (version : Version) → put_at fills version.number ≡ None → held_at fills version.number ≡ Some version.fill → IsKept version fills
+kept-from_held fills version unput held = kept_at-held fills version.number version.fill unput held
+
+-- an empty book shows nothing
+pub shows-empty : (list : List Entry) (fills : Fills) → list ≡ [] → fills ≡ finite.empty → Shows list fills
+shows-empty list fills none empty =
+    rw (none, empty) (record { book = refl; put = put_at-empty; held = All-nil _ })

@@ -1,7 +1,10 @@
 -- The kinds of command, each read back from the command that it is.
 use Rattle.std.specs.Prelude.{ℕ, List, Option, Some, None, refl}
 use Rattle.blot_types.specs.declared.command.Command.{Command}
-use Rattle.blot_types.specs.declared.command.Command.TheVariants.{Trade as TradeCommand, Correct as CorrectCommand, Bust as BustCommand}
+use Rattle.blot_types.specs.declared.command.Command.TheVariants.{Trade as TradeCommand, Correct as CorrectCommand, Bust as BustCommand, AllocNew as NewCommand, AllocReplace as ReplaceCommand, AllocCancel as CancelCommand}
+use Rattle.blot_types.specs.declared.command.AllocCancel.{AllocCancel}
+use Rattle.blot_types.specs.declared.command.AllocNew.{AllocNew}
+use Rattle.blot_types.specs.declared.command.AllocReplace.{AllocReplace}
 use Rattle.blot_types.specs.declared.command.Bust.{Bust}
 use Rattle.blot_types.specs.declared.command.Correct.{Correct}
 use Rattle.blot_types.specs.declared.command.Trade.{Trade}
@@ -49,6 +52,45 @@ bust_meaning = meaning_by BustCommand bust_of
 -- and that it is lawful
 pub bust_lawful : IsLawful bust_meaning
 bust_lawful = lawful_by BustCommand bust_of (λ bust. refl)
+
+-- an AllocNew, where the command is one
+abbrev pub alloc_new_of : Command → Option AllocNew
+alloc_new_of (NewCommand command) = Some command
+alloc_new_of _ = None
+
+-- what an AllocNew means on the book
+abbrev pub alloc_new_meaning : Meaning Shown (List Entry) AllocNew ℕ ApplyFault
+alloc_new_meaning = meaning_by NewCommand alloc_new_of
+
+-- and that it is lawful
+pub alloc_new_lawful : IsLawful alloc_new_meaning
+alloc_new_lawful = lawful_by NewCommand alloc_new_of (λ command. refl)
+
+-- an AllocReplace, where the command is one
+abbrev pub alloc_replace_of : Command → Option AllocReplace
+alloc_replace_of (ReplaceCommand command) = Some command
+alloc_replace_of _ = None
+
+-- what an AllocReplace means on the book
+abbrev pub alloc_replace_meaning : Meaning Shown (List Entry) AllocReplace ℕ ApplyFault
+alloc_replace_meaning = meaning_by ReplaceCommand alloc_replace_of
+
+-- and that it is lawful
+pub alloc_replace_lawful : IsLawful alloc_replace_meaning
+alloc_replace_lawful = lawful_by ReplaceCommand alloc_replace_of (λ command. refl)
+
+-- an AllocCancel, where the command is one
+abbrev pub alloc_cancel_of : Command → Option AllocCancel
+alloc_cancel_of (CancelCommand command) = Some command
+alloc_cancel_of _ = None
+
+-- what an AllocCancel means on the book
+abbrev pub alloc_cancel_meaning : Meaning Shown (List Entry) AllocCancel ℕ ApplyFault
+alloc_cancel_meaning = meaning_by CancelCommand alloc_cancel_of
+
+-- and that it is lawful
+pub alloc_cancel_lawful : IsLawful alloc_cancel_meaning
+alloc_cancel_lawful = lawful_by CancelCommand alloc_cancel_of (λ command. refl)
 
 -- what a command of any kind means on the book
 abbrev pub command_meaning : Meaning Shown (List Entry) Command ℕ ApplyFault

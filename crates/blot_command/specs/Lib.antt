@@ -1,5 +1,10 @@
 pub mod Book
+pub mod Booking
+pub mod Carried
 pub mod Kinds
 pub mod Law
+pub mod Linking
+pub mod Refusing
 pub mod Shown
+pub mod Sizes
 pub mod Undoable

@@ -1,16 +1,23 @@
 -- What ties the chains and the fills that the book keeps to its live list.
-use Rattle.std.specs.Prelude.{◌≡◌, ℕ, ◌≤◌, ◌==◌, List, Option, Some, None, true, find, All}
-use Rattle.std.specs.Option.{option_map}
+use Rattle.std.specs.Prelude.{◌≡◌, ℕ, ◌≤◌, ◌==◌, List, Option, Some, None, true, find, All, if◌then◌else◌}
+use Rattle.std.specs.List.{filter_map}
+use Rattle.std.specs.Option.{option_map, option_and_then}
+use Rattle.blot_types.specs.declared.allocation.Instruction.{Instruction}
+use Rattle.blot_types.specs.declared.allocation.Terms.{Terms}
+use Rattle.blot_types.specs.declared.command.Command.{Command}
 use Rattle.blot_types.specs.declared.command.Entry.{Entry}
 use Rattle.blot_types.specs.declared.fill.Fill.{Fill}
+use Rattle.blot_types.specs.declared.keys.AllocKey.{AllocKey}
+use Rattle.blot_types.specs.declared.keys.ExecKey.{ExecKey}
 use Rattle.blot_types.specs.declared.lines.Version.{Version}
 use Rattle.blot_types.specs.declared.link.Link.{Link}
+use Rattle.blot_types.specs.Allocations.{allocation_of, instructions_of}
+use Rattle.blot_types.specs.Instructions.{is_keyed}
+use Rattle.blot_types.specs.Keys.{same_alloc}
 use Rattle.blot_types.specs.Legal.{is_book}
 use Rattle.blot_types.specs.Survivors.{links_of, versions_of, survivors}
-use Rattle.blot_order.specs.declared.slot.Slot.{Slot}
 use Rattle.blot_types.specs.declared.TheConstants.{EVENTS_MAX}
-use Rattle.blot_order.specs.declared.slot.Slot.TheVariants.{Put, Kept}
-use Rattle.blot_order.specs.Slots.{put_at, kept_at, held_at, with_slot}
+use Rattle.blot_order.specs.Fills.{Fills, put_at, kept_at, held_at, with_put as with_put_at, with_kept as with_kept_at}
 
 -- the version of a number, of those that a list's entries bring
 abbrev pub version_numbered : List Entry → ℕ → Option Version
@@ -20,37 +27,50 @@ version_numbered list number = find (λ version. version.number == number) (vers
 abbrev pub fill_numbered : ℕ → List Version → Option Fill
 fill_numbered number versions = option_map (λ version. version.fill) (find (λ version. version.number == number) versions)
 
--- the live list is a book, and the chains are those of its entries
-pub record HoldsList (list : List Entry) (links : List Link) : Type 0 where
+-- the terms of a command, where it brings the allocation of a key
+abbrev pub terms_of_key : AllocKey → Command → Option Terms
+terms_of_key key command =
+    option_and_then (λ allocation. if same_alloc key allocation.key then Some allocation.terms else None) (allocation_of command)
+
+-- the terms of the allocation of a key
+abbrev pub terms_keyed : List Entry → AllocKey → Option Terms
+terms_keyed list key =
+    option_map (λ allocation. allocation.terms) (find (λ allocation. same_alloc key allocation.key) (filter_map (λ entry. allocation_of entry.command) list))
+
+-- the roots that the instruction of a key lists
+abbrev pub roots_keyed : List Entry → AllocKey → Option (List ExecKey)
+roots_keyed list key = option_map (λ instruction. instruction.roots) (find (is_keyed key) (instructions_of list))
+
+-- the live list is a book; the chains are those of its executions, the instructions those of its allocations
+pub record HoldsList (list : List Entry) (links : List Link) (instructions : List Instruction) : Type 0 where
   pub book : is_book list ≡ true
   pub links_are : links ≡ links_of list
+  pub instructions_are : instructions ≡ instructions_of list
 
 -- the live list is a book, the fills that are put are those of the survivors, and the fill of each version is held,
 -- so that it can be put again without memory
-pub record Shows (list : List Entry) (slots : List Slot) : Type 0 where
+pub record Shows (list : List Entry) (fills : Fills) : Type 0 where
   pub book : is_book list ≡ true
-  pub put : (number : ℕ) → put_at slots number ≡ fill_numbered number (survivors list)
-  pub held : All (λ version. held_at slots version.number ≡ Some version.fill) (versions_of list)
+  pub put : (number : ℕ) → put_at fills number ≡ fill_numbered number (survivors list)
+  pub held : All (λ version. held_at fills version.number ≡ Some version.fill) (versions_of list)
 
--- the slots with the fill of a version put; without a version they are as they were
-abbrev pub with_put : Option Version → List Slot → List Slot
-with_put None slots = slots
-with_put (Some version) slots = with_slot version.number (Put version.fill) slots
+-- the fills by number with that of a version put, or kept; without a version they are as they were
+abbrev pub with_put : Option Version → Fills → Fills
+with_put None fills = fills
+with_put (Some version) fills = with_put_at version.number version.fill fills
 
--- the slots with the fill of a version kept, likewise
-abbrev pub with_kept : Option Version → List Slot → List Slot
-with_kept None slots = slots
-with_kept (Some version) slots = with_slot version.number (Kept version.fill) slots
+abbrev pub with_kept : Option Version → Fills → Fills
+with_kept None fills = fills
+with_kept (Some version) fills = with_kept_at version.number version.fill fills
 
 -- a version's fill can be put: none is put under its number, up to EVENTS_MAX
-pub record CanPut (version : Version) (slots : List Slot) : Type 0 where
-  pub unput : put_at slots version.number ≡ None
+pub record CanPut (version : Version) (fills : Fills) : Type 0 where
+  pub unput : put_at fills version.number ≡ None
   pub within : version.number ≤ EVENTS_MAX
 
--- a version's fill is put
-abbrev pub IsPut : Version → List Slot → Type 0
-IsPut version slots = put_at slots version.number ≡ Some version.fill
+-- a version's fill is put; it is kept
+abbrev pub IsPut : Version → Fills → Type 0
+IsPut version fills = put_at fills version.number ≡ Some version.fill
 
--- a version's fill is kept
-abbrev pub IsKept : Version → List Slot → Type 0
-IsKept version slots = kept_at slots version.number ≡ Some version.fill
+abbrev pub IsKept : Version → Fills → Type 0
+IsKept version fills = kept_at fills version.number ≡ Some version.fill

@@ -4,11 +4,17 @@
 //! that promise on it.
 #![tactic(auto)]
 
+mod alloc_cancel;
+mod alloc_new;
+mod alloc_replace;
+mod booking;
 mod bust;
 mod command;
 mod correct;
 mod fault;
+mod linking;
 mod live;
+mod refusal;
 mod tables;
 mod trade;
 mod undoable;

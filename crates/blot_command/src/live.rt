@@ -1,24 +1,32 @@
 //! The live list.
-ghost use Rattle.std.specs.Prelude.{◌≡◌, ◌<◌, [], ◌∷◌, ◌++◌, length, find, None, IsTrue, OnOk, OnErr, IfOk, IfErr};
-ghost use Rattle.std.specs.Option.{option_and_then, option_copied};
-ghost use Rattle.blot_types.specs.Chains.{link_refusal, replaced_in, chain_refusal, root_in, current_in};
+ghost use Rattle.std.specs.Prelude.{◌≡◌, ◌<◌, [], ◌∷◌, ◌++◌, length, find, None, Some, IsTrue, OnOk, OnErr, IfOk, IfErr};
+ghost use Rattle.std.specs.List.{last_or};
+ghost use Rattle.std.specs.Option.{option_map, option_and_then, option_copied};
+ghost use Rattle.blot_types.specs.Allocations.{instructions_of};
+ghost use Rattle.blot_types.specs.Chains.{root_in, current_in, replaced_by};
+ghost use Rattle.blot_types.specs.Instructions.{is_keyed};
 ghost use Rattle.blot_types.specs.Legal.{is_book, refusal_of};
+ghost use Rattle.blot_types.specs.Position.{is_named};
+ghost use Rattle.blot_types.specs.Standing.{standing};
 ghost use Rattle.blot_types.specs.Survivors.{links_of};
-ghost use Rattle.blot_chain.specs.Steps.{Adds, IsNewest};
 ghost use Rattle.blot_command.specs.Book.{has_number};
-ghost use Rattle.blot_command.specs.Shown.{version_numbered};
+ghost use Rattle.blot_command.specs.Shown.{version_numbered, terms_of_key, terms_keyed, roots_keyed};
 
+use crate::linking::{link_entry, unlink_entry};
+use crate::refusal::{refusal, version_numbered};
+use blot_alloc::Allocs;
 use blot_chain::Chains;
-use blot_types::{Command, Entry, ExecKey, Link, Refused, Role, Version};
+use blot_types::{AllocKey, Command, Entry, ExecKey, Link, Refused, Role, Terms, Version};
 use std::alloc::{AllocError as NoMemory, Global};
 use std::marker::Model;
 
-/// The live list of entries, in rising order of number, with the chains that their executions form. A
-/// contract sees it as the list, which is always legal.
+/// The live list of entries, in rising order of number, with the chains of its executions and the
+/// instructions of its allocations. A contract sees it as the list, which is always legal.
 #[derive(Drop)]
 pub(crate) struct LiveList {
     entries: Vec<Entry>,
     chains: Chains,
+    allocs: Allocs,
 }
 
 impl Model for LiveList {
@@ -30,7 +38,7 @@ impl Model for LiveList {
 
     ghost view = { λ live. live.entries.items };
 
-    ghost invariant = { λ live. HoldsList live.entries.items live.chains };
+    ghost invariant = { λ live. HoldsList live.entries.items live.chains live.allocs };
 }
 
 impl LiveList {
@@ -41,6 +49,7 @@ impl LiveList {
         LiveList {
             entries: Vec::new(alloc),
             chains: Chains::new(alloc),
+            allocs: Allocs::new(alloc),
         }
     }
 
@@ -57,10 +66,21 @@ impl LiveList {
     {
         let mut copies = Vec::with_capacity(alloc, self.entries.len())?;
         for entry in &self.entries {
-            let copy = copy_of(entry)?;
+            let copy = copy_of(alloc, entry)?;
             copies.push(copy)?;
         }
         Ok(copies)
+    }
+
+    /// The last entry of a list that has one.
+    pub(crate) fn last(&self) -> &Entry
+        requires { 0 < length self.now }
+        ensures { last_or None self.now ≡ Some result.now }
+    {
+        match self.entries.last() {
+            Some(entry) => entry,
+            None => unreachable!(),
+        }
     }
 
     /// Why the list refuses a command.
@@ -68,32 +88,19 @@ impl LiveList {
         ensures refusal { result ≡ refusal_of self.now command.now }
         ensures book { IsTrue (is_book self.now) }
     {
-        if let Some(number) = self.chains.number_of(&command.exec_key()) {
-            return Some(Refused::DuplicateExec(number));
-        }
-        match command.role() {
-            Role::Begins => None,
-            Role::Corrects(reference) | Role::Busts(reference) => self.chain_refusal(&reference),
-        }
+        refusal(&self.entries, &self.chains, &self.allocs, command)
     }
 
-    // Why a reference is refused: it has no root, or its chain is busted.
-    fn chain_refusal(&self, reference: &ExecKey) -> Option<Refused>
-        ensures { result ≡ chain_refusal (links_of self.now) reference.now (root_in (links_of self.now) reference.now) }
+    /// The version whose place an entry's link takes, or which it busts.
+    pub(crate) fn replaced(&self, link: &Option<Link>) -> Option<Version>
+        ensures { result ≡ option_and_then (version_numbered self.now) (replaced_by (links_of self.now) link.now) }
     {
-        match self.chains.root_of(reference) {
-            None => Some(Refused::UnknownExec(*reference)),
-            Some(root) => self.chains.bust_of(&root).map(Refused::BustedExec),
-        }
-    }
-
-    /// The version whose place an entry of this role takes, or which it busts.
-    pub(crate) fn replaced(&self, role: Role) -> Option<Version>
-        ensures { result ≡ option_and_then (version_numbered self.now) (replaced_in (links_of self.now) role) }
-    {
-        match role {
-            Role::Begins => None,
-            Role::Corrects(reference) | Role::Busts(reference) => self.current(&reference),
+        match link {
+            None => None,
+            Some(link) => match link.role {
+                Role::Begins => None,
+                Role::Corrects(reference) | Role::Busts(reference) => self.current(&reference),
+            },
         }
     }
 
@@ -103,21 +110,47 @@ impl LiveList {
     {
         let root = self.chains.root_of(reference)?;
         let number = self.chains.current(&root)?;
-        self.version(number)
+        version_numbered(&self.entries, number)
     }
 
-    // The version of a number.
-    fn version(&self, number: u64) -> Option<Version>
-        ensures { result ≡ version_numbered self.now number }
+    /// The version that stands of the chain of a root: the last one, where the chain isn't busted.
+    pub(crate) fn standing(&self, root: &ExecKey) -> Option<Version>
+        ensures { result ≡ standing self.now root.now }
+    {
+        if self.chains.bust_of(root).is_some() {
+            return None;
+        }
+        let number = self.chains.current(root)?;
+        version_numbered(&self.entries, number)
+    }
+
+    /// Whether the chain of a key is named by a live allocation.
+    pub(crate) fn is_named(&self, key: &ExecKey) -> bool
+        ensures { result ≡ is_named self.now key.now }
+    {
+        match self.chains.root_of(key) {
+            None => false,
+            Some(root) => self.allocs.holder_of(&root).is_some(),
+        }
+    }
+
+    /// The terms of the allocation of a key.
+    pub(crate) fn terms_of(&self, key: &AllocKey) -> Option<&Terms>
+        ensures { option_copied result ≡ terms_keyed self.now key.now }
     {
         for entry in &self.entries {
-            if entry.number == number {
-                if let Some(version) = entry.version() {
-                    return Some(version);
-                }
+            if let Some(terms) = terms_under(&entry.command, key) {
+                return Some(terms);
             }
         }
         None
+    }
+
+    /// The roots of the chains that the allocation of a key names.
+    pub(crate) fn roots_of(&self, key: &AllocKey) -> Option<&[ExecKey]>
+        ensures { option_map (λ roots. roots.now) result ≡ roots_keyed self.now key.now }
+    {
+        self.allocs.roots_of(key)
     }
 
     /// Puts an entry behind the others, or hands it back where memory runs out.
@@ -127,14 +160,14 @@ impl LiveList {
         ensures err { OnErr result (self.new ≡ self.old) }
         ensures returned { IfErr result (λ back. back ≡ entry) }
     {
-        let newest = entry.link();
-        if link(&mut self.chains, &newest).is_err() {
+        let alloc = *self.entries.allocator();
+        if link_entry(alloc, &mut self.chains, &mut self.allocs, &entry).is_err() {
             return Err(entry);
         }
         match self.entries.push(entry) {
             Ok(()) => Ok(()),
             Err(failed) => {
-                unlink(&mut self.chains, &newest);
+                unlink_entry(&mut self.chains, &mut self.allocs, &failed.value);
                 Err(failed.value)
             }
         }
@@ -148,7 +181,7 @@ impl LiveList {
     {
         match self.entries.pop() {
             Some(entry) => {
-                unlink(&mut self.chains, &entry.link());
+                unlink_entry(&mut self.chains, &mut self.allocs, &entry);
                 entry
             }
             None => unreachable!(),
@@ -157,39 +190,25 @@ impl LiveList {
 }
 
 // An equal entry.
-fn copy_of(entry: &Entry) -> Result<Entry, NoMemory>
+fn copy_of(alloc: Global, entry: &Entry) -> Result<Entry, NoMemory>
     ensures { IfOk result (λ copy. copy ≡ entry.now) }
 {
-    match entry.command.try_copy() {
+    match entry.command.try_copy(alloc) {
         Ok(command) => Ok(Entry {
             number: entry.number,
             command,
         }),
-        Err(fault) => Err(fault),
+        Err(fail) => Err(fail),
     }
 }
 
-// Adds a link that the chains accept.
-fn link(chains: &mut Chains, newest: &Link) -> Result<(), NoMemory>
-    requires accepted { link_refusal chains.old newest.now.key newest.now.role ≡ None }
-    ensures ok { OnOk result (chains.new ≡ newest.now ∷ chains.old) }
-    ensures err { OnErr result (chains.new ≡ chains.old) }
+// The terms of a command, where it brings the allocation of a key.
+fn terms_under<'a>(command: &'a Command, key: &AllocKey) -> Option<&'a Terms>
+    ensures { option_copied result ≡ terms_of_key key.now command.now }
 {
-    match newest.role {
-        Role::Begins => chains.add(newest.number, &newest.key),
-        Role::Corrects(reference) => chains.correct(newest.number, &newest.key, &reference),
-        Role::Busts(reference) => chains.bust(newest.number, &newest.key, &reference),
-    }
-}
-
-// Takes the newest link back.
-fn unlink(chains: &mut Chains, newest: &Link)
-    requires { IsNewest newest.now.key newest.now.role chains.old }
-    ensures { Adds newest.now.key newest.now.role chains.new chains.old }
-{
-    match newest.role {
-        Role::Begins => chains.un_add(&newest.key),
-        Role::Corrects(reference) => chains.un_correct(&newest.key, &reference),
-        Role::Busts(reference) => chains.un_bust(&newest.key, &reference),
+    match command {
+        Command::AllocNew(new) if new.key == *key => Some(&new.terms),
+        Command::AllocReplace(replace) if replace.key == *key => Some(&replace.terms),
+        _ => None,
     }
 }

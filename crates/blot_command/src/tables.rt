@@ -4,7 +4,7 @@ ghost use Rattle.std.specs.Option.{option_copied};
 ghost use Rattle.blot_types.specs.Legal.{is_book, refusal_of};
 ghost use Rattle.blot_types.specs.Order.{order_of};
 ghost use Rattle.blot_types.specs.declared.TheConstants.{EVENTS_MAX};
-ghost use Rattle.blot_order.specs.Slots.{put_at, kept_at};
+ghost use Rattle.blot_order.specs.Fills.{put_at, kept_at};
 ghost use Rattle.blot_command.specs.Book.{has_number};
 ghost use Rattle.blot_command.specs.Shown.{with_put, with_kept, IsPut, IsKept, CanPut};
 
@@ -14,8 +14,8 @@ use blot_types::{Command, Entry, OrderKey, OrderLine, Refused, Version};
 use std::alloc::{AllocError as NoMemory, Global};
 use std::marker::Model;
 
-/// The book: its live list of entries, in rising order of number, with the chains of its executions and
-/// the fills that stand. A contract sees its live list, which is always legal.
+/// The book: its live list of entries, in rising order of number, with the chains and the allocations of
+/// its entries and the fills that stand. A contract sees its live list, which is always legal.
 #[derive(Drop)]
 pub struct Tables {
     live: LiveList,
@@ -85,7 +85,7 @@ impl Tables {
         ensures returned { IfErr result (λ back. back ≡ entry) }
     {
         let version = entry.version();
-        let replaced = self.live.replaced(entry.command.role());
+        let replaced = self.live.replaced(&entry.link());
         let Ok(()) = put(&mut self.orders, &version) else {
             return Err(entry);
         };
@@ -108,7 +108,7 @@ impl Tables {
     {
         let entry = self.live.pop();
         let version = entry.version();
-        let restored = self.live.replaced(entry.command.role());
+        let restored = self.live.replaced(&entry.link());
         take(&mut self.orders, &version);
         un_take(&mut self.orders, &restored);
         entry

@@ -2,7 +2,7 @@
 ghost use Rattle.std.specs.Prelude.{◌≡◌, IfOk};
 
 use blot_types::{Command, OrderKey, OrderLine, Refused};
-use std::alloc::AllocError as NoMemory;
+use std::alloc::{AllocError as NoMemory, Global};
 
 /// What comes to a desk.
 #[derive(Debug, PartialEq, Eq, Drop)]
@@ -19,11 +19,11 @@ pub enum Event {
 
 impl Event {
     /// An equal event, or out of memory.
-    pub fn try_copy(&self) -> Result<Event, NoMemory>
+    pub fn try_copy(&self, alloc: Global) -> Result<Event, NoMemory>
         ensures { IfOk result (λ copy. copy ≡ self.now) }
     {
         match self {
-            Event::Submit(command) => match command.try_copy() {
+            Event::Submit(command) => match command.try_copy(alloc) {
                 Ok(command) => Ok(Event::Submit(command)),
                 Err(fault) => Err(fault),
             },

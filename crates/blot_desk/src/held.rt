@@ -64,7 +64,7 @@ impl Held {
         let Ok(()) = self.history.reserve(1) else {
             return Err(DeskFault::NoMemory);
         };
-        let Ok(copy) = event.try_copy() else {
+        let Ok(copy) = event.try_copy(self.alloc) else {
             return Err(DeskFault::NoMemory);
         };
         let reply = match take(&mut self.steps, event) {

@@ -30,9 +30,10 @@ fn submit(steps: &mut Steps<Command>, command: Command) -> Result<Reply, NoMemor
     ensures ok { IfOk result (λ reply. record { book = book_of command_meaning steps.new; reply = reply } ≡ submit_of (book_of command_meaning steps.old) command) }
     ensures err { OnErr result (book_of command_meaning steps.new ≡ book_of command_meaning steps.old) }
 {
-    match steps.apply(command) {
-        Ok(number) => Ok(Reply::Accepted(number)),
-        Err(StepFault::Refused(_, ApplyFault::Refused(reason))) => Ok(Reply::Refused(reason)),
+    let outcome = steps.apply(command);
+    match &outcome {
+        Ok(number) => Ok(Reply::Accepted(*number)),
+        Err(StepFault::Refused(_, ApplyFault::Refused(reason))) => Ok(Reply::Refused(*reason)),
         Err(_) => Err(NoMemory),
     }
 }

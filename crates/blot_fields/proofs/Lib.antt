@@ -6,4 +6,5 @@ pub mod AllocationLemmas
 pub mod LineLemmas
 pub mod TableLemmas
 pub mod GroupLemmas
+pub mod CountLemmas
 pub mod DecodingLemmas

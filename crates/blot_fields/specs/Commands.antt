@@ -1,10 +1,15 @@
 -- The command that a message gives the book.
-use Rattle.std.specs.Prelude.{ℕ, ℤ, pos, ◌+ℤ◌, List, Option, Some, None}
+use Rattle.std.specs.Prelude.{ℕ, ℤ, pos, ◌+ℤ◌, List, map, Option, Some, None}
 use Rattle.blot_time.specs.Moment.{utc_day}
+use Rattle.blot_types.specs.declared.allocation.Terms.{Terms}
 use Rattle.blot_types.specs.declared.command.Command.{Command}
 use Rattle.blot_types.specs.declared.command.Command.TheVariants as commands
 use Rattle.blot_types.specs.declared.fill.Fill.{Fill}
+use Rattle.blot_types.specs.declared.keys.AllocKey.{AllocKey}
 use Rattle.blot_types.specs.declared.keys.ExecKey.{ExecKey}
+use Rattle.blot_fields.specs.declared.allocation.Allocation.{Allocation}
+use Rattle.blot_fields.specs.declared.allocation.Allocation.TheVariants as allocations
+use Rattle.blot_fields.specs.declared.allocation.AllocationTerms.{AllocationTerms}
 use Rattle.blot_fields.specs.declared.message.Body.{Body}
 use Rattle.blot_fields.specs.declared.message.Body.TheVariants as bodies
 use Rattle.blot_fields.specs.declared.message.Message.{Message}
@@ -53,9 +58,35 @@ command_of_report peer sending (reports.Bust id reference) =
     Some (commands.Bust (record { key = exec_of peer id; reference = exec_of peer reference }))
 command_of_report peer sending reports.Other = None
 
+-- the key of a peer's allocation
+abbrev pub alloc_of : List ℕ → List ℕ → AllocKey
+alloc_of peer id = record { peer = peer; id = id }
+
+-- what an allocation books: its executions are the peer's
+abbrev pub terms_of : List ℕ → AllocationTerms → Terms
+terms_of peer terms = record {
+  symbol = terms.symbol;
+  sign = terms.sign;
+  day = terms.day;
+  block = terms.block;
+  execs = map (exec_of peer) terms.executions;
+  lines = terms.lines;
+}
+
+-- the command of a peer's Allocation Instruction: its key is its AllocID, and the allocation that it takes the
+-- place of, or ends, is the one that its RefAllocID names
+abbrev pub command_of_allocation : List ℕ → Allocation → Command
+command_of_allocation peer (allocations.New id terms) =
+    commands.AllocNew (record { key = alloc_of peer id; terms = terms_of peer terms })
+command_of_allocation peer (allocations.Replace id reference terms) =
+    commands.AllocReplace (record { key = alloc_of peer id; reference = alloc_of peer reference; terms = terms_of peer terms })
+command_of_allocation peer (allocations.Cancel id reference) =
+    commands.AllocCancel (record { key = alloc_of peer id; reference = alloc_of peer reference })
+
 -- the command of a peer's message
 abbrev pub command_of_body : List ℕ → ℤ → Body → Option Command
 command_of_body peer sending (bodies.Report report) = command_of_report peer sending report
+command_of_body peer sending (bodies.Allocation allocation) = Some (command_of_allocation peer allocation)
 command_of_body peer sending _ = None
 
 -- the command that a peer's message gives the book

@@ -1,5 +1,6 @@
 -- Lists in the making.
-use Rattle.std.specs.Prelude.{◌≡◌, true, List, ◌∷◌, [], ◌++◌, Result, Ok, Err, IsOkAnd}
+use Rattle.std.specs.Prelude.{◌≡◌, ◌≤◌, true, List, ◌∷◌, [], ◌++◌, Result, Ok, Err, IsOkAnd, length}
+use Rattle.blot_types.specs.declared.TheConstants.{ITEMS_MAX}
 use Rattle.blot_fields.specs.declared.fault.Wrong.{Wrong}
 use Rattle.blot_fields.specs.declared.making.Making.{Making}
 
@@ -11,3 +12,7 @@ Grows item old new = new.complete ≡ true → (old.complete ≡ true) × (new.i
 abbrev pub Makes : {T : Type 0} → Result (Making T) Wrong → Result (List T) Wrong → Type 0
 Makes (Ok making) meant = IsOkAnd meant (λ items. making.complete ≡ true → making.items.items ≡ items)
 Makes (Err wrong) meant = meant ≡ Err wrong
+
+-- a list that is complete isn't longer than a list may be
+abbrev pub IsShort : {T : Type 0} → Making T → Type 0
+IsShort making = making.complete ≡ true → length making.items.items ≤ ITEMS_MAX

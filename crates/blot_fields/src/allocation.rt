@@ -1,15 +1,14 @@
 //! Allocation Instructions. FIX 4.4 volume 5, "Allocation Instruction".
-ghost use Rattle.std.specs.Prelude.{◌≡◌};
+ghost use Rattle.std.specs.Prelude.{◌≡◌, IfOk};
 ghost use Rattle.std.specs.Option.{option_map};
 ghost use Rattle.blot_tag.specs.Views.{tag_value};
 ghost use Rattle.blot_fields.specs.Drafts.{draft_of, next_draft, Pushes, NextLine};
 ghost use Rattle.blot_fields.specs.Allocations.{allocation_of, terms_of};
 ghost use Rattle.blot_fields.specs.Faults.{Gives};
 ghost use Rattle.blot_fields.specs.Groups.{average_of, executions_of, lines_of, ids_of, each_line_of, lines_in};
-ghost use Rattle.blot_fields.specs.Making.{Makes};
+ghost use Rattle.blot_fields.specs.Making.{Makes, IsShort};
 ghost use Rattle.blot_fields.specs.Rows.{values};
 
-use crate::Entries;
 use crate::drafts::LineDraft;
 use crate::fault::{Flaw, Refusal, Wrong};
 use crate::forms::Form;
@@ -22,11 +21,11 @@ use crate::sound::SoundFields;
 use blot_decimal::{Price, Qty};
 use blot_tag::Field;
 use blot_time::Day;
-use blot_types::{Sign, Text64};
+use blot_types::{ITEMS_MAX, Items, Line, Sign, Text64};
 use std::alloc::Global;
 
-// The most entries of a group. This project's rule.
-const ENTRIES_MAX: u64 = 200;
+// The most entries of a group: the most items of a list.
+const ENTRIES_MAX: u64 = ITEMS_MAX as u64;
 
 /// What an Allocation Instruction (35=J) says.
 #[derive(Debug, Drop)]
@@ -61,20 +60,9 @@ pub struct AllocationTerms {
     /// TradeDate(75).
     pub day: Day,
     /// The ExecID(17) of each execution, 1 to 200 of them.
-    pub executions: Entries<Text64>,
+    pub executions: Items<Text64>,
     /// 1 to 200 lines.
-    pub lines: Entries<AllocationLine>,
-}
-
-/// What goes to one account.
-#[derive(Clone, Copy, Debug, PartialEq, Eq)]
-pub struct AllocationLine {
-    /// AllocAccount(79).
-    pub account: Text64,
-    /// AllocQty(80).
-    pub qty: Qty,
-    /// AllocPrice(366), or else AvgPx(6).
-    pub price: Price,
+    pub lines: Items<Line>,
 }
 
 /// Reads an Allocation Instruction. Its lists take memory, which is told only where nothing is at
@@ -142,7 +130,8 @@ fn average_of(fields: &FieldIndex) -> Result<Option<Price>, Wrong>
 // NoExecs and the executions.
 #[tactic(auto, unfolding(crate::specs::Groups::executions_of))]
 fn executions_of(alloc: Global, fields: &FieldIndex) -> Result<Making<Text64>, Wrong>
-    ensures { Makes result (executions_of fields.now) }
+    ensures made { Makes result (executions_of fields.now) }
+    ensures few { IfOk result IsShort }
 {
     let count = number(fields, 124, 1, ENTRIES_MAX)?;
     if !are_executions(count, fields) {
@@ -157,8 +146,9 @@ fn lines_of(
     alloc: Global,
     average: &Option<Price>,
     fields: &FieldIndex,
-) -> Result<Making<AllocationLine>, Wrong>
-    ensures { Makes result (lines_of average.now fields.now) }
+) -> Result<Making<Line>, Wrong>
+    ensures made { Makes result (lines_of average.now fields.now) }
+    ensures few { IfOk result IsShort }
 {
     let count = number(fields, 78, 1, ENTRIES_MAX)?;
     if !are_lines(count, fields) {
@@ -185,7 +175,7 @@ fn each_line_of(
     alloc: Global,
     average: &Option<Price>,
     fields: SoundFields,
-) -> Result<Making<AllocationLine>, Wrong>
+) -> Result<Making<Line>, Wrong>
     ensures { Makes result (each_line_of average.now (lines_in fields.entry)) }
 {
     let mut lines = Making::new(alloc);
@@ -203,7 +193,7 @@ fn next_line<'a>(
     average: &Option<Price>,
     line: Option<LineDraft<'a>>,
     field: Field<'a>,
-    lines: &mut Making<AllocationLine>,
+    lines: &mut Making<Line>,
 ) -> Result<Option<LineDraft<'a>>, Wrong>
     ensures { NextLine average.now (option_map draft_of line.entry) (tag_value field.entry)
         lines.old (next_draft result) lines.new }
@@ -222,7 +212,7 @@ fn next_line<'a>(
 fn push_line(
     average: &Option<Price>,
     line: Option<LineDraft>,
-    lines: &mut Making<AllocationLine>,
+    lines: &mut Making<Line>,
 ) -> Result<(), Wrong>
     ensures { Pushes average.now (option_map draft_of line.entry) lines.old result lines.new }
 {

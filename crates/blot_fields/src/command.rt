@@ -1,26 +1,33 @@
 //! What a message asks of the book.
-ghost use Rattle.std.specs.Prelude.{◌≡◌, Ok};
-ghost use Rattle.blot_fields.specs.Commands.{size_of, day_of_execution, fill_of, exec_of, command_of_report, command_of};
+ghost use Rattle.std.specs.Prelude.{◌≡◌, IfOk, map};
+ghost use Rattle.blot_fields.specs.Commands.{size_of, day_of_execution, fill_of, exec_of, alloc_of, terms_of, command_of_report, command_of_allocation, command_of};
 
-use crate::{Body, Execution, Message, OrderSize, Report};
+use crate::{Allocation, AllocationTerms, Body, Execution, Message, OrderSize, Report};
 use blot_decimal::QtySum;
 use blot_time::{Day, Moment};
-use blot_types::{Bust, Command, Correct, ExecKey, Fill, OrderKey, Text64, Trade};
+use blot_types::{
+    AllocCancel, AllocKey, AllocNew, AllocReplace, Bust, Command, Correct, ExecKey, Fill, Items,
+    OrderKey, Terms, Text64, Trade,
+};
 use std::alloc::{AllocError as NoMemory, Global};
 
-/// The command that a peer's message gives the book; none for a message that leaves the book alone.
+/// The command that a peer's message gives the book; none for a message that leaves the book alone. An
+/// error is out of memory, which the lists of an allocation take.
 pub fn command_of(
-    _alloc: Global,
+    alloc: Global,
     message: &Message,
     peer: Text64,
 ) -> Result<Option<Command>, NoMemory>
-    ensures { result ≡ Ok (command_of message.now peer) }
+    ensures { IfOk result (λ command. command ≡ command_of message.now peer) }
 {
-    let command = match &message.body {
-        Body::Report(report) => command_of_report(peer, message.head.sending, report),
-        _ => None,
-    };
-    Ok(command)
+    match &message.body {
+        Body::Report(report) => Ok(command_of_report(peer, message.head.sending, report)),
+        Body::Allocation(allocation) => match command_of_allocation(alloc, peer, allocation) {
+            Ok(command) => Ok(Some(command)),
+            Err(fail) => Err(fail),
+        },
+        _ => Ok(None),
+    }
 }
 
 // The command of a peer's Execution Report.
@@ -46,6 +53,71 @@ fn command_of_report(peer: Text64, sending: Moment, report: &Report) -> Option<C
         })),
         Report::Other => None,
     }
+}
+
+// The command of a peer's Allocation Instruction.
+fn command_of_allocation(
+    alloc: Global,
+    peer: Text64,
+    allocation: &Allocation,
+) -> Result<Command, NoMemory>
+    ensures { IfOk result (λ command. command ≡ command_of_allocation peer allocation.now) }
+{
+    match allocation {
+        Allocation::New { id, terms } => match terms_of(alloc, peer, terms) {
+            Ok(terms) => Ok(Command::AllocNew(AllocNew {
+                key: alloc_of(peer, *id),
+                terms,
+            })),
+            Err(fail) => Err(fail),
+        },
+        Allocation::Replace {
+            id,
+            reference,
+            terms,
+        } => match terms_of(alloc, peer, terms) {
+            Ok(terms) => Ok(Command::AllocReplace(AllocReplace {
+                key: alloc_of(peer, *id),
+                reference: alloc_of(peer, *reference),
+                terms,
+            })),
+            Err(fail) => Err(fail),
+        },
+        Allocation::Cancel { id, reference } => Ok(Command::AllocCancel(AllocCancel {
+            key: alloc_of(peer, *id),
+            reference: alloc_of(peer, *reference),
+        })),
+    }
+}
+
+// What an allocation books: its executions are the peer's.
+fn terms_of(alloc: Global, peer: Text64, terms: &AllocationTerms) -> Result<Terms, NoMemory>
+    ensures { IfOk result (λ books. books ≡ terms_of peer terms.now) }
+{
+    let execs = execs_of(alloc, peer, terms.executions.as_slice())?;
+    let lines = terms.lines.try_copy(alloc)?;
+    Ok(Terms {
+        symbol: terms.symbol,
+        sign: terms.sign,
+        day: terms.day,
+        block: terms.block,
+        execs: Items::new(execs),
+        lines,
+    })
+}
+
+// The keys of a peer's executions.
+fn execs_of(alloc: Global, peer: Text64, ids: &[Text64]) -> Result<Vec<ExecKey>, NoMemory>
+    ensures { IfOk result (λ execs. execs.items ≡ map (exec_of peer) ids.now) }
+{
+    ids.iter().map(|id| exec_of(peer, *id)).collect(alloc)
+}
+
+// The key of a peer's allocation.
+fn alloc_of(peer: Text64, id: Text64) -> AllocKey
+    ensures { result ≡ alloc_of peer id }
+{
+    AllocKey { peer, id }
 }
 
 // The key of a peer's execution.

@@ -5,14 +5,13 @@ ghost use Rattle.blot_fields.specs.Forms.{price_form};
 ghost use Rattle.blot_fields.specs.Rows.{optional_in};
 ghost use Rattle.blot_fields.specs.Slots.{found_in};
 
-use crate::AllocationLine;
 use crate::fault::{Flaw, Wrong};
 use crate::forms::Form;
 use crate::rows::at;
 use crate::slot::Slot;
 use blot_decimal::{Price, Qty};
 use blot_tag::Field;
-use blot_types::Text64;
+use blot_types::{Line, Text64};
 
 /// A line whose fields are still to come: AllocAccount(79), AllocQty(80) and AllocPrice(366).
 #[derive(Clone, Copy)]
@@ -55,7 +54,7 @@ impl<'a> LineDraft<'a> {
 
     /// The line, where no field of it is to come; without an AllocPrice it takes the average.
     #[tactic(auto, unfolding(crate::specs::Drafts::line_from))]
-    pub(crate) fn line(self, average: Option<Price>) -> Result<AllocationLine, Wrong>
+    pub(crate) fn line(self, average: Option<Price>) -> Result<Line, Wrong>
         ensures { result ≡ line_from average (draft_of self.entry) }
     {
         let account = at(79, Text64::from_value(self.account))?;
@@ -65,7 +64,7 @@ impl<'a> LineDraft<'a> {
         let price = own
             .or(average)
             .ok_or(Wrong::new(366, Flaw::RequiredTagMissing))?;
-        Ok(AllocationLine {
+        Ok(Line {
             account,
             qty,
             price,

@@ -1,8 +1,8 @@
 //! Lists in the making.
 ghost use Rattle.std.specs.Prelude.{◌≡◌, [], true, IfOk};
-ghost use Rattle.blot_fields.specs.Making.{Grows};
+ghost use Rattle.blot_fields.specs.Making.{Grows, IsShort};
 
-use crate::Entries;
+use blot_types::Items;
 use std::alloc::{AllocError as NoMemory, Global};
 
 /// A list in the making. That memory ran out is told at its end, since each fault comes before it.
@@ -34,12 +34,13 @@ impl<T: Drop> Making<T> {
     }
 
     /// The list, if there was memory for each item.
-    pub(crate) fn finish(self) -> Result<Entries<T>, NoMemory>
+    pub(crate) fn finish(self) -> Result<Items<T>, NoMemory>
+        requires { IsShort self }
         ensures complete { IfOk result (λ _. self.complete ≡ true) }
-        ensures items { IfOk result (λ entries. entries ≡ self.items.items) }
+        ensures items { IfOk result (λ items. items ≡ self.items.items) }
     {
         if self.complete {
-            Ok(Entries::new(self.items))
+            Ok(Items::new(self.items))
         } else {
             Err(NoMemory)
         }

@@ -1,1 +1,3 @@
-mod EntryLemmas
+mod BookLemmas
+mod ListLemmas
+mod PositionLemmas

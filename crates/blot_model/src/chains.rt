@@ -1,7 +1,8 @@
 //! The chains of executions.
 ghost use Rattle.std.specs.Prelude.{◌≡◌};
 ghost use Rattle.blot_types.specs.Chains.{taker_in, own_root as own_root_by, root_in, is_root, busts, bust_in, current_in};
-ghost use Rattle.blot_types.specs.Survivors.{links_of, root_of};
+ghost use Rattle.blot_types.specs.Survivors.{link_of, links_of, root_of};
+ghost use Rattle.blot_model.specs.Keyed.{link_keyed};
 
 use blot_types::{Entry, ExecKey, Link, Role};
 
@@ -11,8 +12,10 @@ pub fn number_of(list: &[Entry], key: &ExecKey) -> Option<u64>
 {
     let mut rest = list;
     while let Some((entry, earlier)) = rest.split_last() {
-        if entry.command.exec_key() == *key {
-            return Some(entry.number);
+        if let Some(link) = entry.link() {
+            if link.key == *key {
+                return Some(link.number);
+            }
         }
         rest = earlier;
     }
@@ -26,14 +29,15 @@ pub fn root_of(list: &[Entry], key: &ExecKey) -> Option<ExecKey>
     let mut rest = list;
     let mut sought = *key;
     while let Some((entry, earlier)) = rest.split_last() {
-        if entry.command.exec_key() == sought {
-            match entry.command.role() {
-                Role::Begins => return Some(sought),
-                Role::Corrects(reference) => sought = reference,
-                Role::Busts(_) => return None,
-            }
-        }
         rest = earlier;
+        let Some(link) = link_keyed(entry, &sought) else {
+            continue;
+        };
+        match link.role {
+            Role::Begins => return Some(link.key),
+            Role::Corrects(reference) => sought = reference,
+            Role::Busts(_) => return None,
+        }
     }
     None
 }
@@ -44,8 +48,10 @@ pub fn bust_of(list: &[Entry], root: &ExecKey) -> Option<u64>
 {
     let mut rest = list;
     while let Some((entry, earlier)) = rest.split_last() {
-        if is_bust(earlier, &entry.link(), root) {
-            return Some(entry.number);
+        if let Some(link) = entry.link() {
+            if is_bust(earlier, &link, root) {
+                return Some(link.number);
+            }
         }
         rest = earlier;
     }
@@ -58,12 +64,24 @@ pub fn current(list: &[Entry], root: &ExecKey) -> Option<u64>
 {
     let mut rest = list;
     while let Some((entry, earlier)) = rest.split_last() {
-        if is_version(earlier, &entry.link(), root) {
-            return Some(entry.number);
+        if let Some(link) = entry.link() {
+            if is_version(earlier, &link, root) {
+                return Some(link.number);
+            }
         }
         rest = earlier;
     }
     None
+}
+
+// An entry's link, if it is one and takes up this key.
+fn link_keyed(entry: &Entry, key: &ExecKey) -> Option<Link>
+    ensures { result ≡ link_keyed key.now (link_of entry.now) }
+{
+    match entry.link() {
+        Some(link) if link.key == *key => Some(link),
+        _ => None,
+    }
 }
 
 // Whether a link behind these entries is a Bust of the chain of a root.

@@ -2,12 +2,21 @@
 //! each time. Every faster body is compared with it.
 #![tactic(auto)]
 
+mod allocations;
+mod amounts;
 mod chains;
+mod commands;
 mod executions;
+mod instructions;
 mod orders;
+mod parts;
+mod positions;
 mod refusals;
+mod rules;
 
+pub use allocations::named_roots;
 pub use chains::{bust_of, current, number_of, root_of};
 pub use executions::survivors;
 pub use orders::order_of;
+pub use positions::position_of;
 pub use refusals::{accepts, legal};

@@ -1,43 +1,51 @@
 //! Which commands a list refuses.
 ghost use Rattle.std.specs.Prelude.{◌≡◌, IfOk};
-ghost use Rattle.blot_types.specs.Chains.{root_in, chain_refusal};
+ghost use Rattle.blot_types.specs.Allocations.{instructions_of};
 ghost use Rattle.blot_types.specs.Legal.{refusal_of, is_legal};
-ghost use Rattle.blot_types.specs.Survivors.{links_of};
 
-use crate::chains::{bust_of, number_of, root_of};
-use blot_types::{Command, Entry, ExecKey, Refused, Role};
-use std::alloc::AllocError as NoMemory;
+use crate::instructions::instructions;
+use crate::rules::{
+    busted_exec, dead_alloc, duplicate_alloc, duplicate_exec, exec_taken, instrument, quantity,
+    repeated_exec, unknown_alloc, unknown_exec,
+};
+use blot_types::{Command, Entry, Instruction, Refused};
+use std::alloc::{AllocError as NoMemory, Global};
 
-/// Why a list refuses a command, or none where it accepts it.
-pub fn accepts(list: &[Entry], command: &Command) -> Result<Option<Refused>, NoMemory>
+/// Why a list refuses a command, or none where it accepts it: the first rule that applies.
+pub fn accepts(
+    alloc: Global,
+    list: &[Entry],
+    command: &Command,
+) -> Result<Option<Refused>, NoMemory>
     ensures { IfOk result (λ refused. refused ≡ refusal_of list.now command.now) }
 {
-    if let Some(number) = number_of(list, &command.exec_key()) {
-        return Ok(Some(Refused::DuplicateExec(number)));
-    }
-    Ok(match command.role() {
-        Role::Begins => None,
-        Role::Corrects(reference) => chain_refusal(list, &reference),
-        Role::Busts(reference) => chain_refusal(list, &reference),
-    })
+    let instructions = instructions(alloc, list)?;
+    Ok(refusal(list, &instructions, command))
 }
 
-// Why a reference is refused: it has no root, or its chain is busted.
-fn chain_refusal(list: &[Entry], reference: &ExecKey) -> Option<Refused>
-    ensures { result ≡ chain_refusal (links_of list.now) reference.now (root_in (links_of list.now) reference.now) }
+// Why a list with these instructions refuses a command.
+fn refusal(list: &[Entry], instructions: &[Instruction], command: &Command) -> Option<Refused>
+    requires { instructions.now ≡ instructions_of list.now }
+    ensures { result ≡ refusal_of list.now command.now }
 {
-    match root_of(list, reference) {
-        None => Some(Refused::UnknownExec(*reference)),
-        Some(root) => bust_of(list, &root).map(Refused::BustedExec),
-    }
+    duplicate_exec(list, command)
+        .or_else(|| duplicate_alloc(list, instructions, command))
+        .or_else(|| unknown_alloc(list, instructions, command))
+        .or_else(|| dead_alloc(list, instructions, command))
+        .or_else(|| unknown_exec(list, command))
+        .or_else(|| busted_exec(list, command))
+        .or_else(|| repeated_exec(list, command))
+        .or_else(|| exec_taken(list, instructions, command))
+        .or_else(|| instrument(list, command))
+        .or_else(|| quantity(list, command))
 }
 
 /// Whether each entry of a list is accepted after those before it.
-pub fn legal(list: &[Entry]) -> Result<bool, NoMemory>
+pub fn legal(alloc: Global, list: &[Entry]) -> Result<bool, NoMemory>
     ensures { IfOk result (λ legal. legal ≡ is_legal list.now) }
 {
     for (index, entry) in list.iter().enumerate() {
-        if accepts(&list[..index], &entry.command)?.is_some() {
+        if accepts(alloc, &list[..index], &entry.command)?.is_some() {
             return Ok(false);
         }
     }

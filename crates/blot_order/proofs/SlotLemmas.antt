@@ -1,140 +1,201 @@
--- The slots of an order book: what stands under a number after a change, and the fills that are put.
-use Rattle.std.proofs.Common.{eq-eqb, ◌≡◌, ◌≢◌, ℕ, zero, suc, ◌+◌, ◌-◌, ◌<◌, ◌≤◌, List, [], ◌∷◌, ◌++◌, length, get_or, replicate, map, Option, Some, None, Bool, true, false, ◌&&◌, refl, sym, ap, ◌∙◌, arith, inl, inr}
-use Rattle.std.specs.Prelude.{◌==◌, find, nat_le, nat_lt}
-use Rattle.std.specs.Option.{option_map}
-use Rattle.std.proofs.lemmas.Bool.{cases_Bool, and_from, and_parts, ltb-true, ltb-false, leb-true, le-leb, ne_eqb, eqb-true, eqb-false}
-use Rattle.std.proofs.lemmas.List.{get_or-set_same, get_or-set_other, get_or_append_left, length-append, get_or-append_right, get_or_past, length-replicate}
+-- The slots of an order book and the fills by number that they stand for.
+use Rattle.std.proofs.Common.{◌≡◌, ℕ, zero, suc, ◌+◌, ◌-◌, ◌<◌, ◌≤◌, List, [], ◌∷◌, ◌++◌, length, set, replicate, take, map, Option, Some, None, Bool, true, false, refl, sym, ap, ◌∙◌, arith, inl, inr}
+use Rattle.std.specs.Prelude.{◌==◌, nat_lt, if◌then◌else◌, IsSome}
+use Rattle.std.specs.Bool.{passes}
+use Rattle.std.specs.Cmp.{nat_cmp_total, unsigned_tied}
+use Rattle.std.specs.FinMap as finite
+use Rattle.std.specs.FinMap.Entries.{below_all}
+use Rattle.std.specs.List.{filter_map}
+use Rattle.std.specs.Option.{option_and_then}
+use Rattle.std.specs.Ordering.{nat_cmp, eq_by_cmp, is_lt}
+use Rattle.std.proofs.lemmas.Bool.{cases_Bool, and_from, ltb-true, ltb-false, lt-ltb, ne_eqb, eq-eqb, eqb-true, eqb-false}
+use Rattle.std.proofs.lemmas.List.{get_or-set_same, get_or-set_other, get_or_append_left, get_or-append_right, get_or_past, take_all, length-append, length-replicate}
 use Rattle.std.proofs.lemmas.List.Elements.{filter-append, filter_map-append}
 use Rattle.blot_types.specs.declared.fill.Fill.{Fill}
 use Rattle.blot_types.specs.declared.keys.OrderKey.{OrderKey}
-use Rattle.blot_types.specs.declared.lines.Version.{Version}
+use Rattle.blot_types.specs.declared.lines.OrderLine.{OrderLine}
 use Rattle.blot_types.specs.Keys.{same_order}
 use Rattle.blot_types.specs.Order.{fills_of, line_of, with_fill}
-use Rattle.blot_types.specs.declared.lines.OrderLine.{OrderLine}
 use Rattle.blot_types.proofs.OrderLemmas.{line_of-push}
-use Rattle.blot_order.specs.declared.slot.Slot.{Slot}
-use Rattle.blot_order.specs.declared.slot.Slot.TheVariants.{Empty}
-use Rattle.blot_order.specs.Slots.{fill_put, slot_at, put_at, reaching, with_slot, fills_put}
+use Rattle.blot_order.specs.declared.held.Held.{Held}
+use Rattle.blot_order.specs.declared.held.Held.TheVariants.{Kept, Put}
+use Rattle.blot_order.specs.Fills.{Fills, fill_put, fill_kept, put_at, kept_at, fills_put}
+use Rattle.blot_order.specs.Slots.{held_from, held_by, slot_at, fills_in_slots, reaching}
+use Rattle.blot_order.proofs.FillLemmas.{get-insert}
 
--- a list that is filled up for a number has a slot for it
-length-reaching : (n : ℕ) (slots : List Slot) → n < length (reaching n slots)
-length-reaching n slots = omega (arith, length-append slots (replicate (n + 1 - length slots) Empty), length-replicate (n + 1 - length slots) Empty)
+-- ---- what the slots stand for, number by number
+
+-- whether each number of entries is above one
+abbrev are_above : ℕ → List (ℕ × Held) → Bool
+are_above n entries = below_all nat_cmp n entries
+
+lt_by_cmp : (m n : ℕ) → m < n → is_lt (nat_cmp m n) ≡ true
+lt_by_cmp m n less = rw (lt-ltb m n less) refl
+
+above-held_from : (low n : ℕ) (slots : List (Option Held)) → low < n → are_above low (held_from n slots) ≡ true
+above-held_from low n [] less = refl
+above-held_from low n (None ∷ slots) less = above-held_from low (n + 1) slots (omega arith)
+above-held_from low n (Some held ∷ slots) less = and_from _ _ (lt_by_cmp low n less) (above-held_from low (n + 1) slots (omega arith))
+
+-- the numbers rise
+sorted-held_from : (n : ℕ) (slots : List (Option Held)) → finite.is_sorted nat_cmp (held_from n slots) ≡ true
+sorted-held_from n [] = refl
+sorted-held_from n (None ∷ slots) = sorted-held_from (n + 1) slots
+sorted-held_from n (Some held ∷ slots) = and_from _ _ (above-held_from n (n + 1) slots (omega arith)) (sorted-held_from (n + 1) slots)
+
+-- nothing is held under a number below the first
+find-below : (k n : ℕ) (slots : List (Option Held)) → k < n → finite.find nat_cmp k (held_from n slots) ≡ None
+find-below k n [] less = refl
+find-below k n (None ∷ slots) less = find-below k (n + 1) slots (omega arith)
+find-below k n (Some held ∷ slots) less =
+    let other : eq_by_cmp nat_cmp k n ≡ false = unsigned_tied k n ∙ ne_eqb k n (omega arith) in
+    rw other (find-below k (n + 1) slots (omega arith))
+
+-- under the number of a slot stands what the slot holds
+find-held_from : (k n : ℕ) (slots : List (Option Held)) → finite.find nat_cmp (n + k) (held_from n slots) ≡ slot_at slots k
+find-held_from k n [] = sym (get_or_past [] k None (omega arith))
+find-held_from zero n (None ∷ slots) = find-below (n + 0) (n + 1) slots (omega arith)
+find-held_from (suc k) n (None ∷ slots) =
+    let next : n + suc k ≡ (n + 1) + k = omega arith in
+    ap (λ number. finite.find nat_cmp number (held_from (n + 1) slots)) next ∙ find-held_from k (n + 1) slots
+find-held_from zero n (Some held ∷ slots) =
+    let same : eq_by_cmp nat_cmp (n + 0) n ≡ true = unsigned_tied (n + 0) n ∙ eq-eqb (n + 0) n (omega arith) in
+    rw same refl
+find-held_from (suc k) n (Some held ∷ slots) =
+    let next : n + suc k ≡ (n + 1) + k = omega arith in
+    let other : eq_by_cmp nat_cmp (n + suc k) n ≡ false = unsigned_tied (n + suc k) n ∙ ne_eqb (n + suc k) n (omega arith) in
+    rw other (ap (λ number. finite.find nat_cmp number (held_from (n + 1) slots)) next ∙ find-held_from k (n + 1) slots)
+
+pub get-held_by : (slots : List (Option Held)) (k : ℕ) → finite.get (held_by slots) k ≡ slot_at slots k
+unfolding held_by
+get-held_by slots k =
+    finite.get-from_sorted nat_cmp (held_from 0 slots) k (passes _ (sorted-held_from 0 slots))
+    ∙ ap (λ number. finite.find nat_cmp number (held_from 0 slots)) (omega arith) ∙ find-held_from k 0 slots
+
+-- slots that hold the same under each number stand for the same fills
+same_slots : (fills : Fills) (slots : List (Option Held)) → ((k : ℕ) → slot_at slots k ≡ finite.get fills k) → held_by slots ≡ fills
+same_slots fills slots same = finite.same_map nat_cmp_total finite.nat_cmp-IsAntisymmetric (held_by slots) fills (λ k. get-held_by slots k ∙ same k)
+
+-- no slot holds anything
+pub held_by-empty : held_by [] ≡ finite.empty
+held_by-empty = same_slots finite.empty [] (λ k. get_or_past [] k None (omega arith) ∙ sym (finite.get-empty {X = Held} nat_cmp k))
+
+-- one slot changed is one number changed
+pub held_by-set : (n : ℕ) (held : Held) (slots : List (Option Held)) → n < length slots → held_by (set slots n (Some held)) ≡ finite.insert (held_by slots) n held
+held_by-set n held slots within =
+    same_slots (finite.insert (held_by slots) n held) (set slots n (Some held)) (λ k.
+    elim (cases_Bool (k == n)) [
+      | inl same ↦
+          let here : k ≡ n = eqb-true k n same in
+          ap (slot_at (set slots n (Some held))) here ∙ get_or-set_same slots n (Some held) None within
+          ∙ sym (get-insert (held_by slots) n k held ∙ ap (λ test. if test then Some held else finite.get (held_by slots) k) same)
+      | inr other ↦
+          get_or-set_other slots n k (Some held) None (eqb-false k n other) ∙ sym (get-held_by slots k)
+          ∙ sym (get-insert (held_by slots) n k held ∙ ap (λ test. if test then Some held else finite.get (held_by slots) k) other)
+    ])
 
 -- every slot of a list of empty ones is empty
-get_or-empties : (n k : ℕ) → get_or (replicate n Empty) k Empty ≡ Empty
-get_or-empties zero k = refl
+get_or-empties : (n k : ℕ) → slot_at (replicate n None) k ≡ None
+get_or-empties zero k = get_or_past [] k None (omega arith)
 get_or-empties (suc n) zero = refl
 get_or-empties (suc n) (suc k) = get_or-empties n k
 
--- filling up changes the slot of no number
-slot_at-reaching : (n k : ℕ) (slots : List Slot) → slot_at (reaching n slots) k ≡ slot_at slots k
-slot_at-reaching n k slots =
+-- filling up changes nothing that is held
+pub held_by-reaching : (n : ℕ) (slots : List (Option Held)) → held_by (reaching n slots) ≡ held_by slots
+held_by-reaching n slots =
+    same_slots (held_by slots) (reaching n slots) (λ k.
     elim (cases_Bool (nat_lt k (length slots))) [
-      | inl y ↦ get_or_append_left slots _ Empty k (ltb-true _ _ y)
-      | inr y ↦
-          let past : length slots ≤ k = ltb-false _ _ y in
-          get_or-append_right slots (replicate (n + 1 - length slots) Empty) (length slots) k Empty refl past
-          ∙ get_or-empties (n + 1 - length slots) (k - length slots) ∙ sym (get_or_past slots k Empty past)
+      | inl less ↦ get_or_append_left slots _ None k (ltb-true _ _ less) ∙ sym (get-held_by slots k)
+      | inr more ↦
+          let past : length slots ≤ k = ltb-false _ _ more in
+          get_or-append_right slots (replicate (n + 1 - length slots) None) (length slots) k None refl past
+          ∙ get_or-empties (n + 1 - length slots) (k - length slots) ∙ sym (get_or_past slots k None past) ∙ sym (get-held_by slots k)
+    ])
+
+-- a list that is filled up for a number has a slot for it
+length-reaching : (n : ℕ) (slots : List (Option Held)) → n < length (reaching n slots)
+length-reaching n slots = omega (arith, length-append slots (replicate (n + 1 - length slots) None), length-replicate {A = Option Held} (n + 1 - length slots) None)
+
+-- the slot of a number set in slots that reach it
+pub held_by-set_reaching : (n : ℕ) (held : Held) (slots : List (Option Held)) → held_by (set (reaching n slots) n (Some held)) ≡ finite.insert (held_by slots) n held
+held_by-set_reaching n held slots =
+    held_by-set n held (reaching n slots) (length-reaching n slots) ∙ ap (λ fills. finite.insert fills n held) (held_by-reaching n slots)
+
+-- something is held under a number only where there is a slot for it
+pub slot_within : (n : ℕ) (slots : List (Option Held)) (held : Held) → slot_at slots n ≡ Some held → n < length slots
+slot_within n slots held is =
+    elim (cases_Bool (nat_lt n (length slots))) [
+      | inl less ↦ ltb-true _ _ less
+      | inr more ↦ let clash : None ≡ Some held = sym (get_or_past slots n None (ltb-false _ _ more)) ∙ is in absurd (cc clash)
     ]
 
--- the slot that a number was given stands under it
-pub slot_at-with_slot_same : (n : ℕ) (slot : Slot) (slots : List Slot) → slot_at (with_slot n slot slots) n ≡ slot
-slot_at-with_slot_same n slot slots = get_or-set_same (reaching n slots) n slot Empty (length-reaching n slots)
+put_is_there : (slot : Option Held) (fill : Fill) → option_and_then fill_put slot ≡ Some fill → slot ≡ Some (Put fill)
+put_is_there None fill is = cc
+put_is_there (Some (Kept kept)) fill is = cc
+put_is_there (Some (Put put)) fill is = cc
 
--- under every other number stands what stood there before
-pub slot_at-with_slot_other : (n k : ℕ) (slot : Slot) (slots : List Slot) → k ≢ n → slot_at (with_slot n slot slots) k ≡ slot_at slots k
-slot_at-with_slot_other n k slot slots other = get_or-set_other (reaching n slots) n k slot Empty other ∙ slot_at-reaching n k slots
+kept_is_there : (slot : Option Held) (fill : Fill) → option_and_then fill_kept slot ≡ Some fill → slot ≡ Some (Kept fill)
+kept_is_there None fill is = cc
+kept_is_there (Some (Kept kept)) fill is = cc
+kept_is_there (Some (Put put)) fill is = cc
 
--- the fills put of slots with one more
-pub fills_put-push : (slots : List Slot) (slot : Slot) → fills_put (slots ++ slot ∷ []) ≡ fills_put slots ++ fills_put (slot ∷ [])
-fills_put-push slots slot = filter_map-append fill_put slots (slot ∷ [])
+-- the slot of a number under which a fill is put, and of one under which it is kept
+pub slot_at-put : (n : ℕ) (slots : List (Option Held)) (fills : Fills) (fill : Fill) → held_by slots ≡ fills → put_at fills n ≡ Some fill → slot_at slots n ≡ Some (Put fill)
+slot_at-put n slots fills fill view is =
+    put_is_there (slot_at slots n) fill
+    (ap (option_and_then fill_put) (sym (get-held_by slots n) ∙ ap (λ shown. finite.get shown n) view) ∙ is)
+
+pub slot_at-kept : (n : ℕ) (slots : List (Option Held)) (fills : Fills) (fill : Fill) → held_by slots ≡ fills → kept_at fills n ≡ Some fill → slot_at slots n ≡ Some (Kept fill)
+slot_at-kept n slots fills fill view is =
+    kept_is_there (slot_at slots n) fill
+    (ap (option_and_then fill_kept) (sym (get-held_by slots n) ∙ ap (λ shown. finite.get shown n) view) ∙ is)
+
+pub put_within : (n : ℕ) (slots : List (Option Held)) (fills : Fills) (fill : Fill) → held_by slots ≡ fills → put_at fills n ≡ Some fill → n < length slots
+put_within n slots fills fill view is = slot_within n slots (Put fill) (slot_at-put n slots fills fill view is)
+
+within_found : (n : ℕ) (slots : List (Option Held)) (fills : Fills) → held_by slots ≡ fills → (found : Option Fill) → kept_at fills n ≡ found → IsSome found → n < length slots
+within_found n slots fills view None found is = cc
+within_found n slots fills view (Some fill) found is = slot_within n slots (Kept fill) (slot_at-kept n slots fills fill view found)
+
+pub kept_within : (n : ℕ) (slots : List (Option Held)) (fills : Fills) → held_by slots ≡ fills → IsSome (kept_at fills n) → n < length slots
+kept_within n slots fills view is = within_found n slots fills view (kept_at fills n) refl is
+
+-- ---- the fills that are put
+
+put-held_from : (n : ℕ) (slots : List (Option Held)) → filter_map fill_put (map (λ entry. entry.1) (held_from n slots)) ≡ fills_in_slots slots
+put-held_from n [] = refl
+put-held_from n (None ∷ slots) = put-held_from (n + 1) slots
+put-held_from n (Some (Kept fill) ∷ slots) = put-held_from (n + 1) slots
+put-held_from n (Some (Put fill) ∷ slots) = ap (λ fills. fill ∷ fills) (put-held_from (n + 1) slots)
+
+-- the fills put, by number, are those put by slot
+pub fills_put-held_by : (slots : List (Option Held)) → fills_put (held_by slots) ≡ fills_in_slots slots
+unfolding held_by
+fills_put-held_by slots =
+    ap (λ entries. filter_map fill_put (map (λ entry. entry.1) entries)) (finite.entries-from_sorted nat_cmp (held_from 0 slots) (passes _ (sorted-held_from 0 slots)))
+    ∙ put-held_from 0 slots
 
 -- the fills of an order in two lists
-pub fills_of-append : (earlier later : List Fill) (order : OrderKey) → fills_of (earlier ++ later) order ≡ fills_of earlier order ++ fills_of later order
+fills_of-append : (earlier later : List Fill) (order : OrderKey) → fills_of (earlier ++ later) order ≡ fills_of earlier order ++ fills_of later order
 fills_of-append earlier later order = filter-append (λ fill. same_order fill.order order) earlier later
-
--- the line of an order where the next fill is one of its own
-pub line_of-taken :
-    (fills : List Fill) (fill : Fill) (order : OrderKey) (line : Option OrderLine)
-    → line ≡ line_of fills → same_order fill.order order ≡ true
-    → Some (with_fill line fill) ≡ line_of (fills ++ fills_of (fill ∷ []) order)
-line_of-taken fills fill order line is same = rw (is, same) (sym (line_of-push fills fill))
 
 -- the fills put of an order, in slots with one more
 pub fills_of-push :
-    (slots : List Slot) (slot : Slot) (order : OrderKey)
-    → fills_of (fills_put (slots ++ slot ∷ [])) order ≡ fills_of (fills_put slots) order ++ fills_of (fills_put (slot ∷ [])) order
-fills_of-push slots slot order = ap (λ fills. fills_of fills order) (fills_put-push slots slot) ∙ fills_of-append (fills_put slots) (fills_put (slot ∷ [])) order
+    (slots : List (Option Held)) (slot : Option Held) (order : OrderKey)
+    → fills_of (fills_in_slots (slots ++ slot ∷ [])) order ≡ fills_of (fills_in_slots slots) order ++ fills_of (fills_in_slots (slot ∷ [])) order
+fills_of-push slots slot order =
+    ap (λ fills. fills_of fills order) (filter_map-append (option_and_then fill_put) slots (slot ∷ []))
+    ∙ fills_of-append (fills_in_slots slots) (fills_in_slots (slot ∷ [])) order
 
--- the numbers of versions rise, from a number on
-abbrev pub rise_from : ℕ → List Version → Bool
-rise_from number [] = true
-rise_from number (version ∷ later) = nat_le number version.number && rise_from (version.number + 1) later
+-- the line of an order where the next slot puts a fill of its own
+pub line_of-put :
+    (fills : List Fill) (slot : Option Held) (fill : Fill) (order : OrderKey) (line : Option OrderLine)
+    → slot ≡ Some (Put fill) → line ≡ line_of fills → same_order fill.order order ≡ true
+    → Some (with_fill line fill) ≡ line_of (fills ++ fills_of (fills_in_slots (slot ∷ [])) order)
+line_of-put fills slot fill order line there is same = rw (there, is, same) (sym (line_of-push fills fill))
 
--- no version has a number below those from which they rise
-find-below : (n from : ℕ) (versions : List Version) → rise_from from versions ≡ true → n < from → find (λ v. v.number == n) versions ≡ None
-find-below n from [] rise below = refl
-find-below n from (version ∷ later) rise below =
-    let parts : (nat_le from version.number ≡ true) × (rise_from (version.number + 1) later ≡ true) = and_parts _ _ rise in
-    let above : from ≤ version.number = leb-true _ _ parts.0 in
-    let other : (version.number == n) ≡ false = ne_eqb _ _ (omega arith) in
-    rw other (find-below n (version.number + 1) later parts.1 (omega arith))
-
--- the fill of the version of a number
-abbrev fill_numbered : ℕ → List Version → Option Fill
-fill_numbered n versions = option_map (λ v. v.fill) (find (λ v. v.number == n) versions)
-
--- where the numbers rise from a later one, no version has this one
-fill_numbered-above : (n : ℕ) (versions : List Version) → rise_from (n + 1) versions ≡ true → fill_numbered n versions ≡ None
-fill_numbered-above n versions rise = ap (option_map (λ v. v.fill)) (find-below n (n + 1) versions rise (omega arith))
-
--- the first version has the number, or another one
-fill_numbered-first : (n : ℕ) (version : Version) (later : List Version) → version.number ≡ n → fill_numbered n (version ∷ later) ≡ Some version.fill
-fill_numbered-first n version later is = let test : (version.number == n) ≡ true = eq-eqb version.number n is in rw test refl
-
-fill_numbered-later : (n : ℕ) (version : Version) (later : List Version) → version.number ≢ n → fill_numbered n (version ∷ later) ≡ fill_numbered n later
-fill_numbered-later n version later other = let test : (version.number == n) ≡ false = ne_eqb version.number n other in rw test refl
-
--- slots whose first is that of a number hold the fills of the versions from that number on
-by_versions_from :
-    (from : ℕ) (slots : List Slot) (versions : List Version) → rise_from from versions ≡ true
-    → ((k : ℕ) → put_at slots k ≡ fill_numbered (from + k) versions) → fills_put slots ≡ map (λ v. v.fill) versions
-by_versions_from from [] [] rise same = refl
-by_versions_from from [] (version ∷ later) rise same =
-    let parts : (nat_le from version.number ≡ true) × (rise_from (version.number + 1) later ≡ true) = and_parts _ _ rise in
-    let above : from ≤ version.number = leb-true _ _ parts.0 in
-    let found : fill_numbered (from + (version.number - from)) (version ∷ later) ≡ Some version.fill =
-    fill_numbered-first (from + (version.number - from)) version later (omega arith) in
-    let clash : None ≡ Some version.fill =
-    sym (ap fill_put (get_or_past [] (version.number - from) Empty (omega arith))) ∙ same (version.number - from) ∙ found in
-    absurd (cc clash)
-by_versions_from from (slot ∷ slots) [] rise same =
-    let none : fill_put slot ≡ None = same 0 in
-    rw none (by_versions_from (from + 1) slots [] refl (λ k. same (suc k)))
-by_versions_from from (slot ∷ slots) (version ∷ later) rise same =
-    let parts : (nat_le from version.number ≡ true) × (rise_from (version.number + 1) later ≡ true) = and_parts _ _ rise in
-    let above : from ≤ version.number = leb-true _ _ parts.0 in
-    elim (cases_Bool (version.number == from)) [
-      | inl y ↦
-          let is : version.number ≡ from = eqb-true version.number from y in
-          let put : fill_put slot ≡ Some version.fill = same 0 ∙ fill_numbered-first (from + 0) version later (omega arith) in
-          let rest : fills_put slots ≡ map (λ v. v.fill) later =
-          by_versions_from (from + 1) slots later (rw is at parts.1)
-          (λ k. same (suc k) ∙ fill_numbered-later (from + suc k) version later (omega arith) ∙ ap (λ n. fill_numbered n later) (omega arith)) in
-          rw put (ap (λ fills. version.fill ∷ fills) rest)
-      | inr y ↦
-          let above_one : from + 1 ≤ version.number = omega (arith, eqb-false version.number from y) in
-          let rise_one : rise_from (from + 1) (version ∷ later) ≡ true = and_from _ _ (le-leb _ _ above_one) parts.1 in
-          let none : fill_put slot ≡ None =
-          same 0 ∙ ap (λ n. fill_numbered n (version ∷ later)) (omega arith) ∙ fill_numbered-above from (version ∷ later) rise_one in
-          rw none
-          (by_versions_from (from + 1) slots (version ∷ later) rise_one
-          (λ k. same (suc k) ∙ ap (λ n. fill_numbered n (version ∷ later)) (omega arith)))
-    ]
-
--- slots that put the fill of each version under its number, and no others, put the fills of the versions
-pub fills_put-by_versions :
-    (slots : List Slot) (versions : List Version) → rise_from 0 versions ≡ true
-    → ((k : ℕ) → put_at slots k ≡ option_map (λ v. v.fill) (find (λ v. v.number == k) versions))
-    → fills_put slots ≡ map (λ v. v.fill) versions
-fills_put-by_versions slots versions rise same = by_versions_from 0 slots versions rise (λ k. same k ∙ ap (λ n. fill_numbered n versions) (omega arith))
+-- the line of an order from all slots that were read
+pub line_of-whole :
+    (line : Option OrderLine) (read slots : List (Option Held)) (index : ℕ) (order : OrderKey) → read ≡ slots → length read ≤ index
+    → line ≡ line_of (fills_of (fills_in_slots (take index read)) order) → line ≡ line_of (fills_of (fills_in_slots slots) order)
+line_of-whole line read slots index order same past is = is ∙ ap (λ s. line_of (fills_of (fills_in_slots s) order)) (take_all index read past ∙ same)

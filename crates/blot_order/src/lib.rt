@@ -3,8 +3,8 @@
 //! that are put, in rising order of number.
 #![tactic(auto)]
 
+mod held;
 mod orders;
-mod slot;
 
+pub use held::Held;
 pub use orders::Orders;
-pub use slot::Slot;

@@ -1,7 +1,6 @@
 -- What one more link changes in the chains.
-use Rattle.std.proofs.Common.{◌≡◌, ℕ, ◌<◌, ◌==◌, Bool, true, false, ◌&&◌, List, [], ◌∷◌, Option, Some, None, refl, sym, subst, ◌∙◌, arith, inl, inr}
+use Rattle.std.proofs.Common.{◌≡◌, ℕ, ◌<◌, ◌==◌, Bool, true, false, List, [], ◌∷◌, Option, Some, None, refl, sym, subst, ◌∙◌, arith, inl, inr}
 use Rattle.std.specs.Prelude.{is_none, nat_lt}
-use Rattle.std.specs.List.{list_all}
 use Rattle.std.specs.Option.{option_map, option_or}
 use Rattle.std.proofs.lemmas.Bool.{cases_Bool, and_parts, ltb-true, eqb-true, ne_eqb}
 use Rattle.blot_types.specs.declared.keys.ExecKey.{ExecKey}
@@ -11,7 +10,7 @@ use Rattle.blot_types.specs.declared.link.Role.TheVariants.{Begins, Corrects, Bu
 use Rattle.blot_types.specs.declared.refused.Refused.{Refused}
 use Rattle.blot_types.specs.declared.refused.Refused.TheVariants.{DuplicateExec, BustedExec}
 use Rattle.blot_types.specs.Keys.{same_exec}
-use Rattle.blot_types.specs.Chains.{takes_up, taker_in, own_root, root_in, is_root, busts, bust_in, current_in, chain_refusal, reference_refusal, link_refusal}
+use Rattle.blot_types.specs.Chains.{takes_up, taker_in, own_root, root_in, is_root, busts, bust_in, current_in, chain_refusal, reference_refusal, link_refusal, is_below, falls}
 use Rattle.blot_types.specs.Survivors.{is_number}
 use Rattle.blot_types.proofs.KeyLemmas.{same_exec-true, same_exec-refl}
 
@@ -88,15 +87,6 @@ pub record LeadsTo (links : List Link) (found : Option ExecKey) (root : ExecKey)
 pub accepted_root : (links : List Link) (reference : ExecKey) (found : Option ExecKey) → chain_refusal links reference found ≡ None → (root : ExecKey) × LeadsTo links found root
 accepted_root links reference None none = cc
 accepted_root links reference (Some root) none = (root, record { root_is = refl; not_busted = not_busted (bust_in links root) none })
-
--- the numbers of links are below this one
-abbrev pub is_below : ℕ → List Link → Bool
-is_below number links = list_all (λ link. nat_lt link.number number) links
-
--- the numbers fall from the newest link to the oldest
-abbrev pub falls : List Link → Bool
-falls [] = true
-falls (link ∷ earlier) = is_below link.number earlier && falls earlier
 
 -- no chain's last version has a number that is above those of the links
 pub current-below : (links : List Link) (number : ℕ) (root : ExecKey) → is_below number links ≡ true → is_number number (current_in links root) ≡ false

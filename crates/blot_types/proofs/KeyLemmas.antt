@@ -2,8 +2,9 @@
 use Rattle.std.proofs.Common.{◌≡◌, true, sym}
 use Rattle.std.specs.Cmp.Lexicographic.{same_text as text_told, nat_list_eq_equiv}
 use Rattle.std.proofs.lemmas.Bool.{and_from, and_parts}
+use Rattle.blot_types.specs.declared.keys.AllocKey.{AllocKey}
 use Rattle.blot_types.specs.declared.keys.ExecKey.{ExecKey}
-use Rattle.blot_types.specs.Keys.{same_text, same_exec}
+use Rattle.blot_types.specs.Keys.{same_text, same_exec, same_alloc}
 
 -- keys that the test calls one are equal
 pub same_exec-true : (a b : ExecKey) → same_exec a b ≡ true → a ≡ b
@@ -20,3 +21,17 @@ same_exec-refl a = and_from _ _ (nat_list_eq_equiv.refl a.peer) (nat_list_eq_equ
 -- the test doesn't look at the order
 pub same_exec-sym : (a b : ExecKey) → same_exec a b ≡ same_exec b a
 same_exec-sym a b = rw (nat_list_eq_equiv.symm a.peer b.peer, nat_list_eq_equiv.symm a.id b.id)
+
+-- likewise of allocations
+pub same_alloc-true : (a b : AllocKey) → same_alloc a b ≡ true → a ≡ b
+same_alloc-true a b same =
+    let parts : (same_text a.peer b.peer ≡ true) × (same_text a.id b.id ≡ true) = and_parts _ _ same in
+    let peers : a.peer ≡ b.peer = text_told a.peer b.peer (sym parts.0) in
+    let ids : a.id ≡ b.id = text_told a.id b.id (sym parts.1) in
+    λ i. record { peer = peers i; id = ids i }
+
+pub same_alloc-refl : (a : AllocKey) → same_alloc a a ≡ true
+same_alloc-refl a = and_from _ _ (nat_list_eq_equiv.refl a.peer) (nat_list_eq_equiv.refl a.id)
+
+pub same_alloc-sym : (a b : AllocKey) → same_alloc a b ≡ same_alloc b a
+same_alloc-sym a b = rw (nat_list_eq_equiv.symm a.peer b.peer, nat_list_eq_equiv.symm a.id b.id)

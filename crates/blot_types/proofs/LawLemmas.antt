@@ -1,14 +1,14 @@
 -- The laws of a legal list: one survivor for each chain that isn't busted, and Busts that leave the others.
-use Rattle.std.proofs.Common.{◌≡◌, ℕ, ◌<◌, ◌==◌, Bool, true, false, ◌&&◌, List, [], ◌∷◌, ◌++◌, map, reverse, Option, Some, None, refl, sym, ap, subst, ◌∙◌, arith, inl, inr}
+use Rattle.std.proofs.Common.{◌≡◌, ℕ, ◌<◌, ◌==◌, Bool, true, false, ◌&&◌, List, [], ◌∷◌, ◌++◌, reverse, Option, Some, None, refl, sym, ap, subst, ◌∙◌, arith, inl, inr}
 use Rattle.std.specs.Prelude.{is_none, not, find, filter, IsTrue, All}
 use Rattle.std.specs.List.{cons_option}
 use Rattle.std.specs.Option.{option_or}
 use Rattle.std.proofs.lemmas.Bool.{cases_Bool, and_parts, eqb-true, eq-eqb}
-use Rattle.std.proofs.lemmas.List.{reverse-append, reverse-reverse, map-append, append_assoc, append-nil}
+use Rattle.std.proofs.lemmas.List.{reverse-append, reverse-reverse, append_assoc, append-nil}
 use Rattle.std.proofs.lemmas.List.Elements.{All-nil, All-cons, All-head, All-tail, All-weaker, filter_map-append, filter-append}
 use Rattle.std.proofs.lemmas.List.Folds.{find-append}
-use Rattle.blot_types.specs.declared.command.Command.{Command}
-use Rattle.blot_types.specs.declared.command.Command.TheVariants.{Trade, Correct, Bust}
+use Rattle.blot_types.specs.declared.command.Bust.{Bust}
+use Rattle.blot_types.specs.declared.command.Command.TheVariants.{Bust as BustCommand}
 use Rattle.blot_types.specs.declared.command.Entry.{Entry}
 use Rattle.blot_types.specs.declared.keys.ExecKey.{ExecKey}
 use Rattle.blot_types.specs.declared.lines.Version.{Version}
@@ -17,23 +17,24 @@ use Rattle.blot_types.specs.declared.link.Role.{Role}
 use Rattle.blot_types.specs.declared.link.Role.TheVariants.{Begins, Corrects, Busts}
 use Rattle.blot_types.specs.Keys.{same_exec}
 use Rattle.blot_types.specs.Chains.{takes_up, taker_in, own_root, root_in, is_root, busts, bust_in, current_in}
-use Rattle.blot_types.specs.Survivors.{exec_key, role_of, link_of, links_of, root_of, version_of, versions_of, is_number, stands_under, stands_in}
+use Rattle.blot_types.specs.Survivors.{link_of, links_in, links_of, root_of, version_of, versions_of, is_number, stands_under, stands_in}
 use Rattle.blot_types.specs.Legal.{is_above, rises_in, numbers_rise, is_legal, is_book, refusal_of}
 use Rattle.blot_types.specs.Laws.{survivors_of_chain, survivors_beside, HasOneSurvivorEach, BustsLeaveOthers}
 use Rattle.blot_types.proofs.KeyLemmas.{same_exec-true, same_exec-refl, same_exec-sym}
 use Rattle.blot_types.proofs.ChainLemmas.{none_is, rootless, accepted_key, differing}
 use Rattle.blot_types.proofs.LegalLemmas.{is_legal-front, is_legal-push}
 use Rattle.blot_types.proofs.StandLemmas.{and-false}
-use Rattle.blot_types.proofs.SurvivorLemmas.{IsKnown, IsCurrent, of, as_version, all_known, versions-cons, filter-agree, filter-and, find-below, find-passes, current-found}
+use Rattle.blot_types.proofs.EntryLemmas.{version-number, refusal-link}
+use Rattle.blot_types.proofs.SurvivorLemmas.{IsKnown, IsCurrent, all_known, versions-cons, filter-agree, filter-and, find-below, find-passes, current-found}
 
 -- ---- lists
 
-filter-none : {X : Type 0} (p : X → Bool) (xs : List X) → All (λ x. p x ≡ false) xs → filter p xs ≡ []
+pub filter-none : {X : Type 0} (p : X → Bool) (xs : List X) → All (λ x. p x ≡ false) xs → filter p xs ≡ []
 filter-none p [] none = refl
 filter-none p (x ∷ xs) none =
     rw (All-head (λ y. p y ≡ false) x xs none) (filter-none p xs (All-tail (λ y. p y ≡ false) x xs none))
 
-all : {X : Type 0} (P : X → Type 0) (xs : List X) → ((x : X) → P x) → All P xs
+pub all : {X : Type 0} (P : X → Type 0) (xs : List X) → ((x : X) → P x) → All P xs
 all P [] each = All-nil P
 all P (x ∷ xs) each = All-cons P x xs (each x) (all P xs each)
 
@@ -72,7 +73,7 @@ root-current (link ∷ earlier) key root is =
     ]
 
 -- what stands of a chain has the number of the chain's last version
-stands-number :
+pub stands-number :
     (links : List Link) (root : ExecKey) (n number : ℕ) (found : Option ExecKey) → current_in links root ≡ Some number
     → (stands_under links n found && is_root root found) ≡ true → n ≡ number
 stands-number links root n number None current both = cc
@@ -84,10 +85,12 @@ stands-number links root n number (Some other) current both =
     sym (eqb-true number n here)
 
 -- what an entry brings has the entry's number
-brought-number : (number : ℕ) (command : Command) → All (λ version. version.number ≡ number) (versions_of (of number command ∷ []))
-brought-number number (Trade trade) = All-cons (λ version. version.number ≡ number) (as_version number trade.key trade.fill) [] refl (All-nil _)
-brought-number number (Correct correct) = All-cons (λ version. version.number ≡ number) (as_version number correct.key correct.fill) [] refl (All-nil _)
-brought-number number (Bust bust) = All-nil _
+brought-one : (number : ℕ) (brought : Option Version) → ((version : Version) → brought ≡ Some version → version.number ≡ number) → All (λ version. version.number ≡ number) (cons_option brought [])
+brought-one number None each = All-nil _
+brought-one number (Some version) each = All-cons (λ v. v.number ≡ number) version [] (each version refl) (All-nil _)
+
+brought-number : (entry : Entry) → All (λ version. version.number ≡ entry.number) (versions_of (entry ∷ []))
+brought-number entry = brought-one entry.number (version_of entry) (version-number entry)
 
 find-none : {X : Type 0} (p : X → Bool) (xs : List X) → All (λ x. p x ≡ false) xs → find p xs ≡ None
 find-none p [] none = refl
@@ -110,14 +113,14 @@ eqb-same : (n : ℕ) → (n == n) ≡ true
 eqb-same n = eq-eqb n n refl
 
 -- a test that only one number passes leaves one version: their numbers rise
-alone :
+pub alone :
     (p : Version → Bool) (n : ℕ) (entries : List Entry) (version : Version) → rises_in entries ≡ true → ((other : Version) → p other ≡ true → other.number ≡ n)
     → p version ≡ true → find (λ v. v.number == n) (versions_of (reverse entries)) ≡ Some version
     → filter p (versions_of (reverse entries)) ≡ version ∷ []
 alone p n [] version rise only kept found = cc
 alone p n (entry ∷ earlier) version rise only kept found =
     let rises : (is_above entry.number earlier ≡ true) × (rises_in earlier ≡ true) = and_parts _ _ rise in
-    let links = map link_of earlier in
+    let links = links_in earlier in
     let older = versions_of (reverse earlier) in
     let new = versions_of (entry ∷ []) in
     let known : All (IsKnown entry.number links) older = all_known entry.number earlier rises.0 in
@@ -136,7 +139,7 @@ alone p n (entry ∷ earlier) version rise only kept found =
           split ∙ ap (λ front. front ++ filter p new) none ∙ filter-single p (λ v. v.number == n) (version_of entry) version kept here
       | inr other ↦
           let apart : entry.number ≡ n → ⊥ = λ equal. differing (ap (λ m. m == n) equal ∙ eqb-same n) other in
-          let brought : All (λ v. v.number ≡ entry.number) new = brought-number entry.number entry.command in
+          let brought : All (λ v. v.number ≡ entry.number) new = brought-number entry in
           let none : filter p new ≡ [] =
           filter-none p new (All-weaker (λ v. v.number ≡ entry.number) (λ v. p v ≡ false) (λ v is. fails p n only v (λ equal. apart (sym is ∙ equal))) new brought) in
           let not_found : find (λ v. v.number == n) new ≡ None =
@@ -146,7 +149,7 @@ alone p n (entry ∷ earlier) version rise only kept found =
     ]
 
 -- whether a version stands and is of a chain
-abbrev stands_of : List Link → ExecKey → Version → Bool
+abbrev pub stands_of : List Link → ExecKey → Version → Bool
 stands_of links root version = stands_in links version && is_root root (root_in links version.key)
 
 -- each chain that isn't busted has one survivor
@@ -180,7 +183,7 @@ busted-passed links root n number (Some other) is =
       | inr apart ↦ rw apart (and-false (stands_under links n (Some other)))
     ]
 
-busted_none : (list : List Entry) (root : ExecKey) (number : ℕ) → bust_in (links_of list) root ≡ Some number → survivors_of_chain list root ≡ []
+pub busted_none : (list : List Entry) (root : ExecKey) (number : ℕ) → bust_in (links_of list) root ≡ Some number → survivors_of_chain list root ≡ []
 busted_none list root number is =
     let links = links_of list in
     sym (filter-and (stands_in links) (λ version. is_root root (root_in links version.key)) (versions_of list))
@@ -268,27 +271,24 @@ beside-same later earlier link root number (Some other) ends =
     ]
 
 -- the links of a list around one of its entries
-pub links_of-around : (front back : List Entry) (entry : Entry) → links_of (front ++ entry ∷ back) ≡ links_of back ++ link_of entry ∷ links_of front
+pub links_of-around : (front back : List Entry) (entry : Entry) → links_of (front ++ entry ∷ back) ≡ links_of back ++ cons_option (link_of entry) (links_of front)
 links_of-around front back entry =
     let turned : reverse (front ++ entry ∷ back) ≡ (reverse back ++ entry ∷ []) ++ reverse front =
     reverse-append front (entry ∷ back) ∙ ap (λ later. later ++ reverse front) (reverse-append (entry ∷ []) back) in
-    ap (map link_of) turned ∙ rw (map-append, map-append, append_assoc) refl
+    ap links_in (turned ∙ append_assoc (reverse back) (entry ∷ []) (reverse front))
+    ∙ filter_map-append link_of (reverse back) (entry ∷ reverse front)
 
 links_of-append : (front back : List Entry) → links_of (front ++ back) ≡ links_of back ++ links_of front
-links_of-append front back = ap (map link_of) (reverse-append front back) ∙ map-append link_of (reverse back) (reverse front)
+links_of-append front back = ap links_in (reverse-append front back) ∙ filter_map-append link_of (reverse back) (reverse front)
 
--- a Bust brings no version
-none_brought : (command : Command) (number : ℕ) (reference : ExecKey) → role_of command ≡ Busts reference → version_of (of number command) ≡ None
-none_brought (Trade trade) number reference is = cc
-none_brought (Correct correct) number reference is = cc
-none_brought (Bust bust) number reference is = refl
+-- a Bust under a number
+abbrev bust_under : ℕ → Bust → Entry
+bust_under number bust = record { number = number; command = BustCommand bust }
 
-versions-around :
-    (front back : List Entry) (entry : Entry) (reference : ExecKey) → role_of entry.command ≡ Busts reference → versions_of (front ++ entry ∷ back) ≡ versions_of (front ++ back)
-versions-around front back entry reference is =
-    let none : version_of entry ≡ None = none_brought entry.command entry.number reference is in
-    let passed : versions_of (entry ∷ back) ≡ versions_of back = rw none refl in
-    filter_map-append version_of front (entry ∷ back) ∙ ap (λ later. versions_of front ++ later) passed ∙ sym (filter_map-append version_of front back)
+-- it brings no version
+versions-around : (front back : List Entry) (number : ℕ) (bust : Bust) → versions_of (front ++ bust_under number bust ∷ back) ≡ versions_of (front ++ back)
+versions-around front back number bust =
+    filter_map-append version_of front (bust_under number bust ∷ back) ∙ sym (filter_map-append version_of front back)
 
 -- the test that the survivors beside a chain pass, of the links alone
 abbrev passes_beside : List Link → ExecKey → Version → Bool
@@ -298,36 +298,41 @@ beside_by_links : (list : List Entry) (root : ExecKey) → survivors_beside list
 beside_by_links list root =
     sym (filter-and (stands_in (links_of list)) (λ version. not (is_root root (root_in (links_of list) version.key))) (versions_of list))
 
--- the key of an entry in a legal list is new to the entries before it
-fresh-before : (front back : List Entry) (entry : Entry) → is_legal (front ++ entry ∷ back) ≡ true → taker_in (links_of front) (exec_key entry.command) ≡ None
-fresh-before front back entry legal =
+-- the key of a Bust in a legal list is new to the entries before it
+fresh-before :
+    (front back : List Entry) (number : ℕ) (bust : Bust) → is_legal (front ++ bust_under number bust ∷ back) ≡ true → taker_in (links_of front) bust.key ≡ None
+fresh-before front back number bust legal =
+    let entry = bust_under number bust in
     let whole : (front ++ entry ∷ []) ++ back ≡ front ++ entry ∷ back = append_assoc front (entry ∷ []) back in
     let begun : is_legal (front ++ entry ∷ []) ≡ true = is_legal-front (front ++ entry ∷ []) back (ap is_legal whole ∙ legal) in
     let parts : (is_none (refusal_of front entry.command) ≡ true) × (is_legal front ≡ true) = and_parts _ _ (sym (is_legal-push front entry) ∙ begun) in
-    (accepted_key (links_of front) (exec_key entry.command) (role_of entry.command) (none_is (refusal_of front entry.command) parts.0)).0
+    let accepted = none_is (refusal_of front entry.command) parts.0 in
+    (accepted_key (links_of front) bust.key (Busts bust.reference)
+    (sym (refusal-link (reverse front) entry (record { number = number; key = bust.key; role = Busts bust.reference }) refl) ∙ accepted)).0
 
 beside-around :
-    (front back : List Entry) (entry : Entry) (reference root : ExecKey) → is_legal (front ++ entry ∷ back) ≡ true → role_of entry.command ≡ Busts reference
-    → root_of front reference ≡ Some root → survivors_beside (front ++ entry ∷ back) root ≡ survivors_beside (front ++ back) root
-beside-around front back entry reference root legal role root_is =
+    (front back : List Entry) (number : ℕ) (bust : Bust) (root : ExecKey) → is_legal (front ++ bust_under number bust ∷ back) ≡ true
+    → root_of front bust.reference ≡ Some root → survivors_beside (front ++ bust_under number bust ∷ back) root ≡ survivors_beside (front ++ back) root
+beside-around front back number bust root legal root_is =
     let later = links_of back in
     let earlier = links_of front in
-    let link = link_of entry in
-    let ends : EndsChain earlier link root = record { reference = reference; role_is = role; root_is = root_is; fresh = fresh-before front back entry legal } in
+    let entry = bust_under number bust in
+    let link : Link = record { number = number; key = bust.key; role = Busts bust.reference } in
+    let ends : EndsChain earlier link root = record { reference = bust.reference; role_is = refl; root_is = root_is; fresh = fresh-before front back number bust legal } in
     let versions = versions_of (front ++ back) in
     let agree : (version : Version) → passes_beside (later ++ link ∷ earlier) root version ≡ passes_beside (later ++ earlier) root version =
     λ version. ap (stands_beside (later ++ link ∷ earlier) root version.number) (root-without later earlier link root version.key ends)
     ∙ beside-same later earlier link root version.number (root_in (later ++ earlier) version.key) ends in
     beside_by_links (front ++ entry ∷ back) root
     ∙ ap (λ links. filter (passes_beside links root) (versions_of (front ++ entry ∷ back))) (links_of-around front back entry)
-    ∙ ap (filter (passes_beside (later ++ link ∷ earlier) root)) (versions-around front back entry reference role)
+    ∙ ap (filter (passes_beside (later ++ link ∷ earlier) root)) (versions-around front back number bust)
     ∙ filter-agree (passes_beside (later ++ link ∷ earlier) root) (passes_beside (later ++ earlier) root) versions (all _ versions agree)
     ∙ ap (λ links. filter (passes_beside links root) versions) (sym (links_of-append front back))
     ∙ sym (beside_by_links (front ++ back) root)
 
 pub busts_leave_others : (list : List Entry) → IsTrue (is_book list) → BustsLeaveOthers list
 busts_leave_others list book = record {
-  others = λ front back entry reference root is role root_is.
-      let legal : is_legal (front ++ entry ∷ back) ≡ true = ap is_legal (sym is) ∙ (book_parts list book).1 in
-      ap (λ l. survivors_beside l root) is ∙ beside-around front back entry reference root legal role root_is;
+  others = λ front back number bust root is root_is.
+      let legal : is_legal (front ++ bust_under number bust ∷ back) ≡ true = ap is_legal (sym is) ∙ (book_parts list book).1 in
+      ap (λ l. survivors_beside l root) is ∙ beside-around front back number bust root legal root_is;
 }

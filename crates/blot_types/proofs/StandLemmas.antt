@@ -8,12 +8,12 @@ use Rattle.blot_types.specs.declared.link.Link.{Link}
 use Rattle.blot_types.specs.declared.link.Role.{Role}
 use Rattle.blot_types.specs.declared.link.Role.TheVariants.{Begins, Corrects, Busts}
 use Rattle.blot_types.specs.Keys.{same_exec}
-use Rattle.blot_types.specs.Chains.{takes_up, taker_in, own_root, root_in, is_root, bust_in, current_in, reference_refusal, link_refusal, replaced_in}
+use Rattle.blot_types.specs.Chains.{takes_up, taker_in, own_root, root_in, is_root, bust_in, current_in, reference_refusal, link_refusal, replaced_in, falls}
 use Rattle.blot_types.specs.Survivors.{is_number, stands_under, stands_in}
 use Rattle.blot_types.proofs.KeyLemmas.{same_exec-true, same_exec-refl, same_exec-sym}
-use Rattle.blot_types.proofs.ChainLemmas.{root-fresh, bust-fresh, accepted_key, accepted_root, falls, current-apart, differing}
+use Rattle.blot_types.proofs.ChainLemmas.{root-fresh, bust-fresh, accepted_key, accepted_root, current-apart, differing}
 
-and-true : (a : Bool) → (a && true) ≡ a
+pub and-true : (a : Bool) → (a && true) ≡ a
 and-true true = refl
 and-true false = refl
 

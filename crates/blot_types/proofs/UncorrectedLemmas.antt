@@ -1,26 +1,25 @@
 -- A version is its chain's last exactly where no later Correct is of its chain.
-use Rattle.std.proofs.Common.{◌≡◌, ℕ, ◌<◌, Bool, true, false, ◌&&◌, List, [], ◌∷◌, ◌++◌, map, reverse, Option, Some, None, refl, sym, ap, subst, ◌∙◌, arith, inl, inr}
+use Rattle.std.proofs.Common.{◌≡◌, ℕ, ◌<◌, Bool, true, false, ◌&&◌, List, [], ◌∷◌, ◌++◌, reverse, Option, Some, None, refl, sym, ap, subst, ◌∙◌, arith, inl, inr}
 use Rattle.std.specs.Prelude.{◌||◌, is_none, is_some, not, IsTrue, All, nat_lt}
 use Rattle.std.specs.List.{cons_option, list_any}
-use Rattle.std.specs.Option.{option_map}
 use Rattle.std.proofs.lemmas.Bool.{cases_Bool, and_parts, ltb-true, ne_eqb, eq-eqb}
 use Rattle.std.proofs.lemmas.List.Elements.{All-nil, All-cons, All-head, All-tail, All-weaker}
 use Rattle.blot_types.specs.declared.command.Entry.{Entry}
-use Rattle.blot_types.specs.declared.fill.Fill.{Fill}
 use Rattle.blot_types.specs.declared.keys.ExecKey.{ExecKey}
 use Rattle.blot_types.specs.declared.lines.Version.{Version}
 use Rattle.blot_types.specs.declared.link.Link.{Link}
 use Rattle.blot_types.specs.declared.link.Role.{Role}
 use Rattle.blot_types.specs.declared.link.Role.TheVariants.{Begins, Corrects, Busts}
-use Rattle.blot_types.specs.Keys.{same_exec}
-use Rattle.blot_types.specs.Chains.{takes_up, taker_in, own_root, root_in, is_root, busted_by, busted_roots_in, bust_in, current_in, link_refusal, is_chained}
-use Rattle.blot_types.specs.Legal.{legal_in, is_book}
-use Rattle.blot_types.specs.Laws.{is_among, is_correct, corrects_chain, StandsUncorrected}
-use Rattle.blot_types.specs.Survivors.{exec_key, fill_by, link_of, links_of, is_number, stands_under}
+use Rattle.blot_types.specs.Keys.{is_among, same_exec}
+use Rattle.blot_types.specs.Chains.{takes_up, taker_in, own_root, root_in, is_root, busted_by, busted_roots_in, bust_in, current_in, link_refusal, is_chained, is_below, falls}
+use Rattle.blot_types.specs.Legal.{is_book}
+use Rattle.blot_types.specs.Laws.{is_correct, corrects_chain, StandsUncorrected}
+use Rattle.blot_types.specs.Survivors.{link_of, links_of, root_of, busted_roots, version_of, is_number, stands_under, stands_in}
 use Rattle.blot_types.proofs.KeyLemmas.{same_exec-true, same_exec-refl}
-use Rattle.blot_types.proofs.ChainLemmas.{none_is, root-fresh, rootless, accepted_key, clash, differing, is_below, falls}
+use Rattle.blot_types.proofs.ChainLemmas.{none_is, root-fresh, rootless, accepted_key, clash, differing}
 use Rattle.blot_types.proofs.LawLemmas.{links_of-around, book_parts}
-use Rattle.blot_types.proofs.SurvivorLemmas.{falls-links}
+use Rattle.blot_types.proofs.EntryLemmas.{IsVersionOf, version-unlinked, chained-links, falls-links}
+use Rattle.blot_types.proofs.SurvivorLemmas.{of_its_link}
 
 -- a new link takes up no key that has a root
 new-other : (links : List Link) (link : Link) (key root : ExecKey) → taker_in links link.key ≡ None → root_in links key ≡ Some root → takes_up key link ≡ false
@@ -130,24 +129,6 @@ last-uncorrected (other ∷ later) earlier link root chained fall is =
           rw (passed, no_it) (before ∙ ap not (sym (same_corrections later (link ∷ earlier) other root fresh)))
     ]
 
-chained-links : (entries : List Entry) → is_chained (map link_of entries) ≡ legal_in entries
-chained-links [] = refl
-chained-links (entry ∷ entries) = rw (chained-links entries) refl
-
-abbrev number_of : Option Version → ℕ
-number_of None = 0
-number_of (Some version) = version.number
-
-abbrev key_of : ExecKey → Option Version → ExecKey
-key_of other None = other
-key_of other (Some version) = version.key
-
-brought_key :
-    (number : ℕ) (key : ExecKey) (fill : Option Fill) (version : Version) → option_map (λ f. record { number = number; key = key; fill = f }) fill ≡ Some version
-    → (version.number ≡ number) × (version.key ≡ key)
-brought_key number key None version brought = cc
-brought_key number key (Some fill) version brought = (ap number_of (sym brought), ap (key_of key) (sym brought))
-
 -- a chain has a Bust exactly where its root is one of the busted ones
 busted-one : (root : ExecKey) (found : Option ExecKey) (others : List ExecKey) → is_among (cons_option found others) root ≡ (is_root root found || is_among others root)
 busted-one root None others = refl
@@ -172,20 +153,36 @@ unbusted : (bust : Option ℕ) → is_none bust ≡ not (is_some bust)
 unbusted None = refl
 unbusted (Some number) = refl
 
+stands_by_link :
+    (list front back : List Entry) (entry : Entry) (link : Link) (version : Version) (root : ExecKey) → IsTrue (is_book list) → list ≡ front ++ entry ∷ back
+    → link_of entry ≡ Some link → IsVersionOf link version → root_of list version.key ≡ Some root
+    → stands_in (links_of list) version
+    ≡ (not (is_among (busted_roots list) root) && not (list_any (corrects_chain (links_of list) root) (links_of back)))
+stands_by_link list front back entry link version root book is linked own rooted =
+    let parts = book_parts list book in
+    let seen : links_of list ≡ links_of back ++ link ∷ links_of front =
+    ap links_of is ∙ links_of-around front back entry ∙ ap (λ found. links_of back ++ cons_option found (links_of front)) linked in
+    let chained : is_chained (links_of back ++ link ∷ links_of front) ≡ true = ap is_chained (sym seen) ∙ chained-links (reverse list) parts.1 in
+    let fall : falls (links_of back ++ link ∷ links_of front) ≡ true = ap falls (sym seen) ∙ falls-links (reverse list) parts.0 in
+    let at : root_in (links_of back ++ link ∷ links_of front) link.key ≡ Some root = ap (λ links. root_in links link.key) (sym seen) ∙ ap (root_in (links_of list)) (sym own.key) ∙ rooted in
+    let last : is_number link.number (current_in (links_of list) root) ≡ not (list_any (corrects_chain (links_of list) root) (links_of back)) =
+    subst (λ links. is_number link.number (current_in links root) ≡ not (list_any (corrects_chain links root) (links_of back))) (sym seen) (last-uncorrected (links_of back) (links_of front) link root chained fall at) in
+    ap (stands_under (links_of list) version.number) rooted
+    ∙ ap (λ n. is_none (bust_in (links_of list) root) && is_number n (current_in (links_of list) root)) own.number
+    ∙ ap (λ test. is_none (bust_in (links_of list) root) && test) last
+    ∙ ap (λ test. test && not (list_any (corrects_chain (links_of list) root) (links_of back))) (unbusted (bust_in (links_of list) root) ∙ ap not (busted-among (links_of list) root))
+
+stands_by_entry :
+    (list front back : List Entry) (entry : Entry) (found : Option Link) (version : Version) (root : ExecKey) → IsTrue (is_book list) → list ≡ front ++ entry ∷ back
+    → link_of entry ≡ found → version_of entry ≡ Some version → root_of list version.key ≡ Some root
+    → stands_in (links_of list) version
+    ≡ (not (is_among (busted_roots list) root) && not (list_any (corrects_chain (links_of list) root) (links_of back)))
+stands_by_entry list front back entry None version root book is linked brought rooted = absurd (clash (sym brought ∙ version-unlinked entry linked))
+stands_by_entry list front back entry (Some link) version root book is linked brought rooted =
+    stands_by_link list front back entry link version root book is linked (of_its_link entry link linked version brought) rooted
+
 pub stands_uncorrected : (list : List Entry) → IsTrue (is_book list) → StandsUncorrected list
 stands_uncorrected list book = record {
   stands = λ front back entry version root is brought rooted.
-      let parts = book_parts list book in
-      let link = link_of entry in
-      let own = brought_key entry.number (exec_key entry.command) (fill_by entry.command) version brought in
-      let seen : links_of list ≡ links_of back ++ link ∷ links_of front = ap links_of is ∙ links_of-around front back entry in
-      let chained : is_chained (links_of back ++ link ∷ links_of front) ≡ true = ap is_chained (sym seen) ∙ chained-links (reverse list) ∙ parts.1 in
-      let fall : falls (links_of back ++ link ∷ links_of front) ≡ true = ap falls (sym seen) ∙ falls-links (reverse list) ∙ parts.0 in
-      let at : root_in (links_of back ++ link ∷ links_of front) link.key ≡ Some root = ap (λ links. root_in links link.key) (sym seen) ∙ ap (root_in (links_of list)) (sym own.1) ∙ rooted in
-      let last : is_number link.number (current_in (links_of list) root) ≡ not (list_any (corrects_chain (links_of list) root) (links_of back)) =
-      subst (λ links. is_number link.number (current_in links root) ≡ not (list_any (corrects_chain links root) (links_of back))) (sym seen) (last-uncorrected (links_of back) (links_of front) link root chained fall at) in
-      ap (stands_under (links_of list) version.number) rooted
-      ∙ ap (λ n. is_none (bust_in (links_of list) root) && is_number n (current_in (links_of list) root)) own.0
-      ∙ ap (λ test. is_none (bust_in (links_of list) root) && test) last
-      ∙ ap (λ test. test && not (list_any (corrects_chain (links_of list) root) (links_of back))) (unbusted (bust_in (links_of list) root) ∙ ap not (busted-among (links_of list) root));
+      stands_by_entry list front back entry (link_of entry) version root book is refl brought rooted;
 }

@@ -2,8 +2,8 @@
 --
 -- "The entries before it" is natural on a list newest first. So a word that ends in `_in` reads the links
 -- newest first: behind a link stand the earlier ones.
-use Rattle.std.specs.Prelude.{ℕ, Bool, true, false, ◌&&◌, List, [], ◌∷◌, Option, Some, None, find, is_none, if◌then◌else◌}
-use Rattle.std.specs.List.{cons_option}
+use Rattle.std.specs.Prelude.{ℕ, Bool, true, false, ◌&&◌, List, [], ◌∷◌, Option, Some, None, find, is_none, nat_lt, if◌then◌else◌}
+use Rattle.std.specs.List.{cons_option, list_all}
 use Rattle.std.specs.Option.{option_map, option_or, option_and_then}
 use Rattle.blot_types.specs.declared.keys.ExecKey.{ExecKey}
 use Rattle.blot_types.specs.declared.link.Link.{Link}
@@ -89,3 +89,16 @@ abbrev pub replaced_in : List Link → Role → Option ℕ
 replaced_in links Begins = None
 replaced_in links (Corrects reference) = option_and_then (current_in links) (root_in links reference)
 replaced_in links (Busts reference) = option_and_then (current_in links) (root_in links reference)
+
+-- the number of the version that an entry's link, if it is one, takes the place of, or busts
+abbrev pub replaced_by : List Link → Option Link → Option ℕ
+replaced_by links link = option_and_then (λ newest. replaced_in links newest.role) link
+
+-- whether a number is above those of the links
+abbrev pub is_below : ℕ → List Link → Bool
+is_below number links = list_all (λ link. nat_lt link.number number) links
+
+-- whether the numbers fall from the newest link to the oldest
+abbrev pub falls : List Link → Bool
+falls [] = true
+falls (link ∷ earlier) = is_below link.number earlier && falls earlier

@@ -1,6 +1,8 @@
 -- When two keys are one.
 use Rattle.std.specs.Prelude.{ℕ, Bool, ◌&&◌, List, nat_eq}
 use Rattle.std.specs.Cmp.Lexicographic.{pointwise}
+use Rattle.std.specs.List.{list_any}
+use Rattle.blot_types.specs.declared.keys.AllocKey.{AllocKey}
 use Rattle.blot_types.specs.declared.keys.ExecKey.{ExecKey}
 use Rattle.blot_types.specs.declared.keys.OrderKey.{OrderKey}
 
@@ -12,6 +14,14 @@ same_text a b = pointwise nat_eq a b
 abbrev pub same_exec : ExecKey → ExecKey → Bool
 same_exec a b = same_text a.peer b.peer && same_text a.id b.id
 
+-- whether an execution is among some
+abbrev pub is_among : List ExecKey → ExecKey → Bool
+is_among keys key = list_any (λ other. same_exec other key) keys
+
 -- the same peer and OrderID(37)
 abbrev pub same_order : OrderKey → OrderKey → Bool
 same_order a b = same_text a.peer b.peer && same_text a.id b.id
+
+-- the same peer and AllocID(70)
+abbrev pub same_alloc : AllocKey → AllocKey → Bool
+same_alloc a b = same_text a.peer b.peer && same_text a.id b.id

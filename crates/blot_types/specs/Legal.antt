@@ -1,13 +1,13 @@
--- Which commands a list of entries refuses, and which lists are legal. A word that ends
--- in `_in` reads the entries newest first.
-use Rattle.std.specs.Prelude.{ℕ, ◌+◌, Bool, true, ◌&&◌, List, [], ◌∷◌, map, reverse, Option, is_none, nat_lt}
+-- Which commands a list of entries refuses, and which lists are legal. A word that ends in `_in` reads the
+-- entries newest first.
+use Rattle.std.specs.Prelude.{ℕ, ◌+◌, Bool, true, ◌&&◌, List, [], ◌∷◌, reverse, Option, is_none, nat_lt}
 use Rattle.std.specs.List.{list_all}
+use Rattle.std.specs.Option.{option_or}
 use Rattle.blot_types.specs.declared.command.Command.{Command}
 use Rattle.blot_types.specs.declared.command.Entry.{Entry}
 use Rattle.blot_types.specs.declared.refused.Refused.{Refused}
 use Rattle.blot_types.specs.declared.TheConstants.{EVENTS_MAX}
-use Rattle.blot_types.specs.Chains.{link_refusal}
-use Rattle.blot_types.specs.Survivors.{exec_key, role_of, link_of}
+use Rattle.blot_types.specs.Refusals.{duplicate_exec, duplicate_alloc, unknown_alloc, dead_alloc, unknown_exec, busted_exec, repeated_exec, exec_taken, instrument, quantity}
 
 -- whether a number is above those of the entries
 abbrev pub is_above : ℕ → List Entry → Bool
@@ -21,9 +21,19 @@ rises_in (entry ∷ earlier) = is_above entry.number earlier && rises_in earlier
 abbrev pub numbers_rise : List Entry → Bool
 numbers_rise list = rises_in (reverse list)
 
--- why the entries refuse a command: the first reason that applies
+-- why the entries refuse a command: the first rule that applies
 abbrev pub refusal_in : List Entry → Command → Option Refused
-refusal_in entries command = link_refusal (map link_of entries) (exec_key command) (role_of command)
+refusal_in entries command =
+    option_or (duplicate_exec entries command)
+    (option_or (duplicate_alloc entries command)
+    (option_or (unknown_alloc entries command)
+    (option_or (dead_alloc entries command)
+    (option_or (unknown_exec entries command)
+    (option_or (busted_exec entries command)
+    (option_or (repeated_exec entries command)
+    (option_or (exec_taken entries command)
+    (option_or (instrument entries command)
+    (quantity entries command)))))))))
 
 abbrev pub refusal_of : List Entry → Command → Option Refused
 refusal_of list command = refusal_in (reverse list) command

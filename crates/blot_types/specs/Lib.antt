@@ -1,7 +1,12 @@
+pub mod Allocations
 pub mod Chains
+pub mod Instructions
 pub mod Keys
 pub mod Laws
 pub mod Legal
 pub mod Order
+pub mod Position
+pub mod Refusals
+pub mod Standing
 pub mod Survivors
 pub mod Text

@@ -1,38 +1,32 @@
 -- The executions of a list of entries that stand. A list of entries is in rising order of number; its links
 -- are newest first, as `Chains` reads them.
-use Rattle.std.specs.Prelude.{ℕ, ◌==◌, Bool, false, ◌&&◌, List, map, filter, reverse, Option, Some, None, is_none}
+use Rattle.std.specs.Prelude.{ℕ, ◌==◌, Bool, false, ◌&&◌, List, filter, reverse, Option, Some, None, is_none}
 use Rattle.std.specs.List.{filter_map}
-use Rattle.std.specs.Option.{option_map}
 use Rattle.blot_types.specs.declared.command.Command.{Command}
 use Rattle.blot_types.specs.declared.command.Command.TheVariants.{Trade, Correct, Bust}
 use Rattle.blot_types.specs.declared.command.Entry.{Entry}
-use Rattle.blot_types.specs.declared.fill.Fill.{Fill}
 use Rattle.blot_types.specs.declared.keys.ExecKey.{ExecKey}
 use Rattle.blot_types.specs.declared.lines.Version.{Version}
 use Rattle.blot_types.specs.declared.link.Link.{Link}
-use Rattle.blot_types.specs.declared.link.Role.{Role}
 use Rattle.blot_types.specs.declared.link.Role.TheVariants.{Begins, Corrects, Busts}
 use Rattle.blot_types.specs.Chains.{root_in, busted_roots_in, bust_in, current_in}
 
--- the ExecKey that a command takes up
-abbrev pub exec_key : Command → ExecKey
-exec_key (Trade trade) = trade.key
-exec_key (Correct correct) = correct.key
-exec_key (Bust bust) = bust.key
+-- an entry as the chains see it: that of an execution is a link, and no other
+abbrev pub link_by : ℕ → Command → Option Link
+link_by number (Trade trade) = Some (record { number = number; key = trade.key; role = Begins })
+link_by number (Correct correct) = Some (record { number = number; key = correct.key; role = Corrects correct.reference })
+link_by number (Bust bust) = Some (record { number = number; key = bust.key; role = Busts bust.reference })
+link_by number _ = None
 
--- what a command does to the chains
-abbrev pub role_of : Command → Role
-role_of (Trade trade) = Begins
-role_of (Correct correct) = Corrects correct.reference
-role_of (Bust bust) = Busts bust.reference
+abbrev pub link_of : Entry → Option Link
+link_of entry = link_by entry.number entry.command
 
--- an entry as the chains see it
-abbrev pub link_of : Entry → Link
-link_of entry = record { number = entry.number; key = exec_key entry.command; role = role_of entry.command }
+-- the links of entries, newest first
+abbrev pub links_in : List Entry → List Link
+links_in entries = filter_map link_of entries
 
--- the links of a list of entries, newest first
 abbrev pub links_of : List Entry → List Link
-links_of list = map link_of (reverse list)
+links_of list = links_in (reverse list)
 
 -- the root of a key
 abbrev pub root_of : List Entry → ExecKey → Option ExecKey
@@ -42,16 +36,14 @@ root_of list key = root_in (links_of list) key
 abbrev pub busted_roots : List Entry → List ExecKey
 busted_roots list = busted_roots_in (links_of list)
 
--- the fill that a command brings: a Bust brings none
-abbrev pub fill_by : Command → Option Fill
-fill_by (Trade trade) = Some trade.fill
-fill_by (Correct correct) = Some correct.fill
-fill_by (Bust bust) = None
+-- the version of an execution that an entry brings: a Trade and a Correct bring one
+abbrev pub version_by : ℕ → Command → Option Version
+version_by number (Trade trade) = Some (record { number = number; key = trade.key; fill = trade.fill })
+version_by number (Correct correct) = Some (record { number = number; key = correct.key; fill = correct.fill })
+version_by number _ = None
 
--- the version of an execution that an entry brings
 abbrev pub version_of : Entry → Option Version
-version_of entry =
-    option_map (λ fill. record { number = entry.number; key = exec_key entry.command; fill = fill }) (fill_by entry.command)
+version_of entry = version_by entry.number entry.command
 
 -- the versions of all executions, in list order
 abbrev pub versions_of : List Entry → List Version

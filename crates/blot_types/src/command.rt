@@ -1,8 +1,8 @@
 //! What changes the book, and the record of it.
 ghost use Rattle.std.specs.Prelude.{◌≡◌, IfOk};
 
-use crate::{ExecKey, Fill, Link, Role, Version};
-use std::alloc::AllocError as NoMemory;
+use crate::{AllocKey, ExecKey, Fill, Link, Role, Terms, Version};
+use std::alloc::{AllocError as NoMemory, Global};
 
 /// A fill that a broker reports: an Execution Report with ExecType(150) `F`.
 #[derive(Clone, Copy, Debug, PartialEq, Eq)]
@@ -29,47 +29,84 @@ pub struct Bust {
     pub reference: ExecKey,
 }
 
+/// A block of executions booked to accounts: an Allocation Instruction with AllocTransType(71) `0`.
+#[derive(Debug, PartialEq, Eq, Drop)]
+pub struct AllocNew {
+    pub key: AllocKey,
+    pub terms: Terms,
+}
+
+/// An allocation in the place of another: an Allocation Instruction with AllocTransType(71) `1`.
+#[derive(Debug, PartialEq, Eq, Drop)]
+pub struct AllocReplace {
+    pub key: AllocKey,
+    /// The allocation whose place it takes: RefAllocID(72).
+    pub reference: AllocKey,
+    pub terms: Terms,
+}
+
+/// The end of an allocation: an Allocation Instruction with AllocTransType(71) `2`.
+#[derive(Clone, Copy, Debug, PartialEq, Eq)]
+pub struct AllocCancel {
+    pub key: AllocKey,
+    /// The allocation that it ends: RefAllocID(72).
+    pub reference: AllocKey,
+}
+
 /// What changes the book.
 #[derive(Debug, PartialEq, Eq, Drop)]
 pub enum Command {
     Trade(Trade),
     Correct(Correct),
     Bust(Bust),
+    AllocNew(AllocNew),
+    AllocReplace(AllocReplace),
+    AllocCancel(AllocCancel),
+}
+
+impl Terms {
+    /// Equal terms. An error is out of memory.
+    pub fn try_copy(&self, alloc: Global) -> Result<Terms, NoMemory>
+        ensures { IfOk result (λ copy. copy ≡ self.now) }
+    {
+        let execs = self.execs.try_copy(alloc)?;
+        let lines = self.lines.try_copy(alloc)?;
+        Ok(Terms {
+            symbol: self.symbol,
+            sign: self.sign,
+            day: self.day,
+            block: self.block,
+            execs,
+            lines,
+        })
+    }
 }
 
 impl Command {
-    ghost use Rattle.blot_types.specs.Survivors.{exec_key, role_of};
-
-    /// An equal command, or want of memory.
-    pub fn try_copy(&self) -> Result<Command, NoMemory>
+    /// An equal command. An error is out of memory.
+    pub fn try_copy(&self, alloc: Global) -> Result<Command, NoMemory>
         ensures { IfOk result (λ copy. copy ≡ self.now) }
     {
         match self {
             Command::Trade(trade) => Ok(Command::Trade(*trade)),
             Command::Correct(correct) => Ok(Command::Correct(*correct)),
             Command::Bust(bust) => Ok(Command::Bust(*bust)),
-        }
-    }
-
-    /// The execution that the command takes up.
-    pub fn exec_key(&self) -> ExecKey
-        ensures { result ≡ exec_key self.now }
-    {
-        match self {
-            Command::Trade(trade) => trade.key,
-            Command::Correct(correct) => correct.key,
-            Command::Bust(bust) => bust.key,
-        }
-    }
-
-    /// What the command does to the chains of executions.
-    pub fn role(&self) -> Role
-        ensures { result ≡ role_of self.now }
-    {
-        match self {
-            Command::Trade(_) => Role::Begins,
-            Command::Correct(correct) => Role::Corrects(correct.reference),
-            Command::Bust(bust) => Role::Busts(bust.reference),
+            Command::AllocNew(new) => match new.terms.try_copy(alloc) {
+                Ok(terms) => Ok(Command::AllocNew(AllocNew {
+                    key: new.key,
+                    terms,
+                })),
+                Err(fail) => Err(fail),
+            },
+            Command::AllocReplace(replace) => match replace.terms.try_copy(alloc) {
+                Ok(terms) => Ok(Command::AllocReplace(AllocReplace {
+                    key: replace.key,
+                    reference: replace.reference,
+                    terms,
+                })),
+                Err(fail) => Err(fail),
+            },
+            Command::AllocCancel(cancel) => Ok(Command::AllocCancel(*cancel)),
         }
     }
 }
@@ -85,25 +122,31 @@ pub struct Entry {
 impl Entry {
     ghost use Rattle.blot_types.specs.Survivors.{link_of, version_of};
 
-    /// The entry as the chains see it.
-    pub fn link(&self) -> Link
+    /// The entry as the chains see it, if it is one of an execution.
+    pub fn link(&self) -> Option<Link>
         ensures { result ≡ link_of self.now }
     {
-        Link {
+        let (key, role) = match &self.command {
+            Command::Trade(trade) => (trade.key, Role::Begins),
+            Command::Correct(correct) => (correct.key, Role::Corrects(correct.reference)),
+            Command::Bust(bust) => (bust.key, Role::Busts(bust.reference)),
+            _ => return None,
+        };
+        Some(Link {
             number: self.number,
-            key: self.command.exec_key(),
-            role: self.command.role(),
-        }
+            key,
+            role,
+        })
     }
 
-    /// The version of an execution that the entry brings, if it brings one: a Bust doesn't.
+    /// The version of an execution that the entry brings, if it brings one: a Trade or a Correct does.
     pub fn version(&self) -> Option<Version>
         ensures { result ≡ version_of self.now }
     {
         let (key, fill) = match &self.command {
             Command::Trade(trade) => (trade.key, trade.fill),
             Command::Correct(correct) => (correct.key, correct.fill),
-            Command::Bust(_) => return None,
+            _ => return None,
         };
         Some(Version {
             number: self.number,

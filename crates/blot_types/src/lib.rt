@@ -3,22 +3,30 @@
 //! the refusal of a command) stand in the specs of this crate, since every crate above speaks of them.
 #![tactic(auto)]
 
+mod allocation;
 mod command;
 mod fill;
 mod filled;
+mod items;
 mod keys;
 mod lines;
 mod link;
 mod refused;
 mod text;
 
-pub use command::{Bust, Command, Correct, Entry, Trade};
+pub use allocation::{AllocRole, Instruction, Line, Terms};
+pub use command::{AllocCancel, AllocNew, AllocReplace, Bust, Command, Correct, Entry, Trade};
 pub use fill::{Fill, Sign};
+pub use items::Items;
 pub use keys::{AllocKey, ExecKey, OrderKey};
-pub use lines::{OrderLine, Version};
+pub use lines::{OrderLine, Part, PositionLine, Version};
 pub use link::{Link, Role};
 pub use refused::Refused;
 pub use text::{TEXT_MAX, Text64};
 
 /// The most events that a day's record holds, and so the greatest number that a command can have.
 pub const EVENTS_MAX: u64 = 100_000;
+
+/// The most items of a list within a command or a message: executions or lines of an allocation. This
+/// project's rule.
+pub const ITEMS_MAX: usize = 200;

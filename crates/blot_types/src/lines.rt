@@ -23,3 +23,23 @@ pub struct OrderLine {
     pub symbol: Text64,
     pub sign: Sign,
 }
+
+/// What one execution, or one line of an allocation, adds to a position.
+#[derive(Clone, Copy, Debug, PartialEq, Eq)]
+pub struct Part {
+    pub account: Text64,
+    pub symbol: Text64,
+    /// The signed quantity, in units of 10^-6.
+    pub qty: QtySum,
+    /// The signed quantity times price, in units of 10^-14.
+    pub value: Value,
+}
+
+/// A position of an account in a symbol.
+#[derive(Clone, Copy, Debug, PartialEq, Eq)]
+pub struct PositionLine {
+    /// The signed quantity, in units of 10^-6.
+    pub qty: QtySum,
+    /// The signed sum of quantity times price, in units of 10^-14.
+    pub value: Value,
+}

@@ -5,7 +5,7 @@ use Rattle.blotter.specs.declared.outcome.Outcome.TheVariants.{Done, InputFault,
 use Rattle.blotter.specs.declared.outcome.ReplayFault.{ReplayFault}
 use Rattle.blotter.specs.declared.outcome.ReplayFault.TheVariants.{Read, Write, Full, NoMemory, TooLong}
 
--- want of memory is told apart; every other fault is the input's
+-- out of memory is told apart; every other fault is the input's
 abbrev pub outcome_of : Result (Unit {0}) ReplayFault → Outcome
 outcome_of (Ok done) = Done
 outcome_of (Err Read) = InputFault

@@ -2,7 +2,7 @@
 use Rattle.std.specs.Prelude.{◌≡◌, ℕ, ◌+◌, ◌≤◌, List, [], ◌++◌, fold, Option, Some, None, ⊤, is_none, if◌then◌else◌}
 use Rattle.std.specs.List.{filter_map}
 use Rattle.blot_types.specs.declared.command.Command.{Command}
-use Rattle.blot_types.specs.declared.command.Command.TheVariants.{Trade, Correct, Bust}
+use Rattle.blot_types.specs.declared.command.Command.TheVariants.{Trade, Correct}
 use Rattle.blot_types.specs.declared.command.Entry.{Entry}
 use Rattle.blot_types.specs.declared.keys.OrderKey.{OrderKey}
 use Rattle.blot_types.specs.declared.TheConstants.{EVENTS_MAX}
@@ -18,11 +18,11 @@ pub record Run : Type 0 where
   pub next : ℕ
   pub came : ℕ
 
--- the order that a command fills: a Bust fills none
+-- the order that a command fills: a Trade and a Correct fill one
 abbrev pub order_filled : Command → Option OrderKey
 order_filled (Trade trade) = Some trade.fill.order
 order_filled (Correct correct) = Some correct.fill.order
-order_filled (Bust bust) = None
+order_filled _ = None
 
 -- the orders that the commands of a list fill, in list order
 abbrev pub orders_filled : List Entry → List OrderKey

@@ -93,14 +93,14 @@ impl Book {
     }
 }
 
-// The order that a command fills: a Bust fills none.
+// The order that a command fills: a Trade and a Correct fill one.
 fn order_filled(command: &Command) -> Option<OrderKey>
     ensures { result ≡ filled_by command.now }
 {
     match command {
         Command::Trade(trade) => Some(trade.fill.order),
         Command::Correct(correct) => Some(correct.fill.order),
-        Command::Bust(_) => None,
+        _ => None,
     }
 }
 

@@ -59,7 +59,7 @@ impl Outcome {
         }
     }
 
-    /// The program's status: 0 done, 1 input fault, 2 words refused, 3 want of memory.
+    /// The program's status: 0 done, 1 input fault, 2 words refused, 3 out of memory.
     pub fn status(self) -> u8
         ensures { result ≡ status_of self }
     {

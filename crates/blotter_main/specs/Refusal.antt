@@ -7,7 +7,7 @@ use Rattle.blotter.specs.Outcome.{last_line_of}
 use Rattle.blotter_main.specs.declared.refusal.Refusal.{Refusal}
 use Rattle.blotter_main.specs.declared.refusal.Refusal.TheVariants.{Usage, BadWords, NoMemory}
 
--- want of memory is told apart from words that are refused
+-- out of memory is told apart from words that are refused
 abbrev pub outcome_of : Refusal → Outcome
 outcome_of (Usage text) = WordsRefused
 outcome_of BadWords = WordsRefused

@@ -68,9 +68,10 @@ Reads a capture from standard input and, at its end, prints a line for each orde
 
 For every fill a broker sends its client's middle office a drop copy: a FIX 4.4 Execution Report
 (35=8 with 150=F). A correction (150=G) brings another version of a fill, whole, and a bust (150=H)
-takes a fill away with all its corrections. A capture is the bytes that came in, message behind
-message, of one broker or of several. Bytes that are no whole message with the right BodyLength and
-CheckSum are passed over, and so are the messages of brokers that aren't named.";
+takes a fill away with all its corrections. An Allocation Instruction (35=J) books fills to accounts,
+and changes no order's line. A capture is the bytes that came in, message behind message, of one
+broker or of several. Bytes that are no whole message with the right BodyLength and CheckSum are
+passed over, and so are the messages of brokers that aren't named.";
 
 const EXAMPLE: &str = "\
 Example:

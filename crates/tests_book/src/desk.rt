@@ -34,8 +34,8 @@ fn bust_event(id: &[u8], reference: &[u8]) -> Result<Event, Fail> {
     }
 }
 
-// The reply to an event is this one.
-fn expect_reply(held: &mut Held, event: Event, expected: Reply) -> Result<(), Fail> {
+/// The reply to an event is this one.
+pub fn expect_reply(held: &mut Held, event: Event, expected: Reply) -> Result<(), Fail> {
     match held.step(event) {
         Ok(reply) => same_reply(&reply, &expected),
         Err(fault) => Err(Fail::new(format_args!("{fault:?}"))),
@@ -58,13 +58,13 @@ fn expect_trade(held: &mut Held, id: &[u8], qty: &'static [u8], number: u64) -> 
     }
 }
 
-// The newest step, of this number, is undone.
-fn expect_undone(held: &mut Held, number: u64) -> Result<(), Fail> {
+/// The newest step, of this number, is undone.
+pub fn expect_undone(held: &mut Held, number: u64) -> Result<(), Fail> {
     expect_reply(held, Event::Undo { newest: number }, Reply::Undone(number))
 }
 
-// The step of this number is redone.
-fn expect_redone(held: &mut Held, number: u64) -> Result<(), Fail> {
+/// The step of this number is redone.
+pub fn expect_redone(held: &mut Held, number: u64) -> Result<(), Fail> {
     expect_reply(held, Event::Redo, Reply::Redone(number))
 }
 

@@ -39,8 +39,8 @@ pub fn fill(order: OrderKey, qty: &[u8], price: &[u8], size: &[u8]) -> Result<Fi
 }
 
 /// A command came back.
-pub fn expect_back(sent: &Command, back: &Command, number: u64) -> Result<(), Fail> {
-    if back != sent {
+pub fn expect_back(sent: &Command, back: Command, number: u64) -> Result<(), Fail> {
+    if back != *sent {
         return Err(Fail::new(format_args!("another command came back from {number}")));
     }
     Ok(())

@@ -89,7 +89,7 @@ fn expected(
 ) -> Result<Option<Refused>, Fail>
     requires { next ≤ EVENTS_MAX }
 {
-    Ok(accepts(&live(alloc, tables, next)?, command)?)
+    Ok(accepts(alloc, &live(alloc, tables, next)?, command)?)
 }
 
 // A command was taken where the plain program accepts it.
@@ -105,10 +105,10 @@ fn expect_refused(
     expected: Option<Refused>,
     fault: ApplyFault,
     sent: &Command,
-    back: &Command,
+    back: Command,
     number: u64,
 ) -> Result<(), Fail> {
-    if expected.map(ApplyFault::Refused) != Some(fault) || back != sent {
+    if expected.map(ApplyFault::Refused) != Some(fault) || back != *sent {
         return Err(Fail::new(format_args!("refused under {number} with {fault:?}")));
     }
     Ok(())
@@ -121,13 +121,13 @@ fn try_command(alloc: Global, tables: &mut Tables, number: u64, sent: &Command) 
     ensures { IfOk result (λ _. tables.new.list ≡ tables.old.list) }
 {
     let refusal = expected(alloc, tables, number, sent)?;
-    match sent.try_copy()?.apply(tables, number) {
+    match sent.try_copy(alloc)?.apply(tables, number) {
         Ok(inverse) => {
             expect_taken(refusal, number)?;
             let back = Command::revert(inverse, tables);
-            expect_back(sent, &back, number)
+            expect_back(sent, back, number)
         }
-        Err((back, fault)) => expect_refused(refusal, fault, sent, &back, number),
+        Err((back, fault)) => expect_refused(refusal, fault, sent, back, number),
     }
 }
 
@@ -212,7 +212,7 @@ fn explore(
     let sent = drawn(seed >> 7)?;
     let seed = seed.wrapping_mul(1_664_525).wrapping_add(1_013_904_223);
     let refusal = expected(alloc, tables, number, &sent)?;
-    match sent.try_copy()?.apply(tables, number) {
+    match sent.try_copy(alloc)?.apply(tables, number) {
         Ok(inverse) => {
             expect_taken(refusal, number)?;
             expect_entry(tables, number, &sent)?;
@@ -226,10 +226,10 @@ fn explore(
                 others(seed, steps),
             )?;
             let back = Command::revert(inverse, tables);
-            expect_back(&sent, &back, number)?;
+            expect_back(&sent, back, number)?;
         }
         Err((back, fault)) => {
-            expect_refused(refusal, fault, &sent, &back, number)?;
+            expect_refused(refusal, fault, &sent, back, number)?;
             explore(alloc, tables, orders, number + 1, seed, steps - 1)?;
         }
     }

@@ -16,7 +16,7 @@ pub fn live(alloc: Global, tables: &Tables, next: u64) -> Result<Vec<Entry>, All
     let mut list = Vec::new(alloc);
     for number in 0..next {
         if let Some(entry) = tables.entry(number) {
-            let command = entry.command.try_copy()?;
+            let command = entry.command.try_copy(alloc)?;
             list.push(Entry { number, command })?;
         }
     }
@@ -60,7 +60,7 @@ pub fn compare(alloc: Global, tables: &Tables, next: u64, orders: &[OrderKey]) -
     requires { next ≤ EVENTS_MAX }
 {
     let list = live(alloc, tables, next)?;
-    if !legal(&list)? {
+    if !legal(alloc, &list)? {
         return Err(Fail::new("the live list isn't legal"));
     }
     let versions = survivors(alloc, &list)?;

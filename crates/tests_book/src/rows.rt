@@ -8,7 +8,7 @@ use crate::fixtures::{exec, expect_back, fill, order, text};
 use crate::model::{compare, expect_entry, expect_no_entry};
 use blot_command::{ApplyFault, Tables, Undoable};
 use blot_types::{
-    Bust, Command, Correct, EVENTS_MAX, Fill, OrderKey, OrderLine, Refused, Role, Sign, Trade,
+    Bust, Command, Correct, EVENTS_MAX, ExecKey, Fill, OrderKey, OrderLine, Refused, Sign, Trade,
 };
 use std::alloc::{AllocError, Global};
 use std::test::Fail;
@@ -102,17 +102,21 @@ fn command(row: &Row) -> Result<Command, Fail> {
 }
 
 // The refusal that a row speaks of, if it speaks of one.
-fn refusal(outcome: &Outcome, role: Role) -> Option<Refused> {
+fn refusal(outcome: &Outcome, reference: Option<ExecKey>) -> Option<Refused> {
     match outcome {
         Outcome::Taken => None,
         Outcome::Duplicate(number) => Some(Refused::DuplicateExec(*number)),
         Outcome::Busted(number) => Some(Refused::BustedExec(*number)),
-        Outcome::Unknown => match role {
-            Role::Begins => None,
-            Role::Corrects(reference) | Role::Busts(reference) => {
-                Some(Refused::UnknownExec(reference))
-            }
-        },
+        Outcome::Unknown => reference.map(Refused::UnknownExec),
+    }
+}
+
+// The execution that a command refers to, if it refers to one.
+fn reference(command: &Command) -> Option<ExecKey> {
+    match command {
+        Command::Correct(correct) => Some(correct.reference),
+        Command::Bust(bust) => Some(bust.reference),
+        _ => None,
     }
 }
 
@@ -128,12 +132,12 @@ fn expect_taken(row: &Row, number: u64) -> Result<(), Fail> {
 fn expect_refused(
     row: &Row,
     sent: &Command,
-    back: &Command,
+    back: Command,
     fault: ApplyFault,
     number: u64,
 ) -> Result<(), Fail> {
-    let expected = refusal(&row.outcome, sent.role());
-    if expected.map(ApplyFault::Refused) != Some(fault) || back != sent {
+    let expected = refusal(&row.outcome, reference(sent));
+    if expected.map(ApplyFault::Refused) != Some(fault) || back != *sent {
         return Err(Fail::new(format_args!("refused under {number} with {fault:?}")));
     }
     Ok(())
@@ -203,16 +207,16 @@ fn play(
         return Err(Fail::new("too many rows"));
     }
     let sent = command(row)?;
-    match sent.try_copy()?.apply(tables, number) {
+    match sent.try_copy(alloc)?.apply(tables, number) {
         Ok(inverse) => {
             expect_taken(row, number)?;
             expect_entry(tables, number, &sent)?;
             play(alloc, tables, number + 1, orders, &row.lines, rest)?;
             let back = Command::revert(inverse, tables);
-            expect_back(&sent, &back, number)?;
+            expect_back(&sent, back, number)?;
         }
         Err((back, fault)) => {
-            expect_refused(row, &sent, &back, fault, number)?;
+            expect_refused(row, &sent, back, fault, number)?;
             play(alloc, tables, number + 1, orders, &row.lines, rest)?;
         }
     }

@@ -263,9 +263,15 @@ H +37=O9 +54=9 +32=0 +75=x => Bust BRKA E4 of BRKA E3
 H 49=BRKB => Bust BRKA E4 of BRKA E3
 X +17=E4 +19=E3 => none
 X => none
-J => none
-R => none
-C => none
+J => AllocNew BRKA AL1: XYZ Buy 100 20240105 exec BRKA E1 line A 60 10.25 line B 40 10.5
+K 54=2 53=150 75=20240102 52=20240103-00:00:00 +124=2 +17=E7 +17=E3 +78=2 +79=A +80=90.5 +79=B +366=-2 +80=59.5 => AllocNew BRKA AL1: XYZ Sell 150 20240102 exec BRKA E7 exec BRKA E3 line A 90.5 10.5 line B 59.5 -2
+K 49=BRKB +124=3 +17=E1 +17=E2 +17=E1 +78=2 +79=* +80=0 +79=* +80=100 => AllocNew BRKA AL1: XYZ Buy 100 20240105 exec BRKA E1 exec BRKA E2 exec BRKA E1 line * 0 10.5 line * 100 10.5
+K 71=1 +72=AL0 55=ABC +124=2 +17=E2 +17=E1 +78=2 +79=A +80=60 +366=10.25 +79=B +80=40 => AllocReplace BRKA AL1 of BRKA AL0: ABC Buy 100 20240105 exec BRKA E2 exec BRKA E1 line A 60 10.25 line B 40 10.5
+R => AllocReplace BRKA AL2 of BRKA AL1: XYZ Sell 50 20240105 exec BRKA E1 exec BRKA E2 line A 50 11
+R 70=AL1 72=AL2 => AllocReplace BRKA AL1 of BRKA AL2: XYZ Sell 50 20240105 exec BRKA E1 exec BRKA E2 line A 50 11
+K 71=2 +72=AL0 +124=2 +17=E2 +17=E1 +78=2 +79=A +80=60 +366=10.25 +79=B +80=40 => AllocCancel BRKA AL1 of BRKA AL0
+C => AllocCancel BRKA AL3 of BRKA AL2
+C 72=AL3 ~ => AllocCancel BRKA AL3 of BRKA AL3
 D => none
 ";
 

@@ -76,7 +76,7 @@ fn command_of_row(alloc: Global, changes: &str, peer: Text64) -> Result<String, 
 }
 
 #[test]
-fn fills_corrections_and_busts_give_commands(rt: HostRuntime) -> Result<(), Fail> {
+fn reports_and_allocations_give_commands(rt: HostRuntime) -> Result<(), Fail> {
     let peer = Text64::read(b"BRKA").ok_or("no text")?;
     for row in COMMANDS.lines() {
         let (changes, wanted) = row.split_once(" => ").ok_or("a row without an answer")?;

@@ -3,7 +3,7 @@
 use blot_fields::{
     Admin, Allocation, AllocationTerms, Body, Execution, Message, OrderSize, Report, command_of,
 };
-use blot_types::{Command, ExecKey, Fill, Sign, Text64};
+use blot_types::{AllocKey, Command, ExecKey, Fill, Sign, Terms, Text64};
 use std::alloc::{AllocError as NoMemory, Global};
 
 // A text in words.
@@ -195,6 +195,24 @@ pub fn command_text(alloc: Global, message: &Message, peer: Text64) -> Result<St
             shown.push_str(" of")?;
             push_key(&mut shown, &bust.reference)?;
         }
+        Some(Command::AllocNew(new)) => {
+            shown.push_str("AllocNew")?;
+            push_alloc(&mut shown, &new.key)?;
+            push_booked(&mut shown, &new.terms)?;
+        }
+        Some(Command::AllocReplace(replace)) => {
+            shown.push_str("AllocReplace")?;
+            push_alloc(&mut shown, &replace.key)?;
+            shown.push_str(" of")?;
+            push_alloc(&mut shown, &replace.reference)?;
+            push_booked(&mut shown, &replace.terms)?;
+        }
+        Some(Command::AllocCancel(cancel)) => {
+            shown.push_str("AllocCancel")?;
+            push_alloc(&mut shown, &cancel.key)?;
+            shown.push_str(" of")?;
+            push_alloc(&mut shown, &cancel.reference)?;
+        }
         None => shown.push_str("none")?,
     }
     Ok(shown)
@@ -216,4 +234,28 @@ fn push_fill(shown: &mut String, fill: &Fill) -> Result<(), NoMemory> {
     write!(shown, " {} {}", sign_text(fill.sign), fill.size)?;
     write!(shown, " {} {}", fill.qty, fill.price)?;
     push_ascii(shown, &fill.day.write())
+}
+
+// The key of an allocation.
+fn push_alloc(shown: &mut String, key: &AllocKey) -> Result<(), NoMemory> {
+    push_text(shown, &key.peer)?;
+    push_text(shown, &key.id)
+}
+
+// What an allocation books.
+fn push_booked(shown: &mut String, terms: &Terms) -> Result<(), NoMemory> {
+    shown.push(':')?;
+    push_text(shown, &terms.symbol)?;
+    write!(shown, " {} {}", sign_text(terms.sign), terms.block)?;
+    push_ascii(shown, &terms.day.write())?;
+    for exec in terms.execs.as_slice() {
+        shown.push_str(" exec")?;
+        push_key(shown, exec)?;
+    }
+    for line in terms.lines.as_slice() {
+        shown.push_str(" line")?;
+        push_text(shown, &line.account)?;
+        write!(shown, " {} {}", line.qty, line.price)?;
+    }
+    Ok(())
 }

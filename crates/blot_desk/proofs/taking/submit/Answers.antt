@@ -1,8 +1,12 @@
+use Rattle.std.specs.Prelude.{◌≡◌}
+use Rattle.blot_undo.specs.declared.fault.StepFault.TheVariants.{Refused as RefusedStep}
 use Rattle.blot_desk.proofs.DeskLemmas.{refused_submit}
 use Rattle.blot_desk.proofs.taking.submit.Goals as goal
 
 pub returns-in-Err-Refused-default-Refused-clause-ok : goal.returns-in-Err-Refused-default-Refused-clause-ok
-returns-in-Err-Refused-default-Refused-clause-ok c =
-    refused_submit _ _ c.args.command c.in-Err-Refused-default-Refused.field-0-0 c.in-Err-Refused-default-Refused.field-0-1 c.in-Err-Refused-default-Refused.reason
-    (rw c.in-Err-Refused-default-Refused.field-0-is at c.in-Err-Refused-default-Refused.ensures.fault)
-    c.in-Err-Refused-default-Refused.field-0-1-is c.in-Err-Refused-default-Refused.ensures.err
+returns-in-Err-Refused-default-Refused-clause-ok c = let a = c.in-Err-Refused-default-Refused in let o = c.apply-outcome in
+    let fault : a.field-0 ≡ RefusedStep a.field-0-0 a.field-0-1 = rw a.is at a.field-0-is in
+    refused_submit _ _ c.args.command a.field-0-0 a.field-0-1 a.reason
+    (rw fault at (rw a.is at o.ensures.fault))
+    (rw fault at (rw a.is at a.field-0-1-is))
+    (rw a.is at o.ensures.err)

@@ -1,7 +1,7 @@
 use Rattle.std.proofs.Common.{ap, ◌∙◌}
 use Rattle.blot_types.specs.Order.{line_of, fills_of, order_of}
 use Rattle.blot_types.specs.Survivors.{survivors}
-use Rattle.blot_order.proofs.SlotLemmas.{fills_put-by_versions}
+use Rattle.blot_order.proofs.FillLemmas.{fills_put-by_versions}
 use Rattle.blot_command.specs.Book.{Shown}
 use Rattle.blot_command.proofs.LiveLemmas.{rise-of_book}
 use Rattle.blot_command.proofs.RecordLemmas.{survivors-rise}

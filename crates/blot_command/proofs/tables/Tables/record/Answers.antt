@@ -1,7 +1,7 @@
 use Rattle.std.proofs.Common.{◌++◌, ◌∷◌, [], ap, ◌∙◌, sym, subst}
 use Rattle.std.specs.Option.{option_and_then}
 use Rattle.std.specs.Prelude.{IfSome}
-use Rattle.blot_types.specs.Chains.{replaced_in}
+use Rattle.blot_types.specs.Chains.{replaced_by}
 use Rattle.blot_types.specs.Legal.{is_book}
 use Rattle.blot_types.specs.Survivors.{links_of}
 use Rattle.blot_command.specs.Book.{Shown}
@@ -22,8 +22,8 @@ take-requires c =
     let list = c.self.inside.live in
     let entry = c.args.entry in
     let next = next-entry list entry (ap (λ (book : Shown). is_book (book.list ++ entry ∷ [])) c.self.view_is ∙ c.requires) in
-    let read = c.replaced-replaced.ensures ∙ ap (λ role. option_and_then (version_numbered list) (replaced_in (links_of list) role)) c.role.ensures in
-    subst (λ slots. IfSome c.replaced-replaced.result (λ version. IsPut version slots)) (sym c.in-Ok.ensures.ok)
+    let read = c.replaced-replaced.ensures ∙ ap (λ role. option_and_then (version_numbered list) (replaced_by (links_of list) role)) c.link.ensures in
+    subst (λ fills. IfSome c.replaced-replaced.result (λ version. IsPut version fills)) (sym c.in-Ok.ensures.ok)
     (can_take list entry c.self.inside.orders c.version-version.result c.replaced-replaced.result next c.self.invariant
     (brings entry c.version-version.result c.version-version.ensures) (replaces list entry c.replaced-replaced.result next read))
 
@@ -32,7 +32,7 @@ invariant_of-self-in-Ok-push c =
     let list = c.self.inside.live in
     let entry = c.args.entry in
     let next = next-entry list entry (ap (λ (book : Shown). is_book (book.list ++ entry ∷ [])) c.self.view_is ∙ c.requires) in
-    let read = c.replaced-replaced.ensures ∙ ap (λ role. option_and_then (version_numbered list) (replaced_in (links_of list) role)) c.role.ensures in
+    let read = c.replaced-replaced.ensures ∙ ap (λ role. option_and_then (version_numbered list) (replaced_by (links_of list) role)) c.link.ensures in
     let shows =
     shows-more list entry c.self.inside.orders c.version-version.result c.replaced-replaced.result next c.self.invariant
     (brings entry c.version-version.result c.version-version.ensures) (replaces list entry c.replaced-replaced.result next read) in
@@ -41,7 +41,7 @@ invariant_of-self-in-Ok-push c =
 
 pub take-requires-in-Err : goal.take-requires-in-Err
 take-requires-in-Err c =
-    subst (λ slots. IfSome c.version-version.result (λ version. IsPut version slots)) (sym c.in-Ok.ensures.ok) (put_back c.self.inside.orders c.version-version.result)
+    subst (λ fills. IfSome c.version-version.result (λ version. IsPut version fills)) (sym c.in-Ok.ensures.ok) (put_back c.self.inside.orders c.version-version.result)
 
 pub invariant_of-self-in-Err : goal.invariant_of-self-in-Err
 invariant_of-self-in-Err c =

@@ -1,4 +1,4 @@
-use Rattle.std.proofs.Common.{arith, ℕ, ◌≡◌, ◌+◌, ◌++◌, false, [], Option, Some, None, inl, inr, refl, sym, ap, ◌∙◌}
+use Rattle.std.proofs.Common.{arith, ℕ, ◌≡◌, ◌+◌, ◌++◌, true, false, [], Option, Some, None, inl, inr, refl, sym, ap, ◌∙◌}
 use Rattle.std.specs.Prelude.{is_none, option_to_list}
 use Rattle.std.specs.Option.{option_map}
 use Rattle.std.specs.List.{cons_option}
@@ -11,7 +11,7 @@ use Rattle.blot_command.specs.declared.fault.ApplyFault.{ApplyFault}
 use Rattle.blot_command.specs.declared.fault.ApplyFault.TheVariants.{Refused}
 use Rattle.blot_command.specs.Book.{Shown}
 use Rattle.blot_command.specs.Kinds.{command_meaning}
-use Rattle.blot_command.specs.Undoable.{IsRefusal}
+use Rattle.blot_command.specs.Undoable.{IsStep, IsRefusal}
 use Rattle.blot_command.proofs.StepLemmas.{below_next}
 use Rattle.blotter.specs.Replay.{step_of, order_filled, orders_filled}
 use Rattle.blotter.proofs.book.Book.submit.Goals as goal
@@ -23,6 +23,18 @@ alone (Some order) = refl
 not_none : (found : Option Reason) (reason : ApplyFault) → option_map Refused found ≡ Some reason → is_none found ≡ false
 not_none None reason is = cc
 not_none (Some found) reason is = refl
+
+none_found : (found : Option Reason) → option_map Refused found ≡ None → is_none found ≡ true
+none_found None is = refl
+none_found (Some found) is = absurd cc
+
+-- a command that the book accepts stands behind the others
+taken :
+    (book next : Shown) (number came : ℕ) (command : Command) (inverse : ℕ)
+    → IsStep command_meaning book.list command number inverse next.list
+    → step_of (record { list = book.list; next = number; came = came }) command ≡ record { list = next.list; next = number + 1; came = came + 1 }
+taken book next number came command inverse step =
+    rw (none_found (refusal_of book.list command) step.is_next.accepted, step.list_is) refl
 
 -- a command that the book refuses changes no more than how many came
 passed_over :
@@ -52,3 +64,7 @@ invariant_of-self-in-Ok-apply c =
 pub returns-in-Err-default-Refused-clause-ok : goal.returns-in-Err-default-Refused-clause-ok
 returns-in-Err-default-Refused-clause-ok c =
     rw (← c.self.view_is) (sym (passed_over _ _ _ _ _ _ _ _ c.in-Err-default-Refused.ensures.refused c.in-Err-default-Refused.field-0-1-is))
+
+pub returns-in-Ok-apply-clause-ok : goal.returns-in-Ok-apply-clause-ok
+returns-in-Ok-apply-clause-ok c =
+    rw (← c.self.view_is) (sym (taken c.self.inside.tables c.apply.new.tables _ _ _ _ c.in-Ok-apply.ensures.accepted))

@@ -1,0 +1,31 @@
+-- The instructions that are kept, newest first, with one more and one less.
+use Rattle.std.specs.Prelude.{◌≡◌, ℕ, Bool, true, ◌&&◌, List, [], ◌∷◌, Option, find}
+use Rattle.std.specs.Option.{option_map}
+use Rattle.blot_types.specs.declared.allocation.AllocRole.{AllocRole}
+use Rattle.blot_types.specs.declared.allocation.Instruction.{Instruction}
+use Rattle.blot_types.specs.declared.keys.AllocKey.{AllocKey}
+use Rattle.blot_types.specs.declared.keys.ExecKey.{ExecKey}
+use Rattle.blot_types.specs.Instructions.{is_keyed, is_instructed, is_above_all}
+
+-- the roots of the chains that the instruction which takes up a key lists
+abbrev pub roots_in : List Instruction → AllocKey → Option (List ExecKey)
+roots_in instructions key = option_map (λ instruction. instruction.roots) (find (is_keyed key) instructions)
+
+-- whether the numbers fall, from the newest instruction on
+abbrev pub numbers_fall : List Instruction → Bool
+numbers_fall [] = true
+numbers_fall (instruction ∷ earlier) = is_above_all instruction.number earlier && numbers_fall earlier
+
+-- what is kept: each instruction might follow those before it, and the numbers fall
+pub record HoldsInstructions (instructions : List Instruction) : Type 0 where
+  pub instructed : is_instructed instructions ≡ true
+  pub fall : numbers_fall instructions ≡ true
+
+-- the later instructions are the earlier ones with one more, of this key and role
+abbrev pub Adds : AllocKey → AllocRole → List Instruction → List Instruction → Type 0
+Adds key role earlier later =
+    (number : ℕ) × (roots : List ExecKey) × (later ≡ record { number = number; key = key; role = role; roots = roots } ∷ earlier)
+
+-- the newest instruction has this key and role
+abbrev pub IsNewest : AllocKey → AllocRole → List Instruction → Type 0
+IsNewest key role instructions = (earlier : List Instruction) × Adds key role earlier instructions

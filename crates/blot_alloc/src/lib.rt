@@ -1,0 +1,10 @@
+//! The allocations: an AllocNew brings one, an AllocReplace one in the place of another, an AllocCancel ends
+//! one. `Allocs` answers which live allocation names a chain of executions, and which instruction took up a
+//! key or ended an allocation. Instructions come and go at the end of the list alone; whether one may come is
+//! the caller's to show.
+#![tactic(auto)]
+
+mod allocs;
+mod lookup;
+
+pub use allocs::Allocs;

@@ -1,0 +1,6 @@
+use Rattle.std.proofs.Common.{◌≡◌, drop}
+use Rattle.blot_types.specs.Refusals.{first_of, other_holder}
+use Rattle.blot_command.proofs.refusal.exec_taken.Given as goal
+
+abbrev pub invariant-loop-key : goal.invariant-loop-key
+invariant-loop-key l = first_of (other_holder l.chains l.allocs l.reference) (drop l.key-index l.execs) ≡ first_of (other_holder l.chains l.allocs l.reference) l.execs

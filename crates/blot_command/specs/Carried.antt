@@ -1,0 +1,69 @@
+-- What the cells of the positions carry.
+use Rattle.std.specs.Prelude.{◌≡◌, ℕ, ◌^◌, ◌≤◌, Bool, true, false, ℤ, pos, List, length, All, IfSome, if◌then◌else◌}
+use Rattle.std.specs.List.{filter_map}
+use Rattle.blot_types.specs.declared.allocation.Terms.{Terms}
+use Rattle.blot_types.specs.declared.command.Command.{Command}
+use Rattle.blot_types.specs.declared.command.Entry.{Entry}
+use Rattle.blot_types.specs.declared.fill.Fill.{Fill}
+use Rattle.blot_types.specs.declared.lines.Part.{Part}
+use Rattle.blot_types.specs.declared.TheConstants.{ITEMS_MAX}
+use Rattle.blot_types.specs.Allocations.{allocation_of}
+use Rattle.blot_types.specs.Order.{total}
+use Rattle.blot_types.specs.Position.{house, account_of, is_at, part_of_fill, part_of_line, parts_of}
+use Rattle.blot_types.specs.Survivors.{version_by, versions_of}
+use Rattle.blot_position.specs.Positions.{Cells, sums_at, has_cell}
+use Rattle.blot_command.specs.Sizes.{IsSmall}
+
+-- an amount of a part, where it is of the position of an account in a symbol
+abbrev pub amount_at : (Part → ℤ) → List ℕ → List ℕ → Part → ℤ
+amount_at amount account symbol part = if is_at account symbol part then amount part else pos 0
+
+-- the cells hold, by account and symbol, the number and the sums of some parts; `whole` sums any amount of them
+pub record Carries (whole : (Part → ℤ) → ℤ) (cells : Cells) : Type 0 where
+  pub parts : (account symbol : List ℕ) → pos (sums_at cells account symbol).parts ≡ whole (amount_at (λ part. pos 1) account symbol)
+  pub qty : (account symbol : List ℕ) → (sums_at cells account symbol).qty ≡ whole (amount_at (λ part. part.qty) account symbol)
+  pub value : (account symbol : List ℕ) → (sums_at cells account symbol).value ≡ whole (amount_at (λ part. part.value) account symbol)
+
+-- the cells of a fill are made: that of its own account, and that of the house account
+pub record HasFillCells (cells : Cells) (fill : Fill) : Type 0 where
+  pub own : has_cell cells (account_of false fill) fill.symbol ≡ true
+  pub housed : has_cell cells house fill.symbol ≡ true
+
+-- the cells of terms are made: those of its lines, and that of the house account
+pub record HasTermsCells (cells : Cells) (terms : Terms) : Type 0 where
+  pub lines : All (λ line. has_cell cells line.account terms.symbol ≡ true) terms.lines
+  pub housed : has_cell cells house terms.symbol ≡ true
+
+-- the amounts of a fill are in range
+abbrev pub FillFits : Fill → Type 0
+FillFits fill = (named : Bool) → IsSmall (part_of_fill named fill)
+
+-- the amounts of the lines of terms are in range, and so is their block
+pub record TermsFit (terms : Terms) : Type 0 where
+  pub lines : All (λ line. IsSmall (part_of_line terms line)) terms.lines
+  pub few : length terms.lines ≤ ITEMS_MAX
+  pub block : terms.block ≤ 10 ^ 16
+
+-- the cells of what a command brings are made, and its amounts are in range
+abbrev pub HasEntryCells : Cells → Command → Type 0
+HasEntryCells cells command =
+    IfSome (version_by 0 command) (λ version. HasFillCells cells version.fill)
+    × IfSome (allocation_of command) (λ allocation. HasTermsCells cells allocation.terms)
+
+abbrev pub EntryFits : Command → Type 0
+EntryFits command =
+    IfSome (version_by 0 command) (λ version. FillFits version.fill) × IfSome (allocation_of command) (λ allocation. TermsFit allocation.terms)
+
+-- cells were made, and no sums changed
+pub record Opens (old new : Cells) : Type 0 where
+  pub sums : (account symbol : List ℕ) → sums_at new account symbol ≡ sums_at old account symbol
+  pub made : (account symbol : List ℕ) → has_cell old account symbol ≡ true → has_cell new account symbol ≡ true
+
+-- what the positions keep for a list: they carry its parts; the cells of its fills and of its allocations are made, so
+-- that their parts come and go without memory; and all amounts are in range
+pub record ShowsPositions (list : List Entry) (cells : Cells) : Type 0 where
+  pub carried : Carries (λ amount. total amount (parts_of list)) cells
+  pub fill_cells : All (λ version. HasFillCells cells version.fill) (versions_of list)
+  pub terms_cells : All (λ allocation. HasTermsCells cells allocation.terms) (filter_map (λ entry. allocation_of entry.command) list)
+  pub fills_fit : All (λ version. FillFits version.fill) (versions_of list)
+  pub terms_fit : All (λ allocation. TermsFit allocation.terms) (filter_map (λ entry. allocation_of entry.command) list)

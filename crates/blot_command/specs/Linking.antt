@@ -1,0 +1,51 @@
+-- An entry as the chains and the allocations see it.
+use Rattle.std.specs.Prelude.{◌≡◌, true, List, [], ◌∷◌, None, IfSome}
+use Rattle.std.specs.List.{cons_option}
+use Rattle.blot_types.specs.declared.allocation.Instruction.{Instruction}
+use Rattle.blot_types.specs.declared.command.Command.{Command}
+use Rattle.blot_types.specs.declared.command.Command.TheVariants.{Trade, Correct, Bust, AllocNew, AllocReplace, AllocCancel}
+use Rattle.blot_types.specs.declared.command.Entry.{Entry}
+use Rattle.blot_types.specs.declared.link.Link.{Link}
+use Rattle.blot_types.specs.Allocations.{instruction_by}
+use Rattle.blot_types.specs.Chains.{link_refusal, is_below}
+use Rattle.blot_types.specs.Instructions.{may_follow, is_above_all}
+use Rattle.blot_types.specs.Survivors.{link_of}
+
+-- a link may come next: it is accepted, and its number is above the others
+pub record CanLinkNext (links : List Link) (link : Link) : Type 0 where
+  pub accepted : link_refusal links link.key link.role ≡ None
+  pub above : is_below link.number links ≡ true
+
+-- an instruction may come next: it may follow the others, and its number is above them
+pub record CanInstructNext (instructions : List Instruction) (instruction : Instruction) : Type 0 where
+  pub accepted : may_follow instructions instruction.key instruction.role instruction.roots ≡ true
+  pub above : is_above_all instruction.number instructions ≡ true
+
+-- an entry may come next, as the link or the instruction that it is
+pub record CanLink (entry : Entry) (links : List Link) (instructions : List Instruction) : Type 0 where
+  pub link : IfSome (link_of entry) (CanLinkNext links)
+  pub instruction : IfSome (instruction_by links entry.number entry.command) (CanInstructNext instructions)
+
+-- an entry came last: the newest link or instruction is its own
+abbrev pub IsLinkedLast : Entry → List Link → List Instruction → Type 0
+IsLinkedLast entry links instructions =
+    (earlier : List Link) × (before : List Instruction) × (links ≡ cons_option (link_of entry) earlier)
+    × (instructions ≡ cons_option (instruction_by earlier entry.number entry.command) before)
+
+abbrev pub rest_of : {A : Type 0} → List A → List A
+rest_of [] = []
+rest_of (item ∷ rest) = rest
+
+-- the links without the newest, where a command is a link
+abbrev pub without_link : Command → List Link → List Link
+without_link (Trade trade) links = rest_of links
+without_link (Correct correct) links = rest_of links
+without_link (Bust bust) links = rest_of links
+without_link _ links = links
+
+-- the instructions without the newest, where a command is an instruction
+abbrev pub without_instruction : Command → List Instruction → List Instruction
+without_instruction (AllocNew new) instructions = rest_of instructions
+without_instruction (AllocReplace replace) instructions = rest_of instructions
+without_instruction (AllocCancel cancel) instructions = rest_of instructions
+without_instruction _ instructions = instructions

@@ -1,0 +1,43 @@
+-- The rules as the code asks them: over the chains and the allocations that the live list keeps.
+use Rattle.std.specs.Prelude.{◌≡◌, true, false, List, [], reverse, Option, pos, find, is_none, if◌then◌else◌, Some, None}
+use Rattle.std.specs.List.{filter_map}
+use Rattle.std.specs.Option.{option_map, option_map_or, option_or}
+use Rattle.blot_types.specs.declared.allocation.Instruction.{Instruction}
+use Rattle.blot_types.specs.declared.allocation.Terms.{Terms}
+use Rattle.blot_types.specs.declared.command.Entry.{Entry}
+use Rattle.blot_types.specs.declared.keys.AllocKey.{AllocKey}
+use Rattle.blot_types.specs.declared.link.Link.{Link}
+use Rattle.blot_types.specs.declared.refused.Refused.{Refused}
+use Rattle.blot_types.specs.declared.refused.Refused.TheVariants.{UnknownAlloc, DeadAlloc, UnknownExec, BustedExec, RepeatedExec, ExecTaken, Instrument}
+use Rattle.blot_types.specs.Allocations.{instructions_of}
+use Rattle.blot_types.specs.Chains.{root_in}
+use Rattle.blot_types.specs.Instructions.{is_allocation_in, ended_in}
+use Rattle.blot_types.specs.Legal.{numbers_rise}
+use Rattle.blot_types.specs.Order.{cum_of}
+use Rattle.blot_types.specs.Refusals.{first_of, bust_of_key, repeated_in, other_holder, current_fill, differs, booked, mismatch}
+use Rattle.blot_types.specs.Survivors.{links_of}
+
+-- the chains are those of entries whose numbers rise
+pub record HoldsChainsOf (entries : List Entry) (links : List Link) : Type 0 where
+  pub links_are : links ≡ links_of entries
+  pub rise : numbers_rise entries ≡ true
+
+-- and the allocations are those of their instructions
+pub record HoldsBoth (entries : List Entry) (links : List Link) (instructions : List Instruction) : Type 0 where
+  pub chains : HoldsChainsOf entries links
+  pub instructions_are : instructions ≡ instructions_of entries
+
+-- why a reference to an allocation is refused
+abbrev pub reference_refusal : List Instruction → AllocKey → Option Refused
+reference_refusal instructions reference =
+    option_or (if is_allocation_in instructions reference then None else Some UnknownAlloc) (option_map DeadAlloc (ended_in instructions reference))
+
+-- why terms are refused
+abbrev pub terms_refusal : List Entry → Option AllocKey → Terms → Option Refused
+terms_refusal entries reference terms =
+    option_or (option_map UnknownExec (find (λ key. is_none (root_in (links_of entries) key)) terms.execs))
+    (option_or (option_map BustedExec (first_of (bust_of_key (links_of entries)) terms.execs))
+    (option_or (option_map RepeatedExec (repeated_in (links_of entries) [] terms.execs))
+    (option_or (option_map ExecTaken (first_of (other_holder (links_of entries) (instructions_of entries) reference) terms.execs))
+    (option_or (option_map Instrument (find (λ key. option_map_or (differs terms) (current_fill (reverse entries) key) false) terms.execs))
+    (mismatch (cum_of (filter_map (current_fill (reverse entries)) terms.execs)) (pos terms.block) (booked terms.lines))))))

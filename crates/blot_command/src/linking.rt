@@ -1,0 +1,76 @@
+//! An entry as the chains and the allocations see it: added to them, and taken back.
+ghost use Rattle.std.specs.Prelude.{◌≡◌, IfOk, OnOk, OnErr};
+ghost use Rattle.std.specs.List.{cons_option, filter_map};
+ghost use Rattle.blot_types.specs.Allocations.{instruction_by};
+ghost use Rattle.blot_types.specs.Chains.{root_in};
+ghost use Rattle.blot_types.specs.Survivors.{link_of};
+ghost use Rattle.blot_command.specs.Linking.{CanLink, IsLinkedLast, without_link, without_instruction};
+
+use blot_alloc::Allocs;
+use blot_chain::Chains;
+use blot_types::{Command, Entry, ExecKey, Items};
+use std::alloc::{AllocError as NoMemory, Global};
+
+/// Adds an entry that the chains and the allocations accept. Out of memory is the only error, and then
+/// nothing has changed.
+pub(crate) fn link_entry(
+    alloc: Global,
+    chains: &mut Chains,
+    allocs: &mut Allocs,
+    entry: &Entry,
+) -> Result<(), NoMemory>
+    requires { CanLink entry.now chains.old allocs.old }
+    ensures chains { OnOk result (chains.new ≡ cons_option (link_of entry.now) chains.old) }
+    ensures allocs { OnOk result (allocs.new ≡ cons_option (instruction_by chains.old entry.now.number entry.now.command) allocs.old) }
+    ensures same_chains { OnErr result (chains.new ≡ chains.old) }
+    ensures same_allocs { OnErr result (allocs.new ≡ allocs.old) }
+{
+    let number = entry.number;
+    match &entry.command {
+        Command::Trade(trade) => chains.add(number, &trade.key),
+        Command::Correct(correct) => chains.correct(number, &correct.key, &correct.reference),
+        Command::Bust(bust) => chains.bust(number, &bust.key, &bust.reference),
+        Command::AllocNew(new) => {
+            let roots = roots_of(alloc, chains, &new.terms.execs)?;
+            allocs.admit(number, &new.key, roots)
+        }
+        Command::AllocReplace(replace) => {
+            let roots = roots_of(alloc, chains, &replace.terms.execs)?;
+            allocs.replace(number, &replace.key, &replace.reference, roots)
+        }
+        Command::AllocCancel(cancel) => allocs.cancel(number, &cancel.key, &cancel.reference),
+    }
+}
+
+// The roots of listed executions.
+fn roots_of(
+    alloc: Global,
+    chains: &Chains,
+    execs: &Items<ExecKey>,
+) -> Result<Items<ExecKey>, NoMemory>
+    ensures { IfOk result (λ roots. roots ≡ filter_map (root_in chains.now) execs.now) }
+{
+    let mut roots = Vec::new(alloc);
+    for key in execs.as_slice() {
+        if let Some(root) = chains.root_of(key) {
+            roots.push(root)?;
+        }
+    }
+    Ok(Items::new(roots))
+}
+
+/// Takes back the entry that was added last.
+pub(crate) fn unlink_entry(chains: &mut Chains, allocs: &mut Allocs, entry: &Entry)
+    requires { IsLinkedLast entry.now chains.old allocs.old }
+    ensures chains { chains.new ≡ without_link entry.now.command chains.old }
+    ensures allocs { allocs.new ≡ without_instruction entry.now.command allocs.old }
+{
+    match &entry.command {
+        Command::Trade(trade) => chains.un_add(&trade.key),
+        Command::Correct(correct) => chains.un_correct(&correct.key, &correct.reference),
+        Command::Bust(bust) => chains.un_bust(&bust.key, &bust.reference),
+        Command::AllocNew(new) => allocs.un_admit(&new.key),
+        Command::AllocReplace(replace) => allocs.un_replace(&replace.key, &replace.reference),
+        Command::AllocCancel(cancel) => allocs.un_cancel(&cancel.key, &cancel.reference),
+    }
+}

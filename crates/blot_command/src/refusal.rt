@@ -1,0 +1,342 @@
+//! Why the live list refuses a command: one function a rule, in the order of the rules.
+ghost use Rattle.std.specs.Prelude.{◌≡◌, [], pos, reverse, find, is_none, false};
+ghost use Rattle.std.specs.List.{list_any, filter_map};
+ghost use Rattle.std.specs.Option.{option_map, option_map_or, option_and_then, option_or};
+ghost use Rattle.blot_types.specs.declared.refused.Refused.TheVariants.{DuplicateExec, DuplicateAlloc, UnknownAlloc, DeadAlloc, UnknownExec, BustedExec, RepeatedExec, ExecTaken, Instrument, Quantity};
+ghost use Rattle.blot_types.specs.Allocations.{instructions_of};
+ghost use Rattle.blot_types.specs.Chains.{taker_in, root_in, current_in, bust_in, chain_refusal, link_refusal};
+ghost use Rattle.blot_types.specs.Instructions.{alloc_taker_in, is_allocation_in, ended_in};
+ghost use Rattle.blot_types.specs.Legal.{numbers_rise, refusal_of};
+ghost use Rattle.blot_types.specs.Order.{cum_of};
+ghost use Rattle.blot_types.specs.Refusals.{first_of, bust_of_key, same_chain, repeated_in, other_holder, current_fill, same_sign, differs, booked, mismatch};
+ghost use Rattle.blot_types.specs.Survivors.{links_of};
+ghost use Rattle.blot_command.specs.Refusing.{HoldsBoth, HoldsChainsOf, terms_refusal, reference_refusal};
+ghost use Rattle.blot_command.specs.Shown.{version_numbered};
+
+use blot_alloc::Allocs;
+use blot_chain::Chains;
+use blot_decimal::{Qty, QtySum};
+use blot_types::{
+    AllocKey, Command, Entry, ExecKey, Fill, Line, Refused, Role, Sign, Terms, Version,
+};
+
+/// Why a list of entries, with its chains and its allocations, refuses a command.
+pub(crate) fn refusal(
+    entries: &[Entry],
+    chains: &Chains,
+    allocs: &Allocs,
+    command: &Command,
+) -> Option<Refused>
+    requires { HoldsBoth entries.now chains.now allocs.now }
+    ensures { result ≡ refusal_of entries.now command.now }
+{
+    match command {
+        Command::Trade(trade) => execution_refusal(chains, &trade.key, Role::Begins),
+        Command::Correct(correct) => {
+            execution_refusal(chains, &correct.key, Role::Corrects(correct.reference))
+        }
+        Command::Bust(bust) => execution_refusal(chains, &bust.key, Role::Busts(bust.reference)),
+        Command::AllocNew(new) => {
+            if let Some(refused) = duplicate_alloc(allocs, &new.key) {
+                return Some(refused);
+            }
+            terms_refusal(entries, chains, allocs, &new.terms, &None)
+        }
+        Command::AllocReplace(replace) => {
+            if let Some(refused) = duplicate_alloc(allocs, &replace.key) {
+                return Some(refused);
+            }
+            if let Some(refused) = reference_refusal(allocs, &replace.reference) {
+                return Some(refused);
+            }
+            let reference = Some(replace.reference);
+            terms_refusal(entries, chains, allocs, &replace.terms, &reference)
+        }
+        Command::AllocCancel(cancel) => {
+            if let Some(refused) = duplicate_alloc(allocs, &cancel.key) {
+                return Some(refused);
+            }
+            reference_refusal(allocs, &cancel.reference)
+        }
+    }
+}
+
+// Why an execution's link is refused: its key is taken up, or else what its reference is refused for.
+fn execution_refusal(chains: &Chains, key: &ExecKey, role: Role) -> Option<Refused>
+    ensures { result ≡ link_refusal chains.now key.now role }
+{
+    if let Some(number) = chains.number_of(key) {
+        return Some(Refused::DuplicateExec(number));
+    }
+    match role {
+        Role::Begins => None,
+        Role::Corrects(reference) | Role::Busts(reference) => chain_refusal(chains, &reference),
+    }
+}
+
+// Why a reference to an execution is refused: it has no root, or its chain is busted.
+fn chain_refusal(chains: &Chains, reference: &ExecKey) -> Option<Refused>
+    ensures { result ≡ chain_refusal chains.now reference.now (root_in chains.now reference.now) }
+{
+    match chains.root_of(reference) {
+        None => Some(Refused::UnknownExec(*reference)),
+        Some(root) => chains.bust_of(&root).map(Refused::BustedExec),
+    }
+}
+
+// Whether the key of an allocation is taken up.
+fn duplicate_alloc(allocs: &Allocs, key: &AllocKey) -> Option<Refused>
+    ensures { result ≡ option_map DuplicateAlloc (alloc_taker_in allocs.now key.now) }
+{
+    allocs.number_of(key).map(Refused::DuplicateAlloc)
+}
+
+// Why a reference to an allocation is refused: there is none of that key, or it was ended.
+fn reference_refusal(allocs: &Allocs, reference: &AllocKey) -> Option<Refused>
+    ensures { result ≡ reference_refusal allocs.now reference.now }
+{
+    if !allocs.is_allocation(reference) {
+        return Some(Refused::UnknownAlloc);
+    }
+    allocs.ended_by(reference).map(Refused::DeadAlloc)
+}
+
+// Why terms are refused, for an allocation that takes the place of the one referred to, if it does.
+fn terms_refusal(
+    entries: &[Entry],
+    chains: &Chains,
+    allocs: &Allocs,
+    terms: &Terms,
+    reference: &Option<AllocKey>,
+) -> Option<Refused>
+    requires { HoldsBoth entries.now chains.now allocs.now }
+    ensures { result ≡ terms_refusal entries.now reference.now terms.now }
+{
+    let execs = terms.execs.as_slice();
+    if let Some(key) = unknown_exec(chains, execs) {
+        return Some(Refused::UnknownExec(key));
+    }
+    if let Some(number) = busted_exec(chains, execs) {
+        return Some(Refused::BustedExec(number));
+    }
+    if let Some(key) = repeated_exec(chains, execs) {
+        return Some(Refused::RepeatedExec(key));
+    }
+    if let Some(number) = exec_taken(chains, allocs, execs, reference) {
+        return Some(Refused::ExecTaken(number));
+    }
+    if let Some(key) = other_instrument(entries, chains, terms, execs) {
+        return Some(Refused::Instrument(key));
+    }
+    let wanted = wanted(entries, chains, execs);
+    mismatch(wanted, terms.block, booked(terms.lines.as_slice()))
+}
+
+// The first listed execution without a root.
+fn unknown_exec(chains: &Chains, execs: &[ExecKey]) -> Option<ExecKey>
+    ensures { result ≡ find (λ key. is_none (root_in chains.now key)) execs.now }
+{
+    for key in execs {
+        if chains.root_of(key).is_none() {
+            return Some(*key);
+        }
+    }
+    None
+}
+
+// The Bust of the first listed execution that is busted.
+fn busted_exec(chains: &Chains, execs: &[ExecKey]) -> Option<u64>
+    ensures { result ≡ first_of (bust_of_key chains.now) execs.now }
+{
+    for key in execs {
+        if let Some(number) = bust_of_key(chains, key) {
+            return Some(number);
+        }
+    }
+    None
+}
+
+// The Bust of the chain of a key.
+fn bust_of_key(chains: &Chains, key: &ExecKey) -> Option<u64>
+    ensures { result ≡ bust_of_key chains.now key.now }
+{
+    let root = chains.root_of(key)?;
+    chains.bust_of(&root)
+}
+
+// The first listed execution that is of the chain of one listed before it.
+fn repeated_exec(chains: &Chains, execs: &[ExecKey]) -> Option<ExecKey>
+    ensures { result ≡ repeated_in chains.now [] execs.now }
+{
+    for (index, key) in execs.iter().enumerate() {
+        if is_repeated(chains, key, &execs[..index]) {
+            return Some(*key);
+        }
+    }
+    None
+}
+
+// Whether a key is of the chain of one of these.
+fn is_repeated(chains: &Chains, key: &ExecKey, before: &[ExecKey]) -> bool
+    ensures { result ≡ list_any (same_chain chains.now key.now) before.now }
+{
+    before.iter().any(|other| is_same_chain(chains, key, other))
+}
+
+// Whether two keys are of one chain.
+fn is_same_chain(chains: &Chains, key: &ExecKey, other: &ExecKey) -> bool
+    ensures { result ≡ same_chain chains.now key.now other.now }
+{
+    match (chains.root_of(key), chains.root_of(other)) {
+        (Some(root), Some(other)) => other == root,
+        _ => false,
+    }
+}
+
+// The live allocation, other than the one referred to, that names the first listed chain so named.
+fn exec_taken(
+    chains: &Chains,
+    allocs: &Allocs,
+    execs: &[ExecKey],
+    reference: &Option<AllocKey>,
+) -> Option<u64>
+    ensures { result ≡ first_of (other_holder chains.now allocs.now reference.now) execs.now }
+{
+    for key in execs {
+        if let Some(number) = other_holder(chains, allocs, key, reference) {
+            return Some(number);
+        }
+    }
+    None
+}
+
+// The live allocation, other than the one referred to, that names the chain of a key.
+fn other_holder(
+    chains: &Chains,
+    allocs: &Allocs,
+    key: &ExecKey,
+    reference: &Option<AllocKey>,
+) -> Option<u64>
+    ensures { result ≡ other_holder chains.now allocs.now reference.now key.now }
+{
+    let root = chains.root_of(key)?;
+    allocs.other_holder_of(*reference, &root)
+}
+
+// The first listed execution whose last version has another symbol or sign than the terms.
+fn other_instrument(
+    entries: &[Entry],
+    chains: &Chains,
+    terms: &Terms,
+    execs: &[ExecKey],
+) -> Option<ExecKey>
+    requires { HoldsChainsOf entries.now chains.now }
+    ensures { result ≡ find (λ key. option_map_or (differs terms.now) (current_fill (reverse entries.now) key) false) execs.now }
+{
+    for key in execs {
+        if let Some(fill) = current_fill(entries, chains, key) {
+            if differs(terms, &fill) {
+                return Some(*key);
+            }
+        }
+    }
+    None
+}
+
+// Whether a fill is of another symbol or sign than the terms.
+fn differs(terms: &Terms, fill: &Fill) -> bool
+    ensures { result ≡ differs terms.now fill.now }
+{
+    !(fill.symbol == terms.symbol && is_same_sign(fill.sign, terms.sign))
+}
+
+// Whether two signs are one.
+fn is_same_sign(a: Sign, b: Sign) -> bool
+    ensures { result ≡ same_sign a b }
+{
+    match (a, b) {
+        (Sign::Buy, Sign::Buy) | (Sign::Sell, Sign::Sell) => true,
+        _ => false,
+    }
+}
+
+// The fill of the last version of the chain of a key.
+fn current_fill(entries: &[Entry], chains: &Chains, key: &ExecKey) -> Option<Fill>
+    requires { HoldsChainsOf entries.now chains.now }
+    ensures { result ≡ current_fill (reverse entries.now) key.now }
+{
+    match current_version(entries, chains, key) {
+        None => None,
+        Some(version) => Some(version.fill),
+    }
+}
+
+// The last version of the chain of a key.
+fn current_version(entries: &[Entry], chains: &Chains, key: &ExecKey) -> Option<Version>
+    requires { chains.now ≡ links_of entries.now }
+    ensures { result ≡ option_and_then (version_numbered entries.now) (option_and_then (current_in (links_of entries.now)) (root_in (links_of entries.now) key.now)) }
+{
+    let root = chains.root_of(key)?;
+    let number = chains.current(&root)?;
+    version_numbered(entries, number)
+}
+
+/// The version of a number.
+pub(crate) fn version_numbered(entries: &[Entry], number: u64) -> Option<Version>
+    ensures { result ≡ version_numbered entries.now number }
+{
+    for entry in entries {
+        if entry.number == number {
+            if let Some(version) = entry.version() {
+                return Some(version);
+            }
+        }
+    }
+    None
+}
+
+// The quantity of the last versions of the listed executions, in units of 10^-6.
+fn wanted(entries: &[Entry], chains: &Chains, execs: &[ExecKey]) -> i128
+    requires { HoldsChainsOf entries.now chains.now }
+    ensures { result ≡ cum_of (filter_map (current_fill (reverse entries.now)) execs.now) }
+{
+    let mut sum = 0;
+    for key in execs {
+        if let Some(fill) = current_fill(entries, chains, key) {
+            sum += i128::from(fill.qty.units());
+        }
+    }
+    sum
+}
+
+// The quantity that lines book, in units of 10^-6.
+fn booked(lines: &[Line]) -> i128
+    ensures { result ≡ booked lines.now }
+{
+    let mut sum = 0;
+    for line in lines {
+        sum += i128::from(line.qty.units());
+    }
+    sum
+}
+
+// The quantity found that isn't the one wanted: the block's, else the lines'.
+fn mismatch(wanted: i128, block: Qty, booked: i128) -> Option<Refused>
+    ensures { result ≡ mismatch wanted (pos block) booked }
+{
+    let block = i128::from(block.units());
+    if block != wanted {
+        return Some(quantity(wanted, block));
+    }
+    if booked != wanted {
+        return Some(quantity(wanted, booked));
+    }
+    None
+}
+
+// The refusal of a quantity found in place of the one wanted.
+fn quantity(wanted: i128, found: i128) -> Refused
+    ensures { result ≡ Quantity wanted found }
+{
+    Refused::Quantity(QtySum::from_units(wanted), QtySum::from_units(found))
+}

@@ -1,0 +1,230 @@
+-- The positions after a change: the sums and the cell of the same position, and of another one.
+use Rattle.std.proofs.Common.{◌≡◌, ℕ, ◌+◌, ◌-◌, ◌<◌, ℤ, ◌+ℤ◌, ◌-ℤ◌, List, Option, Some, None, Bool, true, false, ◌||◌, refl, sym, ap, ◌∙◌, arith, inl, inr}
+use Rattle.std.specs.Prelude.{if◌then◌else◌, is_some}
+use Rattle.std.specs.Cmp.{IsTotalOrder, on_total, then_total, tied_then}
+use Rattle.std.specs.Cmp.Lexicographic.{slice_cmp, nat_list_cmp_total, nat_list_eq_equiv, texts_ties, same_text as text_told}
+use Rattle.std.specs.FinMap as finite
+use Rattle.std.specs.Option.{unwrap_or}
+use Rattle.std.specs.Ordering.{nat_cmp, eq_by_cmp}
+use Rattle.std.proofs.lemmas.Bool.{cases_Bool, and_from, and_parts}
+use Rattle.std.proofs.lemmas.Int.{ints}
+use Rattle.std.proofs.lemmas.Map.Lookups.{exact_bytes, exact_pairs}
+use Rattle.blot_types.specs.Keys.{same_text}
+use Rattle.blot_position.specs.declared.sums.Sums.{Sums}
+use Rattle.blot_position.specs.Sums.{no_parts, with_one, without_one}
+use Rattle.blot_position.specs.Positions.{PositionKey, Cells, same_position, position_cmp, sums_at, has_cell, with_cell, with_part, without_part}
+
+-- ---- when two positions are one
+
+pub same_position-refl : (account symbol : List ℕ) → same_position account symbol account symbol ≡ true
+same_position-refl account symbol = and_from _ _ (nat_list_eq_equiv.refl account) (nat_list_eq_equiv.refl symbol)
+
+pub same_position-sym : (a s a' s' : List ℕ) → same_position a s a' s' ≡ same_position a' s' a s
+same_position-sym a s a' s' = rw (nat_list_eq_equiv.symm a a', nat_list_eq_equiv.symm s s') refl
+
+pub same_position-true : (a s a' s' : List ℕ) → same_position a s a' s' ≡ true → (a ≡ a') × (s ≡ s')
+same_position-true a s a' s' same =
+    let parts : (same_text a a' ≡ true) × (same_text s s' ≡ true) = and_parts _ _ same in
+    (text_told a a' (sym parts.0), text_told s s' (sym parts.1))
+
+-- ---- the order of positions is total, and ties no two of them
+
+pub position_cmp_total : IsTotalOrder position_cmp
+position_cmp_total = then_total (on_total (λ (key : PositionKey). key.0) nat_list_cmp_total) (on_total (λ (key : PositionKey). key.1) nat_list_cmp_total)
+
+pub position_cmp-IsAntisymmetric : finite.IsAntisymmetric position_cmp
+position_cmp-IsAntisymmetric = exact_pairs (slice_cmp nat_cmp) (slice_cmp nat_cmp) exact_bytes exact_bytes
+
+-- the order ties two positions where they are one
+pub tied-same_position : (a s a' s' : List ℕ) → eq_by_cmp position_cmp (a, s) (a', s') ≡ same_position a s a' s'
+tied-same_position a s a' s' =
+    sym (tied_then (slice_cmp nat_cmp a a') (slice_cmp nat_cmp s s'))
+    ∙ sym (rw (texts_ties a a', texts_ties s s') refl)
+
+-- ---- what a map with one more entry has for a position
+
+pub get-insert : (cells : Cells) (a s a' s' : List ℕ) (sums : Sums) → finite.get (finite.insert cells (a, s) sums) (a', s') ≡ (if same_position a s a' s' then Some sums else finite.get cells (a', s'))
+get-insert cells a s a' s' sums =
+    finite.get-insert position_cmp_total cells (a, s) sums (a', s')
+    ∙ ap (λ test. if test then Some sums else finite.get cells (a', s')) (tied-same_position a' s' a s ∙ same_position-sym a' s' a s)
+
+-- a choice is handed through what reads it
+through : {A B : Type 0} (f : A → B) (test : Bool) (a b : A) → f (if test then a else b) ≡ (if test then f a else f b)
+through f true a b = refl
+through f false a b = refl
+
+sums_at-insert : (cells : Cells) (a s a' s' : List ℕ) (sums : Sums) → sums_at (finite.insert cells (a, s) sums) a' s' ≡ (if same_position a s a' s' then sums else sums_at cells a' s')
+sums_at-insert cells a s a' s' sums =
+    ap (λ found. unwrap_or found no_parts) (get-insert cells a s a' s' sums)
+    ∙ through (λ found. unwrap_or found no_parts) (same_position a s a' s') (Some sums) (finite.get cells (a', s'))
+
+some_or : (test : Bool) (sums : Sums) (found : Option Sums) → is_some (if test then Some sums else found) ≡ (test || is_some found)
+some_or true sums found = refl
+some_or false sums found = refl
+
+has_cell-insert : (cells : Cells) (a s a' s' : List ℕ) (sums : Sums) → has_cell (finite.insert cells (a, s) sums) a' s' ≡ (same_position a s a' s' || has_cell cells a' s')
+has_cell-insert cells a s a' s' sums =
+    ap is_some (get-insert cells a s a' s' sums) ∙ some_or (same_position a s a' s') sums (finite.get cells (a', s'))
+
+-- ---- no cells
+
+pub sums_at-empty : (a s : List ℕ) → sums_at finite.empty a s ≡ no_parts
+sums_at-empty a s = ap (λ found. unwrap_or found no_parts) (finite.get-empty {X = Sums} position_cmp (a, s))
+
+pub has_cell-empty : (a s : List ℕ) → has_cell finite.empty a s ≡ false
+has_cell-empty a s = ap is_some (finite.get-empty {X = Sums} position_cmp (a, s))
+
+-- ---- the sums after a change
+
+-- the sums of one position are the same under equal texts
+alike : (cells : Cells) (a s a' s' : List ℕ) → same_position a s a' s' ≡ true → sums_at cells a s ≡ sums_at cells a' s'
+alike cells a s a' s' same = let parts = same_position-true a s a' s' same in λ i. sums_at cells (parts.0 i) (parts.1 i)
+
+-- a cell that is made changes no sums
+pub sums_at-with_cell : (a s a' s' : List ℕ) (cells : Cells) → sums_at (with_cell a s cells) a' s' ≡ sums_at cells a' s'
+sums_at-with_cell a s a' s' cells =
+    sums_at-insert cells a s a' s' (sums_at cells a s)
+    ∙ elim (cases_Bool (same_position a s a' s')) [
+      | inl same ↦ rw same (alike cells a s a' s' same)
+      | inr other ↦ rw other refl
+    ]
+
+pub sums_at-with_part :
+    (a s a' s' : List ℕ) (qty value : ℤ) (cells : Cells)
+    → sums_at (with_part a s qty value cells) a' s' ≡ (if same_position a s a' s' then with_one qty value (sums_at cells a' s') else sums_at cells a' s')
+sums_at-with_part a s a' s' qty value cells =
+    sums_at-insert cells a s a' s' (with_one qty value (sums_at cells a s))
+    ∙ elim (cases_Bool (same_position a s a' s')) [
+      | inl same ↦ rw same (ap (with_one qty value) (alike cells a s a' s' same))
+      | inr other ↦ rw other refl
+    ]
+
+pub sums_at-without_part :
+    (a s a' s' : List ℕ) (qty value : ℤ) (cells : Cells)
+    → sums_at (without_part a s qty value cells) a' s' ≡ (if same_position a s a' s' then without_one qty value (sums_at cells a' s') else sums_at cells a' s')
+sums_at-without_part a s a' s' qty value cells =
+    sums_at-insert cells a s a' s' (without_one qty value (sums_at cells a s))
+    ∙ elim (cases_Bool (same_position a s a' s')) [
+      | inl same ↦ rw same (ap (without_one qty value) (alike cells a s a' s' same))
+      | inr other ↦ rw other refl
+    ]
+
+-- the same position, and every other one
+
+chosen : {A : Type 0} (test : Bool) (a b : A) → test ≡ true → (if test then a else b) ≡ a
+chosen test a b is = ap (λ t. if t then a else b) is
+
+passed : {A : Type 0} (test : Bool) (a b : A) → test ≡ false → (if test then a else b) ≡ b
+passed test a b is = ap (λ t. if t then a else b) is
+
+pub sums_at-with_part_same : (a s : List ℕ) (qty value : ℤ) (cells : Cells) → sums_at (with_part a s qty value cells) a s ≡ with_one qty value (sums_at cells a s)
+sums_at-with_part_same a s qty value cells =
+    sums_at-with_part a s a s qty value cells ∙ chosen (same_position a s a s) _ (sums_at cells a s) (same_position-refl a s)
+
+pub sums_at-with_part_other :
+    (a s a' s' : List ℕ) (qty value : ℤ) (cells : Cells) → same_position a s a' s' ≡ false
+    → sums_at (with_part a s qty value cells) a' s' ≡ sums_at cells a' s'
+sums_at-with_part_other a s a' s' qty value cells other = sums_at-with_part a s a' s' qty value cells ∙ passed (same_position a s a' s') _ (sums_at cells a' s') other
+
+pub sums_at-without_part_same :
+    (a s : List ℕ) (qty value : ℤ) (cells : Cells) → sums_at (without_part a s qty value cells) a s ≡ without_one qty value (sums_at cells a s)
+sums_at-without_part_same a s qty value cells =
+    sums_at-without_part a s a s qty value cells ∙ chosen (same_position a s a s) _ (sums_at cells a s) (same_position-refl a s)
+
+pub sums_at-without_part_other :
+    (a s a' s' : List ℕ) (qty value : ℤ) (cells : Cells) → same_position a s a' s' ≡ false
+    → sums_at (without_part a s qty value cells) a' s' ≡ sums_at cells a' s'
+sums_at-without_part_other a s a' s' qty value cells other =
+    sums_at-without_part a s a' s' qty value cells ∙ passed (same_position a s a' s') _ (sums_at cells a' s') other
+
+-- ---- the cells after a change
+
+pub has_cell-with_cell : (a s a' s' : List ℕ) (cells : Cells) → has_cell (with_cell a s cells) a' s' ≡ (same_position a s a' s' || has_cell cells a' s')
+has_cell-with_cell a s a' s' cells = has_cell-insert cells a s a' s' (sums_at cells a s)
+
+pub has_cell-with_part :
+    (a s a' s' : List ℕ) (qty value : ℤ) (cells : Cells) → has_cell (with_part a s qty value cells) a' s' ≡ (same_position a s a' s' || has_cell cells a' s')
+has_cell-with_part a s a' s' qty value cells = has_cell-insert cells a s a' s' (with_one qty value (sums_at cells a s))
+
+pub has_cell-without_part :
+    (a s a' s' : List ℕ) (qty value : ℤ) (cells : Cells) → has_cell (without_part a s qty value cells) a' s' ≡ (same_position a s a' s' || has_cell cells a' s')
+has_cell-without_part a s a' s' qty value cells = has_cell-insert cells a s a' s' (without_one qty value (sums_at cells a s))
+
+or_true : (test : Bool) (has : Bool) → has ≡ true → (test || has) ≡ true
+or_true true has is = refl
+or_true false has is = is
+
+-- a cell that was made stays
+
+pub has_cell-stays_with_cell : (a s a' s' : List ℕ) (cells : Cells) → has_cell cells a' s' ≡ true → has_cell (with_cell a s cells) a' s' ≡ true
+has_cell-stays_with_cell a s a' s' cells has = has_cell-with_cell a s a' s' cells ∙ or_true (same_position a s a' s') (has_cell cells a' s') has
+
+pub has_cell-stays_with_part :
+    (a s a' s' : List ℕ) (qty value : ℤ) (cells : Cells) → has_cell cells a' s' ≡ true → has_cell (with_part a s qty value cells) a' s' ≡ true
+has_cell-stays_with_part a s a' s' qty value cells has =
+    has_cell-with_part a s a' s' qty value cells ∙ or_true (same_position a s a' s') (has_cell cells a' s') has
+
+pub has_cell-stays_without_part :
+    (a s a' s' : List ℕ) (qty value : ℤ) (cells : Cells) → has_cell cells a' s' ≡ true → has_cell (without_part a s qty value cells) a' s' ≡ true
+has_cell-stays_without_part a s a' s' qty value cells has =
+    has_cell-without_part a s a' s' qty value cells ∙ or_true (same_position a s a' s') (has_cell cells a' s') has
+
+-- the position that was changed has a cell
+
+pub has_cell-own_with_cell : (a s : List ℕ) (cells : Cells) → has_cell (with_cell a s cells) a s ≡ true
+has_cell-own_with_cell a s cells = has_cell-with_cell a s a s cells ∙ ap (λ test. test || has_cell cells a s) (same_position-refl a s)
+
+pub has_cell-own_with_part : (a s : List ℕ) (qty value : ℤ) (cells : Cells) → has_cell (with_part a s qty value cells) a s ≡ true
+has_cell-own_with_part a s qty value cells = has_cell-with_part a s a s qty value cells ∙ ap (λ test. test || has_cell cells a s) (same_position-refl a s)
+
+-- a position with a part has a cell
+
+found_with_part : (found : Option Sums) → 0 < (unwrap_or found no_parts).parts → is_some found ≡ true
+found_with_part None some = absurd (omega arith)
+found_with_part (Some sums) some = refl
+
+pub has_cell-of_part : (a s : List ℕ) (cells : Cells) → 0 < (sums_at cells a s).parts → has_cell cells a s ≡ true
+has_cell-of_part a s cells some = found_with_part (finite.get cells (a, s)) some
+
+-- ---- changes one after the other
+
+-- maps that answer alike are equal
+pub same_cells : (one two : Cells) → ((a s : List ℕ) → finite.get one (a, s) ≡ finite.get two (a, s)) → one ≡ two
+same_cells one two same = finite.same_map position_cmp_total position_cmp-IsAntisymmetric one two (λ key. same key.0 key.1)
+
+-- the second of two entries of one position counts
+pub insert-insert : (a s : List ℕ) (first second : Sums) (cells : Cells) → finite.insert (finite.insert cells (a, s) first) (a, s) second ≡ finite.insert cells (a, s) second
+insert-insert a s first second cells =
+    same_cells (finite.insert (finite.insert cells (a, s) first) (a, s) second) (finite.insert cells (a, s) second) (λ a' s'.
+    get-insert (finite.insert cells (a, s) first) a s a' s' second
+    ∙ elim (cases_Bool (same_position a s a' s')) [
+      | inl same ↦ rw same (sym (get-insert cells a s a' s' second ∙ chosen (same_position a s a' s') (Some second) _ same))
+      | inr other ↦
+          rw other
+          (get-insert cells a s a' s' first ∙ passed (same_position a s a' s') (Some first) _ other
+          ∙ sym (get-insert cells a s a' s' second ∙ passed (same_position a s a' s') (Some second) _ other))
+    ])
+
+-- a part added to a position for which a cell was made just before
+pub with_part-with_cell : (a s : List ℕ) (qty value : ℤ) (cells : Cells) → with_part a s qty value (with_cell a s cells) ≡ with_part a s qty value cells
+with_part-with_cell a s qty value cells =
+    insert-insert a s (sums_at cells a s) (with_one qty value (sums_at (with_cell a s cells) a s)) cells
+    ∙ ap (λ sums. finite.insert cells (a, s) (with_one qty value sums)) (sums_at-with_cell a s a s cells)
+
+-- ---- one part more, and the same part less
+
+added-taken : (sum amount : ℤ) → ((sum +ℤ amount) -ℤ amount) ≡ sum
+added-taken sum amount = omega (arith, ints)
+
+taken-added : (sum amount : ℤ) → ((sum -ℤ amount) +ℤ amount) ≡ sum
+taken-added sum amount = omega (arith, ints)
+
+pub without_one-with_one : (qty value : ℤ) (sums : Sums) → without_one qty value (with_one qty value sums) ≡ sums
+without_one-with_one qty value sums =
+    let parts : (sums.parts + 1) - 1 ≡ sums.parts = omega arith in
+    λ i. record { parts = parts i; qty = added-taken sums.qty qty i; value = added-taken sums.value value i }
+
+pub with_one-without_one : (qty value : ℤ) (sums : Sums) → 0 < sums.parts → with_one qty value (without_one qty value sums) ≡ sums
+with_one-without_one qty value sums some =
+    let parts : (sums.parts - 1) + 1 ≡ sums.parts = omega arith in
+    λ i. record { parts = parts i; qty = taken-added sums.qty qty i; value = taken-added sums.value value i }

@@ -1,0 +1,90 @@
+//! `Positions`.
+ghost use Rattle.std.specs.Prelude.{◌≡◌, IsTrue, OnOk, OnErr};
+ghost use Rattle.std.specs.FinMap as map;
+ghost use Rattle.blot_position.specs.Positions.{sums_at, has_cell, with_cell, with_part, without_part};
+ghost use Rattle.blot_position.specs.Sums.{line_by, HasRoom, HasPart};
+
+use crate::cell::{Cell, add_part, make_cell, sub_part, sums_of};
+use blot_decimal::{QtySum, Value};
+use blot_types::{PositionLine, Text64};
+use std::alloc::{AllocError as NoMemory, Global};
+use std::marker::Model;
+
+/// The positions of accounts in symbols. A contract sees them as a finite map from account and symbol to the
+/// number and the sums of the parts, with an entry for each position for which a cell was made.
+#[derive(Drop)]
+pub struct Positions {
+    cells: Vec<Cell>,
+}
+
+impl Model for Positions {
+    ghost use Rattle.blot_position.specs.Positions.{Cells, cells_code};
+    ghost use Rattle.blot_position.specs.Cells.{cells_in};
+
+    ghost Value = { Cells };
+
+    ghost coded = { cells_code };
+
+    ghost view = { λ positions. cells_in positions.cells.items };
+}
+
+impl Positions {
+    /// No cells. No memory is taken.
+    pub fn new(alloc: Global) -> Positions
+        ensures { result ≡ map.empty }
+    {
+        Positions {
+            cells: Vec::new(alloc),
+        }
+    }
+
+    /// Makes a cell for a position, so that a part is added to it without memory. No sums change, so nothing
+    /// more is shown. Out of memory is the only error, and then nothing has changed.
+    pub fn open(&mut self, account: &Text64, symbol: &Text64) -> Result<(), NoMemory>
+        ensures ok { OnOk result (self.new ≡ with_cell account.now symbol.now self.old) }
+        ensures err { OnErr result (self.new ≡ self.old) }
+    {
+        make_cell(&mut self.cells, account, symbol)
+    }
+
+    /// Adds a part to a position. Out of memory is the only error, and then nothing has changed.
+    pub fn add(
+        &mut self,
+        account: &Text64,
+        symbol: &Text64,
+        qty: QtySum,
+        value: Value,
+    ) -> Result<(), NoMemory>
+        requires room { HasRoom (sums_at self.old account.now symbol.now) qty value }
+        ensures ok { OnOk result (self.new ≡ with_part account.now symbol.now qty value self.old) }
+        ensures err { OnErr result (self.new ≡ self.old) }
+    {
+        self.open(account, symbol)?;
+        self.un_sub(account, symbol, qty, value);
+        Ok(())
+    }
+
+    /// Takes a part that was added away from a position. Its cell stays. It needs no memory.
+    pub fn sub(&mut self, account: &Text64, symbol: &Text64, qty: QtySum, value: Value)
+        requires part { HasPart (sums_at self.old account.now symbol.now) qty value }
+        ensures { self.new ≡ without_part account.now symbol.now qty value self.old }
+    {
+        sub_part(&mut self.cells, account, symbol, qty, value);
+    }
+
+    /// Adds a part to a position for which a cell was made. It needs no memory.
+    pub fn un_sub(&mut self, account: &Text64, symbol: &Text64, qty: QtySum, value: Value)
+        requires made { IsTrue (has_cell self.old account.now symbol.now) }
+        requires room { HasRoom (sums_at self.old account.now symbol.now) qty value }
+        ensures { self.new ≡ with_part account.now symbol.now qty value self.old }
+    {
+        add_part(&mut self.cells, account, symbol, qty, value);
+    }
+
+    /// The line of a position: the sums of its parts, or none without a part.
+    pub fn get(&self, account: &Text64, symbol: &Text64) -> Option<PositionLine>
+        ensures { result ≡ line_by (sums_at self.now account.now symbol.now) }
+    {
+        sums_of(&self.cells, account, symbol).line()
+    }
+}

@@ -1,0 +1,68 @@
+-- What the quantity rule leaves: the lines of an allocation book what its block is.
+use Rattle.std.proofs.Common.{◌≡◌, true, ℤ, pos, List, [], ◌∷◌, reverse, Option, Some, None, sym, subst, ◌∙◌, inl, inr}
+use Rattle.std.specs.Prelude.{is_none, All, IfSome}
+use Rattle.std.specs.List.{filter_map}
+use Rattle.std.specs.Option.{option_map, option_and_then}
+use Rattle.std.specs.Ordering.{int_eq}
+use Rattle.std.proofs.lemmas.Bool.{cases_Bool, and_parts}
+use Rattle.std.proofs.lemmas.Bool.Decides.{Decides-int_eq}
+use Rattle.std.proofs.lemmas.List.{reverse-reverse, reverse-append}
+use Rattle.std.proofs.lemmas.List.Elements.{All-nil, All-push}
+use Rattle.blot_types.specs.declared.allocation.Terms.{Terms}
+use Rattle.blot_types.specs.declared.command.Command.{Command}
+use Rattle.blot_types.specs.declared.command.Entry.{Entry}
+use Rattle.blot_types.specs.declared.refused.Refused.TheVariants.{Quantity}
+use Rattle.blot_types.specs.Allocations.{Allocation, allocation_of}
+use Rattle.blot_types.specs.Legal.{refusal_in, legal_in, is_legal}
+use Rattle.blot_types.specs.Order.{cum_of}
+use Rattle.blot_types.specs.Refusals.{current_fill, booked, mismatch, duplicate_exec, duplicate_alloc, unknown_alloc, dead_alloc, unknown_exec, busted_exec, repeated_exec, exec_taken, instrument}
+use Rattle.blot_types.proofs.AcceptLemmas.{or_parts}
+use Rattle.blot_types.proofs.ChainLemmas.{none_is}
+
+-- the lines of an allocation book what its block is
+abbrev pub BooksItsBlock : Allocation → Type 0
+BooksItsBlock allocation = booked allocation.terms.lines ≡ pos allocation.terms.block
+
+matched : (wanted block lines : ℤ) → mismatch wanted block lines ≡ None → lines ≡ block
+matched wanted block lines none =
+    elim (cases_Bool (int_eq block wanted)) [
+      | inl first ↦
+          elim (cases_Bool (int_eq lines wanted)) [
+            | inl second ↦ (Decides-int_eq lines wanted).0 second ∙ sym ((Decides-int_eq block wanted).0 first)
+            | inr other ↦ (let clash : Some (Quantity wanted lines) ≡ None = rw (first, other) at none in cc)
+          ]
+      | inr other ↦ (let clash : Some (Quantity wanted block) ≡ None = rw other at none in cc)
+    ]
+
+books_found :
+    (wanted : Terms → ℤ) (found : Option Allocation)
+    → option_and_then (λ terms. mismatch (wanted terms) (pos terms.block) (booked terms.lines)) (option_map (λ a. a.terms) found) ≡ None → IfSome found BooksItsBlock
+books_found wanted None none = tt
+books_found wanted (Some a) none = matched (wanted a.terms) (pos a.terms.block) (booked a.terms.lines) none
+
+accepted_books : (entries : List Entry) (command : Command) → refusal_in entries command ≡ None → IfSome (allocation_of command) BooksItsBlock
+accepted_books entries command accepted =
+    let one = or_parts (duplicate_exec entries command) _ accepted in
+    let two = or_parts (duplicate_alloc entries command) _ one.1 in
+    let three = or_parts (unknown_alloc entries command) _ two.1 in
+    let four = or_parts (dead_alloc entries command) _ three.1 in
+    let five = or_parts (unknown_exec entries command) _ four.1 in
+    let six = or_parts (busted_exec entries command) _ five.1 in
+    let seven = or_parts (repeated_exec entries command) _ six.1 in
+    let eight = or_parts (exec_taken entries command) _ seven.1 in
+    let nine = or_parts (instrument entries command) _ eight.1 in
+    books_found (λ terms. cum_of (filter_map (current_fill entries) terms.execs)) (allocation_of command) nine.1
+
+-- so do all those of a legal list
+abbrev pub EntryBooks : Entry → Type 0
+EntryBooks entry = IfSome (allocation_of entry.command) BooksItsBlock
+
+all_book_in : (entries : List Entry) → legal_in entries ≡ true → All EntryBooks (reverse entries)
+all_book_in [] legal = All-nil EntryBooks
+all_book_in (entry ∷ earlier) legal =
+    let parts : (is_none (refusal_in earlier entry.command) ≡ true) × (legal_in earlier ≡ true) = and_parts _ _ legal in
+    subst (All EntryBooks) (sym (reverse-append (entry ∷ []) earlier))
+    (All-push EntryBooks (reverse earlier) entry (all_book_in earlier parts.1) (accepted_books earlier entry.command (none_is (refusal_in earlier entry.command) parts.0)))
+
+pub all_book : (list : List Entry) → is_legal list ≡ true → All EntryBooks list
+all_book list legal = subst (All EntryBooks) (reverse-reverse list) (all_book_in (reverse list) legal)

@@ -1,0 +1,87 @@
+-- Positions, by account and symbol: sums of signed parts, with no bound.
+use Rattle.std.specs.Prelude.{ℕ, Bool, true, false, ◌&&◌, ℤ, pos, neg_ℤ, ◌*ℤ◌, List, [], ◌∷◌, ◌++◌, map, filter, Option, Some, None}
+use Rattle.std.specs.List.{flat_map}
+use Rattle.std.specs.Option.{option_map_or, unwrap_or}
+use Rattle.blot_types.specs.declared.allocation.Line.{Line}
+use Rattle.blot_types.specs.declared.allocation.Terms.{Terms}
+use Rattle.blot_types.specs.declared.command.Entry.{Entry}
+use Rattle.blot_types.specs.declared.fill.Fill.{Fill}
+use Rattle.blot_types.specs.declared.fill.Sign.{Sign}
+use Rattle.blot_types.specs.declared.fill.Sign.TheVariants.{Buy, Sell}
+use Rattle.blot_types.specs.declared.keys.ExecKey.{ExecKey}
+use Rattle.blot_types.specs.declared.lines.Part.{Part}
+use Rattle.blot_types.specs.declared.lines.PositionLine.{PositionLine}
+use Rattle.blot_types.specs.declared.lines.Version.{Version}
+use Rattle.blot_types.specs.Allocations.{live_allocations, named_roots}
+use Rattle.blot_types.specs.Keys.{is_among, same_text}
+use Rattle.blot_types.specs.Order.{total}
+use Rattle.blot_types.specs.Survivors.{root_of, survivors}
+
+-- the house account, `*`: what was executed and isn't allocated sits there
+abbrev pub house : List ℕ
+house = 42 ∷ []
+
+-- an amount with the side's sign: a buy adds, a sell takes
+abbrev pub signed : Sign → ℤ → ℤ
+signed Buy amount = amount
+signed Sell amount = neg_ℤ amount
+
+-- the account where a fill sits: the house account where its chain is named or it has no account, else its own
+abbrev pub account_of : Bool → Fill → List ℕ
+account_of true fill = house
+account_of false fill = unwrap_or fill.account house
+
+-- what a fill adds to a position
+abbrev pub part_of_fill : Bool → Fill → Part
+part_of_fill named fill = record {
+  account = account_of named fill;
+  symbol = fill.symbol;
+  qty = signed fill.sign (pos fill.qty);
+  value = signed fill.sign (pos fill.qty *ℤ fill.price);
+}
+
+-- what a line of an allocation adds to its account, under the allocation's own symbol and sign
+abbrev pub part_of_line : Terms → Line → Part
+part_of_line terms line = record {
+  account = line.account;
+  symbol = terms.symbol;
+  qty = signed terms.sign (pos line.qty);
+  value = signed terms.sign (pos line.qty *ℤ line.price);
+}
+
+-- the same amounts, taken from the house account
+abbrev pub from_house : Part → Part
+from_house part = record { account = house; symbol = part.symbol; qty = neg_ℤ part.qty; value = neg_ℤ part.value }
+
+-- a line moves its amounts from the house account to its own
+abbrev pub moves_of_line : Terms → Line → List Part
+moves_of_line terms line = part_of_line terms line ∷ from_house (part_of_line terms line) ∷ []
+
+abbrev pub moves_of : Terms → List Part
+moves_of terms = flat_map (moves_of_line terms) terms.lines
+
+-- whether the chain of a key is named by a live allocation
+abbrev pub is_named : List Entry → ExecKey → Bool
+is_named list key = option_map_or (is_among (named_roots list)) (root_of list key) false
+
+-- what a survivor adds
+abbrev pub part_of : List Entry → Version → Part
+part_of list version = part_of_fill (is_named list version.key) version.fill
+
+-- all parts of the positions: those of the survivors, and those of the lines of live allocations
+abbrev pub parts_of : List Entry → List Part
+parts_of list = map (part_of list) (survivors list) ++ flat_map (λ allocation. moves_of allocation.terms) (live_allocations list)
+
+-- whether a part is of the position of an account in a symbol
+abbrev pub is_at : List ℕ → List ℕ → Part → Bool
+is_at account symbol part = same_text part.account account && same_text part.symbol symbol
+
+-- the signed sums of parts; none without a part
+abbrev pub position_by : List Part → Option PositionLine
+position_by [] = None
+position_by (part ∷ parts) =
+    Some (record { qty = total (λ p. p.qty) (part ∷ parts); value = total (λ p. p.value) (part ∷ parts) })
+
+-- the position of an account in a symbol
+abbrev pub position_of : List Entry → List ℕ → List ℕ → Option PositionLine
+position_of list account symbol = position_by (filter (is_at account symbol) (parts_of list))

@@ -1,0 +1,158 @@
+-- Why a list of entries refuses a command: one definition a rule. The entries are newest first.
+use Rattle.std.specs.Prelude.{ℕ, ◌==◌, Bool, true, false, ◌&&◌, not, ℤ, pos, List, [], ◌∷◌, ◌++◌, Option, Some, None, find, is_none, if◌then◌else◌}
+use Rattle.std.specs.List.{filter_map, list_any}
+use Rattle.std.specs.Option.{option_map, option_map_or, option_or, option_and_then}
+use Rattle.std.specs.Ordering.{int_eq}
+use Rattle.blot_types.specs.declared.allocation.Instruction.{Instruction}
+use Rattle.blot_types.specs.declared.allocation.Line.{Line}
+use Rattle.blot_types.specs.declared.allocation.Terms.{Terms}
+use Rattle.blot_types.specs.declared.command.Command.{Command}
+use Rattle.blot_types.specs.declared.command.Command.TheVariants.{Trade, Correct, Bust, AllocNew, AllocReplace, AllocCancel}
+use Rattle.blot_types.specs.declared.command.Entry.{Entry}
+use Rattle.blot_types.specs.declared.fill.Fill.{Fill}
+use Rattle.blot_types.specs.declared.fill.Sign.{Sign}
+use Rattle.blot_types.specs.declared.fill.Sign.TheVariants.{Buy, Sell}
+use Rattle.blot_types.specs.declared.keys.AllocKey.{AllocKey}
+use Rattle.blot_types.specs.declared.keys.ExecKey.{ExecKey}
+use Rattle.blot_types.specs.declared.lines.Version.{Version}
+use Rattle.blot_types.specs.declared.link.Link.{Link}
+use Rattle.blot_types.specs.declared.refused.Refused.{Refused}
+use Rattle.blot_types.specs.declared.refused.Refused.TheVariants.{DuplicateExec, DuplicateAlloc, UnknownAlloc, DeadAlloc, UnknownExec, BustedExec, RepeatedExec, ExecTaken, Instrument, Quantity}
+use Rattle.blot_types.specs.Allocations.{allocation_of, instructions_in}
+use Rattle.blot_types.specs.Chains.{taker_in, root_in, is_root, bust_in, current_in}
+use Rattle.blot_types.specs.Instructions.{alloc_taker_in, is_allocation_in, ended_in, other_holder_in}
+use Rattle.blot_types.specs.Keys.{same_text}
+use Rattle.blot_types.specs.Order.{total, cum_of}
+use Rattle.blot_types.specs.Survivors.{links_in, version_of}
+
+-- ---- what a command says, by its kind
+
+-- the execution that it takes up
+abbrev pub exec_key : Command → Option ExecKey
+exec_key (Trade trade) = Some trade.key
+exec_key (Correct correct) = Some correct.key
+exec_key (Bust bust) = Some bust.key
+exec_key _ = None
+
+-- the allocation that it takes up
+abbrev pub alloc_key : Command → Option AllocKey
+alloc_key (AllocNew new) = Some new.key
+alloc_key (AllocReplace replace) = Some replace.key
+alloc_key (AllocCancel cancel) = Some cancel.key
+alloc_key _ = None
+
+-- the allocation that it refers to
+abbrev pub alloc_reference : Command → Option AllocKey
+alloc_reference (AllocReplace replace) = Some replace.reference
+alloc_reference (AllocCancel cancel) = Some cancel.reference
+alloc_reference _ = None
+
+-- what it allocates
+abbrev pub terms_of : Command → Option Terms
+terms_of command = option_map (λ allocation. allocation.terms) (allocation_of command)
+
+-- the executions that it lists to be allocated
+abbrev pub listed_by : Command → List ExecKey
+listed_by command = option_map_or (λ terms. terms.execs) (terms_of command) []
+
+-- the executions that it refers to: that of a Correct or a Bust, those that an allocation lists
+abbrev pub exec_references : Command → List ExecKey
+exec_references (Trade trade) = []
+exec_references (Correct correct) = correct.reference ∷ []
+exec_references (Bust bust) = bust.reference ∷ []
+exec_references (AllocNew new) = new.terms.execs
+exec_references (AllocReplace replace) = replace.terms.execs
+exec_references (AllocCancel cancel) = []
+
+-- ---- what the rules ask
+
+-- the first answer that a question gives of some items, in their order
+abbrev pub first_of : {A B : Type 0} → (A → Option B) → List A → Option B
+first_of question [] = None
+first_of question (item ∷ later) = option_or (question item) (first_of question later)
+
+-- the number of the Bust of the chain of a key
+abbrev pub bust_of_key : List Link → ExecKey → Option ℕ
+bust_of_key links key = option_and_then (bust_in links) (root_in links key)
+
+-- whether two keys are of one chain
+abbrev pub same_chain : List Link → ExecKey → ExecKey → Bool
+same_chain links key other = option_map_or (λ root. is_root root (root_in links other)) (root_in links key) false
+
+-- the first key that is of the chain of one listed before it
+abbrev pub repeated_in : List Link → List ExecKey → List ExecKey → Option ExecKey
+repeated_in links before [] = None
+repeated_in links before (key ∷ later) =
+    if list_any (same_chain links key) before then Some key else repeated_in links (before ++ key ∷ []) later
+
+-- the number of the live allocation that names the chain of a key, other than the one referred to
+abbrev pub other_holder : List Link → List Instruction → Option AllocKey → ExecKey → Option ℕ
+other_holder links instructions reference key = option_and_then (other_holder_in instructions reference) (root_in links key)
+
+-- the version of a number
+abbrev pub version_in : List Entry → ℕ → Option Version
+version_in entries number = find (λ version. version.number == number) (filter_map version_of entries)
+
+-- the fill of the last version of the chain of a key
+abbrev pub current_fill : List Entry → ExecKey → Option Fill
+current_fill entries key =
+    option_map (λ version. version.fill)
+    (option_and_then (version_in entries) (option_and_then (current_in (links_in entries)) (root_in (links_in entries) key)))
+
+-- whether two signs are one
+abbrev pub same_sign : Sign → Sign → Bool
+same_sign Buy Buy = true
+same_sign Sell Sell = true
+same_sign _ _ = false
+
+-- whether a fill is of another instrument or side than the terms
+abbrev pub differs : Terms → Fill → Bool
+differs terms fill = not (same_text fill.symbol terms.symbol && same_sign fill.sign terms.sign)
+
+-- the quantity that lines book
+abbrev pub booked : List Line → ℤ
+booked lines = total (λ line. pos line.qty) lines
+
+-- the quantity found that isn't the one wanted: the block's, else the lines'
+abbrev pub mismatch : ℤ → ℤ → ℤ → Option Refused
+mismatch wanted block lines =
+    if not (int_eq block wanted) then Some (Quantity wanted block)
+    else if not (int_eq lines wanted) then Some (Quantity wanted lines) else None
+
+-- ---- the rules, in their order
+
+abbrev pub duplicate_exec : List Entry → Command → Option Refused
+duplicate_exec entries command = option_map DuplicateExec (option_and_then (taker_in (links_in entries)) (exec_key command))
+
+abbrev pub duplicate_alloc : List Entry → Command → Option Refused
+duplicate_alloc entries command =
+    option_map DuplicateAlloc (option_and_then (alloc_taker_in (instructions_in entries)) (alloc_key command))
+
+abbrev pub unknown_alloc : List Entry → Command → Option Refused
+unknown_alloc entries command =
+    option_and_then (λ key. if is_allocation_in (instructions_in entries) key then None else Some UnknownAlloc) (alloc_reference command)
+
+abbrev pub dead_alloc : List Entry → Command → Option Refused
+dead_alloc entries command = option_map DeadAlloc (option_and_then (ended_in (instructions_in entries)) (alloc_reference command))
+
+abbrev pub unknown_exec : List Entry → Command → Option Refused
+unknown_exec entries command = option_map UnknownExec (find (λ key. is_none (root_in (links_in entries) key)) (exec_references command))
+
+abbrev pub busted_exec : List Entry → Command → Option Refused
+busted_exec entries command = option_map BustedExec (first_of (bust_of_key (links_in entries)) (exec_references command))
+
+abbrev pub repeated_exec : List Entry → Command → Option Refused
+repeated_exec entries command = option_map RepeatedExec (repeated_in (links_in entries) [] (listed_by command))
+
+abbrev pub exec_taken : List Entry → Command → Option Refused
+exec_taken entries command =
+    option_map ExecTaken (first_of (other_holder (links_in entries) (instructions_in entries) (alloc_reference command)) (listed_by command))
+
+abbrev pub instrument : List Entry → Command → Option Refused
+instrument entries command =
+    option_and_then (λ terms. option_map Instrument (find (λ key. option_map_or (differs terms) (current_fill entries key) false) terms.execs))
+    (terms_of command)
+
+abbrev pub quantity : List Entry → Command → Option Refused
+quantity entries command =
+    option_and_then (λ terms. mismatch (cum_of (filter_map (current_fill entries) terms.execs)) (pos terms.block) (booked terms.lines)) (terms_of command)
