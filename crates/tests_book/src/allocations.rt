@@ -1,4 +1,5 @@
-//! Allocations of the desk's book: what it takes, what it refuses, and why.
+//! Allocations of the desk's book: what it takes, what it refuses, and why; and what the plain slow program says of
+//! the positions of its live list.
 
 use crate::desk::{expect_redone, expect_reply, expect_undone};
 use crate::fixtures::{exec, order, text};
@@ -6,6 +7,7 @@ use crate::rows::Filled::{Buys, Sells};
 use crate::rows::{Filled, bust, correct, trade};
 use blot_decimal::{Price, Qty, QtySum};
 use blot_desk::{Event, Held, Reply};
+use blot_model::position_of;
 use blot_time::Day;
 use blot_types::{
     AllocCancel, AllocKey, AllocNew, AllocReplace, Command, ITEMS_MAX, Items, Line, Refused, Sign,
@@ -16,13 +18,15 @@ use std::test::Fail;
 
 const A: &[u8] = b"BRKA";
 
-// What an allocation lists: executions, the block, and the quantities of the lines of accounts A and B.
+// What an allocation lists: executions, the block, the quantities of the lines of accounts A and B, and their
+// price.
 #[derive(Drop)]
 struct Booked {
     execs: &'static [&'static [u8]],
     block: &'static [u8],
     a: &'static [u8],
     b: &'static [u8],
+    price: &'static [u8],
 }
 
 // A fill of 100 of O1, in XYZ, bought.
@@ -37,12 +41,12 @@ fn alloc_key(id: &[u8]) -> Result<AllocKey, Fail> {
     })
 }
 
-// A line of an account, at 11.
-fn line(account: &[u8], qty: &[u8]) -> Result<Line, Fail> {
+// A line of an account.
+fn line(account: &[u8], qty: &[u8], price: &[u8]) -> Result<Line, Fail> {
     Ok(Line {
         account: text(account)?,
         qty: Qty::read(qty)?,
-        price: Price::read(b"11")?,
+        price: Price::read(price)?,
     })
 }
 
@@ -53,8 +57,8 @@ fn terms(alloc: Global, booked: &Booked) -> Result<Terms, Fail> {
         execs.push(exec(A, id)?)?;
     }
     let mut lines = Vec::new(alloc);
-    lines.push(line(b"A", booked.a)?)?;
-    lines.push(line(b"B", booked.b)?)?;
+    lines.push(line(b"A", booked.a, booked.price)?)?;
+    lines.push(line(b"B", booked.b, booked.price)?)?;
     if execs.len() > ITEMS_MAX || lines.len() > ITEMS_MAX {
         return Err(Fail::new("too many items"));
     }
@@ -131,6 +135,7 @@ const FIRST: Booked = Booked {
     block: b"100",
     a: b"60",
     b: b"40",
+    price: b"11",
 };
 
 // 200 of E1 and E2, 150 to A and 50 to B.
@@ -139,6 +144,7 @@ const BOTH: Booked = Booked {
     block: b"200",
     a: b"150",
     b: b"50",
+    price: b"11",
 };
 
 // The refusal of a quantity of 50 beside one of 49.
@@ -155,6 +161,7 @@ fn thirty_to_a(block: &'static [u8], b: &'static [u8]) -> Booked {
         block,
         a: b"30",
         b,
+        price: b"11",
     }
 }
 
@@ -264,4 +271,70 @@ fn a_named_execution_may_be_busted(rt: HostRuntime) -> Result<(), Fail> {
     expect_undone(&mut held, 3)?;
     expect_undone(&mut held, 2)?;
     expect_new(rt.alloc(), &mut held, b"AL1", &FIRST, Reply::Accepted(4))
+}
+
+// What an account holds of XYZ: quantity and value, by the plain program.
+fn expect_position(alloc: Global, held: &Held, account: &[u8], expected: &str) -> Result<(), Fail> {
+    let snapshot = held.snapshot()?;
+    let line = position_of(alloc, snapshot.entries(), &text(account)?, &text(b"XYZ")?)?;
+    let found = match line {
+        Some(line) => format!(in alloc; "{} {}", line.qty, line.value)?,
+        None => String::from_str(alloc, "none")?,
+    };
+    if found.as_str() != expected {
+        return Err(Fail::new(format_args!("{found} for {expected}")));
+    }
+    Ok(())
+}
+
+#[test]
+fn positions_of_a_busted_allocation(rt: HostRuntime) -> Result<(), Fail> {
+    let mut held = Held::new(rt.alloc());
+    let alloc = rt.alloc();
+    expect_trade(&mut held, b"E2", &Buys(b"O1", b"50", b"11", b"300"), 1)?;
+    expect_position(alloc, &held, b"A1", "50 550")?;
+    expect_position(alloc, &held, b"*", "none")?;
+    expect_new(
+        alloc,
+        &mut held,
+        b"AL1",
+        &thirty_to_a(b"50", b"20"),
+        Reply::Accepted(2),
+    )?;
+    expect_position(alloc, &held, b"A", "30 330")?;
+    expect_position(alloc, &held, b"B", "20 220")?;
+    expect_position(alloc, &held, b"*", "0 0")?;
+    expect_position(alloc, &held, b"A1", "none")?;
+    let busted = Command::Bust(bust(A, b"E3", b"E2")?);
+    expect_reply(&mut held, Event::Submit(busted), Reply::Accepted(3))?;
+    expect_position(alloc, &held, b"A", "30 330")?;
+    expect_position(alloc, &held, b"B", "20 220")?;
+    expect_position(alloc, &held, b"*", "-50 -550")
+}
+
+// 150 of E1 and E2, 100 to A and 50 to B, at their average.
+const AT_THE_AVERAGE: Booked = Booked {
+    execs: &[b"E1", b"E2"],
+    block: b"150",
+    a: b"100",
+    b: b"50",
+    price: b"10.0033",
+};
+
+#[test]
+fn positions_at_the_average(rt: HostRuntime) -> Result<(), Fail> {
+    let mut held = Held::new(rt.alloc());
+    let alloc = rt.alloc();
+    expect_trade(&mut held, b"E1", &Buys(b"O1", b"100", b"10", b"300"), 1)?;
+    expect_trade(&mut held, b"E2", &Buys(b"O1", b"50", b"10.01", b"300"), 2)?;
+    expect_new(
+        alloc,
+        &mut held,
+        b"AL1",
+        &AT_THE_AVERAGE,
+        Reply::Accepted(3),
+    )?;
+    expect_position(alloc, &held, b"A", "100 1000.33")?;
+    expect_position(alloc, &held, b"B", "50 500.165")?;
+    expect_position(alloc, &held, b"*", "0 0.005")
 }
