@@ -19,6 +19,7 @@ use Rattle.blot_types.specs.Order.{total}
 use Rattle.blot_types.specs.Position.{house, account_of, part_of_fill}
 use Rattle.blot_types.specs.Standing.{standing}
 use Rattle.blot_types.specs.Survivors.{links_of, versions_of, survivors}
+use Rattle.blot_types.proofs.BringLemmas.{found-All}
 use Rattle.blot_types.proofs.ChainLemmas.{differing}
 use Rattle.blot_types.proofs.KeyLemmas.{same_exec-refl, same_exec-sym}
 use Rattle.blot_types.proofs.PartLemmas.{part_under, parts_under, total-named, NamesMore, moves-chain, chain-standing}
@@ -32,14 +33,6 @@ use Rattle.blot_command.proofs.CarryLemmas.{Whole, more, SameWhole, one_at, IsCo
 use Rattle.blot_command.proofs.ReachLemmas.{Reaches, reach-append, reach-same, reach-nothing, less_enough, stays, one_low}
 
 -- ---- what is found among the versions
-
-found-All : {X : Type 0} (P : X → Type 0) (p : X → Bool) (xs : List X) (x : X) → All P xs → find p xs ≡ Some x → P x
-found-All P p [] x all found = cc
-found-All P p (y ∷ ys) x all found =
-    elim (cases_Bool (p y)) [
-      | inl here ↦ (let same : Some y ≡ Some x = rw here at found in let one : y ≡ x = cc in subst P one (All-head P y ys all))
-      | inr passed ↦ found-All P p ys x (All-tail P y ys all) (rw passed at found)
-    ]
 
 by_current : (list : List Entry) (P : Version → Type 0) (number : Option ℕ) (version : Version) → All P (versions_of list)
     → option_and_then (λ n. find (λ v. v.number == n) (versions_of list)) number ≡ Some version → P version
@@ -57,7 +50,7 @@ standing-All list P root version all is = by_bust list P (bust_in (links_of list
 
 -- ---- one chain
 
-count-under : (f : Version → ℤ) (xs : List Version) → ((v : Version) → pos 0 ≤ℤ f v) → pos 0 ≤ℤ total f xs
+pub count-under : (f : Version → ℤ) (xs : List Version) → ((v : Version) → pos 0 ≤ℤ f v) → pos 0 ≤ℤ total f xs
 count-under f [] each = omega (arith, ints)
 count-under f (v ∷ vs) each = let is = total-cons f v vs in let rest = count-under f vs each in let one = each v in omega (arith, ints, is, rest, one)
 

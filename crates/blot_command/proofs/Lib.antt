@@ -1,8 +1,12 @@
+pub mod AccountLemmas
+pub mod BoundLemmas
 pub mod CarryLemmas
 pub mod ChangeListLemmas
 pub mod HouseLemmas
 pub mod LiveLemmas
+pub mod MoveLemmas
 pub mod OpenLemmas
+pub mod PositionLineLemmas
 pub mod ReachLemmas
 pub mod RecordLemmas
 pub mod RefusalLemmas

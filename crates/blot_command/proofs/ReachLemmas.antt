@@ -12,17 +12,10 @@ use Rattle.blot_position.proofs.PositionLemmas.{has_cell-stays_with_part, has_ce
 use Rattle.blot_command.specs.Booking.{Change, put_in, taken_out, changed_by, changed, changed_all, CanChangeAll}
 use Rattle.blot_command.specs.Carried.{Carries}
 use Rattle.blot_command.specs.Sizes.{IsSmall}
+use Rattle.blot_command.proofs.ChangeListLemmas.{changed_all-append, can-joined}
 use Rattle.blot_command.proofs.CarryLemmas.{Whole, more, SameWhole, one_at, IsCount, Carries-same, Carries-put, Carries-take, Light, Light-put, Light-take, Light-same, IsLightEnough, can_put, can_take}
 
 -- ---- lists of changes
-
-pub changed-append : (a b : List Change) (cells : Cells) → changed_all (a ++ b) cells ≡ changed_all b (changed_all a cells)
-changed-append [] b cells = refl
-changed-append (change ∷ a) b cells = changed-append a b (changed change cells)
-
-pub can-append : (a b : List Change) (cells : Cells) → CanChangeAll a cells → CanChangeAll b (changed_all a cells) → CanChangeAll (a ++ b) cells
-can-append [] b cells first second = second
-can-append (change ∷ a) b cells first second = (first.0, can-append a b (changed change cells) first.1 second)
 
 stays_by : (is_put : Bool) (part : Part) (cells : Cells) (a s : List ℕ) → has_cell cells a s ≡ true → has_cell (changed_by is_put part cells) a s ≡ true
 stays_by true part cells a s made = has_cell-stays_with_part part.account part.symbol a s part.qty part.value cells made
@@ -44,8 +37,8 @@ pub reach-append :
     (a b : List Change) (cells : Cells) (count qty count' qty' : ℕ) (middle whole : Whole) → Reaches a cells count qty middle
     → Reaches b (changed_all a cells) count' qty' whole → Reaches (a ++ b) cells count' qty' whole
 reach-append a b cells count qty count' qty' middle whole first second = record {
-  can = can-append a b cells first.can second.can;
-  carried = subst (Carries whole) (sym (changed-append a b cells)) second.carried;
+  can = can-joined a b cells first.can second.can;
+  carried = subst (Carries whole) (sym (changed_all-append a b cells)) second.carried;
   light = second.light;
 }
 

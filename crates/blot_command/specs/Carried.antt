@@ -59,11 +59,15 @@ pub record Opens (old new : Cells) : Type 0 where
   pub sums : (account symbol : List ℕ) → sums_at new account symbol ≡ sums_at old account symbol
   pub made : (account symbol : List ℕ) → has_cell old account symbol ≡ true → has_cell new account symbol ≡ true
 
--- what the positions keep for a list: they carry its parts; the cells of its fills and of its allocations are made, so
--- that their parts come and go without memory; and all amounts are in range
-pub record ShowsPositions (list : List Entry) (cells : Cells) : Type 0 where
-  pub carried : Carries (λ amount. total amount (parts_of list)) cells
+-- the cells of a list's fills and allocations are made, so that their parts come and go without memory; and all
+-- amounts are in range
+pub record IsReady (list : List Entry) (cells : Cells) : Type 0 where
   pub fill_cells : All (λ version. HasFillCells cells version.fill) (versions_of list)
   pub terms_cells : All (λ allocation. HasTermsCells cells allocation.terms) (filter_map (λ entry. allocation_of entry.command) list)
   pub fills_fit : All (λ version. FillFits version.fill) (versions_of list)
   pub terms_fit : All (λ allocation. TermsFit allocation.terms) (filter_map (λ entry. allocation_of entry.command) list)
+
+-- the cells show the positions of a list: they carry its parts, and are ready for its entries to come and go
+pub record ShowsPositions (list : List Entry) (cells : Cells) : Type 0 where
+  pub carried : Carries (λ amount. total amount (parts_of list)) cells
+  pub ready : IsReady list cells

@@ -1,9 +1,10 @@
 //! Commands and their inverses. `Undoable` is what a command of any kind promises: exactly when it is
 //! accepted, what the state is after it, and that its inverse restores the state before. `Tables` is the
-//! book: its live list of entries with the chains and the fills that stand, and each kind of command keeps
-//! that promise on it.
+//! book: its live list of entries with the chains, the allocations and the positions, and the fills that
+//! stand; each kind of command keeps that promise on it.
 #![tactic(auto)]
 
+mod accounts;
 mod alloc_cancel;
 mod alloc_new;
 mod alloc_replace;

@@ -75,7 +75,8 @@ impl LiveList {
     /// The last entry of a list that has one.
     pub(crate) fn last(&self) -> &Entry
         requires { 0 < length self.now }
-        ensures { last_or None self.now ≡ Some result.now }
+        ensures last { last_or None self.now ≡ Some result.now }
+        ensures book { IsTrue (is_book self.now) }
     {
         match self.entries.last() {
             Some(entry) => entry,

@@ -1,24 +1,26 @@
 //! The book.
 ghost use Rattle.std.specs.Prelude.{◌≡◌, ◌<◌, [], ◌∷◌, ◌++◌, None, Some, IsSome, length, find, IsTrue, OnOk, OnErr, IfOk, IfErr, IfSome};
 ghost use Rattle.std.specs.Option.{option_copied};
+ghost use Rattle.blot_types.specs.Laws.{HasBoundedTotals, IsConserving};
 ghost use Rattle.blot_types.specs.Legal.{is_book, refusal_of};
 ghost use Rattle.blot_types.specs.Order.{order_of};
+ghost use Rattle.blot_types.specs.Position.{position_of};
 ghost use Rattle.blot_types.specs.declared.TheConstants.{EVENTS_MAX};
 ghost use Rattle.blot_order.specs.Fills.{put_at, kept_at};
 ghost use Rattle.blot_command.specs.Book.{has_number};
 ghost use Rattle.blot_command.specs.Shown.{with_put, with_kept, IsPut, IsKept, CanPut};
 
-use crate::live::LiveList;
+use crate::accounts::Accounts;
 use blot_order::Orders;
-use blot_types::{Command, Entry, OrderKey, OrderLine, Refused, Version};
+use blot_types::{Command, Entry, OrderKey, OrderLine, PositionLine, Refused, Text64, Version};
 use std::alloc::{AllocError as NoMemory, Global};
 use std::marker::Model;
 
-/// The book: its live list of entries, in rising order of number, with the chains and the allocations of
-/// its entries and the fills that stand. A contract sees its live list, which is always legal.
+/// The book: its live list of entries, in rising order of number, with the chains, the allocations and the
+/// positions of its entries, and the fills that stand. A contract sees its live list, which is always legal.
 #[derive(Drop)]
 pub struct Tables {
-    live: LiveList,
+    accounts: Accounts,
     orders: Orders,
 }
 
@@ -28,9 +30,9 @@ impl Model for Tables {
 
     ghost Value = { Shown };
 
-    ghost view = { λ tables. record { list = tables.live } };
+    ghost view = { λ tables. record { list = tables.accounts } };
 
-    ghost invariant = { λ tables. Shows tables.live tables.orders };
+    ghost invariant = { λ tables. Shows tables.accounts tables.orders };
 }
 
 impl Tables {
@@ -40,7 +42,7 @@ impl Tables {
         ensures book { IsTrue (is_book result.list) }
     {
         Tables {
-            live: LiveList::new(alloc),
+            accounts: Accounts::new(alloc),
             orders: Orders::new(alloc),
         }
     }
@@ -53,12 +55,23 @@ impl Tables {
         self.orders.get(order)
     }
 
+    /// The position of an account, `*` the house account, in a symbol, or none where no execution that stands
+    /// and no line of a live allocation adds to it.
+    pub fn position(&self, account: &Text64, symbol: &Text64) -> Option<PositionLine>
+        ensures line { result ≡ position_of self.now.list account.now symbol.now }
+        ensures conserving { IsConserving self.now.list }
+        ensures bounded { HasBoundedTotals self.now.list }
+        ensures book { IsTrue (is_book self.now.list) }
+    {
+        self.accounts.position(account, symbol)
+    }
+
     /// The entry of a number, if it is live.
     pub fn entry(&self, number: u64) -> Option<&Entry>
         ensures entry { option_copied result ≡ find (has_number number) self.now.list }
         ensures book { IsTrue (is_book self.now.list) }
     {
-        self.live.entry(number)
+        self.accounts.live().entry(number)
     }
 
     /// The live entries, copied, in rising order of number.
@@ -66,7 +79,7 @@ impl Tables {
         ensures entries { IfOk result (λ entries. entries.items ≡ self.now.list) }
         ensures book { IsTrue (is_book self.now.list) }
     {
-        self.live.entries(alloc)
+        self.accounts.live().entries(alloc)
     }
 
     /// Why the book refuses a command.
@@ -74,7 +87,7 @@ impl Tables {
         ensures refusal { result ≡ refusal_of self.now.list command.now }
         ensures book { IsTrue (is_book self.now.list) }
     {
-        self.live.refusal(command)
+        self.accounts.live().refusal(command)
     }
 
     /// Puts an entry behind the others, or hands it back where memory runs out.
@@ -85,11 +98,11 @@ impl Tables {
         ensures returned { IfErr result (λ back. back ≡ entry) }
     {
         let version = entry.version();
-        let replaced = self.live.replaced(&entry.link());
+        let replaced = self.accounts.live().replaced(&entry.link());
         let Ok(()) = put(&mut self.orders, &version) else {
             return Err(entry);
         };
-        match self.live.push(entry) {
+        match self.accounts.push(entry) {
             Ok(()) => {
                 take(&mut self.orders, &replaced);
                 Ok(())
@@ -106,9 +119,9 @@ impl Tables {
         requires { 0 < length self.old.list }
         ensures { self.old.list ≡ self.new.list ++ result ∷ [] }
     {
-        let entry = self.live.pop();
+        let entry = self.accounts.pop();
         let version = entry.version();
-        let restored = self.live.replaced(&entry.link());
+        let restored = self.accounts.live().replaced(&entry.link());
         take(&mut self.orders, &version);
         un_take(&mut self.orders, &restored);
         entry

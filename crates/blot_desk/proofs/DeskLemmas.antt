@@ -17,7 +17,7 @@ use Rattle.blot_undo.specs.declared.step.Done.{Done}
 use Rattle.blot_undo.specs.declared.step.Undone.{Undone}
 use Rattle.blot_types.specs.declared.TheConstants.{EVENTS_MAX}
 use Rattle.blot_desk.specs.declared.event.Event.{Event}
-use Rattle.blot_desk.specs.declared.event.Event.TheVariants.{Submit, Undo, Redo, AskOrder}
+use Rattle.blot_desk.specs.declared.event.Event.TheVariants.{Submit, Undo, Redo, AskOrder, AskPosition}
 use Rattle.blot_desk.specs.declared.event.Recorded.{Recorded}
 use Rattle.blot_desk.specs.declared.event.Reply.{Reply}
 use Rattle.blot_desk.specs.Desk.{DeskBook, Outcome, empty_book, submit_by, submit_of, refused_by, undo_by, redo_by, step_of, run_on, run_of, events_of, replies_of, IsRunOf, IsJournal}
@@ -69,6 +69,7 @@ step_next book (Submit command) = submit_next book command (refusal_of book.list
 step_next book (Undo newest) = undo_by_next book newest (newest_done book.done)
 step_next book Redo = redo_by_next book (newest_undone book.undone)
 step_next book (AskOrder order) = omega arith
+step_next book (AskPosition account symbol) = omega arith
 
 -- the run of a history with one more record
 run_more :

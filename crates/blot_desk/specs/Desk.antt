@@ -7,13 +7,14 @@ use Rattle.blot_types.specs.declared.refused.Refused.TheVariants.{NothingToUndo,
 use Rattle.blot_types.specs.declared.TheConstants.{EVENTS_MAX}
 use Rattle.blot_types.specs.Legal.{refusal_of}
 use Rattle.blot_types.specs.Order.{order_of}
+use Rattle.blot_types.specs.Position.{position_of}
 use Rattle.blot_command.specs.Kinds.{command_meaning}
 use Rattle.blot_undo.specs.Book.{Book, apply_of, undo_of as undone_book, redo_of as redone_book, newest_done, newest_undone}
 use Rattle.blot_desk.specs.declared.event.Event.{Event}
-use Rattle.blot_desk.specs.declared.event.Event.TheVariants.{Submit, Undo, Redo, AskOrder}
+use Rattle.blot_desk.specs.declared.event.Event.TheVariants.{Submit, Undo, Redo, AskOrder, AskPosition}
 use Rattle.blot_desk.specs.declared.event.Recorded.{Recorded}
 use Rattle.blot_desk.specs.declared.event.Reply.{Reply}
-use Rattle.blot_desk.specs.declared.event.Reply.TheVariants.{Accepted, Refused, Undone, Redone, Order}
+use Rattle.blot_desk.specs.declared.event.Reply.TheVariants.{Accepted, Refused, Undone, Redone, Order, Position}
 
 -- the book of a desk: the live list, the done and the undone steps, newest first, and the next number
 abbrev pub DeskBook : Type 0
@@ -66,6 +67,7 @@ step_of book (Submit command) = submit_of book command
 step_of book (Undo newest) = undo_of book newest
 step_of book Redo = redo_of book
 step_of book (AskOrder order) = record { book = book; reply = Order (order_of book.list order) }
+step_of book (AskPosition account symbol) = record { book = book; reply = Position (position_of book.list account symbol) }
 
 -- a run of events: the book after them, and the reply to each
 pub record Run : Type 0 where

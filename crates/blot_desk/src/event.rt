@@ -1,7 +1,7 @@
 //! What comes to a desk, what it replies, and the record of both.
 ghost use Rattle.std.specs.Prelude.{◌≡◌, IfOk};
 
-use blot_types::{Command, OrderKey, OrderLine, Refused};
+use blot_types::{Command, OrderKey, OrderLine, PositionLine, Refused, Text64};
 use std::alloc::{AllocError as NoMemory, Global};
 
 /// What comes to a desk.
@@ -15,6 +15,8 @@ pub enum Event {
     Redo,
     /// The line of an order is asked for.
     AskOrder(OrderKey),
+    /// The position of an account, `*` the house account, in a symbol is asked for.
+    AskPosition(Text64, Text64),
 }
 
 impl Event {
@@ -30,6 +32,7 @@ impl Event {
             Event::Undo { newest } => Ok(Event::Undo { newest: *newest }),
             Event::Redo => Ok(Event::Redo),
             Event::AskOrder(order) => Ok(Event::AskOrder(*order)),
+            Event::AskPosition(account, symbol) => Ok(Event::AskPosition(*account, *symbol)),
         }
     }
 }
@@ -47,6 +50,8 @@ pub enum Reply {
     Redone(u64),
     /// The line of the order, or none where no execution of it stands.
     Order(Option<OrderLine>),
+    /// The position, or none where no execution and no line of a live allocation adds to it.
+    Position(Option<PositionLine>),
 }
 
 /// An event with the reply to it.

@@ -2,12 +2,13 @@
 ghost use Rattle.std.specs.Prelude.{◌≡◌, ◌↔◌, ◌∷◌, ◌++◌, [], Err, IfOk, OnErr, IsOk, IsTrue, ◌<◌, length, vec_capacity};
 ghost use Rattle.blot_types.specs.Legal.{is_book};
 ghost use Rattle.blot_types.specs.Order.{order_of};
+ghost use Rattle.blot_types.specs.Position.{position_of};
 ghost use Rattle.blot_desk.specs.Desk.{empty_journal, step_of, recorded_of, events_of, run_of, IsRun};
 
 use crate::taking::take;
 use crate::{DeskFault, Event, Recorded, Reply, Snapshot};
 use blot_command::Tables;
-use blot_types::{Command, EVENTS_MAX, OrderKey};
+use blot_types::{Command, EVENTS_MAX, OrderKey, Text64};
 use blot_undo::Steps;
 use std::alloc::{AllocError as NoMemory, Global};
 use std::marker::Model;
@@ -54,6 +55,10 @@ impl Held {
         // The line of an order, after any events, is that of the run of these events.
         ensures order { (order : OrderKey) → event ≡ Event.AskOrder order
             → IfOk result (λ reply. reply ≡ Reply.Order (order_of (run_of (events_of self.old.history)).book.list order)) }
+
+        // So is a position.
+        ensures position { (account symbol : Text64) → event ≡ Event.AskPosition account symbol
+            → IfOk result (λ reply. reply ≡ Reply.Position (position_of (run_of (events_of self.old.history)).book.list account symbol)) }
 
         ensures full { (result ≡ Err DeskFault.Full) ↔ (length self.old.history ≡ EVENTS_MAX) }
         ensures err { OnErr result (self.new ≡ self.old) }

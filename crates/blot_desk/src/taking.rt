@@ -21,6 +21,9 @@ pub(crate) fn take(steps: &mut Steps<Command>, event: Event) -> Result<Reply, No
         Event::Undo { newest } => Ok(undo(steps, newest)),
         Event::Redo => redo(steps),
         Event::AskOrder(order) => Ok(Reply::Order(steps.state().order(&order))),
+        Event::AskPosition(account, symbol) => {
+            Ok(Reply::Position(steps.state().position(&account, &symbol)))
+        }
     }
 }
 

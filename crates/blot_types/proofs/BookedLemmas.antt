@@ -1,31 +1,28 @@
 -- The lines of each allocation of a legal list book its block; the instructions of a list name each chain once.
-use Rattle.std.proofs.Common.{◌≡◌, ℕ, Bool, true, false, ◌&&◌, pos, List, [], ◌∷◌, ◌++◌, reverse, Option, Some, None, refl, sym, ap, subst, ◌∙◌, inl, inr}
-use Rattle.std.specs.Prelude.{ℤ, ◌||◌, not, is_none, find, filter, All, if◌then◌else◌}
-use Rattle.std.specs.List.{cons_option, filter_map, list_any, list_all}
-use Rattle.std.specs.Option.{option_map, option_and_then, option_or}
+use Rattle.std.proofs.Common.{◌≡◌, ℕ, Bool, true, false, pos, List, [], ◌∷◌, ◌++◌, reverse, Option, Some, None, refl, sym, subst, ◌∙◌, inl, inr}
+use Rattle.std.specs.Prelude.{ℤ, is_none, find, All}
+use Rattle.std.specs.List.{cons_option, list_any, list_all}
+use Rattle.std.specs.Option.{option_map}
 use Rattle.std.specs.Ordering.{int_eq}
-use Rattle.std.proofs.lemmas.Bool.{cases_Bool, and_from, and_parts}
+use Rattle.std.proofs.lemmas.Bool.{cases_Bool, and_parts}
 use Rattle.std.proofs.lemmas.Bool.Decides.{Decides-int_eq}
-use Rattle.std.proofs.lemmas.List.{reverse-reverse, reverse-append}
-use Rattle.std.proofs.lemmas.List.Elements.{All-nil, All-cons, All-append, All-weaker, filter_map-append}
+use Rattle.std.proofs.lemmas.List.{reverse-reverse}
+use Rattle.std.proofs.lemmas.List.Elements.{All-nil, All-cons, All-append}
 use Rattle.blot_types.specs.declared.allocation.Instruction.{Instruction}
 use Rattle.blot_types.specs.declared.command.Command.{Command}
 use Rattle.blot_types.specs.declared.command.Command.TheVariants.{Trade, Correct, Bust, AllocNew, AllocReplace, AllocCancel}
 use Rattle.blot_types.specs.declared.command.Entry.{Entry}
 use Rattle.blot_types.specs.declared.keys.AllocKey.{AllocKey}
 use Rattle.blot_types.specs.declared.keys.ExecKey.{ExecKey}
-use Rattle.blot_types.specs.declared.refused.Refused.{Refused}
 use Rattle.blot_types.specs.declared.refused.Refused.TheVariants.{Quantity}
-use Rattle.blot_types.specs.Allocations.{Allocation, allocation_of, instruction_by, instructions_in, instructions_of, named_roots}
-use Rattle.blot_types.specs.Instructions.{is_keyed, alloc_taker_in, is_allocation_of, is_allocation_in, ended_in, holds_in, is_reference, holds_beside, other_holder_in, reference_of, is_live_key, are_apart, may_follow, is_instructed, named_in}
-use Rattle.blot_types.specs.Keys.{is_among, same_alloc, same_exec}
-use Rattle.blot_types.specs.Legal.{refusal_in, legal_in, is_legal, refusal_of}
-use Rattle.blot_types.specs.Refusals.{booked, mismatch, unknown_alloc, dead_alloc, unknown_exec, busted_exec, repeated_exec, exec_taken, instrument, quantity}
-use Rattle.blot_types.specs.Survivors.{links_in}
-use Rattle.blot_types.proofs.AcceptLemmas.{or_parts, accepted-instruction, instructed}
-use Rattle.blot_types.proofs.ChainLemmas.{none_is, clash, differing}
-use Rattle.blot_types.proofs.ChangeLemmas.{allocations_in, named-held}
-use Rattle.blot_types.proofs.InstructionLemmas.{Follows, follows}
+use Rattle.blot_types.specs.Allocations.{Allocation, allocation_of}
+use Rattle.blot_types.specs.Instructions.{holds_beside, other_holder_in, are_apart, may_follow, is_instructed}
+use Rattle.blot_types.specs.Legal.{refusal_in, legal_in, is_legal}
+use Rattle.blot_types.specs.Refusals.{booked, mismatch, unknown_alloc, dead_alloc, unknown_exec, busted_exec, repeated_exec, exec_taken, instrument}
+use Rattle.blot_types.proofs.AcceptLemmas.{or_parts}
+use Rattle.blot_types.proofs.ChainLemmas.{none_is, clash}
+use Rattle.blot_types.proofs.ChangeLemmas.{allocations_in}
+use Rattle.blot_types.proofs.InstructionLemmas.{follows}
 use Rattle.blot_types.proofs.LiveLemmas.{turned}
 
 -- ---- the lines book the block

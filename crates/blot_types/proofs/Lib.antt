@@ -2,6 +2,7 @@ pub mod AcceptLemmas
 pub mod AllocationLawLemmas
 mod AllocationRows
 pub mod BookedLemmas
+pub mod BringLemmas
 pub mod ChainLemmas
 pub mod ChangeLemmas
 pub mod EntryLemmas

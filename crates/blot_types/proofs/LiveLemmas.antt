@@ -44,12 +44,12 @@ filter-same p q (x ∷ xs) same = rw (same x, filter-same p q xs same) refl
 -- ---- an instruction and its allocation
 
 -- an allocation bears the key of its instruction; without an instruction there is none
-abbrev IsOfInstruction : Option Instruction → Option Allocation → Type 0
+abbrev pub IsOfInstruction : Option Instruction → Option Allocation → Type 0
 IsOfInstruction None allocation = allocation ≡ None
 IsOfInstruction (Some i) None = brings_allocation i.role ≡ false
 IsOfInstruction (Some i) (Some a) = (a.key ≡ i.key) × (brings_allocation i.role ≡ true)
 
-of_instruction : (links : List Link) (number : ℕ) (command : Command) → IsOfInstruction (instruction_by links number command) (allocation_of command)
+pub of_instruction : (links : List Link) (number : ℕ) (command : Command) → IsOfInstruction (instruction_by links number command) (allocation_of command)
 of_instruction links number (Trade trade) = refl
 of_instruction links number (Correct correct) = refl
 of_instruction links number (Bust bust) = refl
@@ -58,7 +58,7 @@ of_instruction links number (AllocReplace replace) = (refl, refl)
 of_instruction links number (AllocCancel cancel) = refl
 
 -- the key of each allocation is taken up
-abbrev IsTaken : List Instruction → Allocation → Type 0
+abbrev pub IsTaken : List Instruction → Allocation → Type 0
 IsTaken instructions allocation = is_some (alloc_taker_in instructions allocation.key) ≡ true
 
 taken-behind : (found : Option Instruction) (instructions : List Instruction) (allocation : Allocation) → IsTaken instructions allocation → IsTaken (cons_option found instructions) allocation
@@ -82,7 +82,7 @@ taken-own (Some i) (Some a) instructions is =
 pub turned : (entry : Entry) (earlier : List Entry) → allocations_in (reverse (entry ∷ earlier)) ≡ allocations_in (reverse earlier) ++ cons_option (allocation_of entry.command) []
 turned entry earlier = ap allocations_in (reverse-append (entry ∷ []) earlier) ∙ filter_map-append (λ e. allocation_of e.command) (reverse earlier) (entry ∷ [])
 
-all_taken : (entries : List Entry) → All (IsTaken (instructions_in entries)) (allocations_in (reverse entries))
+pub all_taken : (entries : List Entry) → All (IsTaken (instructions_in entries)) (allocations_in (reverse entries))
 all_taken [] = All-nil (IsTaken [])
 all_taken (entry ∷ earlier) =
     let found = instruction_by (links_in earlier) entry.number entry.command in
@@ -97,7 +97,7 @@ all_taken (entry ∷ earlier) =
 abbrev pub has_alloc_key : AllocKey → Allocation → Bool
 has_alloc_key key allocation = same_alloc key allocation.key
 
-none_keyed : (instructions : List Instruction) (key : AllocKey) (allocations : List Allocation) → alloc_taker_in instructions key ≡ None → All (IsTaken instructions) allocations → All (λ a. has_alloc_key key a ≡ false) allocations
+pub none_keyed : (instructions : List Instruction) (key : AllocKey) (allocations : List Allocation) → alloc_taker_in instructions key ≡ None → All (IsTaken instructions) allocations → All (λ a. has_alloc_key key a ≡ false) allocations
 none_keyed instructions key allocations fresh taken =
     All-weaker (IsTaken instructions) (λ a. has_alloc_key key a ≡ false)
     (λ a is.
@@ -108,7 +108,7 @@ none_keyed instructions key allocations fresh taken =
       | inr other ↦ other
     ]) allocations taken
 
-find-none : {X : Type 0} (p : X → Bool) (xs : List X) → All (λ x. p x ≡ false) xs → find p xs ≡ None
+pub find-none : {X : Type 0} (p : X → Bool) (xs : List X) → All (λ x. p x ≡ false) xs → find p xs ≡ None
 find-none p [] none = refl
 find-none p (x ∷ xs) none = rw (All-head (λ y. p y ≡ false) x xs none) (find-none p xs (All-tail (λ y. p y ≡ false) x xs none))
 

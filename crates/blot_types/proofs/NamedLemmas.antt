@@ -135,7 +135,7 @@ any-all p P Q (x ∷ xs) any all step =
     ]
 
 -- the allocation of a live key is live
-keyed-live :
+pub keyed-live :
     (instructions : List Instruction) (key : AllocKey) (t : Instruction) → is_instructed instructions ≡ true → is_live_key instructions key ≡ true
     → find (is_keyed key) instructions ≡ Some t → is_live_in instructions t ≡ true
 keyed-live instructions key t instructed live found =

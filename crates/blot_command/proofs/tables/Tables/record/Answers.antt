@@ -12,27 +12,27 @@ use Rattle.blot_command.proofs.tables.Tables.record.Goals as goal
 
 pub put-requires : goal.put-requires
 put-requires c =
-    let list = c.self.inside.live in
+    let list = c.self.inside.accounts in
     let entry = c.args.entry in
     let next = next-entry list entry (ap (λ (book : Shown). is_book (book.list ++ entry ∷ [])) c.self.view_is ∙ c.requires) in
     can_put list entry c.self.inside.orders c.version-version.result next c.self.invariant (brings entry c.version-version.result c.version-version.ensures)
 
 pub take-requires : goal.take-requires
 take-requires c =
-    let list = c.self.inside.live in
+    let list = c.self.inside.accounts in
     let entry = c.args.entry in
     let next = next-entry list entry (ap (λ (book : Shown). is_book (book.list ++ entry ∷ [])) c.self.view_is ∙ c.requires) in
-    let read = c.replaced-replaced.ensures ∙ ap (λ role. option_and_then (version_numbered list) (replaced_by (links_of list) role)) c.link.ensures in
+    let read = c.replaced-replaced.ensures ∙ (λ k. option_and_then (version_numbered (c.live.ensures k)) (replaced_by (links_of (c.live.ensures k)) (c.link.ensures k))) in
     subst (λ fills. IfSome c.replaced-replaced.result (λ version. IsPut version fills)) (sym c.in-Ok.ensures.ok)
     (can_take list entry c.self.inside.orders c.version-version.result c.replaced-replaced.result next c.self.invariant
     (brings entry c.version-version.result c.version-version.ensures) (replaces list entry c.replaced-replaced.result next read))
 
 pub invariant_of-self-in-Ok-push : goal.invariant_of-self-in-Ok-push
 invariant_of-self-in-Ok-push c =
-    let list = c.self.inside.live in
+    let list = c.self.inside.accounts in
     let entry = c.args.entry in
     let next = next-entry list entry (ap (λ (book : Shown). is_book (book.list ++ entry ∷ [])) c.self.view_is ∙ c.requires) in
-    let read = c.replaced-replaced.ensures ∙ ap (λ role. option_and_then (version_numbered list) (replaced_by (links_of list) role)) c.link.ensures in
+    let read = c.replaced-replaced.ensures ∙ (λ k. option_and_then (version_numbered (c.live.ensures k)) (replaced_by (links_of (c.live.ensures k)) (c.link.ensures k))) in
     let shows =
     shows-more list entry c.self.inside.orders c.version-version.result c.replaced-replaced.result next c.self.invariant
     (brings entry c.version-version.result c.version-version.ensures) (replaces list entry c.replaced-replaced.result next read) in
@@ -45,7 +45,7 @@ take-requires-in-Err c =
 
 pub invariant_of-self-in-Err : goal.invariant_of-self-in-Err
 invariant_of-self-in-Err c =
-    let list = c.self.inside.live in
+    let list = c.self.inside.accounts in
     let entry = c.args.entry in
     let next = next-entry list entry (ap (λ (book : Shown). is_book (book.list ++ entry ∷ [])) c.self.view_is ∙ c.requires) in
     let shows = shows-back list entry c.self.inside.orders c.version-version.result next c.self.invariant (brings entry c.version-version.result c.version-version.ensures) in

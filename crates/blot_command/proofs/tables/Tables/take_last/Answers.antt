@@ -16,7 +16,7 @@ take-requires c =
     let whole : is_book (list ++ entry ∷ []) ≡ true = ap is_book (sym c.pop-entry.ensures.rest) ∙ c.pop-entry.ensures.book in
     let next = next-entry list entry whole in
     let shows : Shows (list ++ entry ∷ []) c.self.inside.orders = subst (λ l. Shows l c.self.inside.orders) c.pop-entry.ensures.rest c.self.invariant in
-    let read = c.replaced-restored.ensures ∙ ap (λ role. option_and_then (version_numbered list) (replaced_by (links_of list) role)) c.link.ensures in
+    let read = c.replaced-restored.ensures ∙ (λ k. option_and_then (version_numbered (c.live.ensures k)) (replaced_by (links_of (c.live.ensures k)) (c.link.ensures k))) in
     can_take_last list entry c.self.inside.orders c.version-version.result c.replaced-restored.result next shows (brings entry c.version-version.result c.version-version.ensures)
     (replaces list entry c.replaced-restored.result next read)
 
@@ -27,7 +27,7 @@ un_take-requires c =
     let whole : is_book (list ++ entry ∷ []) ≡ true = ap is_book (sym c.pop-entry.ensures.rest) ∙ c.pop-entry.ensures.book in
     let next = next-entry list entry whole in
     let shows : Shows (list ++ entry ∷ []) c.self.inside.orders = subst (λ l. Shows l c.self.inside.orders) c.pop-entry.ensures.rest c.self.invariant in
-    let read = c.replaced-restored.ensures ∙ ap (λ role. option_and_then (version_numbered list) (replaced_by (links_of list) role)) c.link.ensures in
+    let read = c.replaced-restored.ensures ∙ (λ k. option_and_then (version_numbered (c.live.ensures k)) (replaced_by (links_of (c.live.ensures k)) (c.link.ensures k))) in
     subst (λ fills. IfSome c.replaced-restored.result (λ version. IsKept version fills)) (sym c.take.ensures)
     (can_un_take list entry c.self.inside.orders c.version-version.result c.replaced-restored.result next shows (brings entry c.version-version.result c.version-version.ensures)
     (replaces list entry c.replaced-restored.result next read))
@@ -38,7 +38,7 @@ invariant_of-self c =
     let entry = c.pop-entry.result in
     let whole : is_book (list ++ entry ∷ []) ≡ true = ap is_book (sym c.pop-entry.ensures.rest) ∙ c.pop-entry.ensures.book in
     let next = next-entry list entry whole in
-    let read = c.replaced-restored.ensures ∙ ap (λ role. option_and_then (version_numbered list) (replaced_by (links_of list) role)) c.link.ensures in
+    let read = c.replaced-restored.ensures ∙ (λ k. option_and_then (version_numbered (c.live.ensures k)) (replaced_by (links_of (c.live.ensures k)) (c.link.ensures k))) in
     let shows : Shows (list ++ entry ∷ []) c.self.inside.orders = subst (λ l. Shows l c.self.inside.orders) c.pop-entry.ensures.rest c.self.invariant in
     subst (Shows list) (sym (c.un_take.ensures ∙ ap (with_put c.replaced-restored.result) c.take.ensures))
     (shows-less list entry c.self.inside.orders c.version-version.result c.replaced-restored.result next shows (brings entry c.version-version.result c.version-version.ensures)

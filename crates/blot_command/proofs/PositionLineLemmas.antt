@@ -1,0 +1,55 @@
+-- The line of a position is that of the sums that its cell holds.
+use Rattle.std.proofs.Common.{◌≡◌, ℕ, ◌+◌, ◌==◌, pos, ◌+ℤ◌, arith, Bool, true, false, List, [], ◌∷◌, length, Some, None, refl, sym, ap, subst, ◌∙◌}
+use Rattle.std.specs.Prelude.{ℤ, filter, if◌then◌else◌, All}
+use Rattle.std.proofs.lemmas.Bool.{ne_eqb, eq-eqb}
+use Rattle.std.proofs.lemmas.Int.{ints}
+use Rattle.std.proofs.lemmas.List.Elements.{All-nil}
+use Rattle.std.specs.FinMap as finite
+use Rattle.blot_types.specs.declared.command.Entry.{Entry}
+use Rattle.blot_types.specs.declared.lines.Part.{Part}
+use Rattle.blot_types.specs.declared.lines.Version.{Version}
+use Rattle.blot_types.specs.Allocations.{Allocation}
+use Rattle.blot_types.specs.Order.{total}
+use Rattle.blot_types.specs.Position.{is_at, position_by, position_of, parts_of}
+use Rattle.blot_types.proofs.SumLemmas.{total-cons, total-where}
+use Rattle.blot_position.specs.declared.sums.Sums.{Sums}
+use Rattle.blot_position.specs.Positions.{Cells, sums_at}
+use Rattle.blot_position.specs.Sums.{no_parts, line_by}
+use Rattle.blot_position.proofs.PositionLemmas.{sums_at-empty}
+use Rattle.blot_command.specs.Carried.{HasFillCells, HasTermsCells, FillFits, TermsFit, ShowsPositions}
+
+ones : (parts : List Part) → total (λ part. pos 1) parts ≡ pos (length parts)
+ones [] = refl
+ones (part ∷ parts) = let sum = total-cons (λ (p : Part). pos 1) part parts in let rest = ones parts in omega (arith, ints, sum, rest)
+
+line-of : (parts : List Part) (sums : Sums) → pos sums.parts ≡ pos (length parts) → sums.qty ≡ total (λ p. p.qty) parts → sums.value ≡ total (λ p. p.value) parts → line_by sums ≡ position_by parts
+line-of [] sums count qty value = let none : sums.parts ≡ 0 = omega (arith, ints, count) in rw (eq-eqb sums.parts 0 none) refl
+line-of (part ∷ parts) sums count qty value =
+    let some : (sums.parts == 0) ≡ false = ne_eqb sums.parts 0 (λ none. omega (arith, ints, count, none)) in
+    rw some (λ k. Some (record { qty = qty k; value = value k }))
+
+pub position-shown : (list : List Entry) (cells : Cells) (a s : List ℕ) → ShowsPositions list cells → line_by (sums_at cells a s) ≡ position_of list a s
+position-shown list cells a s shows =
+    let here = filter (is_at a s) (parts_of list) in
+    line-of here (sums_at cells a s) (shows.carried.parts a s ∙ sym (total-where (λ part. pos 1) (is_at a s) (parts_of list)) ∙ ones here)
+    (shows.carried.qty a s ∙ sym (total-where (λ part. part.qty) (is_at a s) (parts_of list)))
+    (shows.carried.value a s ∙ sym (total-where (λ part. part.value) (is_at a s) (parts_of list)))
+
+-- without an entry there is no part
+shows-nothing : ShowsPositions [] finite.empty
+shows-nothing = record {
+  carried = record {
+    parts = λ a s. ap (λ (sums : Sums). pos sums.parts) (sums_at-empty a s);
+    qty = λ a s. ap (λ (sums : Sums). sums.qty) (sums_at-empty a s);
+    value = λ a s. ap (λ (sums : Sums). sums.value) (sums_at-empty a s);
+  };
+  ready = record {
+    fill_cells = All-nil (λ (version : Version). HasFillCells finite.empty version.fill);
+    terms_cells = All-nil (λ (allocation : Allocation). HasTermsCells finite.empty allocation.terms);
+    fills_fit = All-nil (λ (version : Version). FillFits version.fill);
+    terms_fit = All-nil (λ (allocation : Allocation). TermsFit allocation.terms);
+  };
+}
+
+pub shows-none : (list : List Entry) (cells : Cells) → list ≡ [] → cells ≡ finite.empty → ShowsPositions list cells
+shows-none list cells none empty = subst (λ l. ShowsPositions l cells) (sym none) (subst (ShowsPositions []) (sym empty) shows-nothing)

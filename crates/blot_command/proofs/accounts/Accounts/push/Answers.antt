@@ -1,0 +1,79 @@
+use Rattle.std.proofs.Common.{◌++◌, ◌∷◌, [], ap, ◌∙◌, sym, subst}
+use Rattle.blot_types.specs.Legal.{is_book}
+use Rattle.blot_command.specs.Booking.{rebooked, released, allocated}
+use Rattle.blot_command.specs.Carried.{ShowsPositions}
+use Rattle.blot_command.proofs.AccountLemmas.{reads, comes-as, shows-opened, move-second, move-third, move-shows}
+use Rattle.blot_command.proofs.accounts.Accounts.push.Goals as goal
+
+pub rebook-requires : goal.rebook-requires
+rebook-requires c =
+    let list = c.self.inside.live in
+    let entry = c.args.entry in
+    let cells = c.open_cells.new.positions in
+    let after = c.push.new.self in
+    let gone = c.part_of-gone.result in
+    let come = c.part_of-come.result in
+    let ended = c.ended_key-ended.result in
+    let brought = c.brought_key-brought.result in
+    let book = ap (λ l. is_book (l ++ entry ∷ [])) c.self.view_is ∙ c.requires in
+    let it =
+    reads list after entry c.replaced.result c.version-version.result c.link.result gone come ended brought c.in-Ok-push.ensures.ok c.link.ensures c.replaced.ensures c.part_of-gone.ensures
+    c.version-version.ensures c.part_of-come.ensures c.ended_key-ended.ensures c.brought_key-brought.ensures in
+    let moves = comes-as list after entry gone come ended brought c.self.inside.positions cells it book c.self.invariant c.in-Ok.ensures.opens c.in-Ok.ensures.made c.in-Ok.ensures.fits in
+    moves.first
+
+pub release-requires : goal.release-requires
+release-requires c =
+    let list = c.self.inside.live in
+    let entry = c.args.entry in
+    let cells = c.open_cells.new.positions in
+    let after = c.push.new.self in
+    let gone = c.part_of-gone.result in
+    let come = c.part_of-come.result in
+    let ended = c.ended_key-ended.result in
+    let brought = c.brought_key-brought.result in
+    let book = ap (λ l. is_book (l ++ entry ∷ [])) c.self.view_is ∙ c.requires in
+    let it =
+    reads list after entry c.replaced.result c.version-version.result c.link.result gone come ended brought c.in-Ok-push.ensures.ok c.link.ensures c.replaced.ensures c.part_of-gone.ensures
+    c.version-version.ensures c.part_of-come.ensures c.ended_key-ended.ensures c.brought_key-brought.ensures in
+    let moves = comes-as list after entry gone come ended brought c.self.inside.positions cells it book c.self.invariant c.in-Ok.ensures.opens c.in-Ok.ensures.made c.in-Ok.ensures.fits in
+    move-second (rebooked gone come) (released after ended) (allocated after brought) cells c.rebook.new.positions after moves c.rebook.ensures
+
+pub allocate-requires : goal.allocate-requires
+allocate-requires c =
+    let list = c.self.inside.live in
+    let entry = c.args.entry in
+    let cells = c.open_cells.new.positions in
+    let after = c.push.new.self in
+    let gone = c.part_of-gone.result in
+    let come = c.part_of-come.result in
+    let ended = c.ended_key-ended.result in
+    let brought = c.brought_key-brought.result in
+    let book = ap (λ l. is_book (l ++ entry ∷ [])) c.self.view_is ∙ c.requires in
+    let it =
+    reads list after entry c.replaced.result c.version-version.result c.link.result gone come ended brought c.in-Ok-push.ensures.ok c.link.ensures c.replaced.ensures c.part_of-gone.ensures
+    c.version-version.ensures c.part_of-come.ensures c.ended_key-ended.ensures c.brought_key-brought.ensures in
+    let moves = comes-as list after entry gone come ended brought c.self.inside.positions cells it book c.self.invariant c.in-Ok.ensures.opens c.in-Ok.ensures.made c.in-Ok.ensures.fits in
+    move-third (rebooked gone come) (released after ended) (allocated after brought) cells c.rebook.new.positions c.release.new.positions after moves c.rebook.ensures c.release.ensures
+
+pub invariant_of-self-in-Ok-push : goal.invariant_of-self-in-Ok-push
+invariant_of-self-in-Ok-push c =
+    let list = c.self.inside.live in
+    let entry = c.args.entry in
+    let cells = c.open_cells.new.positions in
+    let after = c.push.new.self in
+    let gone = c.part_of-gone.result in
+    let come = c.part_of-come.result in
+    let ended = c.ended_key-ended.result in
+    let brought = c.brought_key-brought.result in
+    let book = ap (λ l. is_book (l ++ entry ∷ [])) c.self.view_is ∙ c.requires in
+    let it =
+    reads list after entry c.replaced.result c.version-version.result c.link.result gone come ended brought c.in-Ok-push.ensures.ok c.link.ensures c.replaced.ensures c.part_of-gone.ensures
+    c.version-version.ensures c.part_of-come.ensures c.ended_key-ended.ensures c.brought_key-brought.ensures in
+    let moves = comes-as list after entry gone come ended brought c.self.inside.positions cells it book c.self.invariant c.in-Ok.ensures.opens c.in-Ok.ensures.made c.in-Ok.ensures.fits in
+    move-shows (rebooked gone come) (released after ended) (allocated after brought) cells c.rebook.new.positions c.release.new.positions c.allocate.new.positions after moves c.rebook.ensures c.release.ensures c.allocate.ensures
+
+pub invariant_of-self-in-Err : goal.invariant_of-self-in-Err
+invariant_of-self-in-Err c =
+    subst (λ l. ShowsPositions l c.open_cells.new.positions) (sym c.in-Err.ensures.err)
+    (shows-opened c.self.inside.live c.self.inside.positions c.open_cells.new.positions c.in-Ok.ensures.opens c.self.invariant)

@@ -1,0 +1,169 @@
+//! The live list with its positions.
+ghost use Rattle.std.specs.Prelude.{◌≡◌, ◌<◌, [], ◌∷◌, ◌++◌, length, IsTrue, OnOk, OnErr, IfErr};
+ghost use Rattle.std.specs.Option.{option_map};
+ghost use Rattle.blot_types.specs.Laws.{HasBoundedTotals};
+ghost use Rattle.blot_types.specs.Legal.{is_book};
+ghost use Rattle.blot_types.specs.Position.{part_of, position_of};
+ghost use Rattle.blot_command.specs.Booking.{changed_all, CanChangeAll, chains_to_house, chains_from_house, allocated, released};
+
+use crate::booking::{
+    brought_key, ended_key, open_cells, part_of_fill, put_lines, put_part, rebook, take_lines,
+    take_part,
+};
+use crate::live::LiveList;
+use blot_position::Positions;
+use blot_types::{AllocKey, Entry, ExecKey, Part, PositionLine, Text64, Version};
+use std::alloc::Global;
+use std::marker::Model;
+
+/// The live list, with the positions of its executions and its allocations. A contract sees it as the list.
+#[derive(Drop)]
+pub(crate) struct Accounts {
+    live: LiveList,
+    positions: Positions,
+}
+
+impl Model for Accounts {
+    ghost use Rattle.std.specs.Prelude.{List};
+    ghost use Rattle.blot_types.specs.declared.command.Entry.{Entry};
+    ghost use Rattle.blot_command.specs.Carried.{ShowsPositions};
+
+    ghost Value = { List Entry };
+
+    ghost view = { λ accounts. accounts.live };
+
+    ghost invariant = { λ accounts. ShowsPositions accounts.live accounts.positions };
+}
+
+impl Accounts {
+    /// An empty list. No memory is taken.
+    pub(crate) fn new(alloc: Global) -> Accounts
+        ensures { result ≡ [] }
+    {
+        Accounts {
+            live: LiveList::new(alloc),
+            positions: Positions::new(alloc),
+        }
+    }
+
+    /// The live list.
+    pub(crate) fn live(&self) -> &LiveList
+        ensures { result.now ≡ self.now }
+    {
+        &self.live
+    }
+
+    /// The position of an account in a symbol, or none where it has no part.
+    pub(crate) fn position(&self, account: &Text64, symbol: &Text64) -> Option<PositionLine>
+        ensures line { result ≡ position_of self.now account.now symbol.now }
+        ensures bounded { IsTrue (is_book self.now) → HasBoundedTotals self.now }
+    {
+        self.positions.get(account, symbol)
+    }
+
+    /// Puts an entry behind the others, or hands it back where memory runs out.
+    pub(crate) fn push(&mut self, entry: Entry) -> Result<(), Entry>
+        requires { IsTrue (is_book (self.old ++ entry ∷ [])) }
+        ensures ok { OnOk result (self.new ≡ self.old ++ entry ∷ []) }
+        ensures err { OnErr result (self.new ≡ self.old) }
+        ensures returned { IfErr result (λ back. back ≡ entry) }
+    {
+        let Ok(()) = open_cells(&mut self.positions, &entry) else {
+            return Err(entry);
+        };
+        let version = entry.version();
+        let ended = ended_key(&entry.command);
+        let brought = brought_key(&entry.command);
+        let gone = part_of(&self.live, &self.live.replaced(&entry.link()));
+        match self.live.push(entry) {
+            Ok(()) => {
+                let come = part_of(&self.live, &version);
+                rebook(&mut self.positions, &gone, &come);
+                release(&mut self.positions, &self.live, &ended);
+                allocate(&mut self.positions, &self.live, &brought);
+                Ok(())
+            }
+            Err(back) => Err(back),
+        }
+    }
+
+    /// Takes the last entry out.
+    pub(crate) fn pop(&mut self) -> Entry
+        requires { 0 < length self.old }
+        ensures rest { self.old ≡ self.new ++ result ∷ [] }
+        ensures book { IsTrue (is_book self.old) }
+    {
+        let last = self.live.last();
+        let version = last.version();
+        let ended = ended_key(&last.command);
+        let brought = brought_key(&last.command);
+        release(&mut self.positions, &self.live, &brought);
+        allocate(&mut self.positions, &self.live, &ended);
+        let gone = part_of(&self.live, &version);
+        let entry = self.live.pop();
+        let come = part_of(&self.live, &self.live.replaced(&entry.link()));
+        rebook(&mut self.positions, &gone, &come);
+        entry
+    }
+}
+
+// What a version adds to a position, if there is one.
+fn part_of(live: &LiveList, version: &Option<Version>) -> Option<Part>
+    ensures { result ≡ option_map (part_of live.now) version.now }
+{
+    match version {
+        None => None,
+        Some(version) => Some(part_of_fill(live.is_named(&version.key), &version.fill)),
+    }
+}
+
+// Puts what the allocation of a key changes, if there is a key: its chains go to the house account, and its
+// lines are put.
+fn allocate(positions: &mut Positions, live: &LiveList, key: &Option<AllocKey>)
+    requires { CanChangeAll (allocated live.now key.now) positions.old }
+    ensures { positions.new ≡ changed_all (allocated live.now key.now) positions.old }
+{
+    let Some(key) = key else { return };
+    if let (Some(terms), Some(roots)) = (live.terms_of(key), live.roots_of(key)) {
+        put_to_house(positions, live, roots);
+        put_lines(positions, terms);
+    }
+}
+
+// Takes it again: its lines are taken, and its chains come back from the house account.
+fn release(positions: &mut Positions, live: &LiveList, key: &Option<AllocKey>)
+    requires { CanChangeAll (released live.now key.now) positions.old }
+    ensures { positions.new ≡ changed_all (released live.now key.now) positions.old }
+{
+    let Some(key) = key else { return };
+    if let (Some(terms), Some(roots)) = (live.terms_of(key), live.roots_of(key)) {
+        take_lines(positions, terms);
+        take_from_house(positions, live, roots);
+    }
+}
+
+// Moves the versions that stand of some chains from their own accounts to the house account.
+fn put_to_house(positions: &mut Positions, live: &LiveList, roots: &[ExecKey])
+    requires { CanChangeAll (chains_to_house live.now roots.now) positions.old }
+    ensures { positions.new ≡ changed_all (chains_to_house live.now roots.now) positions.old }
+{
+    for root in roots {
+        if let Some(version) = live.standing(root) {
+            take_part(positions, &part_of_fill(false, &version.fill));
+            put_part(positions, &part_of_fill(true, &version.fill));
+        }
+    }
+}
+
+// Moves them back.
+fn take_from_house(positions: &mut Positions, live: &LiveList, roots: &[ExecKey])
+    requires { CanChangeAll (chains_from_house live.now roots.now) positions.old }
+    ensures { positions.new ≡ changed_all (chains_from_house live.now roots.now) positions.old }
+{
+    for root in roots {
+        if let Some(version) = live.standing(root) {
+            take_part(positions, &part_of_fill(true, &version.fill));
+            put_part(positions, &part_of_fill(false, &version.fill));
+        }
+    }
+}
