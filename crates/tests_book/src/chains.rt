@@ -1,10 +1,10 @@
 //! Chains of executions: corrections, busts, and what the book refuses. The first row of a table has number 1.
 
 use crate::fixtures::order;
-use crate::rows::Filled::{Buys, Sells};
 use crate::rows::Outcome::{Busted, Duplicate, Taken, Unknown};
-use crate::rows::Step::{Busts, Corrects, Trades};
 use crate::rows::{Row, play_all};
+use crate::words::Filled::{Buys, Sells};
+use crate::words::Step::{Busts, Corrects, Trades};
 use blot_types::OrderKey;
 use std::test::Fail;
 
@@ -259,7 +259,7 @@ fn a_bust_of_the_only_execution(rt: HostRuntime) -> Result<(), Fail> {
 
 // Keys that a Trade, a Correct or a Bust takes up. This reason comes before all others.
 fn rows_of_duplicates() -> &'static [Row] {
-    static ROWS: [Row; 12] = [
+    static ROWS: [Row; 13] = [
         Row {
             peer: A,
             step: Trades(b"E1", Buys(b"O1", b"100", b"10.50", b"300")),
@@ -330,6 +330,12 @@ fn rows_of_duplicates() -> &'static [Row] {
             peer: A,
             step: Busts(b"E3", b"E1"),
             outcome: Duplicate(9),
+            lines: ["none", "none"],
+        },
+        Row {
+            peer: A,
+            step: Busts(b"E1", b"E9"),
+            outcome: Duplicate(1),
             lines: ["none", "none"],
         },
     ];

@@ -1,202 +1,269 @@
-//! The desk: events, replies, the history and the snapshot. The first command has number 1.
+//! The desk: events, replies, the history and the snapshot.
 
-use crate::fixtures::{exec, order};
-use crate::rows::Filled::Buys;
-use crate::rows::{bust, correct, trade};
-use blot_desk::{DeskFault, Event, Held, Reply};
-use blot_types::{Command, EVENTS_MAX, OrderLine, Refused};
+use crate::fixtures::{exec, fill, order, text};
+use crate::scripts::Answer::{
+    Accepted, DuplicateExec, Moved, NothingToRedo, NothingToUndo, Redone, Undone, UnknownExec,
+};
+use crate::scripts::Said::{Redoes, Sends, Undoes};
+use crate::scripts::Watch::{Live, Order};
+use crate::scripts::{Act, Desk, Script, play};
+use crate::words::Filled::Bought;
+use crate::words::Step::{Allocates, Busts, Cancels, Corrects, Replaces, Trades};
+use crate::words::{Booked, Step, command};
+use blot_desk::{DeskFault, Event, Held, Recorded, Reply};
+use blot_types::{Command, Entry, OrderKey, Refused, Sign, Trade};
 use std::alloc::Global;
 use std::test::Fail;
 
-const A: &[u8] = b"BRKA";
-
-// A trade of a quantity of O1.
-fn trade_event(id: &[u8], qty: &'static [u8]) -> Result<Event, Fail> {
-    match trade(A, id, &Buys(b"O1", qty, b"10", b"300")) {
-        Ok(trade) => Ok(Event::Submit(Command::Trade(trade))),
-        Err(fail) => Err(fail),
-    }
+// Five trades undone and redone, then two undone, and a new command, which takes the place of the undone.
+fn five_undone_and_redone() -> &'static Script {
+    static SCRIPT: Script = Script {
+        name: "five undone and redone",
+        watched: &[Live, Order(b"O1")],
+        acts: &[
+            Act(
+                Sends(Trades(b"E1", Bought(b"10", b"10"))),
+                Accepted(1),
+                "1, XYZ B 10 290 100",
+            ),
+            Act(
+                Sends(Trades(b"E2", Bought(b"10", b"10"))),
+                Accepted(2),
+                "1 2, XYZ B 20 280 200",
+            ),
+            Act(
+                Sends(Trades(b"E3", Bought(b"10", b"10"))),
+                Accepted(3),
+                "1 2 3, XYZ B 30 270 300",
+            ),
+            Act(
+                Sends(Trades(b"E4", Bought(b"10", b"10"))),
+                Accepted(4),
+                "1 2 3 4, XYZ B 40 260 400",
+            ),
+            Act(
+                Sends(Trades(b"E5", Bought(b"10", b"10"))),
+                Accepted(5),
+                "1 2 3 4 5, XYZ B 50 250 500",
+            ),
+            Act(Undoes(5), Undone(5), "1 2 3 4, XYZ B 40 260 400"),
+            Act(Undoes(4), Undone(4), "1 2 3, XYZ B 30 270 300"),
+            Act(Undoes(3), Undone(3), "1 2, XYZ B 20 280 200"),
+            Act(Undoes(2), Undone(2), "1, XYZ B 10 290 100"),
+            Act(Undoes(1), Undone(1), "-, -"),
+            Act(Undoes(1), NothingToUndo, "-, -"),
+            Act(Redoes, Redone(1), "1, XYZ B 10 290 100"),
+            Act(Redoes, Redone(2), "1 2, XYZ B 20 280 200"),
+            Act(Redoes, Redone(3), "1 2 3, XYZ B 30 270 300"),
+            Act(Redoes, Redone(4), "1 2 3 4, XYZ B 40 260 400"),
+            Act(Redoes, Redone(5), "1 2 3 4 5, XYZ B 50 250 500"),
+            Act(Undoes(5), Undone(5), "1 2 3 4, XYZ B 40 260 400"),
+            Act(Undoes(4), Undone(4), "1 2 3, XYZ B 30 270 300"),
+            Act(
+                Sends(Trades(b"E6", Bought(b"1", b"10"))),
+                Accepted(6),
+                "1 2 3 6, XYZ B 31 269 310",
+            ),
+            Act(Redoes, NothingToRedo, "1 2 3 6, XYZ B 31 269 310"),
+        ],
+    };
+    &SCRIPT
 }
 
-// A correction to a quantity of O1.
-fn correct_event(id: &[u8], reference: &[u8], qty: &'static [u8]) -> Result<Event, Fail> {
-    match correct(A, id, reference, &Buys(b"O1", qty, b"10", b"300")) {
-        Ok(correct) => Ok(Event::Submit(Command::Correct(correct))),
-        Err(fail) => Err(fail),
-    }
+// A trade corrected twice, each correction undone.
+fn corrections_undone() -> &'static Script {
+    static SCRIPT: Script = Script {
+        name: "corrections undone",
+        watched: &[Live, Order(b"O1")],
+        acts: &[
+            Act(
+                Sends(Trades(b"E1", Bought(b"100", b"10"))),
+                Accepted(1),
+                "1, XYZ B 100 200 1000",
+            ),
+            Act(
+                Sends(Corrects(b"E2", b"E1", Bought(b"80", b"10"))),
+                Accepted(2),
+                "1 2, XYZ B 80 220 800",
+            ),
+            Act(
+                Sends(Corrects(b"E3", b"E2", Bought(b"70", b"10"))),
+                Accepted(3),
+                "1 2 3, XYZ B 70 230 700",
+            ),
+            Act(Undoes(3), Undone(3), "1 2, XYZ B 80 220 800"),
+            Act(Undoes(2), Undone(2), "1, XYZ B 100 200 1000"),
+        ],
+    };
+    &SCRIPT
 }
 
-// A bust.
-fn bust_event(id: &[u8], reference: &[u8]) -> Result<Event, Fail> {
-    match bust(A, id, reference) {
-        Ok(bust) => Ok(Event::Submit(Command::Bust(bust))),
-        Err(fail) => Err(fail),
-    }
+// A refused command leaves the undone steps as they are.
+fn a_refused_command() -> &'static Script {
+    static SCRIPT: Script = Script {
+        name: "a refused command",
+        watched: &[Live, Order(b"O1")],
+        acts: &[
+            Act(
+                Sends(Trades(b"E1", Bought(b"100", b"10"))),
+                Accepted(1),
+                "1, XYZ B 100 200 1000",
+            ),
+            Act(
+                Sends(Trades(b"E1", Bought(b"50", b"10"))),
+                DuplicateExec(1),
+                "1, XYZ B 100 200 1000",
+            ),
+            Act(Undoes(1), Undone(1), "-, -"),
+            Act(Sends(Busts(b"E8", b"E9")), UnknownExec(b"E9"), "-, -"),
+            Act(Redoes, Redone(1), "1, XYZ B 100 200 1000"),
+        ],
+    };
+    &SCRIPT
 }
 
-/// The reply to an event is this one.
-pub fn expect_reply(held: &mut Held, event: Event, expected: Reply) -> Result<(), Fail> {
-    match held.step(event) {
-        Ok(reply) => same_reply(&reply, &expected),
-        Err(fault) => Err(Fail::new(format_args!("{fault:?}"))),
-    }
+// Undoes that name another number than the newest: of a live step, of a step to come, of none.
+fn moved_undoes() -> &'static Script {
+    static SCRIPT: Script = Script {
+        name: "moved undoes",
+        watched: &[Live, Order(b"O1")],
+        acts: &[
+            Act(
+                Sends(Trades(b"E1", Bought(b"100", b"10"))),
+                Accepted(1),
+                "1, XYZ B 100 200 1000",
+            ),
+            Act(Sends(Busts(b"E2", b"E1")), Accepted(2), "1 2, -"),
+            Act(Undoes(1), Moved(2), "1 2, -"),
+            Act(Undoes(3), Moved(2), "1 2, -"),
+            Act(Undoes(0), Moved(2), "1 2, -"),
+            Act(Undoes(2), Undone(2), "1, XYZ B 100 200 1000"),
+        ],
+    };
+    &SCRIPT
 }
 
-// Two replies are one.
-fn same_reply(reply: &Reply, expected: &Reply) -> Result<(), Fail> {
-    if reply != expected {
-        return Err(Fail::new(format_args!("{reply:?} for {expected:?}")));
-    }
-    Ok(())
+// Each kind of command.
+fn steps_of_each_kind() -> &'static [Step] {
+    static STEPS: [Step; 6] = [
+        Trades(b"E7", Bought(b"1", b"10")),
+        Corrects(b"E7", b"E1", Bought(b"1", b"10")),
+        Busts(b"E7", b"E1"),
+        Allocates(b"AL7", BOOKED),
+        Replaces(b"AL7", b"AL1", BOOKED),
+        Cancels(b"AL7", b"AL1"),
+    ];
+    &STEPS
 }
 
-// A trade is done under a number.
-fn expect_trade(held: &mut Held, id: &[u8], qty: &'static [u8], number: u64) -> Result<(), Fail> {
-    match trade_event(id, qty) {
-        Ok(event) => expect_reply(held, event, Reply::Accepted(number)),
-        Err(fail) => Err(fail),
-    }
-}
+// E1 of 1, booked to A.
+const BOOKED: Booked = Booked {
+    sign: Sign::Buy,
+    execs: &[b"E1"],
+    block: b"1",
+    lines: &[[b"A", b"1", b"10"]],
+};
 
-/// The newest step, of this number, is undone.
-pub fn expect_undone(held: &mut Held, number: u64) -> Result<(), Fail> {
-    expect_reply(held, Event::Undo { newest: number }, Reply::Undone(number))
-}
-
-/// The step of this number is redone.
-pub fn expect_redone(held: &mut Held, number: u64) -> Result<(), Fail> {
-    expect_reply(held, Event::Redo, Reply::Redone(number))
-}
-
-// What is filled of O1.
-fn expect_filled(held: &mut Held, cum: i128) -> Result<(), Fail> {
-    match held.step(Event::AskOrder(order(A, b"O1")?)) {
-        Ok(Reply::Order(Some(line))) => same_cum(&line, cum),
-        _ => Err(Fail::new("no line of O1")),
-    }
-}
-
-// The quantity of a line, in whole units.
-fn same_cum(line: &OrderLine, cum: i128) -> Result<(), Fail> {
-    let found = line.cum.units();
-    if found / 1_000_000 != cum {
-        return Err(Fail::new(format_args!("{found} for {cum}")));
-    }
-    Ok(())
-}
-
-// The live numbers are these.
-fn expect_live(held: &Held, numbers: &[u64]) -> Result<(), Fail> {
-    let snapshot = held.snapshot()?;
-    let entries = snapshot.entries();
-    if entries.len() != numbers.len() {
-        return Err(Fail::new("another count of entries"));
-    }
-    for (entry, number) in entries.iter().zip(numbers) {
-        if entry.number != *number {
-            return Err(Fail::new(format_args!("entry {} for {number}", entry.number)));
+#[test]
+fn undone_and_redone(rt: HostRuntime) -> Result<(), Fail> {
+    for script in [
+        five_undone_and_redone(),
+        corrections_undone(),
+        a_refused_command(),
+        moved_undoes(),
+    ] {
+        match play(rt.alloc(), script) {
+            Ok(_) => {}
+            Err(fail) => return Err(fail),
         }
     }
     Ok(())
 }
 
-// So many events are recorded.
-fn expect_recorded(held: &Held, count: usize) -> Result<(), Fail> {
-    let found = held.history().len();
-    if found != count {
-        return Err(Fail::new(format_args!("{found} events for {count}")));
-    }
-    Ok(())
-}
-
-#[test]
-fn five_undone_and_redone(rt: HostRuntime) -> Result<(), Fail> {
-    let mut held = Held::new(rt.alloc());
-    let ids: [&[u8]; 5] = [b"E1", b"E2", b"E3", b"E4", b"E5"];
-    for (id, number) in ids.iter().zip(1..6u64) {
-        expect_trade(&mut held, id, b"10", number)?;
-    }
-    for number in [5, 4, 3, 2, 1] {
-        expect_undone(&mut held, number)?;
-    }
-    expect_live(&held, &[])?;
-    let nothing = Reply::Refused(Refused::NothingToUndo);
-    expect_reply(&mut held, Event::Undo { newest: 1 }, nothing)?;
-    for number in [1, 2, 3, 4, 5] {
-        expect_redone(&mut held, number)?;
-    }
-    expect_live(&held, &[1, 2, 3, 4, 5])?;
-    expect_undone(&mut held, 5)?;
-    expect_undone(&mut held, 4)?;
-    expect_trade(&mut held, b"E6", b"10", 6)?;
-    expect_reply(
-        &mut held,
-        Event::Redo,
-        Reply::Refused(Refused::NothingToRedo),
-    )?;
-    expect_live(&held, &[1, 2, 3, 6])?;
-    expect_recorded(&held, 20)
-}
-
-#[test]
-fn corrections_undone_one_by_one(rt: HostRuntime) -> Result<(), Fail> {
-    let mut held = Held::new(rt.alloc());
-    expect_trade(&mut held, b"E1", b"100", 1)?;
-    match correct_event(b"E2", b"E1", b"80") {
-        Ok(event) => expect_reply(&mut held, event, Reply::Accepted(2))?,
-        Err(fail) => return Err(fail),
-    }
-    match correct_event(b"E3", b"E2", b"70") {
-        Ok(event) => expect_reply(&mut held, event, Reply::Accepted(3))?,
-        Err(fail) => return Err(fail),
-    }
-    expect_filled(&mut held, 70)?;
-    expect_undone(&mut held, 3)?;
-    expect_filled(&mut held, 80)?;
-    expect_undone(&mut held, 2)?;
-    expect_filled(&mut held, 100)?;
-    expect_recorded(&held, 8)
-}
-
-#[test]
-fn a_refused_command_keeps_the_undone_steps(rt: HostRuntime) -> Result<(), Fail> {
-    let mut held = Held::new(rt.alloc());
-    expect_trade(&mut held, b"E1", b"100", 1)?;
-    let duplicate = Reply::Refused(Refused::DuplicateExec(1));
-    match trade_event(b"E1", b"50") {
-        Ok(event) => expect_reply(&mut held, event, duplicate)?,
-        Err(fail) => return Err(fail),
-    }
-    expect_undone(&mut held, 1)?;
-    let unknown = Reply::Refused(Refused::UnknownExec(exec(A, b"E9")?));
-    match bust_event(b"E8", b"E9") {
-        Ok(event) => expect_reply(&mut held, event, unknown)?,
-        Err(fail) => return Err(fail),
-    }
-    expect_redone(&mut held, 1)?;
-    expect_live(&held, &[1])?;
-    expect_recorded(&held, 5)
+// A trade of 1, of an execution of this number.
+fn trade_of(alloc: Global, number: u64) -> Result<Command, Fail> {
+    let id = format!(in alloc; "E{number}")?;
+    let fill = fill(order(b"BRKA", b"O1")?, b"1", b"10", b"300")?;
+    Ok(Command::Trade(Trade {
+        key: exec(b"BRKA", id.as_bytes())?,
+        fill,
+    }))
 }
 
 // Trades up to a number, each of an execution of its own.
-fn trade_up_to(alloc: Global, held: &mut Held, last: u64) -> Result<(), Fail> {
+fn trade_up_to(alloc: Global, desk: &mut Desk, last: u64) -> Result<(), Fail> {
     for number in 1..=last {
-        let id = format!(in alloc; "E{number}")?;
-        expect_trade(held, id.as_bytes(), b"1", number)?;
+        match trade_of(alloc, number) {
+            Ok(trade) => desk.expect(Event::Submit(trade), Reply::Accepted(number))?,
+            Err(fail) => return Err(fail),
+        }
     }
     Ok(())
 }
 
-// Asks for the line of an order that nothing was filled of.
-fn ask_unknown(held: &mut Held) -> Result<(), Fail> {
-    let unknown = order(A, b"O9")?;
-    expect_reply(held, Event::AskOrder(unknown), Reply::Order(None))
+// An entry is the trade of a number.
+fn expect_trade(alloc: Global, entry: &Entry, number: u64) -> Result<(), Fail> {
+    match trade_of(alloc, number) {
+        Ok(trade) => {
+            if entry.number != number || entry.command != trade {
+                return Err(Fail::new(format_args!("another entry under {number}")));
+            }
+            Ok(())
+        }
+        Err(fail) => Err(fail),
+    }
 }
 
-// Asks until so many events are recorded.
-fn fill_up(held: &mut Held, recorded: u64) -> Result<(), Fail> {
-    for _ in recorded..EVENTS_MAX {
-        ask_unknown(held)?;
+// The live entries are the trades up to a number.
+fn expect_trades_up_to(alloc: Global, held: &Held, last: u64) -> Result<(), Fail> {
+    let snapshot = held.snapshot()?;
+    let mut number = 0u64;
+    for entry in snapshot.entries() {
+        number = number.saturating_add(1);
+        expect_trade(alloc, entry, number)?;
+    }
+    if number != last {
+        return Err(Fail::new(format_args!("{number} entries for {last}")));
+    }
+    Ok(())
+}
+
+#[test]
+fn a_moved_undo(rt: HostRuntime) -> Result<(), Fail> {
+    let alloc = rt.alloc();
+    let mut desk = Desk::new(alloc, "a moved undo");
+    trade_up_to(alloc, &mut desk, 42)?;
+    expect_trades_up_to(alloc, desk.held(), 42)?;
+    let moved = Reply::Refused(Refused::Moved(42));
+    desk.expect(Event::Undo { newest: 41 }, moved)?;
+    expect_trades_up_to(alloc, desk.held(), 42)
+}
+
+// The line of an order that nothing was filled of is none.
+fn ask_unknown(held: &mut Held, unknown: OrderKey) -> Result<(), Fail> {
+    match held.step(Event::AskOrder(unknown)) {
+        Ok(Reply::Order(None)) => Ok(()),
+        Ok(reply) => Err(Fail::new(format_args!("{reply:?}"))),
+        Err(fault) => Err(Fail::new(format_args!("{fault:?}"))),
+    }
+}
+
+// A record is that of an order that is asked for and has no line.
+fn expect_asked(recorded: &Recorded, unknown: &OrderKey) -> Result<(), Fail> {
+    if recorded.event != Event::AskOrder(*unknown) || recorded.reply != Reply::Order(None) {
+        return Err(Fail::new("another record"));
+    }
+    Ok(())
+}
+
+// As many events as can be are recorded, each of them this order asked for.
+fn expect_full_record(held: &Held, unknown: &OrderKey) -> Result<(), Fail> {
+    let count = held.history().len();
+    if count != 100_000 {
+        return Err(Fail::new(format_args!("{count} events")));
+    }
+    for recorded in held.history() {
+        expect_asked(recorded, unknown)?;
     }
     Ok(())
 }
@@ -210,25 +277,30 @@ fn expect_full(held: &mut Held, event: Event) -> Result<(), Fail> {
     }
 }
 
-#[test]
-fn a_moved_undo_and_a_full_desk(rt: HostRuntime) -> Result<(), Fail> {
-    let mut held = Held::new(rt.alloc());
-    trade_up_to(rt.alloc(), &mut held, 42)?;
-    let moved = Reply::Refused(Refused::Moved(42));
-    expect_reply(&mut held, Event::Undo { newest: 41 }, moved)?;
-    expect_recorded(&held, 43)?;
-    fill_up(&mut held, 43)?;
-    expect_recorded(&held, 100_000)?;
-    match trade_event(b"E0", b"1") {
-        Ok(event) => expect_full(&mut held, event)?,
-        Err(fail) => return Err(fail),
-    }
-    expect_full(&mut held, Event::Undo { newest: 42 })?;
-    expect_full(&mut held, Event::Redo)?;
-    expect_full(&mut held, Event::AskOrder(order(A, b"O1")?))?;
-    expect_recorded(&held, 100_000)?;
-    if held.snapshot()?.entries().len() != 42 {
-        return Err(Fail::new("another count of entries"));
+// The desk is full for commands of each kind.
+fn expect_full_of_commands(alloc: Global, held: &mut Held) -> Result<(), Fail> {
+    for step in steps_of_each_kind() {
+        match command(alloc, b"BRKA", step) {
+            Ok(command) => expect_full(held, Event::Submit(command))?,
+            Err(fail) => return Err(fail),
+        }
     }
     Ok(())
+}
+
+#[test]
+fn a_full_desk(rt: HostRuntime) -> Result<(), Fail> {
+    let mut held = Held::new(rt.alloc());
+    let unknown = order(b"BRKA", b"O9")?;
+    for _ in 0..100_000u32 {
+        ask_unknown(&mut held, unknown)?;
+    }
+    expect_full_of_commands(rt.alloc(), &mut held)?;
+    expect_full(&mut held, Event::Undo { newest: 1 })?;
+    expect_full(&mut held, Event::Redo)?;
+    expect_full(&mut held, Event::AskOrder(unknown))?;
+    let (account, symbol) = (text(b"A1")?, text(b"XYZ")?);
+    expect_full(&mut held, Event::AskPosition(account, symbol))?;
+    expect_full_record(&held, &unknown)?;
+    expect_trades_up_to(rt.alloc(), &held, 0)
 }

@@ -1,12 +1,14 @@
 //! Each kind of command by itself: taken and taken back by its own calls, and refused.
 ghost use Rattle.std.specs.Prelude.{◌≡◌, ◌<◌, ◌≤◌, [], All, IfOk};
 ghost use Rattle.blot_command.specs.Undoable.{IsAbove};
-ghost use Rattle.blot_command.specs.Kinds.{trade_meaning, correct_meaning, bust_meaning};
+ghost use Rattle.blot_command.specs.Kinds.{trade_meaning, correct_meaning, bust_meaning, alloc_new_meaning, alloc_replace_meaning, alloc_cancel_meaning};
 
-use crate::rows::Filled::Buys;
-use crate::rows::{bust, correct, trade};
+use crate::bookings::FIRST;
+use crate::words::Filled::Buys;
+use crate::words::{alloc_cancel, alloc_new, alloc_replace, bust, correct, trade};
 use blot_command::{ApplyFault, Tables, Undoable};
-use blot_types::{Bust, Correct, EVENTS_MAX, Refused, Trade};
+use blot_types::{AllocCancel, AllocNew, AllocReplace, Bust, Correct, EVENTS_MAX, Refused, Trade};
+use std::alloc::Global;
 use std::test::Fail;
 
 // A trade is taken, and its inverse hands it back.
@@ -52,7 +54,7 @@ fn bust_and_back(tables: &mut Tables, number: u64, sent: Bust) -> Result<(), Fai
 }
 
 // Refused under a number, for this reason, a bust comes back.
-fn expect_refused(tables: &mut Tables, number: u64, sent: Bust, reason: Refused) -> Result<(), Fail>
+fn refused_bust(tables: &mut Tables, number: u64, sent: Bust, reason: Refused) -> Result<(), Fail>
     requires above { IsAbove bust_meaning number tables.old }
     requires within { number ≤ EVENTS_MAX }
 {
@@ -97,13 +99,21 @@ fn take_first(tables: &mut Tables, first: Trade) -> Result<(), Fail>
     }
 }
 
+// A book with the first trade under 1.
+fn begin(tables: &mut Tables) -> Result<(), Fail>
+    requires { tables.old.list ≡ [] }
+    ensures { IfOk result (λ _. IsAbove trade_meaning 2 tables.new) }
+{
+    match first_trade() {
+        Ok(first) => take_first(tables, first),
+        Err(fail) => Err(fail),
+    }
+}
+
 #[test]
 fn a_correction_by_itself(rt: HostRuntime) -> Result<(), Fail> {
     let mut tables = Tables::new(rt.alloc());
-    match first_trade() {
-        Ok(first) => take_first(&mut tables, first)?,
-        Err(fail) => return Err(fail),
-    }
+    begin(&mut tables)?;
     match first_correction() {
         Ok(sent) => correct_and_back(&mut tables, 2, sent),
         Err(fail) => Err(fail),
@@ -113,10 +123,7 @@ fn a_correction_by_itself(rt: HostRuntime) -> Result<(), Fail> {
 #[test]
 fn a_bust_by_itself(rt: HostRuntime) -> Result<(), Fail> {
     let mut tables = Tables::new(rt.alloc());
-    match first_trade() {
-        Ok(first) => take_first(&mut tables, first)?,
-        Err(fail) => return Err(fail),
-    }
+    begin(&mut tables)?;
     match bust(b"BRKA", b"E2", b"E1") {
         Ok(sent) => bust_and_back(&mut tables, 2, sent),
         Err(fail) => Err(fail),
@@ -127,5 +134,104 @@ fn a_bust_by_itself(rt: HostRuntime) -> Result<(), Fail> {
 fn a_refused_bust_by_itself(rt: HostRuntime) -> Result<(), Fail> {
     let mut tables = Tables::new(rt.alloc());
     let sent = bust(b"BRKA", b"E2", b"E1")?;
-    expect_refused(&mut tables, 1, sent, Refused::UnknownExec(sent.reference))
+    refused_bust(&mut tables, 1, sent, Refused::UnknownExec(sent.reference))
+}
+
+// A new allocation is taken, and its inverse hands it back.
+fn new_and_back(alloc: Global, tables: &mut Tables, number: u64) -> Result<(), Fail>
+    requires above { IsAbove alloc_new_meaning number tables.old }
+    requires within { number ≤ EVENTS_MAX }
+{
+    let (sent, again) = (first_allocation(alloc)?, first_allocation(alloc)?);
+    let Ok(inverse) = sent.apply(tables, number) else {
+        return Err(Fail::new("the allocation is refused"));
+    };
+    if AllocNew::revert(inverse, tables) != again {
+        return Err(Fail::new("another allocation came back"));
+    }
+    Ok(())
+}
+
+// An allocation in the place of another is taken, and its inverse hands it back.
+fn replace_and_back(alloc: Global, tables: &mut Tables, number: u64) -> Result<(), Fail>
+    requires above { IsAbove alloc_replace_meaning number tables.old }
+    requires within { number ≤ EVENTS_MAX }
+{
+    let (sent, again) = (first_replacement(alloc)?, first_replacement(alloc)?);
+    let Ok(inverse) = sent.apply(tables, number) else {
+        return Err(Fail::new("the replacement is refused"));
+    };
+    if AllocReplace::revert(inverse, tables) != again {
+        return Err(Fail::new("another replacement came back"));
+    }
+    Ok(())
+}
+
+// The end of an allocation is taken, and its inverse hands it back.
+fn cancel_and_back(tables: &mut Tables, number: u64, sent: AllocCancel) -> Result<(), Fail>
+    requires above { IsAbove alloc_cancel_meaning number tables.old }
+    requires within { number ≤ EVENTS_MAX }
+{
+    let Ok(inverse) = sent.apply(tables, number) else {
+        return Err(Fail::new("the cancel is refused"));
+    };
+    if AllocCancel::revert(inverse, tables) != sent {
+        return Err(Fail::new("another cancel came back"));
+    }
+    Ok(())
+}
+
+// The allocation AL1 of E1.
+fn first_allocation(alloc: Global) -> Result<AllocNew, Fail> {
+    alloc_new(alloc, b"BRKA", b"AL1", &FIRST)
+}
+
+// AL2 takes its place.
+fn first_replacement(alloc: Global) -> Result<AllocReplace, Fail> {
+    alloc_replace(alloc, b"BRKA", b"AL2", b"AL1", &FIRST)
+}
+
+// The allocation is taken under 2.
+fn take_allocation(tables: &mut Tables, first: AllocNew) -> Result<(), Fail>
+    requires { IsAbove alloc_new_meaning 2 tables.old }
+    ensures { IfOk result (λ _. IsAbove alloc_new_meaning 3 tables.new) }
+{
+    match first.apply(tables, 2) {
+        Ok(_) => Ok(()),
+        Err(_) => Err(Fail::new("the allocation is refused")),
+    }
+}
+
+#[test]
+fn an_allocation_by_itself(rt: HostRuntime) -> Result<(), Fail> {
+    let mut tables = Tables::new(rt.alloc());
+    begin(&mut tables)?;
+    new_and_back(rt.alloc(), &mut tables, 2)
+}
+
+// The first allocation is taken under 2.
+fn begin_allocation(alloc: Global, tables: &mut Tables) -> Result<(), Fail>
+    requires { IsAbove alloc_new_meaning 2 tables.old }
+    ensures { IfOk result (λ _. IsAbove alloc_new_meaning 3 tables.new) }
+{
+    match first_allocation(alloc) {
+        Ok(first) => take_allocation(tables, first),
+        Err(fail) => Err(fail),
+    }
+}
+
+#[test]
+fn a_replacement_by_itself(rt: HostRuntime) -> Result<(), Fail> {
+    let mut tables = Tables::new(rt.alloc());
+    begin(&mut tables)?;
+    begin_allocation(rt.alloc(), &mut tables)?;
+    replace_and_back(rt.alloc(), &mut tables, 3)
+}
+
+#[test]
+fn a_cancel_by_itself(rt: HostRuntime) -> Result<(), Fail> {
+    let mut tables = Tables::new(rt.alloc());
+    begin(&mut tables)?;
+    begin_allocation(rt.alloc(), &mut tables)?;
+    cancel_and_back(&mut tables, 3, alloc_cancel(b"BRKA", b"C1", b"AL1")?)
 }

@@ -1,10 +1,10 @@
 //! Orders as trades fill them. The first row of a table has number 1.
 
 use crate::fixtures::order;
-use crate::rows::Filled::Buys;
 use crate::rows::Outcome::{Duplicate, Taken};
-use crate::rows::Step::Trades;
 use crate::rows::{Row, play_all};
+use crate::words::Filled::Buys;
+use crate::words::Step::Trades;
 use blot_types::OrderKey;
 use std::test::Fail;
 

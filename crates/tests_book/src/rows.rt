@@ -4,30 +4,14 @@ ghost use Rattle.blot_command.specs.Undoable.{IsAbove};
 ghost use Rattle.blot_command.specs.Kinds.{command_meaning};
 ghost use Rattle.blot_types.specs.declared.TheConstants.{EVENTS_MAX};
 
-use crate::fixtures::{exec, expect_back, fill, order, text};
+use crate::fixtures::{expect_back, expect_refused};
 use crate::model::{compare, expect_entry, expect_no_entry};
-use blot_command::{ApplyFault, Tables, Undoable};
-use blot_types::{
-    Bust, Command, Correct, EVENTS_MAX, ExecKey, Fill, OrderKey, OrderLine, Refused, Sign, Trade,
-};
+use crate::shown::order_text;
+use crate::words::{Step, command};
+use blot_command::{Tables, Undoable};
+use blot_types::{Command, EVENTS_MAX, ExecKey, OrderKey, Refused};
 use std::alloc::{AllocError, Global};
 use std::test::Fail;
-
-/// A fill in words: the order, the quantity, the price and the order's size.
-#[derive(Drop)]
-pub enum Filled {
-    /// XYZ, bought for account A1.
-    Buys(&'static [u8], &'static [u8], &'static [u8], &'static [u8]),
-    /// ABC, sold for account A2.
-    Sells(&'static [u8], &'static [u8], &'static [u8], &'static [u8]),
-}
-
-/// A command in words: the execution that it takes up, then the one that it refers to, then its fill.
-pub enum Step {
-    Trades(&'static [u8], Filled),
-    Corrects(&'static [u8], &'static [u8], Filled),
-    Busts(&'static [u8], &'static [u8]),
-}
 
 /// What the book says to a command.
 pub enum Outcome {
@@ -50,56 +34,6 @@ pub struct Row {
 
 /// What two orders show where no execution of them stands.
 pub const NO_LINES: [&'static str; 2] = ["none", "none"];
-
-// The fill of a peer's order.
-fn fill_of(peer: &[u8], words: &Filled) -> Result<Fill, Fail> {
-    match words {
-        Filled::Buys(id, qty, price, size) => fill(order(peer, id)?, qty, price, size),
-        Filled::Sells(id, qty, price, size) => {
-            let mut sold = fill(order(peer, id)?, qty, price, size)?;
-            sold.account = Some(text(b"A2")?);
-            sold.symbol = text(b"ABC")?;
-            sold.sign = Sign::Sell;
-            Ok(sold)
-        }
-    }
-}
-
-/// A trade in words.
-pub fn trade(peer: &[u8], id: &[u8], words: &Filled) -> Result<Trade, Fail> {
-    Ok(Trade {
-        key: exec(peer, id)?,
-        fill: fill_of(peer, words)?,
-    })
-}
-
-/// A correction in words.
-pub fn correct(peer: &[u8], id: &[u8], reference: &[u8], words: &Filled) -> Result<Correct, Fail> {
-    Ok(Correct {
-        key: exec(peer, id)?,
-        reference: exec(peer, reference)?,
-        fill: fill_of(peer, words)?,
-    })
-}
-
-/// A bust in words.
-pub fn bust(peer: &[u8], id: &[u8], reference: &[u8]) -> Result<Bust, Fail> {
-    Ok(Bust {
-        key: exec(peer, id)?,
-        reference: exec(peer, reference)?,
-    })
-}
-
-// The command of a row.
-fn command(row: &Row) -> Result<Command, Fail> {
-    match &row.step {
-        Step::Trades(id, words) => Ok(Command::Trade(trade(row.peer, id, words)?)),
-        Step::Corrects(id, reference, words) => {
-            Ok(Command::Correct(correct(row.peer, id, reference, words)?))
-        }
-        Step::Busts(id, reference) => Ok(Command::Bust(bust(row.peer, id, reference)?)),
-    }
-}
 
 // The refusal that a row speaks of, if it speaks of one.
 fn refusal(outcome: &Outcome, reference: Option<ExecKey>) -> Option<Refused> {
@@ -128,43 +62,12 @@ fn expect_taken(row: &Row, number: u64) -> Result<(), Fail> {
     }
 }
 
-// A command of a row was refused, and came back.
-fn expect_refused(
-    row: &Row,
-    sent: &Command,
-    back: Command,
-    fault: ApplyFault,
-    number: u64,
-) -> Result<(), Fail> {
-    let expected = refusal(&row.outcome, reference(sent));
-    if expected.map(ApplyFault::Refused) != Some(fault) || back != *sent {
-        return Err(Fail::new(format_args!("refused under {number} with {fault:?}")));
-    }
-    Ok(())
-}
-
-// What an order's executions trade.
-fn traded(line: &OrderLine) -> &'static str {
-    match (line.sign, line.symbol.bytes()) {
-        (Sign::Buy, b"XYZ") => "XYZ B",
-        (Sign::Sell, b"ABC") => "ABC S",
-        _ => "another symbol or side",
-    }
-}
-
-// The line of an order: symbol and side, the quantity filled, what is left and the value.
+// The line of an order, as text.
 fn shown(alloc: Global, tables: &Tables, order: &OrderKey) -> Result<String, AllocError> {
-    let Some(line) = tables.order(order) else {
-        return String::from_str(alloc, "none");
-    };
-    let what = traded(&line);
-    let OrderLine {
-        cum,
-        leaves,
-        value,
-        ..
-    } = line;
-    format!(in alloc; "{what} {cum} {leaves} {value}")
+    match tables.order(order) {
+        Some(line) => order_text(alloc, &line),
+        None => String::from_str(alloc, "none"),
+    }
 }
 
 // The lines of two orders are these, before a command of this number.
@@ -206,7 +109,7 @@ fn play(
     if number >= EVENTS_MAX {
         return Err(Fail::new("too many rows"));
     }
-    let sent = command(row)?;
+    let sent = command(alloc, row.peer, &row.step)?;
     match sent.try_copy(alloc)?.apply(tables, number) {
         Ok(inverse) => {
             expect_taken(row, number)?;
@@ -216,7 +119,8 @@ fn play(
             expect_back(&sent, back, number)?;
         }
         Err((back, fault)) => {
-            expect_refused(row, &sent, back, fault, number)?;
+            let reason = refusal(&row.outcome, reference(&sent));
+            expect_refused(&sent, reason, back, fault, number)?;
             play(alloc, tables, number + 1, orders, &row.lines, rest)?;
         }
     }

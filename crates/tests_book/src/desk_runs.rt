@@ -1,0 +1,127 @@
+//! Generated runs of all events at the desk, compared with the plain desk after every step.
+
+use crate::draws::{Draws, drawn_orders};
+use crate::fixtures::{accounts, symbols};
+use crate::plain::PlainDesk;
+use crate::tally::Tally;
+use blot_desk::{Event, Held, Reply};
+use blot_types::OrderKey;
+use std::alloc::Global;
+use std::test::Fail;
+
+// The desk beside the plain desk.
+#[derive(Drop)]
+struct Run {
+    alloc: Global,
+    held: Held,
+    plain: PlainDesk,
+}
+
+impl Run {
+    fn new(alloc: Global) -> Run {
+        Run {
+            alloc,
+            held: Held::new(alloc),
+            plain: PlainDesk::new(alloc),
+        }
+    }
+
+    // An event: mostly a command, else an undo of the newest step or of the third, or a redo.
+    fn event(&self, draws: &mut Draws) -> Result<Event, Fail> {
+        match draws.draw() & 15 {
+            0 => Ok(Event::Undo {
+                newest: self.plain.newest(),
+            }),
+            1 => Ok(Event::Undo { newest: 3 }),
+            2 | 3 => Ok(Event::Redo),
+            _ => match draws.command(self.alloc, self.plain.entries()) {
+                Ok(command) => Ok(Event::Submit(command)),
+                Err(fail) => Err(fail),
+            },
+        }
+    }
+
+    // Both desks take an event, and reply the same.
+    fn step(&mut self, event: Event) -> Result<(), Fail> {
+        let snapshot = self.held.snapshot()?;
+        let copy = event.try_copy(self.alloc)?;
+        let expected = match self.plain.step(snapshot.entries(), copy) {
+            Ok(reply) => reply,
+            Err(fail) => return Err(fail),
+        };
+        match self.held.step(event) {
+            Ok(found) => same_reply(&found, &expected),
+            Err(fault) => Err(Fail::new(format_args!("{fault:?}"))),
+        }
+    }
+
+    // Both desks are asked for the lines of some orders.
+    fn ask_orders(&mut self, orders: &[OrderKey]) -> Result<(), Fail> {
+        for order in orders {
+            self.step(Event::AskOrder(*order))?;
+        }
+        Ok(())
+    }
+
+    // Both desks are asked for the positions of all accounts in all symbols.
+    fn ask_positions(&mut self) -> Result<(), Fail> {
+        for symbol in &symbols()? {
+            for account in &accounts()? {
+                self.step(Event::AskPosition(*account, *symbol))?;
+            }
+        }
+        Ok(())
+    }
+
+    // The live entries and the history of both desks are the same.
+    fn compare(&self) -> Result<(), Fail> {
+        let snapshot = self.held.snapshot()?;
+        if snapshot.entries() != self.plain.entries() {
+            return Err(Fail::new("other entries"));
+        }
+        if self.held.history() != self.plain.history() {
+            return Err(Fail::new("another history"));
+        }
+        Ok(())
+    }
+}
+
+// Two replies are one.
+fn same_reply(found: &Reply, expected: &Reply) -> Result<(), Fail> {
+    if found != expected {
+        return Err(Fail::new(format_args!("{found:?} for {expected:?}")));
+    }
+    Ok(())
+}
+
+// Takes events that are drawn. After each both desks show the same: their entries, the lines of all orders, all
+// positions, and the history.
+fn explore(run: &mut Run, draws: &mut Draws, orders: &[OrderKey], steps: u32) -> Result<(), Fail> {
+    run.compare()?;
+    for _ in 0..steps {
+        match run.event(draws) {
+            Ok(event) => run.step(event)?,
+            Err(fail) => return Err(fail),
+        }
+        run.compare()?;
+        run.ask_orders(orders)?;
+        run.ask_positions()?;
+        run.compare()?;
+    }
+    Ok(())
+}
+
+#[test]
+fn runs_of_events(rt: HostRuntime) -> Result<(), Fail> {
+    let orders = drawn_orders()?;
+    let mut draws = Draws::new(2);
+    let mut tally = Tally::new();
+    for _ in 0..16u32 {
+        let mut run = Run::new(rt.alloc());
+        explore(&mut run, &mut draws, &orders, 60)?;
+        tally.count_history(run.held.history());
+    }
+    tally.expect_each_kind()?;
+    tally.expect_each_refusal(13)?;
+    tally.expect_each_reply()
+}
