@@ -1,7 +1,7 @@
--- Where whole chains go, what is asked of the others is answered as before.
+-- Where chains go that nobody needs, or Busts, what is asked of the other chains is answered as before.
 use Rattle.std.proofs.Common.{◌≡◌, ℕ, true, false, List, [], ◌∷◌, Option, Some, None, refl, sym, ap, subst, ◌∙◌, inl, inr}
-use Rattle.std.specs.Prelude.{not, filter, is_none}
-use Rattle.std.proofs.lemmas.Bool.{cases_Bool, and_parts, not-true, not-false}
+use Rattle.std.specs.Prelude.{filter, is_none}
+use Rattle.std.proofs.lemmas.Bool.{cases_Bool, and_parts}
 use Rattle.blot_types.specs.declared.keys.ExecKey.{ExecKey}
 use Rattle.blot_types.specs.declared.link.Link.{Link}
 use Rattle.blot_types.specs.declared.link.Role.{Role}
@@ -10,7 +10,8 @@ use Rattle.blot_types.specs.Keys.{same_exec}
 use Rattle.blot_types.specs.Chains.{takes_up, taker_in, own_root, root_in, is_root, busts, bust_in, current_in, link_refusal, reference_refusal, is_chained}
 use Rattle.blot_types.proofs.ChainLemmas.{clash, differing, none_is, rootless, accepted_key, accepted_root}
 use Rattle.blot_types.proofs.KeyLemmas.{same_exec-true, same_exec-refl}
-use Rattle.blot_withdraw.proofs.Split.{Split, Knows, chain_key, link_stays}
+use Rattle.blot_types.proofs.StandLemmas.{brings}
+use Rattle.blot_withdraw.proofs.Split.{Split, Knows, chain_key, own_key}
 
 -- ---- the chain of a link
 
@@ -71,19 +72,13 @@ newest split link earlier chained knows =
     let chain = of-role split link.number link.key link.role earlier accepted.1 before knows in
     record { chained = parts.1; fresh = accepted.0; before = before; root = chain.0; is_of = chain.1 }
 
--- a link goes with its chain
-stays-root : (split : Split) (link : Link) (earlier : List Link) (new : Newest split link earlier) → link_stays split link ≡ not (split.goes (Some new.root))
-stays-root split link earlier new = ap (λ found. not (split.goes found)) new.is_of.known
-
-kept-chain : (split : Split) (link : Link) (earlier : List Link) (new : Newest split link earlier) → link_stays split link ≡ true → split.goes (Some new.root) ≡ false
-kept-chain split link earlier new kept = not-true _ (sym (stays-root split link earlier new) ∙ kept)
-
-gone-chain : (split : Split) (link : Link) (earlier : List Link) (new : Newest split link earlier) → link_stays split link ≡ false → split.goes (Some new.root) ≡ true
-gone-chain split link earlier new gone = not-false _ (sym (stays-root split link earlier new) ∙ gone)
+-- a link that stays is of a chain that stays
+kept-chain : (split : Split) (link : Link) (earlier : List Link) (new : Newest split link earlier) → split.keeps link ≡ true → split.goes (Some new.root) ≡ false
+kept-chain split link earlier new kept = ap split.goes (sym new.is_of.known) ∙ split.kept link kept
 
 -- what it refers to stays where it stays
 pub refers-stays :
-    (split : Split) (link : Link) (earlier : List Link) → is_chained (link ∷ earlier) ≡ true → Knows split (link ∷ earlier) → link_stays split link ≡ true
+    (split : Split) (link : Link) (earlier : List Link) → is_chained (link ∷ earlier) ≡ true → Knows split (link ∷ earlier) → split.keeps link ≡ true
     → split.goes (chain_root split.roots link.key link.role) ≡ false
 refers-stays split link earlier chained knows kept =
     let new = newest split link earlier chained knows in
@@ -113,21 +108,27 @@ busts-chain links others root key Begins same = refl
 busts-chain links others root key (Corrects reference) same = refl
 busts-chain links others root key (Busts reference) same = ap (is_root root) same
 
--- a link that goes, and yet takes up a key of a chain that stays, is a Bust: it has no root
-gone-own :
-    (split : Split) (f : ExecKey → Option ExecKey) (key : ExecKey) (role : Role) → not (split.goes (split.roots (chain_key key role))) ≡ false
-    → split.goes (split.roots key) ≡ false → own_root f key role ≡ None
-gone-own split f key Begins gone stays = absurd (differing (not-false _ gone) stays)
-gone-own split f key (Corrects reference) gone stays = absurd (differing (not-false _ gone) stays)
-gone-own split f key (Busts reference) gone stays = refl
+-- a Bust's own key has no root
+own-bust : (f : ExecKey → Option ExecKey) (key : ExecKey) (role : Role) → brings role ≡ false → own_root f key role ≡ None
+own-bust f key Begins none = cc
+own-bust f key (Corrects reference) none = cc
+own-bust f key (Busts reference) none = refl
 
-pub root-stays : (split : Split) (links : List Link) → is_chained links ≡ true → Knows split links → SameRoots split links (filter (link_stays split) links)
+-- a link that goes, and yet takes up a key of a chain that stays, is a Bust
+gone-own : (split : Split) (f : ExecKey → Option ExecKey) (link : Link) → split.keeps link ≡ false → split.goes (split.roots link.key) ≡ false → own_root f link.key link.role ≡ None
+gone-own split f link gone stays =
+    elim (cases_Bool (brings link.role)) [
+      | inl one ↦ absurd (differing (split.gone link one gone) stays)
+      | inr none ↦ own-bust f link.key link.role none
+    ]
+
+pub root-stays : (split : Split) (links : List Link) → is_chained links ≡ true → Knows split links → SameRoots split links (filter split.keeps links)
 root-stays split [] chained knows key stays = refl
 root-stays split (link ∷ earlier) chained knows key stays =
     let new = newest split link earlier chained knows in
-    let kept_links = filter (link_stays split) earlier in
+    let kept_links = filter split.keeps earlier in
     let before : SameRoots split earlier kept_links = root-stays split earlier new.chained new.before in
-    elim (cases_Bool (link_stays split link)) [
+    elim (cases_Bool (split.keeps link)) [
       | inl kept ↦
           let same = own-chain (root_in kept_links) (root_in earlier) link.key link.role
           (same-role split earlier kept_links link.key link.role new.root new.is_of.refers (kept-chain split link earlier new kept) before) in
@@ -137,7 +138,7 @@ root-stays split (link ∷ earlier) chained knows key stays =
             | inl here ↦
                 let one : link.key ≡ key = same_exec-true link.key key here in
                 let none : root_in earlier key ≡ None = subst (λ k. root_in earlier k ≡ None) one (rootless earlier link.key new.fresh) in
-                let own : own_root (root_in earlier) link.key link.role ≡ None = gone-own split (root_in earlier) link.key link.role gone (ap (λ k. split.goes (split.roots k)) one ∙ stays) in
+                let own : own_root (root_in earlier) link.key link.role ≡ None = gone-own split (root_in earlier) link gone (ap (λ k. split.goes (split.roots k)) one ∙ stays) in
                 rw (gone, here, own) (before key stays ∙ none)
             | inr passed ↦ rw (gone, passed) (before key stays)
           ]
@@ -163,41 +164,77 @@ other-busts links root key Begins other = refl
 other-busts links root key (Corrects reference) other = refl
 other-busts links root key (Busts reference) other = other
 
--- a link that goes is of no chain that stays
+-- a link of a chain that goes is of none that stays
 gone-other :
-    (split : Split) (link : Link) (earlier : List Link) (root : ExecKey) (new : Newest split link earlier) → link_stays split link ≡ false → split.goes (Some root) ≡ false
-    → is_root root (chain_root (root_in earlier) link.key link.role) ≡ false
-gone-other split link earlier root new gone stays = ap (is_root root) new.is_of.here ∙ other-chain split new.root root (gone-chain split link earlier new gone) stays
+    (split : Split) (link : Link) (earlier : List Link) (root : ExecKey) (new : Newest split link earlier) → split.goes (split.roots (chain_key link.key link.role)) ≡ true
+    → split.goes (Some root) ≡ false → is_root root (chain_root (root_in earlier) link.key link.role) ≡ false
+gone-other split link earlier root new goes stays =
+    ap (is_root root) new.is_of.here ∙ other-chain split new.root root (ap split.goes (sym new.is_of.known) ∙ goes) stays
 
-pub bust-stays :
-    (split : Split) (links : List Link) (root : ExecKey) → is_chained links ≡ true → Knows split links → split.goes (Some root) ≡ false
-    → bust_in (filter (link_stays split) links) root ≡ bust_in links root
-bust-stays split [] root chained knows stays = refl
-bust-stays split (link ∷ earlier) root chained knows stays =
+kept-busts :
+    (split : Split) (link : Link) (earlier : List Link) (root : ExecKey) (new : Newest split link earlier) → split.keeps link ≡ true
+    → busts (filter split.keeps earlier) root link.role ≡ busts earlier root link.role
+kept-busts split link earlier root new kept =
+    busts-chain (filter split.keeps earlier) earlier root link.key link.role
+    (same-role split earlier (filter split.keeps earlier) link.key link.role new.root new.is_of.refers (kept-chain split link earlier new kept) (root-stays split earlier new.chained new.before))
+
+-- a chain that stays, and that isn't busted, isn't busted now
+pub unbusted-stays :
+    (split : Split) (links : List Link) (root : ExecKey) → is_chained links ≡ true → Knows split links → bust_in links root ≡ None → bust_in (filter split.keeps links) root ≡ None
+unbusted-stays split [] root chained knows none = refl
+unbusted-stays split (link ∷ earlier) root chained knows none =
     let new = newest split link earlier chained knows in
-    let kept_links = filter (link_stays split) earlier in
-    let before : bust_in kept_links root ≡ bust_in earlier root = bust-stays split earlier root new.chained new.before stays in
-    elim (cases_Bool (link_stays split link)) [
-      | inl kept ↦
-          let same = busts-chain kept_links earlier root link.key link.role
-          (same-role split earlier kept_links link.key link.role new.root new.is_of.refers (kept-chain split link earlier new kept) (root-stays split earlier new.chained new.before)) in
-          rw (kept, same, before) refl
-      | inr gone ↦ rw (gone, other-busts earlier root link.key link.role (gone-other split link earlier root new gone stays)) before
+    elim (cases_Bool (busts earlier root link.role)) [
+      | inl busted ↦ absurd (clash (rw busted at none))
+      | inr other ↦
+          let rest = unbusted-stays split earlier root new.chained new.before (rw other at none) in
+          elim (cases_Bool (split.keeps link)) [
+            | inl kept ↦ rw (kept, kept-busts split link earlier root new kept, other) rest
+            | inr gone ↦ rw gone rest
+          ]
+    ]
+
+-- no Bust goes alone
+abbrev pub GoWhole : Split → Type 0
+GoWhole split = (link : Link) → split.keeps link ≡ false → split.goes (split.roots (chain_key link.key link.role)) ≡ true
+
+-- then a chain that stays is busted by the same Bust
+pub bust-stays :
+    (split : Split) (links : List Link) (root : ExecKey) → is_chained links ≡ true → Knows split links → GoWhole split → split.goes (Some root) ≡ false
+    → bust_in (filter split.keeps links) root ≡ bust_in links root
+bust-stays split [] root chained knows whole stays = refl
+bust-stays split (link ∷ earlier) root chained knows whole stays =
+    let new = newest split link earlier chained knows in
+    let before : bust_in (filter split.keeps earlier) root ≡ bust_in earlier root = bust-stays split earlier root new.chained new.before whole stays in
+    elim (cases_Bool (split.keeps link)) [
+      | inl kept ↦ rw (kept, kept-busts split link earlier root new kept, before) refl
+      | inr gone ↦ rw (gone, other-busts earlier root link.key link.role (gone-other split link earlier root new (whole link gone) stays)) before
+    ]
+
+-- a link that goes brings no version to a chain that stays
+gone-version :
+    (split : Split) (link : Link) (earlier : List Link) (root : ExecKey) (new : Newest split link earlier) → split.keeps link ≡ false → split.goes (Some root) ≡ false
+    → is_root root (own_root (root_in earlier) link.key link.role) ≡ false
+gone-version split link earlier root new gone stays =
+    elim (cases_Bool (brings link.role)) [
+      | inl one ↦
+          let goes = ap (λ key. split.goes (split.roots key)) (own_key link.key link.role one) ∙ split.gone link one gone in
+          other-own (root_in earlier) root link.key link.role (gone-other split link earlier root new goes stays)
+      | inr none ↦ ap (is_root root) (own-bust (root_in earlier) link.key link.role none)
     ]
 
 pub current-stays :
     (split : Split) (links : List Link) (root : ExecKey) → is_chained links ≡ true → Knows split links → split.goes (Some root) ≡ false
-    → current_in (filter (link_stays split) links) root ≡ current_in links root
+    → current_in (filter split.keeps links) root ≡ current_in links root
 current-stays split [] root chained knows stays = refl
 current-stays split (link ∷ earlier) root chained knows stays =
     let new = newest split link earlier chained knows in
-    let kept_links = filter (link_stays split) earlier in
+    let kept_links = filter split.keeps earlier in
     let before : current_in kept_links root ≡ current_in earlier root = current-stays split earlier root new.chained new.before stays in
-    elim (cases_Bool (link_stays split link)) [
+    elim (cases_Bool (split.keeps link)) [
       | inl kept ↦
           let same = own-chain (root_in kept_links) (root_in earlier) link.key link.role
           (same-role split earlier kept_links link.key link.role new.root new.is_of.refers (kept-chain split link earlier new kept) (root-stays split earlier new.chained new.before)) in
           rw (kept, same, before) refl
-      | inr gone ↦
-          rw (gone, other-own (root_in earlier) root link.key link.role (gone-other split link earlier root new gone stays)) before
+      | inr gone ↦ rw (gone, gone-version split link earlier root new gone stays) before
     ]

@@ -2,8 +2,8 @@
 use Rattle.std.proofs.Common.{◌≡◌, ℕ, ◌+◌, ◌<◌, ◌≤◌, Bool, true, false, ◌&&◌, List, [], ◌∷◌, ◌++◌, map, reverse, length, get_or, take, drop, arith, Option, Some, None, refl, sym, ap, subst, ◌∙◌, inl, inr}
 use Rattle.std.specs.Prelude.{not, filter, find, is_none, is_some, nat_lt, All, IsTrue}
 use Rattle.std.specs.List.{list_any}
-use Rattle.std.specs.Option.{option_and_then}
-use Rattle.std.proofs.lemmas.Bool.{cases_Bool, and_from, and_parts, ltb-true}
+use Rattle.std.specs.Option.{option_map, option_and_then}
+use Rattle.std.proofs.lemmas.Bool.{cases_Bool, and_from, and_parts, ltb-true, not-true, not-false}
 use Rattle.std.proofs.lemmas.List.{reverse-append, take-append-drop, take_more}
 use Rattle.std.proofs.lemmas.List.Elements.{All-nil, All-cons, All-head, All-tail, All-append, filter-append}
 use Rattle.std.proofs.lemmas.List.Folds.{list_all-append}
@@ -14,12 +14,13 @@ use Rattle.blot_types.specs.declared.keys.AllocKey.{AllocKey}
 use Rattle.blot_types.specs.declared.keys.ExecKey.{ExecKey}
 use Rattle.blot_types.specs.declared.keys.OrderKey.{OrderKey}
 use Rattle.blot_types.specs.declared.TheConstants.{EVENTS_MAX}
+use Rattle.blot_types.specs.declared.link.Link.{Link}
 use Rattle.blot_types.specs.Chains.{is_root, bust_in}
 use Rattle.blot_types.specs.Legal.{is_above, rises_in, is_legal, is_book, refusal_of}
 use Rattle.blot_types.specs.Order.{order_of}
 use Rattle.blot_types.specs.Position.{position_of}
 use Rattle.blot_types.specs.Refusals.{alloc_key, listed_by}
-use Rattle.blot_types.specs.Survivors.{links_of, root_of}
+use Rattle.blot_types.specs.Survivors.{link_by, links_of, root_of}
 use Rattle.blot_types.proofs.AcceptLemmas.{unmapped}
 use Rattle.blot_types.proofs.ChainLemmas.{clash, none_is}
 use Rattle.blot_types.proofs.KeyLemmas.{same_exec-true}
@@ -29,9 +30,17 @@ use Rattle.blot_withdraw.specs.Erasure.{chained_by, is_of_chain, without_chain, 
 use Rattle.blot_withdraw.proofs.LegalStayLemmas.{book-spared}
 use Rattle.blot_withdraw.proofs.LineStayLemmas.{SparesLines, order-spared, position-spared}
 use Rattle.blot_withdraw.proofs.SpareLemmas.{Spares}
-use Rattle.blot_withdraw.proofs.Split.{Split, IsFree}
+use Rattle.blot_withdraw.proofs.Split.{Split, IsFree, chain_key, own_key}
 
 -- ---- what goes with a chain
+
+pub chained-link : (number : ℕ) (command : Command) (link : Link) → link_by number command ≡ Some link → chained_by command ≡ Some (chain_key link.key link.role)
+chained-link number (Trade trade) link is = ap (option_map (λ l. chain_key l.key l.role)) is
+chained-link number (Correct correct) link is = ap (option_map (λ l. chain_key l.key l.role)) is
+chained-link number (Bust bust) link is = ap (option_map (λ l. chain_key l.key l.role)) is
+chained-link number (AllocNew new) link is = cc
+chained-link number (AllocReplace replace) link is = cc
+chained-link number (AllocCancel cancel) link is = cc
 
 pub unchained : (command : Command) (key : AllocKey) → alloc_key command ≡ Some key → chained_by command ≡ None
 unchained (Trade trade) key is = cc
@@ -48,8 +57,10 @@ chain_split list root = record {
   goes = is_root root;
   drops = λ key. false;
   stays = λ entry. not (is_of_chain list root entry);
-  rootless_stays = refl;
-  chained = λ entry key is. ap (λ found. not (is_root root (option_and_then (root_of list) found))) is;
+  keeps = λ link. not (is_root root (root_of list (chain_key link.key link.role)));
+  linked = λ entry link is. ap (λ found. not (is_root root (option_and_then (root_of list) found))) (chained-link entry.number entry.command link is);
+  kept = λ link stays. not-true _ stays;
+  gone = λ link one goes. ap (λ key. is_root root (root_of list key)) (sym (own_key link.key link.role one)) ∙ not-false _ goes;
   allocated = λ entry key is. ap (λ found. not (is_root root (option_and_then (root_of list) found))) (unchained entry.command key is);
 }
 
@@ -107,6 +118,7 @@ spares_lines :
     → SparesLines (chain_split list root) list
 spares_lines list root book is none = record {
   spares = chain_spares list root book none;
+  whole = λ link goes. not-false _ goes;
   busted = λ other same. ap (λ r. is_none (bust_in (links_of list) r)) (same_exec-true other root same) ∙ busted (bust_in (links_of list) root) is;
   allocations = λ key. refl;
 }

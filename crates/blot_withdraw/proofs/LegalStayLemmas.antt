@@ -16,7 +16,7 @@ use Rattle.blot_withdraw.proofs.ChainStayLemmas.{refers-stays}
 use Rattle.blot_withdraw.proofs.ListLemmas.{all-stays, filter-reverse}
 use Rattle.blot_withdraw.proofs.RuleLemmas.{KeyStays, NeedsNone, answers, accepted-spared}
 use Rattle.blot_withdraw.proofs.SpareLemmas.{Spares, spares-newest}
-use Rattle.blot_withdraw.proofs.Split.{Split, stays-link}
+use Rattle.blot_withdraw.proofs.Split.{Split}
 
 -- an entry that stays needs nothing that goes
 needs-none :
@@ -26,7 +26,7 @@ needs-none split number (Trade trade) earlier spares stays = record { chains = A
 needs-none split number (Correct correct) earlier spares stays =
     let entry : Entry = record { number = number; command = Correct correct } in
     let link : Link = record { number = number; key = correct.key; role = Corrects correct.reference } in
-    let kept = sym (stays-link split entry link refl) ∙ stays in
+    let kept = sym (split.linked entry link refl) ∙ stays in
     record {
       chains = All-cons (KeyStays split) correct.reference [] (refers-stays split link (links_in earlier) (chained-links (entry ∷ earlier) spares.legal) spares.knows kept) (All-nil (KeyStays split));
       allocation = λ reference is. cc;
@@ -34,7 +34,7 @@ needs-none split number (Correct correct) earlier spares stays =
 needs-none split number (Bust bust) earlier spares stays =
     let entry : Entry = record { number = number; command = Bust bust } in
     let link : Link = record { number = number; key = bust.key; role = Busts bust.reference } in
-    let kept = sym (stays-link split entry link refl) ∙ stays in
+    let kept = sym (split.linked entry link refl) ∙ stays in
     record {
       chains = All-cons (KeyStays split) bust.reference [] (refers-stays split link (links_in earlier) (chained-links (entry ∷ earlier) spares.legal) spares.knows kept) (All-nil (KeyStays split));
       allocation = λ reference is. cc;

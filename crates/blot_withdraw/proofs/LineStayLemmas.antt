@@ -1,4 +1,4 @@
--- Where only busted chains go that nobody needs, the lines of orders and positions are as before.
+-- Where only whole busted chains go that nobody needs, the lines of orders and positions are as before.
 use Rattle.std.proofs.Common.{◌≡◌, ℕ, Bool, true, false, ◌&&◌, List, [], ◌∷◌, ◌++◌, map, reverse, Option, Some, None, refl, sym, ap, ◌∙◌, inl, inr}
 use Rattle.std.specs.Prelude.{not, filter, is_none, All}
 use Rattle.std.specs.List.{filter_map, flat_map}
@@ -22,15 +22,17 @@ use Rattle.blot_types.specs.Refusals.{alloc_key}
 use Rattle.blot_types.specs.Survivors.{links_in, links_of, root_of, versions_of, is_number, stands_under, stands_in, survivors}
 use Rattle.blot_types.proofs.PartLemmas.{filter-passes}
 use Rattle.blot_types.proofs.SurvivorLemmas.{filter-and}
+use Rattle.blot_withdraw.proofs.ChainStayLemmas.{GoWhole}
 use Rattle.blot_withdraw.proofs.InstructionStayLemmas.{instruction_stays, instructions-split}
 use Rattle.blot_withdraw.proofs.ListLemmas.{filter_map-filter, filter-reverse}
 use Rattle.blot_withdraw.proofs.RuleLemmas.{KeyStays, RootStays, root-known}
 use Rattle.blot_withdraw.proofs.SpareLemmas.{Spares, roots-spared, bust-spared, current-spared}
 use Rattle.blot_withdraw.proofs.Split.{Split, version_stays, versions-split}
 
--- nobody needs what goes of a list, all of it is of busted chains, and no allocation goes
+-- nobody needs what goes of a list: whole busted chains, and no allocation
 pub record SparesLines (split : Split) (list : List Entry) : Type 0 where
   pub spares : Spares split (reverse list)
+  pub whole : GoWhole split
   pub busted : (root : ExecKey) → split.goes (Some root) ≡ true → is_none (bust_in (links_of list) root) ≡ false
   pub allocations : (key : AllocKey) → split.drops key ≡ false
 
@@ -45,7 +47,7 @@ same-stands :
     → stands_under (links_in (filter split.stays (reverse list))) number found ≡ stands_under (links_of list) number found
 same-stands split list number None it stays = refl
 same-stands split list number (Some root) it stays =
-    ap (λ bust. is_none bust && is_number number (current_in (links_in (filter split.stays (reverse list))) root)) (bust-spared split (reverse list) root it.spares stays)
+    ap (λ bust. is_none bust && is_number number (current_in (links_in (filter split.stays (reverse list))) root)) (bust-spared split (reverse list) root it.spares it.whole stays)
     ∙ ap (λ current. is_none (bust_in (links_of list) root) && is_number number current) (current-spared split (reverse list) root it.spares stays)
 
 -- nothing of a chain that goes stands

@@ -7,6 +7,7 @@ use Rattle.std.proofs.lemmas.Bool.{cases_Bool, and_from, and_parts}
 use Rattle.std.proofs.lemmas.List.{reverse-append, append-nil}
 use Rattle.std.proofs.lemmas.List.Elements.{All-head, All-tail, filter-append}
 use Rattle.blot_types.specs.Refusals.{first_of}
+use Rattle.blot_types.proofs.AcceptLemmas.{or_parts}
 use Rattle.blot_types.proofs.ChainLemmas.{clash}
 
 -- ---- options
@@ -148,14 +149,10 @@ any-agree p q (x ∷ xs) agree =
 
 -- ---- first answers
 
-or_left : {A : Type 0} (a b : Option A) → option_or a b ≡ None → (a ≡ None) × (b ≡ None)
-or_left None b none = (refl, none)
-or_left (Some x) b none = cc
-
 pub first-none : {A B : Type 0} (f g : A → Option B) (xs : List A) → All (λ x. f x ≡ None → g x ≡ None) xs → first_of f xs ≡ None → first_of g xs ≡ None
 first-none f g [] weaker none = refl
 first-none f g (x ∷ xs) weaker none =
-    let parts = or_left (f x) (first_of f xs) none in
+    let parts = or_parts (f x) (first_of f xs) none in
     or-none (g x) (first_of g xs) (All-head (λ y. f y ≡ None → g y ≡ None) x xs weaker parts.0)
     (first-none f g xs (All-tail (λ y. f y ≡ None → g y ≡ None) x xs weaker) parts.1)
 

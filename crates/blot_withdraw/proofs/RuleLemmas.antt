@@ -24,8 +24,8 @@ use Rattle.blot_types.proofs.AcceptLemmas.{or_parts, unmapped}
 use Rattle.blot_types.proofs.SurvivorLemmas.{current-found, version_in-rising}
 use Rattle.blot_withdraw.proofs.InstructionStayLemmas.{instruction_stays, instructions-split, tied, taker-stays, allocation-stays, unended-stays, holder-stays}
 use Rattle.blot_withdraw.proofs.ListLemmas.{mapped-none, or-none, then-none, filter_map-agree, unfound-among, found-stays, find-agree, any-agree, first-none}
-use Rattle.blot_withdraw.proofs.SpareLemmas.{Spares, roots-spared, bust-spared, current-spared}
-use Rattle.blot_withdraw.proofs.Split.{Split, link_stays, links-split, version_stays, versions-split}
+use Rattle.blot_withdraw.proofs.SpareLemmas.{Spares, roots-spared, unbusted-spared, current-spared}
+use Rattle.blot_withdraw.proofs.Split.{Split, links-split, version_stays, versions-split}
 
 -- the chain of a key stays
 abbrev pub KeyStays : Split → ExecKey → Type 0
@@ -89,16 +89,10 @@ pub record Answers (split : Split) (entries others : List Entry) : Type 0 where
       (reference : Option AllocKey) (root : ExecKey) → other_holder_in (instructions_in entries) reference root ≡ None
       → other_holder_in (instructions_in others) reference root ≡ None
 
-busted-by :
-    (split : Split) (entries : List Entry) (found : Option ExecKey) → Spares split entries → RootStays split found
-    → option_and_then (bust_in (links_in (filter split.stays entries))) found ≡ option_and_then (bust_in (links_in entries)) found
-busted-by split entries None spares stays = refl
-busted-by split entries (Some root) spares stays = bust-spared split entries root spares stays
-
 taker-spared : (split : Split) (entries : List Entry) (key : ExecKey) → taker_in (links_in entries) key ≡ None → taker_in (links_in (filter split.stays entries)) key ≡ None
 taker-spared split entries key fresh =
     ap (λ links. taker_in links key) (links-split split entries)
-    ∙ mapped-none (λ link. link.number) _ (unfound-among (takes_up key) (takes_up key) (link_stays split) (links_in entries) (λ link stays is. is) (unmapped (λ link. link.number) _ fresh))
+    ∙ mapped-none (λ link. link.number) _ (unfound-among (takes_up key) (takes_up key) split.keeps (links_in entries) (λ link stays is. is) (unmapped (λ link. link.number) _ fresh))
 
 pub answers : (split : Split) (entries : List Entry) → Spares split entries → Answers split entries (filter split.stays entries)
 answers split entries spares =
@@ -110,7 +104,7 @@ answers split entries spares =
       root = roots-spared split entries spares;
       bust = λ key stays none.
           ap (option_and_then (bust_in (links_in others))) (roots-spared split entries spares key stays)
-          ∙ busted-by split entries (root_in (links_in entries) key) spares (root-known split entries key (root_in (links_in entries) key) spares refl stays) ∙ none;
+          ∙ then-none (bust_in (links_in entries)) (bust_in (links_in others)) (root_in (links_in entries) key) (λ root unbusted. unbusted-spared split entries root spares unbusted) none;
       fill = λ key stays. fill-spared split entries key spares stays;
       alloc_taker = λ key fresh. ap (λ is. alloc_taker_in is key) same ∙ taker-stays split all key fresh;
       allocation = λ key stays. ap (λ is. is_allocation_in is key) same ∙ allocation-stays split all key stays;
@@ -154,7 +148,6 @@ repeated-same :
     → repeated_in others before keys ≡ repeated_in links before keys
 repeated-same links others before [] earlier later = refl
 repeated-same links others before (key ∷ keys) earlier later =
-    let SameRoot = λ (k : ExecKey). root_in others k ≡ root_in links k in
     let here : root_in others key ≡ root_in links key = All-head (λ k. root_in others k ≡ root_in links k) key keys later in
     let test : list_any (same_chain others key) before ≡ list_any (same_chain links key) before =
     any-agree (same_chain others key) (same_chain links key) before

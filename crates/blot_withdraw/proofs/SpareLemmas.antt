@@ -12,7 +12,7 @@ use Rattle.blot_types.specs.Legal.{is_above, rises_in, refusal_in, legal_in}
 use Rattle.blot_types.specs.Survivors.{link_of, links_in}
 use Rattle.blot_types.proofs.ChainLemmas.{none_is, accepted_key}
 use Rattle.blot_types.proofs.EntryLemmas.{refusal-link, chained-links}
-use Rattle.blot_withdraw.proofs.ChainStayLemmas.{SameRoots, knows-earlier, root-stays, bust-stays, current-stays}
+use Rattle.blot_withdraw.proofs.ChainStayLemmas.{SameRoots, GoWhole, knows-earlier, root-stays, unbusted-stays, bust-stays, current-stays}
 use Rattle.blot_withdraw.proofs.Split.{Split, IsFree, Knows, links-split}
 
 -- nobody needs what goes of these entries, which are legal
@@ -57,11 +57,17 @@ pub roots-spared : (split : Split) (entries : List Entry) → Spares split entri
 roots-spared split entries spares key stays =
     ap (λ links. root_in links key) (links-split split entries) ∙ root-stays split (links_in entries) (chained-links entries spares.legal) spares.knows key stays
 
+pub unbusted-spared :
+    (split : Split) (entries : List Entry) (root : ExecKey) → Spares split entries → bust_in (links_in entries) root ≡ None
+    → bust_in (links_in (filter split.stays entries)) root ≡ None
+unbusted-spared split entries root spares none =
+    ap (λ links. bust_in links root) (links-split split entries) ∙ unbusted-stays split (links_in entries) root (chained-links entries spares.legal) spares.knows none
+
 pub bust-spared :
-    (split : Split) (entries : List Entry) (root : ExecKey) → Spares split entries → split.goes (Some root) ≡ false
+    (split : Split) (entries : List Entry) (root : ExecKey) → Spares split entries → GoWhole split → split.goes (Some root) ≡ false
     → bust_in (links_in (filter split.stays entries)) root ≡ bust_in (links_in entries) root
-bust-spared split entries root spares stays =
-    ap (λ links. bust_in links root) (links-split split entries) ∙ bust-stays split (links_in entries) root (chained-links entries spares.legal) spares.knows stays
+bust-spared split entries root spares whole stays =
+    ap (λ links. bust_in links root) (links-split split entries) ∙ bust-stays split (links_in entries) root (chained-links entries spares.legal) spares.knows whole stays
 
 pub current-spared :
     (split : Split) (entries : List Entry) (root : ExecKey) → Spares split entries → split.goes (Some root) ≡ false
