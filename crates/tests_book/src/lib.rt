@@ -9,6 +9,8 @@ mod chains;
 #[cfg(test)]
 mod desk;
 #[cfg(test)]
+mod erasure;
+#[cfg(test)]
 mod fixtures;
 #[cfg(test)]
 mod generated;
