@@ -6,7 +6,7 @@ use Rattle.std.specs.List.{list_all}
 abbrev pub printable : ℕ → Bool
 printable byte = nat_le 0x20 byte && nat_le byte 0x7E
 
--- a text: 1 to 64 printable bytes (own profile; FIX 4.4 sets no limit)
+-- a text: 1 to 64 printable bytes (this project's rule; FIX 4.4 sets no limit)
 abbrev pub is_text : List ℕ → Bool
 is_text bytes = nat_le 1 (length bytes) && nat_le (length bytes) 64 && list_all printable bytes
 

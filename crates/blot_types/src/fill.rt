@@ -5,7 +5,7 @@ use blot_decimal::{Price, Qty, QtySum};
 use blot_time::Day;
 
 /// Whether an execution adds to a position or takes from it: sides 1 and 3 buy, 2, 4, 5 and 6 sell.
-/// FIX 4.4 volume 4, Side(54); the grouping is own profile.
+/// FIX 4.4 volume 4, Side(54); the grouping is this project's rule.
 #[derive(Clone, Copy, Debug, PartialEq, Eq)]
 pub enum Sign {
     Buy,
