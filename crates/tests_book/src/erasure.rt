@@ -259,6 +259,7 @@ fn expect_position(
     alloc: Global,
     list: &[Entry],
     rest: &[Entry],
+    tables: &Tables,
     account: &[u8],
     symbol: &[u8],
 ) -> Result<(), Fail>
@@ -267,7 +268,9 @@ fn expect_position(
 {
     let (account, symbol) = (text(account)?, text(symbol)?);
     let line = position_of(alloc, list, &account, &symbol)?;
-    if position_of(alloc, rest, &account, &symbol)? != line {
+    if position_of(alloc, rest, &account, &symbol)? != line
+        || tables.position(&account, &symbol) != line
+    {
         return Err(Fail::new(format_args!("another position of {account:?}")));
     }
     Ok(())
@@ -286,8 +289,8 @@ fn expect_rest(alloc: Global, list: &[Entry], key: &ExecKey, tables: &Tables) ->
         expect_order(alloc, list, &rest, tables, id)?;
     }
     for account in [b"*".as_slice(), b"A1", b"B", b"C"] {
-        expect_position(alloc, list, &rest, account, b"XYZ")?;
-        expect_position(alloc, list, &rest, account, b"ABC")?;
+        expect_position(alloc, list, &rest, tables, account, b"XYZ")?;
+        expect_position(alloc, list, &rest, tables, account, b"ABC")?;
     }
     Ok(())
 }
