@@ -21,12 +21,11 @@ pub fn erase_check(alloc: Global, list: &[Entry], key: ExecKey) -> Result<Tables
     ensures allowed { OnOk result (erase_fault list.now key ≡ None) }
     ensures rest { IfOk result (λ tables. tables.list ≡ without_chain_of list.now key) }
     ensures book { IfOk result (λ tables. IsTrue (is_book tables.list)) }
+    ensures fault { IfErr result (λ fault. IsEraseFault list.now key fault) }
 
     // As if the chain had never come: the lines of all orders and positions are those of the whole list.
     ensures orders { IfOk result (λ tables. (order : OrderKey) → order_of tables.list order ≡ order_of list.now order) }
     ensures positions { IfOk result (λ tables. (account symbol : List ℕ) → position_of tables.list account symbol ≡ position_of list.now account symbol) }
-
-    ensures fault { IfErr result (λ fault. IsEraseFault list.now key fault) }
 {
     let Some(root) = root_of(list, &key) else {
         return Err(EraseFault::UnknownExec);
