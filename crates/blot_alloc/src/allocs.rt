@@ -41,9 +41,9 @@ impl Allocs {
         }
     }
 
-    /// Adds an AllocNew, whose allocation names the chains of these roots. Its key is new, its number above
-    /// those there, and no live allocation names one of the chains. Out of memory is the only error, and then
-    /// nothing has changed. FIX 4.4 volume 5, AllocTransType(71).
+    /// Adds an AllocNew, whose allocation names the chains of these roots, none of them twice. Its key is new,
+    /// its number above those there, and no live allocation names one of the chains. Out of memory is the only
+    /// error, and then nothing has changed. FIX 4.4 volume 5, AllocTransType(71).
     pub fn admit(
         &mut self,
         number: u64,
@@ -59,7 +59,7 @@ impl Allocs {
     }
 
     /// Adds an AllocReplace, whose allocation takes the place of the reference's and names the chains of these
-    /// roots. Its key is new, its number above those there, the reference's allocation is live, and no live
+    /// roots, none of them twice. Its key is new, its number above those there, the reference's allocation is live, and no live
     /// allocation but that names one of the chains. Out of memory is the only error, and then nothing has
     /// changed. FIX 4.4 volume 5, RefAllocID(72).
     pub fn replace(

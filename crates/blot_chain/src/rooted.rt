@@ -13,7 +13,7 @@ pub(crate) struct Rooted {
 }
 
 impl Rooted {
-    /// The root of the link's own key. The key of a Bust has none.
+    // The root of the link's own key. The key of a Bust has none.
     fn own_root(&self) -> Option<ExecKey>
         ensures { result ≡ kept_root self.now }
     {
@@ -23,7 +23,7 @@ impl Rooted {
         }
     }
 
-    /// Whether the link brings a version to the chain of this root.
+    // Whether the link brings a version to the chain of this root.
     fn is_version_of(&self, root: &ExecKey) -> bool
         ensures { result ≡ is_version_of root.now self.now }
     {
@@ -33,7 +33,7 @@ impl Rooted {
         }
     }
 
-    /// Whether the link busts the chain of this root.
+    // Whether the link busts the chain of this root.
     fn is_bust_of(&self, root: &ExecKey) -> bool
         ensures { result ≡ is_bust_of root.now self.now }
     {
@@ -44,7 +44,7 @@ impl Rooted {
     }
 }
 
-/// The newest link that takes up a key.
+// The newest link that takes up a key.
 fn newest_of<'a>(links: &'a [Rooted], key: &ExecKey) -> Option<&'a Rooted>
     ensures { option_copied result ≡ find (has_key key.now) (reverse links.now) }
 {

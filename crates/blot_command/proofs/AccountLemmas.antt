@@ -1,7 +1,7 @@
 -- The positions of the live list with one entry more, and with one less.
-use Rattle.std.proofs.Common.{◌≡◌, ℕ, ◌+◌, ◌*◌, ◌^◌, ◌≤◌, ◌==◌, pos, ◌+ℤ◌, ◌≤ℤ◌, arith, Bool, true, false, List, [], ◌∷◌, ◌++◌, length, map, reverse, Option, Some, None, refl, sym, ap, subst, ◌∙◌, inl, inr}
-use Rattle.std.specs.Prelude.{ℤ, filter, find, is_none, is_some, not, All, IfSome}
-use Rattle.std.specs.List.{cons_option, filter_map, flat_map, last_or}
+use Rattle.std.proofs.Common.{◌≡◌, ℕ, ◌+◌, ◌^◌, ◌≤◌, ◌==◌, ◌+ℤ◌, arith, Bool, true, false, List, [], ◌∷◌, ◌++◌, length, map, reverse, Option, Some, None, refl, sym, ap, subst, ◌∙◌, inl, inr}
+use Rattle.std.specs.Prelude.{ℤ, filter, find, is_none, not, All, IfSome}
+use Rattle.std.specs.List.{cons_option, filter_map, last_or}
 use Rattle.std.specs.Option.{option_map, option_and_then, option_or}
 use Rattle.std.proofs.lemmas.Bool.{cases_Bool, and_parts}
 use Rattle.std.proofs.lemmas.Int.{ints}
@@ -25,14 +25,14 @@ use Rattle.blot_types.specs.declared.TheConstants.{EVENTS_MAX}
 use Rattle.blot_types.specs.Allocations.{Allocation, allocation_of, roots_of_terms, instruction_by, instructions_of, live_allocations}
 use Rattle.blot_types.specs.Chains.{replaced_by}
 use Rattle.blot_types.specs.Instructions.{is_keyed, alloc_taker_in, ended_in, is_reference, reference_of}
-use Rattle.blot_types.specs.Legal.{is_book, is_numbered, is_legal}
+use Rattle.blot_types.specs.Legal.{is_book}
 use Rattle.blot_types.specs.Order.{total}
-use Rattle.blot_types.specs.Position.{house, account_of, is_named, part_of_fill, part_of, parts_of, moves_of}
+use Rattle.blot_types.specs.Position.{house, account_of, is_named, part_of, parts_of}
 use Rattle.blot_types.specs.Refusals.{alloc_reference}
 use Rattle.blot_types.specs.Survivors.{link_by, link_of, links_in, links_of, version_by, version_of, versions_of, stands_in, survivors}
 use Rattle.blot_types.proofs.AcceptLemmas.{accepted-instruction, instructions_of-push}
 use Rattle.blot_types.proofs.BookedLemmas.{books_blocks}
-use Rattle.blot_types.proofs.BringLemmas.{Brings, BringsIf, named_beside, live_beside, ended-brings, brought-brings, found-All}
+use Rattle.blot_types.proofs.BringLemmas.{BringsIf, named_beside, live_beside, ended-brings, brought-brings, found-All}
 use Rattle.blot_types.proofs.ChainLemmas.{clash}
 use Rattle.blot_types.proofs.ChangeLemmas.{is_named_root, allocations_in, allocations-push, total-parts, replaced_version, amount, LinkMoves, link-moves, link_alone}
 use Rattle.blot_types.proofs.EntryLemmas.{links_of-push}
@@ -41,15 +41,14 @@ use Rattle.blot_types.proofs.KeyLemmas.{same_alloc-true}
 use Rattle.blot_types.proofs.LegalLemmas.{length_numbered}
 use Rattle.blot_types.proofs.LiveLemmas.{has_alloc_key}
 use Rattle.blot_types.proofs.PartLemmas.{parts_under}
-use Rattle.blot_types.proofs.SumLemmas.{total-cons}
 use Rattle.blot_types.proofs.SurvivorLemmas.{without}
-use Rattle.blot_position.specs.Positions.{Cells, sums_at, has_cell}
+use Rattle.blot_position.specs.Positions.{Cells, has_cell}
 use Rattle.blot_command.specs.Booking.{Change, put_in, taken_out, changed_all, CanChangeAll, rebooked, allocated, released}
 use Rattle.blot_command.specs.Carried.{Carries, Opens, HasFillCells, HasTermsCells, HasEntryCells, EntryFits, FillFits, TermsFit, IsReady, ShowsPositions}
 use Rattle.blot_command.specs.Shown.{version_numbered}
 use Rattle.blot_command.specs.Sizes.{IsSmall}
 use Rattle.blot_command.proofs.CarryLemmas.{Whole, SameWhole, IsCount, Carries-same, Carries-cells, Light, Light-same, IsLightEnough, one_at}
-use Rattle.blot_command.proofs.HouseLemmas.{beside, IsBooked, booked-stays, count-under, relight}
+use Rattle.blot_command.proofs.HouseLemmas.{beside, count-under, relight}
 use Rattle.blot_command.proofs.LiveLemmas.{IsNextEntry, next-entry}
 use Rattle.blot_command.proofs.MoveLemmas.{COUNT_MAX, QTY_MAX, light_enough, AreFew, always-light, IsStocked, terms-stay, stocked-stays, CarriesBeside, goes, comes}
 use Rattle.blot_command.proofs.ReachLemmas.{Reaches, reach-append, reach-same, reach-put, reach-take, sizes, stays, one_low, AreMade}

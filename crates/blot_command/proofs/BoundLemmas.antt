@@ -1,5 +1,5 @@
 -- No total of an order or a position of a book reaches 10^38.
-use Rattle.std.proofs.Common.{◌≡◌, ℕ, ◌+◌, ◌*◌, ◌^◌, ◌≤◌, pos, ◌+ℤ◌, ◌*ℤ◌, arith, List, [], ◌∷◌, length, map, Option, Some, None, refl, sym, subst, ◌∙◌, true}
+use Rattle.std.proofs.Common.{◌≡◌, ◌+◌, ◌*◌, ◌^◌, ◌≤◌, pos, ◌*ℤ◌, arith, List, [], ◌∷◌, length, map, Option, Some, None, refl, sym, subst, true}
 use Rattle.std.specs.Prelude.{ℤ, unsigned_abs, filter, All, IfSome}
 use Rattle.std.specs.List.{last_or}
 use Rattle.std.specs.Option.{option_map}
@@ -10,7 +10,6 @@ use Rattle.blot_types.specs.declared.command.Entry.{Entry}
 use Rattle.blot_types.specs.declared.fill.Fill.{Fill}
 use Rattle.blot_types.specs.declared.fill.Sign.{Sign}
 use Rattle.blot_types.specs.declared.fill.Sign.TheVariants.{Buy, Sell}
-use Rattle.blot_types.specs.declared.keys.OrderKey.{OrderKey}
 use Rattle.blot_types.specs.declared.lines.OrderLine.{OrderLine}
 use Rattle.blot_types.specs.declared.lines.Part.{Part}
 use Rattle.blot_types.specs.declared.lines.Version.{Version}
@@ -18,8 +17,8 @@ use Rattle.blot_types.specs.declared.TheConstants.{EVENTS_MAX}
 use Rattle.blot_types.specs.Keys.{same_order}
 use Rattle.blot_types.specs.Laws.{IsBounded, HasBoundedTotals}
 use Rattle.blot_types.specs.Legal.{is_book}
-use Rattle.blot_types.specs.Order.{total, cum_of, value_of, line_by, line_of, fills_of, order_of}
-use Rattle.blot_types.specs.Position.{signed, is_at, position_by, position_of, parts_of}
+use Rattle.blot_types.specs.Order.{total, cum_of, value_of, line_by, line_of, fills_of}
+use Rattle.blot_types.specs.Position.{signed, is_at, position_by, parts_of}
 use Rattle.blot_types.specs.Survivors.{links_of, versions_of, stands_in, survivors}
 use Rattle.blot_types.proofs.SumLemmas.{total-cons, total-where}
 use Rattle.blot_position.specs.Positions.{Cells}

@@ -1,34 +1,31 @@
 -- An allocation's changes to what the cells carry, as it comes and as it goes.
-use Rattle.std.proofs.Common.{◌≡◌, ℕ, ◌+◌, ◌*◌, ◌^◌, ◌≤◌, pos, ◌+ℤ◌, ◌≤ℤ◌, arith, Bool, true, false, ◌&&◌, List, [], ◌∷◌, ◌++◌, length, map, Option, Some, None, refl, sym, ap, subst, ◌∙◌, inl, inr}
-use Rattle.std.specs.Prelude.{ℤ, unsigned_abs, ◌||◌, not, filter, find, All, IsTrue}
+use Rattle.std.proofs.Common.{◌≡◌, ℕ, ◌+◌, ◌*◌, ◌^◌, ◌≤◌, ◌+ℤ◌, arith, Bool, true, false, ◌&&◌, List, [], ◌∷◌, ◌++◌, length, Option, Some, None, refl, sym, ap, subst, ◌∙◌}
+use Rattle.std.specs.Prelude.{ℤ, ◌||◌, not, All}
 use Rattle.std.specs.List.{flat_map}
 use Rattle.std.specs.Option.{option_map}
-use Rattle.std.proofs.lemmas.Bool.{cases_Bool, and_parts}
 use Rattle.std.proofs.lemmas.Int.{ints}
-use Rattle.std.proofs.lemmas.List.Elements.{All-nil, All-cons, All-head, All-tail, All-weaker, All-filter}
+use Rattle.std.proofs.lemmas.List.Elements.{All-nil, All-cons, All-head, All-tail, All-weaker}
 use Rattle.blot_types.specs.declared.allocation.Line.{Line}
 use Rattle.blot_types.specs.declared.allocation.Terms.{Terms}
 use Rattle.blot_types.specs.declared.command.Entry.{Entry}
 use Rattle.blot_types.specs.declared.keys.AllocKey.{AllocKey}
 use Rattle.blot_types.specs.declared.keys.ExecKey.{ExecKey}
 use Rattle.blot_types.specs.declared.lines.Part.{Part}
-use Rattle.blot_types.specs.declared.lines.Version.{Version}
 use Rattle.blot_types.specs.declared.TheConstants.{EVENTS_MAX}
-use Rattle.blot_types.specs.Allocations.{Allocation, live_allocations}
+use Rattle.blot_types.specs.Allocations.{Allocation}
 use Rattle.blot_types.specs.Keys.{is_among}
 use Rattle.blot_types.specs.Order.{total}
 use Rattle.blot_types.specs.Position.{house, moves_of, moves_of_line, part_of_line, from_house}
-use Rattle.blot_types.specs.Survivors.{links_of, versions_of, survivors}
-use Rattle.blot_types.proofs.BringLemmas.{lines_of, Brings, BringsNothing, BringsIf, each-root, among-root, found-All}
+use Rattle.blot_types.specs.Survivors.{links_of, survivors}
+use Rattle.blot_types.proofs.BringLemmas.{lines_of, BringsIf, each-root, among-root, found-All}
 use Rattle.blot_types.proofs.ChangeLemmas.{allocations_in}
 use Rattle.blot_types.proofs.LiveLemmas.{has_alloc_key}
 use Rattle.blot_types.proofs.PartLemmas.{parts_under}
-use Rattle.blot_types.proofs.StandLemmas.{and-true, and-false}
+use Rattle.blot_types.proofs.StandLemmas.{and-true}
 use Rattle.blot_position.specs.Positions.{Cells, has_cell}
-use Rattle.blot_command.specs.Booking.{Change, put_in, taken_out, changed_all, lines_put, lines_taken, chains_to_house, chains_from_house, allocated, allocated_by, released, released_by}
+use Rattle.blot_command.specs.Booking.{Change, changed_all, lines_put, lines_taken, chains_to_house, chains_from_house, allocated, allocated_by, released, released_by}
 use Rattle.blot_command.specs.Carried.{Carries, HasTermsCells, FillFits}
-use Rattle.blot_command.specs.Sizes.{IsSmall}
-use Rattle.blot_command.proofs.CarryLemmas.{Whole, SameWhole, IsCount, Carries-same, Light, Light-same, IsLightEnough}
+use Rattle.blot_command.proofs.CarryLemmas.{Whole, SameWhole, IsCount, Carries-same, Light-same, IsLightEnough}
 use Rattle.blot_command.proofs.HouseLemmas.{beside, IsBooked, booked-stays, AlwaysLight, Light-weaker, relight, with_roots, without_roots, reach-house, reach-home}
 use Rattle.blot_command.proofs.ReachLemmas.{Reaches, reach-append, reach-same, reach-nothing, reach-put, reach-take, sizes, stays, AreMade}
 use Rattle.blot_command.proofs.WeightLemmas.{AllBooked, AreBooked, moves_whole, Light-both, Light-moves, Light-under}

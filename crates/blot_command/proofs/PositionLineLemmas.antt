@@ -1,6 +1,6 @@
 -- The line of a position is that of the sums that its cell holds.
-use Rattle.std.proofs.Common.{◌≡◌, ℕ, ◌+◌, ◌==◌, pos, ◌+ℤ◌, arith, Bool, true, false, List, [], ◌∷◌, length, Some, None, refl, sym, ap, subst, ◌∙◌}
-use Rattle.std.specs.Prelude.{ℤ, filter, if◌then◌else◌, All}
+use Rattle.std.proofs.Common.{◌≡◌, ℕ, ◌==◌, pos, arith, false, List, [], ◌∷◌, length, Some, refl, sym, ap, subst, ◌∙◌}
+use Rattle.std.specs.Prelude.{filter}
 use Rattle.std.proofs.lemmas.Bool.{ne_eqb, eq-eqb}
 use Rattle.std.proofs.lemmas.Int.{ints}
 use Rattle.std.proofs.lemmas.List.Elements.{All-nil}
@@ -14,7 +14,7 @@ use Rattle.blot_types.specs.Position.{is_at, position_by, position_of, parts_of}
 use Rattle.blot_types.proofs.SumLemmas.{total-cons, total-where}
 use Rattle.blot_position.specs.declared.sums.Sums.{Sums}
 use Rattle.blot_position.specs.Positions.{Cells, sums_at}
-use Rattle.blot_position.specs.Sums.{no_parts, line_by}
+use Rattle.blot_position.specs.Sums.{line_by}
 use Rattle.blot_position.proofs.PositionLemmas.{sums_at-empty}
 use Rattle.blot_command.specs.Carried.{HasFillCells, HasTermsCells, FillFits, TermsFit, ShowsPositions}
 

@@ -198,6 +198,7 @@ fn open_terms(positions: &mut Positions, terms: &Terms) -> Result<(), NoMemory>
     ensures made { OnOk result (HasTermsCells positions.new terms.now) }
     ensures fits { OnOk result (TermsFit terms.now) }
 {
+    // The range of a quantity is known once its units are read.
     let _block = terms.block.units();
     for line in terms.lines.as_slice() {
         let part = part_of_line(terms, line);

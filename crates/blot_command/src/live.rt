@@ -3,7 +3,7 @@ ghost use Rattle.std.specs.Prelude.{◌≡◌, ◌<◌, [], ◌∷◌, ◌++◌,
 ghost use Rattle.std.specs.List.{last_or};
 ghost use Rattle.std.specs.Option.{option_map, option_and_then, option_copied};
 ghost use Rattle.blot_types.specs.Allocations.{instructions_of};
-ghost use Rattle.blot_types.specs.Chains.{root_in, current_in, replaced_by};
+ghost use Rattle.blot_types.specs.Chains.{replaced_by};
 ghost use Rattle.blot_types.specs.Instructions.{is_keyed};
 ghost use Rattle.blot_types.specs.Legal.{is_book, refusal_of};
 ghost use Rattle.blot_types.specs.Position.{is_named};
@@ -13,7 +13,7 @@ ghost use Rattle.blot_command.specs.Book.{has_number};
 ghost use Rattle.blot_command.specs.Shown.{version_numbered, terms_of_key, terms_keyed, roots_keyed};
 
 use crate::linking::{link_entry, unlink_entry};
-use crate::refusal::{refusal, version_numbered};
+use crate::refusal::{current_version, refusal, version_numbered};
 use blot_alloc::Allocs;
 use blot_chain::Chains;
 use blot_types::{AllocKey, Command, Entry, ExecKey, Link, Refused, Role, Terms, Version};
@@ -100,18 +100,11 @@ impl LiveList {
             None => None,
             Some(link) => match link.role {
                 Role::Begins => None,
-                Role::Corrects(reference) | Role::Busts(reference) => self.current(&reference),
+                Role::Corrects(reference) | Role::Busts(reference) => {
+                    current_version(&self.entries, &self.chains, &reference)
+                }
             },
         }
-    }
-
-    // The last version of the chain of a reference.
-    fn current(&self, reference: &ExecKey) -> Option<Version>
-        ensures { result ≡ option_and_then (version_numbered self.now) (option_and_then (current_in (links_of self.now)) (root_in (links_of self.now) reference.now)) }
-    {
-        let root = self.chains.root_of(reference)?;
-        let number = self.chains.current(&root)?;
-        version_numbered(&self.entries, number)
     }
 
     /// The version that stands of the chain of a root: the last one, where the chain isn't busted.

@@ -271,8 +271,8 @@ fn current_fill(entries: &[Entry], chains: &Chains, key: &ExecKey) -> Option<Fil
     }
 }
 
-// The last version of the chain of a key.
-fn current_version(entries: &[Entry], chains: &Chains, key: &ExecKey) -> Option<Version>
+/// The last version of the chain of a key.
+pub(crate) fn current_version(entries: &[Entry], chains: &Chains, key: &ExecKey) -> Option<Version>
     requires { chains.now ≡ links_of entries.now }
     ensures { result ≡ option_and_then (version_numbered entries.now) (option_and_then (current_in (links_of entries.now)) (root_in (links_of entries.now) key.now)) }
 {

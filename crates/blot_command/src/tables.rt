@@ -59,9 +59,11 @@ impl Tables {
     /// and no line of a live allocation adds to it.
     pub fn position(&self, account: &Text64, symbol: &Text64) -> Option<PositionLine>
         ensures line { result ≡ position_of self.now.list account.now symbol.now }
+        ensures book { IsTrue (is_book self.now.list) }
+
+        // Over all accounts the positions of a symbol add up to the executions that stand; no total reaches 10^38.
         ensures conserving { IsConserving self.now.list }
         ensures bounded { HasBoundedTotals self.now.list }
-        ensures book { IsTrue (is_book self.now.list) }
     {
         self.accounts.position(account, symbol)
     }

@@ -9,20 +9,21 @@ use crate::bytes::{CHECK_SUM_LENGTH, SOH};
 /// What begins a frame.
 pub(crate) const HEAD: &[u8] = b"8=FIX.4.4\x019=";
 
-// BodyLength's bounds, and how many digits may write it. This project's rule.
+// The shortest body: MsgType alone, with a value of one byte.
 const SIZE_MIN: usize = 5;
 
-/// The longest body.
+/// The longest body. This project's rule.
 pub(crate) const SIZE_MAX: usize = 65_536;
 
+// The most digits of BodyLength. This project's rule.
 const DIGITS_MAX: usize = 6;
 
 /// Why a text doesn't begin with a frame.
 #[derive(Clone, Copy)]
 pub(crate) enum Miss {
-    // It is a proper prefix of one.
+    /// It is a proper prefix of one.
     Partial,
-    // No frame begins with it.
+    /// No frame begins with it.
     Neither,
 }
 

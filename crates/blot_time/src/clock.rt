@@ -8,9 +8,10 @@ use crate::digits::{are_digits, has_shape, number_of, three_digits, two_digits};
 /// The milliseconds of a day.
 pub(crate) const DAY_MILLIS: u32 = 86_400_000;
 
-// How many digits a fraction of a second has at least, and at most. This project's rule.
+// The fewest digits of a fraction of a second. This project's rule.
 const FRACTION_MIN: usize = 3;
 
+// The most digits of a fraction of a second. This project's rule.
 const FRACTION_MAX: usize = 9;
 
 /// The milliseconds since midnight that `-HH:MM:SS` names, with a fraction or without.

@@ -9,9 +9,10 @@ use std::marker::Model;
 // The milliseconds of a day, to divide those of a moment by.
 const DAY: i64 = DAY_MILLIS as i64;
 
-// 0000-01-01 at 00:00:00.000 and 9999-12-31 at 23:59:59.999.
+// 0000-01-01 at 00:00:00.000.
 const FIRST: i64 = -62_167_219_200_000;
 
+// 9999-12-31 at 23:59:59.999.
 const LAST: i64 = 253_402_300_799_999;
 
 /// A moment in UTC, from 0000-01-01 to 9999-12-31, by its milliseconds since 1970.

@@ -1,4 +1,4 @@
-//! The line of an order as its fills come.
+//! How the line of an order grows, a fill at a time. What a line is stands in `lines`.
 ghost use Rattle.std.specs.Prelude.{◌≡◌, ℕ, ◌+◌, ◌^◌, pos, neg_ℤ, ◌+ℤ◌, ◌-ℤ◌, ◌*ℤ◌, ◌≤ℤ◌, Some};
 ghost use Rattle.std.specs.Int.{int_max};
 ghost use Rattle.blot_types.specs.Order.{cum_before, value_before, with_fill, IsWithin};

@@ -18,7 +18,7 @@ use std::marker::Model;
 pub const TEXT_MAX: usize = 64;
 
 /// An identifier, an account or a symbol: 1 to 64 bytes from space to tilde, held in the value itself.
-/// Texts are equal, ordered and hashed by their bytes. Own profile.
+/// Texts are equal, ordered and hashed by their bytes. This project's rule; FIX 4.4 sets no limit.
 #[derive(Clone, Copy)]
 pub struct Text64 {
     buffer: [u8; TEXT_MAX],

@@ -4,7 +4,6 @@ ghost use Rattle.blot_command.specs.Undoable.{numbers_in};
 ghost use Rattle.blot_undo.specs.Book.{book_of, apply_of, undo_of, redo_of, rewound, past, newest_done, newest_undone};
 ghost use Rattle.blot_undo.specs.Laws.{LeadTo, GoesBack, RoundTrips};
 ghost use Rattle.blot_undo.specs.Faults.{IsFault};
-ghost use Rattle.blot_undo.specs.Laws.{LeadTo, GoesBack, RoundTrips};
 
 use crate::{Done, StepFault, Undone};
 use blot_command::Undoable;

@@ -18,7 +18,7 @@ use std::io::{Read, Write};
 /// The most reads of one input.
 pub const READS_MAX: u64 = 1 << 30;
 
-/// The bytes of one read.
+// The bytes of one read.
 const PIECE: usize = 65_536;
 
 /// Reads a capture to its end, and writes the order lines of the commands that the frames of the listed

@@ -25,6 +25,7 @@ pub fn command<'a>(alloc: Global) -> Result<Command<'a>, AllocError> {
         .subcommand(replay_command(alloc)?)
 }
 
+// The subcommand that replays a capture, with its options and its help.
 fn replay_command<'a>(alloc: Global) -> Result<Command<'a>, AllocError> {
     Command::new(alloc, REPLAY)
         .about("Reads a capture from standard input and prints a line for each order with a fill")
@@ -37,6 +38,7 @@ fn replay_command<'a>(alloc: Global) -> Result<Command<'a>, AllocError> {
         .arg(peer_words(alloc))
 }
 
+// The option with one's own CompID.
 fn own_option<'a>(alloc: Global) -> Arg<'a> {
     Arg::new(alloc, OWN)
         .long(OWN)
@@ -45,7 +47,7 @@ fn own_option<'a>(alloc: Global) -> Arg<'a> {
         .help("Your own CompID: the TargetCompID(56) of what the brokers send you")
 }
 
-// `clap` itself tells what is wrong with most words that are no day; it refuses no word that is one.
+// The option with the trading day. `clap` itself tells what is wrong with most words that are no day; it refuses no word that is one.
 fn day_option<'a>(alloc: Global) -> Arg<'a> {
     Arg::new(alloc, DAY)
         .long(DAY)
@@ -55,6 +57,7 @@ fn day_option<'a>(alloc: Global) -> Arg<'a> {
         .help("The trading day, as 20240105 (for now orders of every day are printed)")
 }
 
+// The peers, one word each.
 fn peer_words<'a>(alloc: Global) -> Arg<'a> {
     Arg::new(alloc, PEER)
         .value_name("PEER")
@@ -63,6 +66,7 @@ fn peer_words<'a>(alloc: Global) -> Arg<'a> {
         .help("The CompID of each broker to read, once: the SenderCompID(49) of what it sends you")
 }
 
+// What `replay --help` begins with.
 const ABOUT_REPLAY: &str = "\
 Reads a capture from standard input and, at its end, prints a line for each order with a fill.
 
@@ -73,10 +77,12 @@ and changes no order's line. A capture is the bytes that came in, message behind
 broker or of several. Bytes that are no whole message with the right BodyLength and CheckSum are
 passed over, and so are the messages of brokers that aren't named.";
 
+// What `replay -h` ends with.
 const EXAMPLE: &str = "\
 Example:
   blotter replay --own MO --day 20240105 BRKA < examples/first_trade.fix";
 
+// What `replay --help` ends with.
 const AFTER_REPLAY: &str = "\
 A line has these words, with a tab between two, and lines are sorted by broker and then OrderID:
   order PEER ORDERID SYMBOL SIDE FILLED LEFT VALUE

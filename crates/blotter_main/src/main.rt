@@ -14,6 +14,7 @@ mod words;
 use running::run;
 use std::process::ExitCode;
 
+// Runs the program over the streams of its process.
 fn main(rt: HostRuntime) -> ExitCode {
     let mut input = rt.stdin();
     let mut output = rt.stdout();

@@ -11,9 +11,9 @@ mod chains;
 #[cfg(test)]
 mod desk;
 #[cfg(test)]
-mod desk_runs;
-#[cfg(test)]
 mod draws;
+#[cfg(test)]
+mod erasure;
 #[cfg(test)]
 mod fixtures;
 #[cfg(test)]

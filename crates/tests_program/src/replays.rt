@@ -10,14 +10,17 @@ use std::alloc::Global;
 use std::process::Abort;
 use std::test::Fail;
 
+// The Logon of the capture that is cut.
 const LOGON: &str = "35=A|49=BRKA|56=MO|34=1|52=20240105-09:59:59|98=0|108=30|";
 
+// The trade behind it.
 const TRADE: &str =
     "35=8|49=BRKA|56=MO|34=2|52=20240105-10:00:00|37=O1|17=E1|150=F|39=1|1=A1|55=XYZ|54=1|38=300|32=100|31=10.50|151=200|14=100|6=10.50|60=20240105-10:00:00|75=20240105|";
 
+// Its order's line, with `>` for a tab.
 const LINE: &str = "order>BRKA>O1>XYZ>B>100>200>1050\n";
 
-/// Captures, and the order lines of peers BRKA and BRKB, with `>` for a tab.
+// Captures, and the order lines of peers BRKA and BRKB, with `>` for a tab.
 const CAPTURES: [(&str, &str, &str); 11] = [
     ("an empty input", "", ""),
     (
@@ -79,10 +82,12 @@ const CAPTURES: [(&str, &str, &str); 11] = [
     ),
 ];
 
+// The text of these bytes.
 fn text(bytes: &[u8]) -> Result<Text64, Fail> {
     Ok(Text64::read(bytes).ok_or("no text")?)
 }
 
+// A reader of these bytes that fails at a read.
 fn source(rest: &[u8], first: usize, fails_at: u64) -> Source<'_> {
     Source {
         rest,
@@ -92,6 +97,7 @@ fn source(rest: &[u8], first: usize, fails_at: u64) -> Source<'_> {
     }
 }
 
+// A writer of so many bytes a write that fails at a write.
 fn sink(alloc: Global, most: usize, fails_at: u64) -> Sink {
     Sink {
         written: Vec::new(alloc),

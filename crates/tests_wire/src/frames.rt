@@ -6,6 +6,7 @@ use std::alloc::{AllocError as NoMemory, Global};
 use std::process::Abort;
 use std::test::Fail;
 
+// The heartbeat of a peer, made by hand, with `|` for SOH.
 const HEARTBEAT: &str = "8=FIX.4.4|9=45|35=0|49=BRKA|56=MO|34=2|52=20240105-10:00:00|10=179|";
 
 // Streams: behind the first `=>` the bytes, `|` for SOH; behind the second the fields of each frame up
@@ -265,6 +266,31 @@ fn a_frame_is_looked_at_and_left(rt: HostRuntime) -> Result<(), Fail> {
     expect_text(&rt, "three looks", shown.as_str(), wanted.as_str());
     let none = reader.peek()?.is_none();
     expect(&rt, "nothing behind the frame", none);
+    Ok(())
+}
+
+#[test]
+fn a_cut_frame_and_a_second_one_are_looked_at(rt: HostRuntime) -> Result<(), Fail> {
+    let alloc = rt.alloc();
+    let mut reader = Reader::new(alloc);
+    let stream = wire(alloc, HEARTBEAT)?;
+    let (front, back) = stream.split_at(stream.len() / 2);
+    reader.feed(front)?;
+    let none = reader.peek()?.is_none();
+    expect(&rt, "a cut frame", none);
+    reader.feed(back)?;
+    reader.feed(LIKE_A_TRAILER)?;
+    let mut shown = String::new(alloc);
+    push_fields(&mut shown, &reader.peek()?.ok_or("no frame to look at")?)?;
+    push_fields(&mut shown, &reader.next()?.ok_or("no frame")?)?;
+    let wanted = format!(in alloc; "{HEARTBEAT}{HEARTBEAT}")?;
+    expect_text(&rt, "the first frame", shown.as_str(), wanted.as_str());
+    let second = reader.peek()?.ok_or("no second frame")?;
+    expect(
+        &rt,
+        "the second frame's ten fields",
+        second.fields().count() == 10,
+    );
     Ok(())
 }
 

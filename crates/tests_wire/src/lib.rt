@@ -6,6 +6,8 @@ mod allocation_rows;
 #[cfg(test)]
 mod bodies;
 #[cfg(test)]
+mod callers;
+#[cfg(test)]
 mod decimals;
 #[cfg(test)]
 mod expect;

@@ -1,12 +1,13 @@
 //! Messages in the making: the frames that they become, and what they refuse.
 
+use crate::callers::first_value;
 use crate::expect::{expect, expect_bytes};
 use blot_tag::{FrameText, Reader, WriteFault};
 use std::alloc::Global;
 use std::test::Fail;
 
-// The heartbeat of a peer, made by hand.
-const HEARTBEAT: &[u8] =
+/// The heartbeat of a peer, made by hand.
+pub const HEARTBEAT: &[u8] =
     b"8=FIX.4.4\x019=45\x0135=0\x0149=BRKA\x0156=MO\x0134=2\x0152=20240105-10:00:00\x0110=179\x01";
 
 // A Logout whose data looks like a trailer.
@@ -66,25 +67,37 @@ fn fields_are_refused(rt: HostRuntime) -> Result<(), Fail> {
     Ok(())
 }
 
-// The longest message: a field 58 of 65,527 bytes.
-fn longest(alloc: Global) -> Result<Vec<u8>, Fail> {
-    let value = vec![in alloc; b'a'; 65_527]?;
+#[test]
+fn a_field_behind_a_refused_one(rt: HostRuntime) -> Result<(), Fail> {
+    let mut text = FrameText::new(rt.alloc(), b"0")?;
+    text.put(49, b"BRKA")?;
+    let soh = text.put(58, b"a\x01b") == Err(WriteFault::SohInValue);
+    expect(&rt, "an SOH in a value", soh);
+    text.put(56, b"MO")?;
+    text.put(34, b"2")?;
+    text.put(52, b"20240105-10:00:00")?;
+    expect_bytes(&rt, "the heartbeat", &text.finish()?, HEARTBEAT);
+    Ok(())
+}
+
+// The frame of a message of one field 58.
+fn frame_with(alloc: Global, value: &[u8]) -> Result<Vec<u8>, Fail> {
     let mut text = FrameText::new(alloc, b"0")?;
-    text.put(58, &value)?;
+    text.put(58, value)?;
     Ok(text.finish()?)
 }
 
 #[test]
 fn the_longest_message_is_a_frame(rt: HostRuntime) -> Result<(), Fail> {
-    let frame = longest(rt.alloc())?;
-    let front = frame.starts_with(b"8=FIX.4.4\x019=65536\x0135=0\x0158=a");
+    let value = vec![in rt.alloc(); b'a'; 65_527]?;
+    let bytes = frame_with(rt.alloc(), &value)?;
+    let front = bytes.starts_with(b"8=FIX.4.4\x019=65536\x0135=0\x0158=a");
     expect(&rt, "the front of the longest message", front);
     let mut reader = Reader::new(rt.alloc());
-    reader.feed(&frame)?;
-    let fields = match reader.next()? {
-        Some(frame) => frame.fields().count(),
-        None => 0,
-    };
-    expect(&rt, "the fields of the longest message", fields == 5);
+    reader.feed(&bytes)?;
+    let frame = reader.next()?.ok_or("no frame")?;
+    expect(&rt, "its five fields", frame.fields().count() == 5);
+    let whole = first_value(&frame, 58) == Some(value.as_slice());
+    expect(&rt, "the value of its field 58", whole);
     Ok(())
 }

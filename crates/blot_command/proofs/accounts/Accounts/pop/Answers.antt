@@ -1,5 +1,4 @@
 use Rattle.std.proofs.Common.{◌≡◌, refl, ap, ◌∙◌, sym}
-use Rattle.blot_types.specs.declared.command.Entry.{Entry}
 use Rattle.blot_types.specs.Legal.{is_book}
 use Rattle.blot_types.specs.Refusals.{alloc_reference}
 use Rattle.blot_types.specs.Survivors.{version_of}

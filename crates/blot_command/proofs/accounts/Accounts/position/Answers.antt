@@ -1,4 +1,4 @@
-use Rattle.std.proofs.Common.{ap, subst, sym, ◌∙◌}
+use Rattle.std.proofs.Common.{ap, subst, ◌∙◌}
 use Rattle.blot_types.specs.Laws.{HasBoundedTotals}
 use Rattle.blot_types.specs.Legal.{is_book}
 use Rattle.blot_types.specs.Position.{position_of}

@@ -1,4 +1,3 @@
-use Rattle.std.proofs.Common.{ap, ◌∙◌}
 use Rattle.blot_types.proofs.AllocationLawLemmas.{is_conserving}
 use Rattle.blot_command.proofs.tables.Tables.position.Goals as goal
 
