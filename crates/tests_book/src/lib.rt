@@ -11,6 +11,8 @@ mod chains;
 #[cfg(test)]
 mod desk;
 #[cfg(test)]
+mod desk_runs;
+#[cfg(test)]
 mod draws;
 #[cfg(test)]
 mod erasure;
