@@ -2,7 +2,8 @@
 
 use crate::bookings::{ALL_TO_A, BOTH, FIRST, SECOND};
 use crate::scripts::Answer::{
-    Accepted, DeadAlloc, DuplicateAlloc, ExecTaken, Quantity, UnknownAlloc, UnknownExec,
+    Accepted, DeadAlloc, DuplicateAlloc, DuplicateExec, ExecTaken, Instrument, Quantity,
+    RepeatedExec, UnknownAlloc, UnknownExec,
 };
 use crate::scripts::Said::{OtherSends, Sends};
 use crate::scripts::Watch::Position;
@@ -370,6 +371,71 @@ fn corrections_of_a_named_execution() -> &'static Script {
     &SCRIPT
 }
 
+// 100 of one chain, listed by its Trade and by its correction.
+const ONE_CHAIN_TWICE: Booked = Booked {
+    sign: Buy,
+    execs: &[b"E1", b"E3"],
+    block: b"200",
+    lines: &[[b"A", b"200", b"10"]],
+};
+
+// A buy of an execution that sells.
+const A_SELL_BOUGHT: Booked = Booked {
+    sign: Buy,
+    execs: &[b"E4"],
+    block: b"10",
+    lines: &[[b"A", b"10", b"10"]],
+};
+
+// What allocations are refused for, each with its value.
+fn refused() -> &'static Script {
+    static SCRIPT: Script = Script {
+        name: "refused",
+        watched: &[Position(b"A", b"XYZ"), Position(b"A1", b"XYZ")],
+        acts: &[
+            Act(
+                Sends(Trades(b"E1", Bought(b"100", b"10"))),
+                Accepted(1),
+                "-, 100 1000",
+            ),
+            Act(Sends(Allocates(b"AL1", FIRST)), Accepted(2), "60 600, -"),
+            Act(Sends(Allocates(b"AL2", FIRST)), ExecTaken(2), "60 600, -"),
+            Act(Sends(Cancels(b"C1", b"AL1")), Accepted(3), "-, 100 1000"),
+            Act(
+                Sends(Replaces(b"AL2", b"AL1", FIRST)),
+                DeadAlloc(3),
+                "-, 100 1000",
+            ),
+            Act(
+                Sends(Trades(b"E1", Bought(b"100", b"10"))),
+                DuplicateExec(1),
+                "-, 100 1000",
+            ),
+            Act(
+                Sends(Corrects(b"E3", b"E1", Bought(b"100", b"10"))),
+                Accepted(4),
+                "-, 100 1000",
+            ),
+            Act(
+                Sends(Allocates(b"AL2", ONE_CHAIN_TWICE)),
+                RepeatedExec(b"E3"),
+                "-, 100 1000",
+            ),
+            Act(
+                Sends(Trades(b"E4", Fills(b"A1", b"XYZ", Sell, b"10", b"10"))),
+                Accepted(5),
+                "-, 90 900",
+            ),
+            Act(
+                Sends(Allocates(b"AL2", A_SELL_BOUGHT)),
+                Instrument(b"E4"),
+                "-, 90 900",
+            ),
+        ],
+    };
+    &SCRIPT
+}
+
 // Executions and allocations of two peers under the same ids.
 fn two_peers() -> &'static Script {
     static SCRIPT: Script = Script {
@@ -452,6 +518,7 @@ fn allocations(rt: HostRuntime) -> Result<(), Fail> {
         replaced_and_cancelled(),
         executions_set_free(),
         corrections_of_a_named_execution(),
+        refused(),
         two_peers(),
     ] {
         play_back_and_forth(rt.alloc(), script)?;
