@@ -17,7 +17,7 @@ use Rattle.blot_fields.specs.declared.fault.Flaw.{Flaw}
 use Rattle.blot_fields.specs.declared.fault.Flaw.TheVariants.{ValueIncorrect, IncorrectDataFormat}
 use Rattle.blot_fields.specs.declared.admin.TheConstants.{HEARTBEAT_MAX}
 use Rattle.blot_fields.specs.declared.allocation.TheConstants.{ENTRIES_MAX}
-use Rattle.blot_fields.specs.declared.rows.TheConstants.{SEQUENCE_MAX}
+use Rattle.blot_fields.specs.declared.TheConstants.{SEQUENCE_MAX}
 
 -- 1 to 64 printable bytes
 unfoldable pub text_form : List ℕ → Result (List ℕ) Flaw

@@ -13,6 +13,7 @@ pub mod Index
 pub mod Tables
 pub mod Faults
 pub mod FaultText
+pub mod Numbers
 pub mod Decoding
 pub mod Commands
 pub mod Sender

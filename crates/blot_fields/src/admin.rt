@@ -1,10 +1,12 @@
 //! The messages of the session layer.
-ghost use Rattle.std.specs.Prelude.{◌≡◌};
+ghost use Rattle.std.specs.Prelude.{◌≡◌, IfOk};
+ghost use Rattle.blot_fields.specs.Numbers.{NamesNumber};
 ghost use Rattle.blot_fields.specs.Messages.{logon_of, test_request_of, resend_request_of, sequence_reset_of};
 
 use crate::fault::Wrong;
 use crate::index::FieldIndex;
-use crate::rows::{SEQUENCE_MAX, needed, number, optional, zero};
+use crate::SEQUENCE_MAX;
+use crate::rows::{needed, number, optional, zero};
 use blot_types::Text64;
 
 // A day, in seconds.
@@ -49,7 +51,8 @@ pub enum Admin {
 /// Reads a Logon.
 #[tactic(auto, unfolding(crate::specs::Messages::logon_of))]
 pub(crate) fn logon_of(fields: &FieldIndex) -> Result<Admin, Wrong>
-    ensures { result ≡ logon_of fields.now }
+    ensures value { result ≡ logon_of fields.now }
+    ensures range { IfOk result NamesNumber }
 {
     zero(fields, 98)?;
     let heartbeat = number(fields, 108, 0, HEARTBEAT_MAX)? as u32;
@@ -60,7 +63,8 @@ pub(crate) fn logon_of(fields: &FieldIndex) -> Result<Admin, Wrong>
 /// Reads a Test Request.
 #[tactic(auto, unfolding(crate::specs::Messages::test_request_of))]
 pub(crate) fn test_request_of(fields: &FieldIndex) -> Result<Admin, Wrong>
-    ensures { result ≡ test_request_of fields.now }
+    ensures value { result ≡ test_request_of fields.now }
+    ensures range { IfOk result NamesNumber }
 {
     let id = needed::<Text64>(fields, 112)?;
     Ok(Admin::TestRequest { id })
@@ -69,7 +73,8 @@ pub(crate) fn test_request_of(fields: &FieldIndex) -> Result<Admin, Wrong>
 /// Reads a Resend Request.
 #[tactic(auto, unfolding(crate::specs::Messages::resend_request_of))]
 pub(crate) fn resend_request_of(fields: &FieldIndex) -> Result<Admin, Wrong>
-    ensures { result ≡ resend_request_of fields.now }
+    ensures value { result ≡ resend_request_of fields.now }
+    ensures range { IfOk result NamesNumber }
 {
     let begin = number(fields, 7, 1, SEQUENCE_MAX)?;
     let end = number(fields, 16, 0, SEQUENCE_MAX)?;
@@ -79,7 +84,8 @@ pub(crate) fn resend_request_of(fields: &FieldIndex) -> Result<Admin, Wrong>
 /// Reads a Sequence Reset.
 #[tactic(auto, unfolding(crate::specs::Messages::sequence_reset_of))]
 pub(crate) fn sequence_reset_of(fields: &FieldIndex) -> Result<Admin, Wrong>
-    ensures { result ≡ sequence_reset_of fields.now }
+    ensures value { result ≡ sequence_reset_of fields.now }
+    ensures range { IfOk result NamesNumber }
 {
     let new_number = number(fields, 36, 1, SEQUENCE_MAX)?;
     let gap_fill = optional::<bool>(fields, 123)?.unwrap_or(false);

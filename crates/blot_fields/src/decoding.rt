@@ -1,10 +1,11 @@
 //! Reads whole messages.
-ghost use Rattle.std.specs.Prelude.{◌≡◌, ◌↔◌, Ok, Err, IsOk, IsOkAnd, IfErr, true, false};
+ghost use Rattle.std.specs.Prelude.{◌≡◌, ◌↔◌, Ok, Err, IsOk, IsOkAnd, IfOk, IfErr, true, false};
 ghost use Rattle.blot_tag.specs.Fields.{fields_of};
 ghost use Rattle.blot_tag.specs.Views.{text_of};
 ghost use Rattle.blot_fields.specs.Decoding.{IsAllocation, GivesBody, decoded, is_out_of_memory, no_memory};
 ghost use Rattle.blot_fields.specs.Tables.{IsWell, IsFault};
 ghost use Rattle.blot_fields.specs.Messages.{body_of};
+ghost use Rattle.blot_fields.specs.Numbers.{IsNumbered, BodyNamesNumber};
 
 use crate::admin::{logon_of, resend_request_of, sequence_reset_of, test_request_of};
 use crate::allocation::allocation_of;
@@ -26,6 +27,9 @@ pub fn decode(alloc: Global, frame: &Frame) -> Result<Message, FieldFault>
     ensures memory { is_out_of_memory result ≡ true
         → IsOkAnd (decoded (fields_of (text_of frame.now)))
         (λ message. (result ≡ Err (no_memory message)) × IsAllocation message.body) }
+
+    // Each number that is given is a sequence number.
+    ensures numbers { IsNumbered result }
 
     // In a reader's words: a message is what is well by each row, and a fault is the first.
     ensures well { IsOk (decoded (fields_of (text_of frame.now)))
@@ -51,7 +55,8 @@ pub fn decode(alloc: Global, frame: &Frame) -> Result<Message, FieldFault>
 
 // What a message of a kind says behind its header.
 fn body_of(alloc: Global, kind: Kind, fields: &FieldIndex) -> Result<Body, Refusal>
-    ensures { GivesBody result (body_of kind fields.now) }
+    ensures body { GivesBody result (body_of kind fields.now) }
+    ensures numbers { IfOk result BodyNamesNumber }
 {
     let body = match kind {
         Kind::Logon => Body::Admin(logon_of(fields)?),

@@ -31,8 +31,8 @@ impl FieldReason {
     ghost use Rattle.std.specs.Prelude.{◌≡◌};
     ghost use Rattle.blot_fields.specs.FaultText.{reason_number};
 
-    // The standard's number of it.
-    fn number(self) -> u8
+    /// The standard's number of it.
+    pub fn number(self) -> u8
         ensures { result ≡ reason_number self }
     {
         self as u8

@@ -1,10 +1,12 @@
 //! The header of a message.
-ghost use Rattle.std.specs.Prelude.{◌≡◌};
+ghost use Rattle.std.specs.Prelude.{◌≡◌, ◌≤◌, IfOk};
+ghost use Rattle.blot_fields.specs.declared.TheConstants.{SEQUENCE_MAX};
 ghost use Rattle.blot_fields.specs.Messages.{head_of};
 
 use crate::fault::Wrong;
 use crate::index::FieldIndex;
-use crate::rows::{SEQUENCE_MAX, needed, number, optional};
+use crate::SEQUENCE_MAX;
+use crate::rows::{needed, number, optional};
 use blot_time::Moment;
 use blot_types::Text64;
 
@@ -28,7 +30,8 @@ pub struct Head {
 /// Reads the header. FIX 4.4 volume 2, "Standard message header".
 #[tactic(auto, unfolding(crate::specs::Messages::head_of))]
 pub(crate) fn head_of(fields: &FieldIndex) -> Result<Head, Wrong>
-    ensures { result ≡ head_of fields.now }
+    ensures value { result ≡ head_of fields.now }
+    ensures range { IfOk result (λ head. head.number ≤ SEQUENCE_MAX) }
 {
     let kind = needed::<Text64>(fields, 35)?;
     let sender = needed::<Text64>(fields, 49)?;

@@ -31,3 +31,6 @@ pub use head::Head;
 pub use message::{Body, Message};
 pub use report::{Execution, OrderSize, Report};
 pub use sender::sender_of;
+
+/// The largest MsgSeqNum(34). This project's rule.
+pub const SEQUENCE_MAX: u64 = 999_999_999;

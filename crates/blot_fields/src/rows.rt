@@ -10,9 +10,6 @@ use crate::forms::{Form, number_form, positive_form, zero_form};
 use crate::index::FieldIndex;
 use blot_decimal::Qty;
 
-/// The largest sequence number. This project's rule.
-pub(crate) const SEQUENCE_MAX: u64 = 999_999_999;
-
 /// What is found at a tag, with the tag beside its fault.
 pub(crate) fn at<T>(tag: u32, found: Result<T, Flaw>) -> Result<T, Wrong>
     ensures { result ≡ at tag found }

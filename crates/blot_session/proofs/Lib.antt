@@ -1,0 +1,4 @@
+mod RowLemmas
+mod RunLemmas
+mod StateLemmas
+mod TextLemmas

@@ -1,0 +1,290 @@
+-- A session's numbers stay in their ranges over a call.
+use Rattle.std.proofs.Common.{◌≡◌, ◌⊎◌, ℕ, ◌+◌, ◌≤◌, ◌<◌, ◌==◌, Bool, true, false, ◌&&◌, List, [], ◌∷◌, ◌++◌, Option, Some, None, Result, Ok, Err, refl, sym, ap, subst, ◌∙◌, arith, inl, inr}
+use Rattle.std.specs.Prelude.{if◌then◌else◌, nat_lt, ℤ, is_some, IfSome, IfOk, unwrap_or}
+use Rattle.std.specs.Option.{option_map}
+use Rattle.std.proofs.lemmas.Bool.{cond_both, ltb-false, false≢true}
+use Rattle.blot_fields.specs.declared.TheConstants.{SEQUENCE_MAX}
+use Rattle.blot_fields.specs.declared.admin.Admin.TheVariants as admin
+use Rattle.blot_fields.specs.declared.fault.FieldFault.{FieldFault}
+use Rattle.blot_fields.specs.declared.head.Head.{Head}
+use Rattle.blot_fields.specs.declared.message.Body.{Body}
+use Rattle.blot_fields.specs.declared.message.Body.TheVariants as bodies
+use Rattle.blot_fields.specs.declared.message.Message.{Message}
+use Rattle.blot_fields.specs.Numbers.{head_in, HasNumber, BodyNamesNumber, IsNumbered}
+use Rattle.blot_types.specs.declared.command.Command.{Command}
+use Rattle.blot_session.specs.declared.action.Action.{Action}
+use Rattle.blot_session.specs.declared.outbound.Outbound.{Outbound}
+use Rattle.blot_session.specs.declared.outbound.Outbound.TheVariants.{Logon, Heartbeat, TestRequest, ResendRequest, Reject, GapFill, Logout, Unsupported, AllocationAck}
+use Rattle.blot_session.specs.declared.replies.NotTaken.{NotTaken}
+use Rattle.blot_session.specs.declared.replies.SeenReply.{SeenReply}
+use Rattle.blot_session.specs.declared.row.End.{End}
+use Rattle.blot_session.specs.declared.row.Row.{Row}
+use Rattle.blot_session.specs.declared.row.Sends.{Sends}
+use Rattle.blot_session.specs.declared.row.Sends.TheVariants.{Nothing, One, Two}
+use Rattle.blot_session.specs.declared.state.Awaited.{Awaited}
+use Rattle.blot_session.specs.declared.state.Awaited.TheVariants as awaits
+use Rattle.blot_session.specs.declared.state.Link.{Link}
+use Rattle.blot_session.specs.declared.state.Link.TheVariants as links
+use Rattle.blot_session.specs.declared.state.Live.{Live}
+use Rattle.blot_session.specs.declared.state.State.{State}
+use Rattle.blot_session.specs.declared.carrying.TheConstants.{LAST_NUMBER}
+use Rattle.blot_session.specs.Calls.{Outcome, sent, behind, behind_all, ending, is_spent, spent, carried_out, outcome_of, reply_row_by, row_of_reply}
+use Rattle.blot_session.specs.Outbound.{next_behind}
+use Rattle.blot_session.specs.Rows.{frame_row, asked_row, quiet_row, heartbeat_row, beat_row_by, beat_row, tick_row_by, tick_row, passed, patience, reply_row, taken_row}
+use Rattle.blot_session.specs.Runs.{Bears, is_reset_said}
+use Rattle.blot_session.specs.States.{closed, changed, awaited_by, awaited_of, IsIdle, IsAwaiting, IsState}
+use Rattle.blot_session.specs.Table.{Fits, acts, acts_by, messages_of}
+use Rattle.blot_session.proofs.RowLemmas.{Names, NamesBy, Steps, GoesOn, HandsOn, Moves, FrameMoves, is_delivery, frame-moves}
+
+-- ---- messages that are sent
+
+next_behind-range : (message : Outbound) (next : ℕ) → (next ≤ next_behind message next) × (next_behind message next ≤ next + 1)
+next_behind-range (Logon heartbeat reset) next = (omega arith, omega arith)
+next_behind-range (Heartbeat id) next = (omega arith, omega arith)
+next_behind-range TestRequest next = (omega arith, omega arith)
+next_behind-range (ResendRequest begin) next = (omega arith, omega arith)
+next_behind-range (Reject number tag reason) next = (omega arith, omega arith)
+next_behind-range (GapFill begin) next = (omega arith, omega arith)
+next_behind-range Logout next = (omega arith, omega arith)
+next_behind-range (Unsupported number kind) next = (omega arith, omega arith)
+next_behind-range (AllocationAck id reply) next = (omega arith, omega arith)
+
+pub spoken-awaited : (now : ℤ) (link : Link) → awaited_by (changed (λ live. record live { sent = now }) link) ≡ awaited_by link
+spoken-awaited now links.Waiting = refl
+spoken-awaited now (links.On live) = refl
+spoken-awaited now links.Closed = refl
+
+behind-state : (state : State) (message : Outbound) (now : ℤ) (next : ℕ) → 1 ≤ state.next → state.next ≤ next → state.expected ≤ SEQUENCE_MAX + 1
+    → (IsAwaiting state → state.expected ≤ SEQUENCE_MAX) → Fits (next + 1) (record { sends = Nothing; end = End.Stays; state = behind state message now })
+behind-state state message now next low high number awaited =
+    let range = next_behind-range message state.next in
+    record {
+      low = omega (arith, low, range.0);
+      high = omega (arith, high, range.1);
+      number = number;
+      awaited = λ is. awaited (ap is_some (sym (spoken-awaited now state.link)) ∙ is);
+    }
+
+sent-state : (sends : Sends) (end : End) (state : State) (now : ℤ) (next : ℕ) → Fits next (record { sends = sends; end = end; state = state })
+    → next ≤ SEQUENCE_MAX → (acts_by sends end ≡ true → next ≤ LAST_NUMBER) → IsState (behind_all state (messages_of sends) now)
+sent-state Nothing end state now next fits small unspent =
+    record { expected = fits.number; awaited = fits.awaited; low = fits.low; next = omega (arith, fits.high, small) }
+sent-state (One message) end state now next fits small unspent =
+    let last = unspent refl in
+    let first = behind-state state message now next fits.low fits.high fits.number fits.awaited in
+    record { expected = first.number; awaited = first.awaited; low = first.low; next = omega (arith, first.high, last) }
+sent-state (Two message more) end state now next fits small unspent =
+    let last = unspent refl in
+    let first = behind-state state message now next fits.low fits.high fits.number fits.awaited in
+    let second = behind-state (behind state message now) more now (next + 1) first.low first.high first.number first.awaited in
+    record { expected = second.number; awaited = second.awaited; low = second.low; next = omega (arith, second.high, last) }
+
+closed-state : (state : State) → IsState state → IsState (closed state)
+closed-state state is = record { expected = is.expected; awaited = λ a. absurd (false≢true a); low = is.low; next = is.next }
+
+and-left : (a b : Bool) → (a && b) ≡ false → b ≡ true → a ≡ false
+and-left true b fails holds = absurd (false≢true (sym fails ∙ holds))
+and-left false b fails holds = refl
+
+pub unspent-last : (state : State) (row : Row) → is_spent state row ≡ false → acts row ≡ true → state.next ≤ LAST_NUMBER
+unspent-last state row unspent does = ltb-false LAST_NUMBER state.next (and-left (nat_lt LAST_NUMBER state.next) (acts row) unspent does)
+
+pub carried_state : (state : State) (row : Row) (command : Option Command) (now : ℤ) (next : State) (actions : List Action)
+    → IsState state → Fits state.next row → is_spent state row ≡ false → record { state = next; actions = actions } ≡ carried_out row command now → IsState next
+carried_state state row command now next actions is fits unspent carried =
+    subst IsState (sym (ap (λ (outcome : Outcome). outcome.state) carried))
+    (sent-state row.sends row.end row.state now state.next fits is.next (unspent-last state row unspent))
+
+pub spent_state : (state next : State) (actions : List Action) → IsState state → record { state = next; actions = actions } ≡ spent state → IsState next
+spent_state state next actions is done = subst IsState (sym (ap (λ (outcome : Outcome). outcome.state) done)) (closed-state state is)
+
+pub same_outcome : (state : State) (row : Row) (a b : Option Command) (now : ℤ) → ending row.end a ≡ ending row.end b → outcome_of state row a now ≡ outcome_of state row b now
+same_outcome state row a b now same =
+    ap (λ (actions : List Action). if is_spent state row then spent state
+    else (record { state = (carried_out row a now).state; actions = sent row.state (messages_of row.sends) now ++ actions })) same
+
+-- ---- frames
+
+bears-small : (found : Option Head) (number : ℕ) → option_map (λ head. head.number) found ≡ Some number → IfSome found (λ head. head.number ≤ SEQUENCE_MAX) → number ≤ SEQUENCE_MAX
+bears-small (Some head) number is small = subst (λ n. n ≤ SEQUENCE_MAX) (ap (λ n. unwrap_or n 0) is) small
+bears-small None number is small = absurd cc
+
+names-small : (body : Body) (number : ℕ) → NamesBy number body → BodyNamesNumber body → number ≤ SEQUENCE_MAX
+names-small (bodies.Admin (admin.SequenceReset new_number gap_fill)) number is small = subst (λ n. n ≤ SEQUENCE_MAX) (sym is) small
+names-small (bodies.Admin (admin.Logon heartbeat reset)) number is small = absurd is
+names-small (bodies.Admin admin.Heartbeat) number is small = absurd is
+names-small (bodies.Admin admin.Reject) number is small = absurd is
+names-small (bodies.Admin (admin.TestRequest id)) number is small = absurd is
+names-small (bodies.Admin (admin.ResendRequest begin end)) number is small = absurd is
+names-small (bodies.Admin admin.Logout) number is small = absurd is
+names-small (bodies.Report report) number is small = absurd is
+names-small (bodies.Allocation allocation) number is small = absurd is
+names-small bodies.Other number is small = absurd is
+
+names_said-small : (said : Result Message FieldFault) (number : ℕ) → Names number said → IfOk said (λ message. BodyNamesNumber message.body) → number ≤ SEQUENCE_MAX
+names_said-small (Ok message) number is small = names-small message.body number is small
+names_said-small (Err fault) number is small = absurd is
+
+steps-small : (said : Result Message FieldFault) (expected number : ℕ) → Steps expected said number → IsNumbered said → expected ≤ SEQUENCE_MAX + 1 → number ≤ SEQUENCE_MAX + 1
+steps-small said expected number steps is small = elim steps [
+  | inl same ↦ omega (arith, same, small)
+  | inr moved ↦ elim moved [
+    | inl next ↦ omega (arith, next.0, bears-small (head_in said) expected next.1 is.head)
+    | inr named ↦ omega (arith, names_said-small said number named.1 is.named)
+  ]
+]
+
+pub idle-none : (state : State) → IsIdle state → IsAwaiting state → ⊥
+idle-none state idle awaiting = false≢true (sym (ap is_some idle) ∙ awaiting)
+
+moves-fit : (next expected limit : ℕ) (said : Result Message FieldFault) (row : Row) → Moves next expected said row → IsNumbered said
+    → 1 ≤ next → next ≤ limit → expected ≤ SEQUENCE_MAX + 1 → Fits limit row
+moves-fit next expected limit said row moves is low high small = elim moves [
+  | inl on ↦ record {
+    low = omega (arith, on.next_same, low);
+    high = omega (arith, on.next_same, high);
+    number = steps-small said expected row.state.expected on.number is small;
+    awaited = λ awaiting. absurd (idle-none row.state on.idle awaiting);
+  }
+  | inr hands ↦ record {
+    low = omega (arith, hands.next_same, low);
+    high = omega (arith, hands.next_same, high);
+    number = omega (arith, hands.same, small);
+    awaited = λ awaiting. omega (arith, hands.same, bears-small (head_in said) expected hands.bears is.head);
+  }
+]
+
+pub frame-fits : (state : State) (said : Result Message FieldFault) (now : ℤ) → IsState state → IsIdle state → IsNumbered said → Fits state.next (frame_row state said now)
+frame-fits state said now is idle numbered = elim (frame-moves state said now idle) [
+  | inl moves ↦ moves-fit state.next state.expected state.next said (frame_row state said now) moves numbered is.low (omega arith) is.expected
+  | inr resets ↦ moves-fit 1 1 state.next said (frame_row state said now) resets.1 numbered (omega arith) is.low (omega arith)
+]
+
+-- ---- moments
+
+-- a row that changes no number, and awaits no reply
+pub record Rests (state : State) (row : Row) : Type 0 where
+  pub next : row.state.next ≡ state.next
+  pub expected : row.state.expected ≡ state.expected
+  pub idle : IsIdle row.state
+  pub end : is_delivery row.end ≡ false
+
+heartbeat-rests : (state base : State) (live : Live) (now : ℤ) → base.next ≡ state.next → base.expected ≡ state.expected → IsIdle base → Rests state (heartbeat_row base live now)
+unfolding heartbeat_row
+heartbeat-rests state base live now n e idle =
+    cond_both (passed live.sent live.heartbeat now) _ _ (λ row. Rests state row)
+    (λ y. record { next = n; expected = e; idle = idle; end = refl })
+    (λ n'. record { next = n; expected = e; idle = idle; end = refl })
+
+asked-rests : (state : State) (live : Live) (asked now : ℤ) → IsIdle state → Rests state (asked_row state live asked now)
+unfolding asked_row
+asked-rests state live asked now idle =
+    cond_both (passed asked (patience live.heartbeat) now) _ _ (λ row. Rests state row)
+    (λ y. record { next = refl; expected = refl; idle = refl; end = refl })
+    (λ n. heartbeat-rests state state live now refl refl idle)
+
+asking-idle : (now : ℤ) (link : Link) → awaited_by link ≡ None → awaited_by (changed (λ live. record live { asked = Some now }) link) ≡ None
+asking-idle now links.Waiting idle = refl
+asking-idle now (links.On live) idle = idle
+asking-idle now links.Closed idle = refl
+
+quiet-rests : (state : State) (live : Live) (now : ℤ) → IsIdle state → Rests state (quiet_row state live now)
+unfolding quiet_row
+quiet-rests state live now idle =
+    cond_both (passed live.received (patience live.heartbeat) now) _ _ (λ row. Rests state row)
+    (λ y. record { next = refl; expected = refl; idle = asking-idle now state.link idle; end = refl })
+    (λ n. heartbeat-rests state state live now refl refl idle)
+
+beat_by-rests : (state : State) (live : Live) (asked : Option ℤ) (now : ℤ) → IsIdle state → Rests state (beat_row_by state live asked now)
+beat_by-rests state live (Some asked) now idle = asked-rests state live asked now idle
+beat_by-rests state live None now idle = quiet-rests state live now idle
+
+beat-rests : (state : State) (live : Live) (now : ℤ) → IsIdle state → Rests state (beat_row state live now)
+unfolding beat_row
+beat-rests state live now idle =
+    cond_both (live.heartbeat == 0) _ _ (λ row. Rests state row)
+    (λ y. record { next = refl; expected = refl; idle = idle; end = refl })
+    (λ n. beat_by-rests state live live.asked now idle)
+
+tick_by-rests : (state : State) (link : Link) (now : ℤ) → IsIdle state → Rests state (tick_row_by state link now)
+tick_by-rests state links.Waiting now idle = record { next = refl; expected = refl; idle = idle; end = refl }
+tick_by-rests state (links.On live) now idle = beat-rests state live now idle
+tick_by-rests state links.Closed now idle = record { next = refl; expected = refl; idle = idle; end = refl }
+
+pub tick-rests : (state : State) (now : ℤ) → IsIdle state → Rests state (tick_row state now)
+unfolding tick_row
+tick-rests state now idle = tick_by-rests state state.link now idle
+
+pub tick-fits : (state : State) (now : ℤ) → IsState state → IsIdle state → Fits state.next (tick_row state now)
+tick-fits state now is idle =
+    let rests = tick-rests state now idle in
+    record {
+      low = omega (arith, rests.next, is.low);
+      high = omega (arith, rests.next);
+      number = omega (arith, rests.expected, is.expected);
+      awaited = λ awaiting. absurd (idle-none (tick_row state now).state rests.idle awaiting);
+    }
+
+-- ---- replies
+
+-- what a reply does: the number of what was taken is counted
+pub record Settles (state : State) (reply : Result SeenReply NotTaken) (row : Row) : Type 0 where
+  pub next : row.state.next ≡ state.next
+  pub taken : (seen : SeenReply) → reply ≡ Ok seen → row.state.expected ≡ state.expected + 1
+  pub not_taken : (fault : NotTaken) → reply ≡ Err fault → row.state.expected ≡ state.expected
+  pub idle : IsIdle row.state
+  pub end : is_delivery row.end ≡ false
+
+answered-idle : (link : Link) → awaited_by (changed (λ live. record live { awaited = None }) link) ≡ None
+answered-idle links.Waiting = refl
+answered-idle (links.On live) = refl
+answered-idle links.Closed = refl
+
+reply-settles : (state : State) (awaited : Awaited) (reply : Result SeenReply NotTaken) → Settles state reply (reply_row state awaited reply)
+unfolding reply_row
+reply-settles state awaits.Report (Ok seen) =
+    record { next = refl; taken = λ s is. refl; not_taken = λ f is. absurd cc; idle = answered-idle state.link; end = refl }
+reply-settles state (awaits.Allocation id) (Ok seen) =
+    record { next = refl; taken = λ s is. refl; not_taken = λ f is. absurd cc; idle = answered-idle state.link; end = refl }
+reply-settles state awaited (Err fault) =
+    record { next = refl; taken = λ s is. absurd cc; not_taken = λ f is. refl; idle = refl; end = refl }
+
+settles_by : (state : State) (found : Option Awaited) (reply : Result SeenReply NotTaken) → is_some found ≡ true → Settles state reply (reply_row_by state found reply)
+settles_by state (Some awaited) reply is = reply-settles state awaited reply
+settles_by state None reply is = absurd (false≢true is)
+
+pub settles : (state : State) (reply : Result SeenReply NotTaken) → IsAwaiting state → Settles state reply (row_of_reply state reply)
+settles state reply is = settles_by state (awaited_of state) reply is
+
+settled-small : (state : State) (reply : Result SeenReply NotTaken) (row : Row) → Settles state reply row → state.expected ≤ SEQUENCE_MAX → row.state.expected ≤ SEQUENCE_MAX + 1
+settled-small state (Ok seen) row is small = omega (arith, is.taken seen refl, small)
+settled-small state (Err fault) row is small = omega (arith, is.not_taken fault refl, small)
+
+pub reply-fits : (state : State) (reply : Result SeenReply NotTaken) → IsState state → IsAwaiting state → Fits state.next (row_of_reply state reply)
+reply-fits state reply is awaiting =
+    let row = row_of_reply state reply in
+    let settled = settles state reply awaiting in
+    record {
+      low = omega (arith, settled.next, is.low);
+      high = omega (arith, settled.next);
+      number = settled-small state reply row settled (is.awaited awaiting);
+      awaited = λ still. absurd (idle-none row.state settled.idle still);
+    }
+
+-- ---- as the code reads them
+
+pub row_fits_frame : (state : State) (said : Result Message FieldFault) (now : ℤ) (row : Row) → row ≡ frame_row state said now
+    → IsState state → IsIdle state → IsNumbered said → Fits state.next row
+row_fits_frame state said now row is within idle numbered = subst (Fits state.next) (sym is) (frame-fits state said now within idle numbered)
+
+pub row_fits_tick : (state : State) (now : ℤ) (row : Row) → row ≡ tick_row state now → IsState state → IsIdle state → Fits state.next row
+row_fits_tick state now row is within idle = subst (Fits state.next) (sym is) (tick-fits state now within idle)
+
+pub row_fits_reply : (state : State) (reply : Result SeenReply NotTaken) (row : Row) → row ≡ row_of_reply state reply
+    → IsState state → IsAwaiting state → Fits state.next row
+row_fits_reply state reply row is within awaiting = subst (Fits state.next) (sym is) (reply-fits state reply within awaiting)
+
+-- the session of a row, closed
+pub closed_row : (next : ℕ) (row : Row) → Fits next row → next ≤ SEQUENCE_MAX → IsState (closed row.state)
+closed_row next row fits small =
+    record { expected = fits.number; awaited = λ a. absurd (false≢true a); low = fits.low; next = omega (arith, fits.high, small) }

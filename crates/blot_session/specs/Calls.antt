@@ -1,0 +1,91 @@
+-- What each call of a session gives: the session behind it, and what is to be done.
+use Rattle.std.specs.Prelude.{◌≡◌, ℕ, ◌<◌, Bool, nat_lt, ◌&&◌, ℤ, List, [], ◌∷◌, ◌++◌, Option, Some, None, Result, Ok, Err, if◌then◌else◌}
+use Rattle.blot_fields.specs.Commands.{command_of}
+use Rattle.blot_fields.specs.declared.fault.FieldFault.{FieldFault}
+use Rattle.blot_fields.specs.declared.message.Message.{Message}
+use Rattle.blot_types.specs.declared.command.Command.{Command}
+use Rattle.blot_session.specs.declared.action.Action.{Action}
+use Rattle.blot_session.specs.declared.action.Action.TheVariants.{Send, Deliver, Close}
+use Rattle.blot_session.specs.declared.action.CloseReason.TheVariants as reasons
+use Rattle.blot_session.specs.declared.carrying.TheConstants.{LAST_NUMBER}
+use Rattle.blot_session.specs.declared.outbound.Outbound.{Outbound}
+use Rattle.blot_session.specs.declared.replies.NotTaken.{NotTaken}
+use Rattle.blot_session.specs.declared.replies.SeenReply.{SeenReply}
+use Rattle.blot_session.specs.declared.row.End.{End}
+use Rattle.blot_session.specs.declared.row.End.TheVariants.{Stays, Delivers, Closes}
+use Rattle.blot_session.specs.declared.row.Row.{Row}
+use Rattle.blot_session.specs.declared.state.Awaited.{Awaited}
+use Rattle.blot_session.specs.declared.state.State.{State}
+use Rattle.blot_session.specs.Outbound.{next_behind, text_of}
+use Rattle.blot_session.specs.Rows.{frame_row, tick_row, reply_row}
+use Rattle.blot_session.specs.States.{spoken, closed, awaited_of}
+use Rattle.blot_session.specs.Table.{acts, messages_of, silent}
+
+-- a session behind a call, and what is to be done
+pub record Outcome : Type 0 where
+  pub state : State
+  pub actions : List Action
+
+-- a session behind a message that was sent
+abbrev pub behind : State → Outbound → ℤ → State
+behind state message now = spoken now (record state { next = next_behind message state.next })
+
+abbrev pub behind_all : State → List Outbound → ℤ → State
+behind_all state [] now = state
+behind_all state (message ∷ messages) now = behind_all (behind state message now) messages now
+
+-- messages as they are sent, one after the other
+abbrev pub sent : State → List Outbound → ℤ → List Action
+sent state [] now = []
+sent state (message ∷ messages) now = Send (text_of state message now) ∷ sent (behind state message now) messages now
+
+-- how a call ends, with the command that its message brings
+abbrev pub ending : End → Option Command → List Action
+ending Stays command = []
+ending Delivers None = []
+ending Delivers (Some command) = Deliver command ∷ []
+ending (Closes reason) command = Close reason ∷ []
+
+-- what a row says is done
+abbrev pub carried_out : Row → Option Command → ℤ → Outcome
+carried_out row command now = record {
+  state = behind_all row.state (messages_of row.sends) now;
+  actions = sent row.state (messages_of row.sends) now ++ ending row.end command;
+}
+
+-- the numbers to send are used up, and something is to be done
+abbrev pub is_spent : State → Row → Bool
+is_spent state row = nat_lt LAST_NUMBER state.next && acts row
+
+-- the connection ends then, and nothing else is done
+abbrev pub spent : State → Outcome
+spent state = record { state = closed state; actions = Close reasons.Spent ∷ [] }
+
+-- a row, unless the numbers to send are used up
+abbrev pub outcome_of : State → Row → Option Command → ℤ → Outcome
+outcome_of state row command now =
+    if is_spent state row then spent state else carried_out row command now
+
+-- the command that a frame brings the book
+abbrev pub command_said : Result Message FieldFault → List ℕ → Option Command
+command_said (Ok message) peer = command_of message peer
+command_said (Err fault) peer = None
+
+-- a frame that says this comes
+abbrev pub on_frame : State → Result Message FieldFault → ℤ → Outcome
+on_frame state said now = outcome_of state (frame_row state said now) (command_said said state.peer) now
+
+-- a moment passes
+abbrev pub on_tick : State → ℤ → Outcome
+on_tick state now = outcome_of state (tick_row state now) None now
+
+-- the reply to what was delivered comes
+abbrev pub reply_row_by : State → Option Awaited → Result SeenReply NotTaken → Row
+reply_row_by state (Some awaited) reply = reply_row state awaited reply
+reply_row_by state None reply = silent state
+
+abbrev pub row_of_reply : State → Result SeenReply NotTaken → Row
+row_of_reply state reply = reply_row_by state (awaited_of state) reply
+
+abbrev pub on_reply : State → Result SeenReply NotTaken → ℤ → Outcome
+on_reply state reply now = outcome_of state (row_of_reply state reply) None now

@@ -1,0 +1,6 @@
+pub mod States
+pub mod Outbound
+pub mod Table
+pub mod Rows
+pub mod Calls
+pub mod Runs

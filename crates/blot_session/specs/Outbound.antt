@@ -1,0 +1,124 @@
+-- The messages that a session sends (FIX 4.4 volume 2, "Administrative messages" and "Business Message Reject"; volume 5,
+-- "Allocation Instruction Ack").
+use Rattle.std.specs.Prelude.{ℕ, ◌+◌, ◌==◌, nat_lt, ◌&&◌, ◌||◌, Bool, true, false, not, ℤ, List, [], ◌∷◌, ◌++◌, codes, Option, Some, None, if◌then◌else◌}
+use Rattle.std.specs.Fmt.{decimal}
+use Rattle.blot_tag.specs.Fields.{TagValue}
+use Rattle.blot_tag.specs.Writing.{Written, frame_of, is_data_tag, is_own_tag}
+use Rattle.blot_time.specs.Moment.{moment_text}
+use Rattle.blot_session.specs.declared.outbound.Outbound.{Outbound}
+use Rattle.blot_session.specs.declared.outbound.Outbound.TheVariants.{Logon, Heartbeat, TestRequest, ResendRequest, Reject, GapFill, Logout, Unsupported, AllocationAck}
+use Rattle.blot_session.specs.declared.replies.SeenReply.{SeenReply}
+use Rattle.blot_session.specs.declared.replies.SeenReply.TheVariants.{Accepted, Refused}
+use Rattle.blot_session.specs.declared.state.State.{State}
+
+-- MsgType
+abbrev pub kind_of : Outbound → List ℕ
+kind_of (Logon heartbeat reset) = codes "A"
+kind_of (Heartbeat id) = codes "0"
+kind_of TestRequest = codes "1"
+kind_of (ResendRequest begin) = codes "2"
+kind_of (Reject number tag reason) = codes "3"
+kind_of (GapFill begin) = codes "4"
+kind_of Logout = codes "5"
+kind_of (Unsupported number kind) = codes "j"
+kind_of (AllocationAck id reply) = codes "P"
+
+-- the number that a message is sent under: a gap fill has that of the first message that it stands for
+abbrev pub number_of : Outbound → ℕ → ℕ
+number_of (GapFill begin) next = begin
+number_of message next = next
+
+-- the next number to send behind it: a gap fill uses none up
+abbrev pub next_behind : Outbound → ℕ → ℕ
+next_behind (GapFill begin) next = next
+next_behind message next = next + 1
+
+-- a field
+abbrev pub field : ℕ → List ℕ → TagValue
+field tag value = record { tag = tag; value = value }
+
+-- a field that is there where this is so
+abbrev pub field_if : Bool → ℕ → List ℕ → List TagValue
+field_if there tag value = if there then field tag value ∷ [] else []
+
+-- TestReqID, where a TestRequest is answered
+abbrev pub id_fields : Option (List ℕ) → List TagValue
+id_fields (Some id) = field 112 id ∷ []
+id_fields None = []
+
+-- the code of a refusal by its number: 10 where an execution isn't there to allocate, 1 where quantities differ, and 7 for
+-- any other (AllocRejCode; which number stands for what is this project's rule)
+abbrev pub reject_code : ℕ → ℕ
+reject_code refusal =
+    if refusal == 5 || refusal == 6 || refusal == 8 then 10
+    else (if refusal == 10 then 1 else 7)
+
+-- AllocStatus, and AllocRejCode behind a refusal
+abbrev pub status_fields : SeenReply → List TagValue
+status_fields Accepted = field 87 (codes "0") ∷ []
+status_fields (Refused refusal) = field 87 (codes "1") ∷ field 88 (decimal (reject_code refusal)) ∷ []
+
+-- what stands behind the header: of a Logon
+abbrev pub logon_fields : ℕ → Bool → List TagValue
+logon_fields heartbeat reset = field 98 (codes "0") ∷ field 108 (decimal heartbeat) ∷ field_if reset 141 (codes "Y")
+
+-- of a Resend Request, which asks for all from a number on
+abbrev pub resend_fields : ℕ → List TagValue
+resend_fields begin = field 7 (decimal begin) ∷ field 16 (codes "0") ∷ []
+
+-- of a Reject, which names a tag where there is one
+abbrev pub reject_fields : ℕ → ℕ → ℕ → List TagValue
+reject_fields number tag reason =
+    field 45 (decimal number) ∷ (field_if (not (tag == 0)) 371 (decimal tag) ++ field 373 (decimal reason) ∷ [])
+
+-- of a gap fill up to a number
+abbrev pub gap_fill_fields : ℕ → List TagValue
+gap_fill_fields next = field 123 (codes "Y") ∷ field 36 (decimal next) ∷ []
+
+-- of a Business Message Reject: this type of message isn't supported
+abbrev pub unsupported_fields : ℕ → List ℕ → List TagValue
+unsupported_fields number kind = field 45 (decimal number) ∷ field 372 kind ∷ field 380 (codes "3") ∷ []
+
+-- of an Allocation Instruction Ack
+abbrev pub ack_fields : List ℕ → SeenReply → ℤ → List TagValue
+ack_fields id reply now = field 70 id ∷ field 60 (moment_text now) ∷ status_fields reply
+
+-- of a message, where this is the next number to send
+abbrev pub body_fields : Outbound → ℕ → ℤ → List TagValue
+body_fields (Logon heartbeat reset) next now = logon_fields heartbeat reset
+body_fields (Heartbeat id) next now = id_fields id
+body_fields TestRequest next now = field 112 (decimal next) ∷ []
+body_fields (ResendRequest begin) next now = resend_fields begin
+body_fields (Reject number tag reason) next now = reject_fields number tag reason
+body_fields (GapFill begin) next now = gap_fill_fields next
+body_fields Logout next now = []
+body_fields (Unsupported number kind) next now = unsupported_fields number kind
+body_fields (AllocationAck id reply) next now = ack_fields id reply now
+
+-- whether a message stands for others that were sent before
+abbrev pub is_gap_fill : Outbound → Bool
+is_gap_fill (GapFill begin) = true
+is_gap_fill message = false
+
+-- the header: SenderCompID, TargetCompID, MsgSeqNum and SendingTime; a gap fill is marked as sent before, by
+-- PossDupFlag and OrigSendingTime
+abbrev pub header_fields : State → Outbound → ℤ → List TagValue
+header_fields state message now =
+    field 49 state.own ∷ field 56 state.peer ∷ field 34 (decimal (number_of message state.next))
+    ∷ (field_if (is_gap_fill message) 43 (codes "Y")
+    ++ field 52 (moment_text now) ∷ field_if (is_gap_fill message) 122 (moment_text now))
+
+-- the bytes of a message
+unfoldable pub text_of : State → Outbound → ℤ → List ℕ
+text_of state message now = frame_of (record {
+  kind = kind_of message;
+  fields = header_fields state message now ++ body_fields message state.next now;
+})
+
+-- a message with some fields more
+abbrev pub with_fields : Written → List TagValue → Written
+with_fields written fields = record { kind = written.kind; fields = written.fields ++ fields }
+
+-- a tag that a message has behind its kind, and that isn't data
+abbrev pub is_plain_tag : ℕ → Bool
+is_plain_tag tag = nat_lt 0 tag && nat_lt tag 1000 && not (is_own_tag tag) && not (is_data_tag tag)

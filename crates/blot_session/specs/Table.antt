@@ -1,0 +1,54 @@
+-- What a row of the session's table can say. Each word is one of the table's own.
+use Rattle.std.specs.Prelude.{ℕ, ◌+◌, ◌≤◌, Bool, true, false, List, [], ◌∷◌}
+use Rattle.blot_fields.specs.declared.TheConstants.{SEQUENCE_MAX}
+use Rattle.blot_session.specs.declared.action.CloseReason.{CloseReason}
+use Rattle.blot_session.specs.declared.outbound.Outbound.{Outbound}
+use Rattle.blot_session.specs.declared.row.End.{End}
+use Rattle.blot_session.specs.declared.row.End.TheVariants.{Stays, Delivers, Closes}
+use Rattle.blot_session.specs.declared.row.Row.{Row}
+use Rattle.blot_session.specs.declared.row.Sends.{Sends}
+use Rattle.blot_session.specs.declared.row.Sends.TheVariants.{Nothing, One, Two}
+use Rattle.blot_session.specs.declared.state.Awaited.{Awaited}
+use Rattle.blot_session.specs.declared.state.State.{State}
+use Rattle.blot_session.specs.States.{awaiting, closed, IsAwaiting}
+
+-- nothing is done, and this is the session then
+abbrev pub silent : State → Row
+silent state = record { sends = Nothing; end = Stays; state = state }
+
+-- a message is sent
+abbrev pub sends : Outbound → State → Row
+sends message state = record { sends = One message; end = Stays; state = state }
+
+-- two messages are sent
+abbrev pub sends_both : Outbound → Outbound → State → Row
+sends_both first second state = record { sends = Two first second; end = Stays; state = state }
+
+-- the command of the message is delivered, and awaits its reply
+abbrev pub delivers : Awaited → State → Row
+delivers awaited state = record { sends = Nothing; end = Delivers; state = awaiting awaited state }
+
+-- the connection ends then
+abbrev pub closing : CloseReason → Row → Row
+closing reason row = record { sends = row.sends; end = Closes reason; state = closed row.state }
+
+-- the messages, in their order
+abbrev pub messages_of : Sends → List Outbound
+messages_of Nothing = []
+messages_of (One message) = message ∷ []
+messages_of (Two first second) = first ∷ second ∷ []
+
+-- whether a row does anything
+abbrev pub acts_by : Sends → End → Bool
+acts_by Nothing Stays = false
+acts_by sends end = true
+
+abbrev pub acts : Row → Bool
+acts row = acts_by row.sends row.end
+
+-- the numbers of the session in a row are in their ranges, where this is the next number to send before it
+pub record Fits (next : ℕ) (row : Row) : Type 0 where
+  pub low : 1 ≤ row.state.next
+  pub high : row.state.next ≤ next
+  pub number : row.state.expected ≤ SEQUENCE_MAX + 1
+  pub awaited : IsAwaiting row.state → row.state.expected ≤ SEQUENCE_MAX

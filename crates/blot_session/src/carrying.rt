@@ -1,0 +1,111 @@
+//! Carries out what a row of the session's table says.
+ghost use Rattle.std.specs.Prelude.{◌≡◌, ◌≤◌, ◌+◌, ◌++◌, ◌∷◌, [], IfOk, OnOk};
+ghost use Rattle.blot_fields.specs.declared.TheConstants.{SEQUENCE_MAX};
+ghost use Rattle.blot_session.specs.Calls.{behind, behind_all, sent, ending, carried_out, is_spent, spent};
+ghost use Rattle.blot_session.specs.Outbound.{text_of};
+ghost use Rattle.blot_session.specs.Table.{messages_of};
+ghost use Rattle.blot_session.specs.declared.action.Action.TheVariants.{Send};
+
+use crate::outbound::Outbound;
+use crate::row::{End, Row, Sends};
+use crate::state::State;
+use crate::writing::text_of;
+use crate::{Action, Bytes, CloseReason};
+use blot_time::Moment;
+use blot_types::Command;
+use std::alloc::{AllocError as NoMemory, Global};
+
+// The last number under which a call begins to send. A call sends two messages at most, so that a peer that counts in
+// nine digits follows. This project's rule.
+const LAST_NUMBER: u64 = 999_999_990;
+
+/// A session behind a call, and what is to be done.
+pub(crate) type Outcome = (State, Vec<Action>);
+
+/// Whether the numbers to send are used up, and a row says that something is to be done.
+pub(crate) fn is_spent(state: &State, row: &Row) -> bool
+    ensures { result ≡ is_spent state.now row.now }
+{
+    LAST_NUMBER < state.next && row.acts()
+}
+
+/// The connection ends, since the numbers to send are used up. No number changes.
+pub(crate) fn spent(alloc: Global, state: State) -> Result<Outcome, NoMemory>
+    ensures { IfOk result (λ done. record { state = done.0; actions = done.1.items } ≡ spent state) }
+{
+    let mut actions = Vec::new(alloc);
+    actions.push(Action::Close(CloseReason::Spent))?;
+    Ok((state.closed(), actions))
+}
+
+/// Does what a row says; `command` is what its message brings the book, where it is delivered.
+pub(crate) fn carry_out(
+    alloc: Global,
+    row: Row,
+    command: Option<Command>,
+    now: Moment,
+) -> Result<Outcome, NoMemory>
+    requires { row.state.next ≤ SEQUENCE_MAX }
+    ensures { IfOk result (λ done. record { state = done.0; actions = done.1.items } ≡ carried_out row command now) }
+{
+    let Row { sends, end, state } = row;
+    let mut actions = Vec::new(alloc);
+    let state = send_all(alloc, &mut actions, state, sends, now)?;
+    push_end(&mut actions, end, command)?;
+    Ok((state, actions))
+}
+
+// Sends the messages of a row: the session behind them.
+fn send_all(
+    alloc: Global,
+    actions: &mut Vec<Action>,
+    state: State,
+    sends: Sends,
+    now: Moment,
+) -> Result<State, NoMemory>
+    requires { state.next ≤ SEQUENCE_MAX }
+    ensures state { IfOk result (λ behind. behind ≡ behind_all state (messages_of sends) now) }
+    ensures actions { OnOk result (actions.new.items ≡ actions.old.items ++ sent state (messages_of sends) now) }
+{
+    match sends {
+        Sends::Nothing => Ok(state),
+        Sends::One(message) => send(alloc, actions, state, &message, now),
+        Sends::Two(first, second) => {
+            let state = send(alloc, actions, state, &first, now)?;
+            send(alloc, actions, state, &second, now)
+        }
+    }
+}
+
+// Sends a message: the session behind it.
+fn send(
+    alloc: Global,
+    actions: &mut Vec<Action>,
+    state: State,
+    message: &Outbound,
+    now: Moment,
+) -> Result<State, NoMemory>
+    requires { state.next ≤ SEQUENCE_MAX + 1 }
+    ensures state { IfOk result (λ next. next ≡ behind state message.now now) }
+    ensures actions { OnOk result (actions.new.items ≡ actions.old.items ++ Send (text_of state message.now now) ∷ []) }
+{
+    let text = text_of(alloc, &state, message, now)?;
+    actions.push(Action::Send(Bytes::new(text)))?;
+    let state = State {
+        next: message.next_behind(state.next),
+        ..state
+    };
+    Ok(state.spoken(now))
+}
+
+// Puts how a call ends behind its sends.
+fn push_end(actions: &mut Vec<Action>, end: End, command: Option<Command>) -> Result<(), NoMemory>
+    ensures { OnOk result (actions.new.items ≡ actions.old.items ++ ending end command) }
+{
+    match (end, command) {
+        (End::Delivers, Some(command)) => actions.push(Action::Deliver(command))?,
+        (End::Closes(reason), _) => actions.push(Action::Close(reason))?,
+        _ => {}
+    }
+    Ok(())
+}

@@ -1,0 +1,208 @@
+//! What a session does about a frame: who sent it and which number it bears. Each function is a row of the session's
+//! table or a choice between some.
+ghost use Rattle.std.specs.Prelude.{◌≡◌, ◌≤◌};
+ghost use Rattle.blot_fields.specs.declared.TheConstants.{SEQUENCE_MAX};
+ghost use Rattle.blot_fields.specs.Numbers.{HasNumber, head_in};
+ghost use Rattle.blot_session.specs.Rows.{comp_id_row, early_body_row, early_row, frame_row, head_row, late_row, message_row, number_row, on_row, peer_row, reset_row};
+
+use crate::CloseReason;
+use crate::expected::expected_row;
+use crate::logons::{logon_row, waiting_row};
+use crate::outbound::Outbound;
+use crate::row::Row;
+use crate::state::{Link, State};
+use blot_fields::{Admin, Body, FieldFault, Head, Message};
+use blot_time::Moment;
+
+// Tags that a Reject names.
+const SENDER: u32 = 49;
+
+const TARGET: u32 = 56;
+
+const NEW_NUMBER: u32 = 36;
+
+// SessionRejectReason(373) of a CompID problem.
+const COMP_ID_PROBLEM: u8 = 9;
+
+/// What a session does about a frame.
+pub(crate) fn frame_row(state: State, said: &Result<Message, FieldFault>, now: Moment) -> Row
+    requires { HasNumber said.now }
+    ensures { result ≡ frame_row state said.now now }
+{
+    match state.link {
+        Link::Waiting => waiting_row(state, said, now),
+        Link::On(_) => on_row(state.heard(now), said, now),
+        Link::Closed => Row::silent(state),
+    }
+}
+
+// A frame whose header can be read, or can't.
+#[tactic(auto, unfolding(crate::specs::Rows::on_row))]
+fn on_row(state: State, said: &Result<Message, FieldFault>, now: Moment) -> Row
+    requires { HasNumber said.now }
+    ensures { result ≡ on_row state said.now now }
+{
+    match head_in(said) {
+        Some(head) => head_row(state, &head, said, now),
+        None => Row::sends(Outbound::Logout, state).closing(CloseReason::BadHeader),
+    }
+}
+
+// The header, where it can be read.
+fn head_in(said: &Result<Message, FieldFault>) -> Option<Head>
+    ensures { result ≡ head_in said.now }
+{
+    match said {
+        Ok(message) => Some(message.head),
+        Err(fault) => fault.head,
+    }
+}
+
+// A frame with this header.
+#[tactic(auto, unfolding(crate::specs::Rows::head_row))]
+fn head_row(state: State, head: &Head, said: &Result<Message, FieldFault>, now: Moment) -> Row
+    requires { head.now.number ≤ SEQUENCE_MAX }
+    ensures { result ≡ head_row state head.now said.now now }
+{
+    if !state.is_from_peer(head) {
+        return comp_id_row(state, head);
+    }
+    peer_row(state, head, said, now)
+}
+
+// A message of another sender, or to another target.
+#[tactic(auto, unfolding(crate::specs::Rows::comp_id_row))]
+fn comp_id_row(state: State, head: &Head) -> Row
+    requires { head.now.number ≤ SEQUENCE_MAX }
+    ensures { result ≡ comp_id_row state head.now }
+{
+    let tag = if state.is_sender(head) {
+        TARGET
+    } else {
+        SENDER
+    };
+    let reject = Outbound::Reject {
+        number: head.number,
+        tag,
+        reason: COMP_ID_PROBLEM,
+    };
+    let state = if state.expected == head.number {
+        state.counted()
+    } else {
+        state
+    };
+    Row::sends_both(reject, Outbound::Logout, state).closing(CloseReason::CompId)
+}
+
+// A frame of the peer. A Logon that resets the numbers, and a Sequence Reset, go before their numbers.
+#[tactic(auto, unfolding(crate::specs::Rows::peer_row))]
+fn peer_row(state: State, head: &Head, said: &Result<Message, FieldFault>, now: Moment) -> Row
+    requires { head.now.number ≤ SEQUENCE_MAX }
+    ensures { result ≡ peer_row state head.now said.now now }
+{
+    match said {
+        Ok(message) => message_row(state, head, &message.body, said, now),
+        Err(_) => number_row(state, head, said),
+    }
+}
+
+// A message without a fault.
+#[tactic(auto, unfolding(crate::specs::Rows::message_row))]
+fn message_row(
+    state: State,
+    head: &Head,
+    body: &Body,
+    said: &Result<Message, FieldFault>,
+    now: Moment,
+) -> Row
+    requires { head.now.number ≤ SEQUENCE_MAX }
+    ensures { result ≡ message_row state head.now body.now said.now now }
+{
+    match body {
+        Body::Admin(
+            Admin::Logon {
+                heartbeat,
+                reset: true,
+            },
+        ) => logon_row(state.restarted(), head.number, *heartbeat, true, now),
+        Body::Admin(
+            Admin::SequenceReset {
+                new_number,
+                gap_fill: false,
+            },
+        ) => reset_row(state, head.number, *new_number),
+        _ => number_row(state, head, said),
+    }
+}
+
+// A Sequence Reset that isn't a gap fill.
+#[tactic(auto, unfolding(crate::specs::Rows::reset_row))]
+fn reset_row(state: State, number: u64, new_number: u64) -> Row
+    ensures { result ≡ reset_row state number new_number }
+{
+    if new_number < state.expected {
+        return Row::sends(Outbound::incorrect(number, NEW_NUMBER), state);
+    }
+    Row::silent(state.expecting(new_number))
+}
+
+// By the number: one that came before, one above the expected one, or that one.
+#[tactic(auto, unfolding(crate::specs::Rows::number_row))]
+fn number_row(state: State, head: &Head, said: &Result<Message, FieldFault>) -> Row
+    requires { head.now.number ≤ SEQUENCE_MAX }
+    ensures { result ≡ number_row state head.now said.now }
+{
+    if head.number < state.expected {
+        return late_row(state, head.dup);
+    }
+    if state.expected < head.number {
+        return early_row(state, said);
+    }
+    expected_row(state, head, said)
+}
+
+// A message that came before is ignored, where it says that it may be one.
+#[tactic(auto, unfolding(crate::specs::Rows::late_row))]
+fn late_row(state: State, dup: bool) -> Row
+    ensures { result ≡ late_row state dup }
+{
+    if dup {
+        return Row::silent(state);
+    }
+    Row::sends(Outbound::Logout, state).closing(CloseReason::TooLow)
+}
+
+// Messages before this one were lost, and are asked for again.
+#[tactic(auto, unfolding(crate::specs::Rows::early_row))]
+fn early_row(state: State, said: &Result<Message, FieldFault>) -> Row
+    ensures { result ≡ early_row state said.now }
+{
+    match said {
+        Ok(message) => early_body_row(state, &message.body),
+        Err(_) => Row::sends(Outbound::asked_again(state.expected), state),
+    }
+}
+
+// A Resend Request is answered at once, and so is a Logout.
+#[tactic(auto, unfolding(crate::specs::Rows::early_body_row))]
+fn early_body_row(state: State, body: &Body) -> Row
+    ensures { result ≡ early_body_row state body.now }
+{
+    match body {
+        Body::Admin(Admin::ResendRequest { begin, .. }) if *begin < state.next => {
+            Row::sends_both(
+                Outbound::GapFill { begin: *begin },
+                Outbound::asked_again(state.expected),
+                state,
+            )
+        }
+        Body::Admin(Admin::Logout) => {
+            Row::sends_both(
+                Outbound::asked_again(state.expected),
+                Outbound::Logout,
+                state,
+            )
+        }
+        _ => Row::sends(Outbound::asked_again(state.expected), state),
+    }
+}

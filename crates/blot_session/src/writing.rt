@@ -1,0 +1,234 @@
+//! The bytes of a message.
+ghost use Rattle.std.specs.Prelude.{◌≡◌, ◌+◌, ◌<◌, ◌≤◌, length, true, IfOk, OnOk};
+ghost use Rattle.std.specs.Fmt.{decimal};
+ghost use Rattle.blot_tag.specs.Writing.{begun, body_of, with_field};
+ghost use Rattle.blot_tag.specs.declared.write_fault.WriteFault.TheVariants as WriteFault;
+ghost use Rattle.blot_time.specs.Moment.{moment_text};
+ghost use Rattle.blot_types.specs.Text.{is_text};
+ghost use Rattle.blot_session.specs.Outbound.{ack_fields, body_fields, field, gap_fill_fields, header_fields, kind_of, logon_fields, reject_code, reject_fields, resend_fields, text_of, unsupported_fields, with_fields, is_plain_tag};
+
+use crate::SeenReply;
+use crate::outbound::Outbound;
+use crate::state::State;
+use blot_tag::{FrameText, WriteFault};
+use blot_time::Moment;
+use blot_types::Text64;
+use itoa::Buffer;
+use std::alloc::{AllocError as NoMemory, Global};
+
+/// The frame of a message that is sent next.
+#[tactic(auto, unfolding(crate::specs::Outbound::text_of))]
+pub(crate) fn text_of(
+    alloc: Global,
+    state: &State,
+    message: &Outbound,
+    now: Moment,
+) -> Result<Vec<u8>, NoMemory>
+    ensures { IfOk result (λ text. text.items ≡ text_of state.now message.now now) }
+{
+    let mut text = begin(alloc, message.kind())?;
+    put_header(&mut text, state, message, now)?;
+    put_body(&mut text, message, state.next, now)?;
+    text.finish()
+}
+
+// A message of a kind, without fields.
+#[tactic(auto, using(crate::proofs::TextLemmas::begin_fault, crate::proofs::TextLemmas::begin_size, crate::proofs::TextLemmas::kind_some))]
+fn begin(alloc: Global, kind: &[u8]) -> Result<FrameText, NoMemory>
+    requires { is_text kind.now ≡ true }
+    ensures text { IfOk result (λ text. text ≡ begun kind.now) }
+    ensures size { IfOk result (λ text. length (body_of text) ≤ 80) }
+{
+    match FrameText::new(alloc, kind) {
+        Ok(text) => Ok(text),
+        Err(fault) => Err(out_of_memory(fault)),
+    }
+}
+
+// Puts the header.
+fn put_header(
+    text: &mut FrameText,
+    state: &State,
+    message: &Outbound,
+    now: Moment,
+) -> Result<(), NoMemory>
+    requires { length (body_of text.old) ≤ 1000 }
+    ensures fields { OnOk result (text.new ≡ with_fields text.old (header_fields state.now message.now now)) }
+    ensures size { OnOk result (length (body_of text.new) ≤ 2000) }
+{
+    put_text(text, 49, &state.own)?;
+    put_text(text, 56, &state.peer)?;
+    put_number(text, 34, message.number(state.next))?;
+    if message.is_gap_fill() {
+        put(text, 43, b"Y")?;
+        put_moment(text, 52, now)?;
+        return put_moment(text, 122, now);
+    }
+    put_moment(text, 52, now)
+}
+
+// Puts what stands behind the header.
+fn put_body(
+    text: &mut FrameText,
+    message: &Outbound,
+    next: u64,
+    now: Moment,
+) -> Result<(), NoMemory>
+    requires { length (body_of text.old) ≤ 2000 }
+    ensures { OnOk result (text.new ≡ with_fields text.old (body_fields message.now next now)) }
+{
+    match message {
+        Outbound::Logon { heartbeat, reset } => put_logon(text, *heartbeat, *reset),
+        Outbound::Heartbeat { id: Some(id) } => put_text(text, 112, id),
+        Outbound::Heartbeat { id: None } => Ok(()),
+        Outbound::TestRequest => put_number(text, 112, next),
+        Outbound::ResendRequest { begin } => put_resend_request(text, *begin),
+        Outbound::Reject {
+            number,
+            tag,
+            reason,
+        } => put_reject(text, *number, *tag, *reason),
+        Outbound::GapFill { .. } => put_gap_fill(text, next),
+        Outbound::Logout => Ok(()),
+        Outbound::Unsupported { number, kind } => put_unsupported(text, *number, kind),
+        Outbound::AllocationAck { id, reply } => put_allocation_ack(text, id, *reply, now),
+    }
+}
+
+// Puts the fields of a Logon.
+fn put_logon(text: &mut FrameText, heartbeat: u32, reset: bool) -> Result<(), NoMemory>
+    requires { length (body_of text.old) ≤ 2000 }
+    ensures { OnOk result (text.new ≡ with_fields text.old (logon_fields heartbeat reset)) }
+{
+    put(text, 98, b"0")?;
+    put_number(text, 108, u64::from(heartbeat))?;
+    if reset {
+        return put(text, 141, b"Y");
+    }
+    Ok(())
+}
+
+// Puts the fields of a Resend Request.
+fn put_resend_request(text: &mut FrameText, begin: u64) -> Result<(), NoMemory>
+    requires { length (body_of text.old) ≤ 2000 }
+    ensures { OnOk result (text.new ≡ with_fields text.old (resend_fields begin)) }
+{
+    put_number(text, 7, begin)?;
+    put(text, 16, b"0")
+}
+
+// Puts the fields of a Reject.
+fn put_reject(text: &mut FrameText, number: u64, tag: u32, reason: u8) -> Result<(), NoMemory>
+    requires { length (body_of text.old) ≤ 2000 }
+    ensures { OnOk result (text.new ≡ with_fields text.old (reject_fields number tag reason)) }
+{
+    put_number(text, 45, number)?;
+    if tag != 0 {
+        put_number(text, 371, u64::from(tag))?;
+    }
+    put_number(text, 373, u64::from(reason))
+}
+
+// Puts the fields of a gap fill up to the next number to send.
+fn put_gap_fill(text: &mut FrameText, next: u64) -> Result<(), NoMemory>
+    requires { length (body_of text.old) ≤ 2000 }
+    ensures { OnOk result (text.new ≡ with_fields text.old (gap_fill_fields next)) }
+{
+    put(text, 123, b"Y")?;
+    put_number(text, 36, next)
+}
+
+// Puts the fields of a Business Message Reject for a type that isn't supported.
+fn put_unsupported(text: &mut FrameText, number: u64, kind: &Text64) -> Result<(), NoMemory>
+    requires { length (body_of text.old) ≤ 2000 }
+    ensures { OnOk result (text.new ≡ with_fields text.old (unsupported_fields number kind.now)) }
+{
+    put_number(text, 45, number)?;
+    put_text(text, 372, kind)?;
+    put(text, 380, b"3")
+}
+
+// Puts the fields of an Allocation Instruction Ack.
+fn put_allocation_ack(
+    text: &mut FrameText,
+    id: &Text64,
+    reply: SeenReply,
+    now: Moment,
+) -> Result<(), NoMemory>
+    requires { length (body_of text.old) ≤ 2000 }
+    ensures { OnOk result (text.new ≡ with_fields text.old (ack_fields id.now reply now)) }
+{
+    put_text(text, 70, id)?;
+    put_moment(text, 60, now)?;
+    match reply {
+        SeenReply::Accepted => put(text, 87, b"0"),
+        SeenReply::Refused(refusal) => {
+            put(text, 87, b"1")?;
+            put_number(text, 88, reject_code(refusal))
+        }
+    }
+}
+
+// AllocRejCode of a refusal's number.
+fn reject_code(refusal: u8) -> u64
+    ensures { result ≡ reject_code refusal }
+{
+    match refusal {
+        5 | 6 | 8 => 10,
+        10 => 1,
+        _ => 7,
+    }
+}
+
+// Puts a text.
+fn put_text(text: &mut FrameText, tag: u32, value: &Text64) -> Result<(), NoMemory>
+    requires tag { is_plain_tag tag ≡ true }
+    requires room { length (body_of text.old) ≤ 4000 }
+    ensures field { OnOk result (text.new ≡ with_field text.old (field tag value.now)) }
+    ensures size { OnOk result (length (body_of text.new) ≤ length (body_of text.old) + 80) }
+{
+    put(text, tag, value.bytes())
+}
+
+// Puts a number.
+#[tactic(auto, using(crate::proofs::TextLemmas::decimal_is_text))]
+fn put_number(text: &mut FrameText, tag: u32, number: u64) -> Result<(), NoMemory>
+    requires tag { is_plain_tag tag ≡ true }
+    requires room { length (body_of text.old) ≤ 4000 }
+    ensures field { OnOk result (text.new ≡ with_field text.old (field tag (decimal number))) }
+    ensures size { OnOk result (length (body_of text.new) ≤ length (body_of text.old) + 80) }
+{
+    put(text, tag, Buffer::new().format(number).as_bytes())
+}
+
+// Puts a moment.
+#[tactic(auto, using(crate::proofs::TextLemmas::moment_is_text))]
+fn put_moment(text: &mut FrameText, tag: u32, moment: Moment) -> Result<(), NoMemory>
+    requires tag { is_plain_tag tag ≡ true }
+    requires room { length (body_of text.old) ≤ 4000 }
+    ensures field { OnOk result (text.new ≡ with_field text.old (field tag (moment_text moment))) }
+    ensures size { OnOk result (length (body_of text.new) ≤ length (body_of text.old) + 80) }
+{
+    put(text, tag, &moment.write())
+}
+
+// Puts a field of no more bytes than a text has.
+fn put(text: &mut FrameText, tag: u32, value: &[u8]) -> Result<(), NoMemory>
+    requires tag { is_plain_tag tag ≡ true }
+    requires value { is_text value.now ≡ true }
+    requires room { length (body_of text.old) ≤ 4000 }
+    ensures field { OnOk result (text.new ≡ with_field text.old (field tag value.now)) }
+    ensures size { OnOk result (length (body_of text.new) ≤ length (body_of text.old) + 80) }
+{
+    match text.put(tag, value) {
+        Ok(()) => Ok(()),
+        Err(fault) => Err(out_of_memory(fault)),
+    }
+}
+
+// A field that isn't refused finds no memory.
+fn out_of_memory(_fault: WriteFault) -> NoMemory
+    requires { _fault ≡ WriteFault.NoMemory }
+{
+    NoMemory
+}
