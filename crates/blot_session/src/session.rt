@@ -1,12 +1,12 @@
 //! The session with one peer.
-ghost use Rattle.std.specs.Prelude.{◌≡◌, List, Ok, IfOk, OnErr};
+ghost use Rattle.std.specs.Prelude.{◌≡◌, List, Ok, None, is_some, IfOk, OnErr};
 ghost use Rattle.blot_tag.specs.Fields.{fields_of};
 ghost use Rattle.blot_tag.specs.Views.{text_of};
 ghost use Rattle.blot_fields.specs.Decoding.{decoded, is_out_of_memory};
 ghost use Rattle.blot_fields.specs.Numbers.{IsNumbered};
 ghost use Rattle.blot_session.specs.Calls.{command_said, ending, on_frame, on_tick, on_reply, outcome_of, row_of_reply};
 ghost use Rattle.blot_session.specs.Runs.{Call, AreMet, HasNoReset, IsInOrder};
-ghost use Rattle.blot_session.specs.States.{fresh, waiting_again, closed, phase_of, IsIdle, IsAwaiting, IsState};
+ghost use Rattle.blot_session.specs.States.{awaited_of, fresh, waiting_again, closed, phase_of, IsIdle, IsAwaiting, IsState};
 ghost use Rattle.blot_session.specs.Table.{Fits};
 
 use crate::carrying::{Outcome, carry_out, is_spent, spent};
@@ -82,6 +82,19 @@ impl Session {
         ensures { result ≡ phase_of self.now }
     {
         self.state.phase()
+    }
+
+    /// Whether a delivered command awaits its reply.
+    pub fn is_awaiting(&self) -> bool
+        ensures { result ≡ is_some (awaited_of self.now) }
+    {
+        matches!(
+            self.state.link,
+            Link::On(Live {
+                awaited: Some(_),
+                ..
+            })
+        )
     }
 
     /// Waits for a Logon again, as a new session, but for both numbers, which are kept.

@@ -1,4 +1,5 @@
-//! Tests of the byte side: exact decimals, times, the frames of a stream and their fields, and messages.
+//! Tests of the byte side: exact decimals, times, the frames of a stream and their fields,
+//! messages, and sessions.
 #![tactic(auto)]
 
 #[cfg(test)]
@@ -17,6 +18,10 @@ mod field_rows;
 mod fields;
 #[cfg(test)]
 mod frames;
+#[cfg(test)]
+mod session_rows;
+#[cfg(test)]
+mod sessions;
 #[cfg(test)]
 mod shown;
 #[cfg(test)]
