@@ -1,4 +1,5 @@
 mod RowLemmas
+mod Rows
 mod RunLemmas
 mod StateLemmas
 mod TextLemmas

@@ -1,0 +1,90 @@
+-- Worked rows that compute, among them those that no test can reach: the numbers to send are used up.
+use Rattle.std.proofs.Common.{◌≡◌, ℕ, Bool, true, false, List, [], ◌∷◌, Option, Some, None, Result, Ok, Err, refl}
+use Rattle.std.specs.Prelude.{codes, ℤ, pos}
+use Rattle.blot_fields.specs.declared.admin.Admin.{Admin}
+use Rattle.blot_fields.specs.declared.admin.Admin.TheVariants as admin
+use Rattle.blot_fields.specs.declared.fault.FieldFault.{FieldFault}
+use Rattle.blot_fields.specs.declared.head.Head.{Head}
+use Rattle.blot_fields.specs.declared.message.Body.TheVariants as bodies
+use Rattle.blot_fields.specs.declared.message.Message.{Message}
+use Rattle.blot_session.specs.declared.outbound.Outbound.TheVariants.{Logon, Heartbeat, TestRequest, ResendRequest, Reject, GapFill, Logout}
+use Rattle.blot_session.specs.declared.state.Live.{Live}
+use Rattle.blot_session.specs.declared.state.Link.TheVariants as links
+use Rattle.blot_session.specs.declared.state.State.{State}
+use Rattle.blot_session.specs.Calls.{is_spent, on_frame, on_tick, spent}
+use Rattle.blot_session.specs.Rows.{frame_row, logon_row, waiting_row, waiting_logon_row, first_logon_row, on_row, head_row, peer_row, message_row, number_row, late_row, early_row, early_body_row, expected_row, body_row, admin_row, resend_row, gap_fill_row, reset_row, tick_row, beat_row, asked_row, quiet_row, heartbeat_row}
+use Rattle.blot_session.specs.States.{fresh, restarted, expecting, counted, opened, heard, asking}
+use Rattle.blot_session.specs.Table.{silent, sends, sends_both}
+
+-- a session that is on since moment 0, with a HeartBtInt of 30 seconds
+abbrev live : Live
+live = record { heartbeat = 30; received = pos 0; sent = pos 0; asked = None; awaited = None }
+
+abbrev session : ℕ → ℕ → State
+session expected next = record { own = codes "MO"; peer = codes "BRKA"; expected = expected; next = next; link = links.On live }
+
+-- the header of a message of the peer
+abbrev head : ℕ → Head
+head number = record { kind = codes "0"; sender = codes "BRKA"; target = codes "MO"; number = number; dup = false; sending = pos 0 }
+
+abbrev message : ℕ → Admin → Result Message FieldFault
+message number a = Ok (record { head = head number; body = bodies.Admin a })
+
+-- a lost message is asked for again
+gap : frame_row (session 5 2) (message 7 admin.Heartbeat) (pos 1) ≡ sends (ResendRequest 5) (heard (pos 1) (session 5 2))
+unfolding on_row head_row peer_row message_row number_row early_row early_body_row
+gap = refl
+
+-- a gap fill moves the expected number, under its own number alone
+filled : frame_row (session 5 2) (message 5 (admin.SequenceReset 9 true)) (pos 1) ≡ silent (expecting 9 (heard (pos 1) (session 5 2)))
+unfolding on_row head_row peer_row message_row number_row expected_row body_row admin_row gap_fill_row
+filled = refl
+
+not_filled : frame_row (session 5 2) (message 7 (admin.SequenceReset 9 true)) (pos 1) ≡ sends (ResendRequest 5) (heard (pos 1) (session 5 2))
+unfolding on_row head_row peer_row message_row number_row early_row early_body_row
+not_filled = refl
+
+-- a Sequence Reset that isn't a gap fill does so under any number
+reset : frame_row (session 9 2) (message 1 (admin.SequenceReset 12 false)) (pos 1) ≡ silent (expecting 12 (heard (pos 1) (session 9 2)))
+unfolding on_row head_row peer_row message_row reset_row
+reset = refl
+
+-- what is asked of the numbers from 1 on is covered by one gap fill
+resent : frame_row (session 12 4) (message 12 (admin.ResendRequest 1 0)) (pos 1) ≡ sends (GapFill 1) (counted (heard (pos 1) (session 12 4)))
+unfolding on_row head_row peer_row message_row number_row expected_row body_row admin_row resend_row
+resent = refl
+
+-- time: 30 seconds, 36 seconds, and 36 more
+beat : tick_row (session 2 2) (pos 30_000) ≡ sends (Heartbeat None) (session 2 2)
+unfolding tick_row beat_row quiet_row heartbeat_row
+beat = refl
+
+no_beat : tick_row (session 2 2) (pos 29_999) ≡ silent (session 2 2)
+unfolding tick_row beat_row quiet_row heartbeat_row
+no_beat = refl
+
+asked : tick_row (session 2 2) (pos 36_000) ≡ sends TestRequest (asking (pos 36_000) (session 2 2))
+unfolding tick_row beat_row quiet_row
+asked = refl
+
+-- the numbers to send are used up: whatever would be done, the connection ends instead, and no number changes
+spent_beat : on_tick (session 2 999_999_991) (pos 30_000) ≡ spent (session 2 999_999_991)
+unfolding tick_row beat_row quiet_row heartbeat_row
+spent_beat = refl
+
+spent_answer : on_frame (session 5 999_999_991) (message 5 (admin.TestRequest (codes "T1"))) (pos 1) ≡ spent (session 5 999_999_991)
+unfolding on_row head_row peer_row message_row number_row expected_row body_row admin_row
+spent_answer = refl
+
+spent_reset : on_frame (session 5 999_999_991) (message 1 (admin.Logon 30 true)) (pos 1) ≡ spent (session 5 999_999_991)
+unfolding on_row head_row peer_row message_row logon_row
+spent_reset = refl
+
+-- what needs no answer goes on
+spent_silent : on_frame (session 5 999_999_991) (message 5 admin.Heartbeat) (pos 1) ≡ record { state = counted (heard (pos 1) (session 5 999_999_991)); actions = [] }
+unfolding on_row head_row peer_row message_row number_row expected_row body_row admin_row
+spent_silent = refl
+
+-- and one number before, an answer is sent
+last_answer : is_spent (session 5 999_999_990) (sends Logout (session 5 999_999_990)) ≡ false
+last_answer = refl
