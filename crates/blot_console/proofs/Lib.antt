@@ -1,0 +1,5 @@
+-- What the proofs of the functions share.
+pub mod WordLemmas
+pub mod FormLemmas
+pub mod MakingLemmas
+pub mod AllocateLemmas

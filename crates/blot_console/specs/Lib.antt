@@ -1,0 +1,11 @@
+pub mod Allocate
+pub mod Asks
+pub mod Faults
+pub mod FaultText
+pub mod Forms
+pub mod Lines
+pub mod Making
+pub mod Parsing
+pub mod Results
+pub mod Rows
+pub mod Words
