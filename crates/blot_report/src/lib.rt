@@ -1,0 +1,9 @@
+//! The report of a day: the lines of the orders and of the positions that stand on it, over a snapshot of a desk's
+//! book, and the text of these lines.
+#![tactic(auto)]
+
+mod lines;
+mod text;
+
+pub use lines::{DayLines, OrderRow, PositionKey, PositionRow, Rows};
+pub use text::{put_order_line, put_position_line, report_text};

@@ -1,0 +1,83 @@
+//! What the report of a day shows.
+ghost use Rattle.std.specs.Prelude.{◌≡◌};
+ghost use Rattle.std.specs.Cmp.{on_equiv, on_per};
+ghost use Rattle.std.specs.Cmp.Lexicographic.{pointwise, lists_equiv, lists_per};
+
+use blot_time::Day;
+use blot_types::{OrderKey, OrderLine, PositionLine, Text64};
+use std::marker::Model;
+
+/// The lines of a day: those of the executions that stand and of the live allocations of that day alone.
+#[derive(Debug, PartialEq, Eq, Drop)]
+pub struct DayLines {
+    pub day: Day,
+    /// The orders by peer and then by OrderID, by their bytes, each once.
+    pub orders: Rows<OrderRow>,
+    /// The positions by account and then by symbol, by their bytes, each once.
+    pub positions: Rows<PositionRow>,
+}
+
+/// An order with its line.
+#[derive(Clone, Copy, Debug, PartialEq, Eq)]
+pub struct OrderRow {
+    pub order: OrderKey,
+    pub line: OrderLine,
+}
+
+/// A position with its line.
+#[derive(Clone, Copy, Debug, PartialEq, Eq)]
+pub struct PositionRow {
+    pub position: PositionKey,
+    pub line: PositionLine,
+}
+
+/// An account, `*` the house account, and a symbol.
+#[derive(Clone, Copy, Debug, PartialEq, Eq, PartialOrd, Ord)]
+pub struct PositionKey {
+    pub account: Text64,
+    pub symbol: Text64,
+}
+
+/// The rows of a report, in their order. A contract sees them as a list.
+#[derive(Debug, Drop)]
+pub struct Rows<T> {
+    rows: Vec<T>,
+}
+
+impl<T> Model for Rows<T> {
+    ghost use Rattle.std.specs.Prelude.{List};
+
+    ghost Value = { List T };
+
+    ghost view = { λ rows. rows.rows.items };
+}
+
+impl<T> Rows<T> {
+    /// The rows of a vector. No memory is taken.
+    pub fn new(rows: Vec<T>) -> Rows<T>
+        ensures { result ≡ rows.items }
+    {
+        Rows { rows }
+    }
+
+    /// The rows, from the first to the last.
+    pub fn as_slice(&self) -> &[T]
+        ensures { result.now ≡ self.now }
+    {
+        self.rows.as_slice()
+    }
+}
+
+impl<T: PartialEq> PartialEq for Rows<T> {
+    ghost eq = { pointwise T.eq };
+
+    ghost laws = { lists_per T.laws };
+
+    fn eq(&self, other: &Rows<T>) -> bool {
+        self.as_slice() == other.as_slice()
+    }
+}
+
+impl<T: Eq> Eq for Rows<T> {
+    ghost laws = { lists_equiv T.Eq.laws };
+}

@@ -1,0 +1,153 @@
+//! The text of a report.
+ghost use Rattle.std.specs.Prelude.{◌≡◌, ◌+◌, ◌++◌, length, IfOk, OnOk};
+ghost use Rattle.blot_report.specs.Text.{word, sign_text, order_amounts, order_text, position_amounts, position_text, first_text, end_text, order_lines_text, position_lines_text, report_text};
+
+use crate::{DayLines, OrderRow, PositionRow};
+use blot_time::Day;
+use blot_types::{OrderKey, OrderLine, PositionLine, Sign, Text64};
+use std::alloc::{AllocError as NoMemory, Global};
+
+/// The text of a report: its day, the lines of the orders and those of the positions, and how many these are. An
+/// error is out of memory.
+pub fn report_text(alloc: Global, lines: &DayLines) -> Result<Vec<u8>, NoMemory>
+    ensures { IfOk result (λ text. text.items ≡ report_text lines.now) }
+{
+    let mut text = Vec::new(alloc);
+    put_first_line(&mut text, lines.day)?;
+    put_order_lines(alloc, &mut text, lines.orders.as_slice())?;
+    put_position_lines(alloc, &mut text, lines.positions.as_slice())?;
+    put_end_line(alloc, &mut text, lines)?;
+    Ok(text)
+}
+
+/// Puts the line of an order behind a text. An error is out of memory, and what the text has then isn't said.
+pub fn put_order_line(
+    alloc: Global,
+    text: &mut Vec<u8>,
+    order: &OrderKey,
+    line: &OrderLine,
+) -> Result<(), NoMemory>
+    ensures { OnOk result (text.new.items ≡ text.old.items ++ order_text order.now line.now) }
+{
+    put_word(text, b"order")?;
+    put_word(text, order.peer.bytes())?;
+    put_word(text, order.id.bytes())?;
+    put_word(text, line.symbol.bytes())?;
+    put_word(text, sign_word(line.sign))?;
+    put_order_amounts(alloc, text, line)
+}
+
+/// Puts the line of a position behind a text. An error is out of memory, and what the text has then isn't said.
+pub fn put_position_line(
+    alloc: Global,
+    text: &mut Vec<u8>,
+    account: &Text64,
+    symbol: &Text64,
+    line: &PositionLine,
+) -> Result<(), NoMemory>
+    ensures { OnOk result (text.new.items ≡ text.old.items ++ position_text account.now symbol.now line.now) }
+{
+    put_word(text, b"position")?;
+    put_word(text, account.bytes())?;
+    put_word(text, symbol.bytes())?;
+    put_position_amounts(alloc, text, line)
+}
+
+// Puts the lines of orders behind a text.
+fn put_order_lines(alloc: Global, text: &mut Vec<u8>, rows: &[OrderRow]) -> Result<(), NoMemory>
+    ensures { OnOk result (text.new.items ≡ text.old.items ++ order_lines_text rows.now) }
+{
+    for row in rows {
+        put_order_line(alloc, text, &row.order, &row.line)?;
+    }
+    Ok(())
+}
+
+// Puts the lines of positions behind a text.
+fn put_position_lines(
+    alloc: Global,
+    text: &mut Vec<u8>,
+    rows: &[PositionRow],
+) -> Result<(), NoMemory>
+    ensures { OnOk result (text.new.items ≡ text.old.items ++ position_lines_text rows.now) }
+{
+    for row in rows {
+        put_position_line(
+            alloc,
+            text,
+            &row.position.account,
+            &row.position.symbol,
+            &row.line,
+        )?;
+    }
+    Ok(())
+}
+
+// Puts the first line of a report behind a text.
+fn put_first_line(text: &mut Vec<u8>, day: Day) -> Result<(), NoMemory>
+    ensures { OnOk result (text.new.items ≡ text.old.items ++ first_text day) }
+{
+    put_word(text, b"report")?;
+    text.extend_from_slice(&day.write())?;
+    text.push(b'\n')?;
+    Ok(())
+}
+
+// Puts the last line of a report behind a text.
+fn put_end_line(alloc: Global, text: &mut Vec<u8>, lines: &DayLines) -> Result<(), NoMemory>
+    ensures { OnOk result (text.new.items ≡ text.old.items ++ end_text (length lines.now.orders + length lines.now.positions)) }
+{
+    let count = lines.orders.as_slice().len() + lines.positions.as_slice().len();
+    put_word(text, b"end")?;
+    let number = format!(in alloc; "{count}\n")?;
+    text.extend_from_slice(number.as_bytes())?;
+    Ok(())
+}
+
+// The letter of a sign.
+fn sign_word(sign: Sign) -> &'static [u8]
+    ensures { result.now ≡ sign_text sign }
+{
+    match sign {
+        Sign::Buy => b"B",
+        Sign::Sell => b"S",
+    }
+}
+
+// Puts a word and a tab behind a text.
+fn put_word(text: &mut Vec<u8>, bytes: &[u8]) -> Result<(), NoMemory>
+    ensures { OnOk result (text.new.items ≡ text.old.items ++ word bytes.now) }
+{
+    text.extend_from_slice(bytes)?;
+    text.push(b'\t')?;
+    Ok(())
+}
+
+// Puts the amounts of an order's line behind a text, and ends the line.
+fn put_order_amounts(alloc: Global, text: &mut Vec<u8>, line: &OrderLine) -> Result<(), NoMemory>
+    ensures { OnOk result (text.new.items ≡ text.old.items ++ order_amounts line.now) }
+{
+    let OrderLine {
+        cum,
+        leaves,
+        value,
+        ..
+    } = *line;
+    let amounts = format!(in alloc; "{cum}\t{leaves}\t{value}\n")?;
+    text.extend_from_slice(amounts.as_bytes())?;
+    Ok(())
+}
+
+// Puts the amounts of a position's line behind a text, and ends the line.
+fn put_position_amounts(
+    alloc: Global,
+    text: &mut Vec<u8>,
+    line: &PositionLine,
+) -> Result<(), NoMemory>
+    ensures { OnOk result (text.new.items ≡ text.old.items ++ position_amounts line.now) }
+{
+    let PositionLine { qty, value } = *line;
+    let amounts = format!(in alloc; "{qty}\t{value}\n")?;
+    text.extend_from_slice(amounts.as_bytes())?;
+    Ok(())
+}
