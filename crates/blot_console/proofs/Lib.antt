@@ -3,3 +3,4 @@ pub mod WordLemmas
 pub mod FormLemmas
 pub mod MakingLemmas
 pub mod AllocateLemmas
+mod LineRows

@@ -1,4 +1,5 @@
 pub mod Allocate
+pub mod Answers
 pub mod Asks
 pub mod Faults
 pub mod FaultText

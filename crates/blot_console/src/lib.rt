@@ -4,6 +4,7 @@
 #![tactic(auto)]
 
 mod allocate;
+mod answer;
 mod ask;
 mod digits;
 mod fault;
@@ -13,8 +14,10 @@ mod lines;
 mod making;
 mod parsing;
 mod rows;
+mod telling;
 mod words;
 
+pub use answer::{Answer, answer_text};
 pub use ask::Ask;
 pub use fault::LineFault;
 pub use parsing::{LINE_MAX, parse_line};
