@@ -49,14 +49,24 @@ fn expect_number(
     wanted: [&str; 3],
 ) -> Result<(), NoMemory> {
     let [accepted, undone, redone] = wanted;
-    expect_answer(rt, alloc, &Answer::Replied(Reply::Accepted(number)), accepted)?;
+    expect_answer(
+        rt,
+        alloc,
+        &Answer::Replied(Reply::Accepted(number)),
+        accepted,
+    )?;
     expect_answer(rt, alloc, &Answer::Replied(Reply::Undone(number)), undone)?;
     expect_answer(rt, alloc, &Answer::Replied(Reply::Redone(number)), redone)
 }
 
 #[test]
 fn replies_of_numbers_are_told(rt: HostRuntime) -> Result<(), Fail> {
-    expect_number(&rt, rt.alloc(), 1, ["accepted>1/", "undone>1/", "redone>1/"])?;
+    expect_number(
+        &rt,
+        rt.alloc(),
+        1,
+        ["accepted>1/", "undone>1/", "redone>1/"],
+    )?;
     expect_number(
         &rt,
         rt.alloc(),
@@ -81,7 +91,6 @@ fn refusals_are_told(rt: HostRuntime) -> Result<(), Fail> {
     let alloc = rt.alloc();
     let peer = Text64::read(b"BRKA").ok_or("no text")?;
     let id = Text64::read(b"E9").ok_or("no text")?;
-    let key = ExecKey { peer, id };
     let wanted = QtySum::from_units(50_000_000);
     let found = QtySum::from_units(49_500_001);
     for (refused, text) in [
@@ -89,11 +98,20 @@ fn refusals_are_told(rt: HostRuntime) -> Result<(), Fail> {
         (Refused::DuplicateAlloc(2), "refused>2>DuplicateAlloc>2/"),
         (Refused::UnknownAlloc, "refused>3>UnknownAlloc/"),
         (Refused::DeadAlloc(3), "refused>4>DeadAlloc>3/"),
-        (Refused::UnknownExec(key), "refused>5>UnknownExec>BRKA>E9/"),
+        (
+            Refused::UnknownExec(ExecKey { peer, id }),
+            "refused>5>UnknownExec>BRKA>E9/",
+        ),
         (Refused::BustedExec(4), "refused>6>BustedExec>4/"),
-        (Refused::RepeatedExec(key), "refused>7>RepeatedExec>BRKA>E9/"),
+        (
+            Refused::RepeatedExec(ExecKey { peer, id }),
+            "refused>7>RepeatedExec>BRKA>E9/",
+        ),
         (Refused::ExecTaken(100_000), "refused>8>ExecTaken>100000/"),
-        (Refused::Instrument(key), "refused>9>Instrument>BRKA>E9/"),
+        (
+            Refused::Instrument(ExecKey { peer, id }),
+            "refused>9>Instrument>BRKA>E9/",
+        ),
         (
             Refused::Quantity(wanted, found),
             "refused>10>Quantity>50>49.500001/",
@@ -150,13 +168,22 @@ fn orders_and_positions_are_told(rt: HostRuntime) -> Result<(), Fail> {
     let id = Text64::read(b"O1").ok_or("no text")?;
     let symbol = Text64::read(b"XYZ").ok_or("no text")?;
     let account = Text64::read(b"A1").ok_or("no text")?;
-    let order = OrderKey { peer, id };
-    let shown = Answer::Order(order, Some(order_line(symbol)));
+    let shown = Answer::Order(OrderKey { peer, id }, Some(order_line(symbol)));
     expect_answer(&rt, alloc, &shown, "order>BRKA>O1>XYZ>B>100>200>1050/")?;
-    expect_answer(&rt, alloc, &Answer::Order(order, None), "none/")?;
+    expect_answer(
+        &rt,
+        alloc,
+        &Answer::Order(OrderKey { peer, id }, None),
+        "none/",
+    )?;
     let shown = Answer::Position(account, symbol, Some(position_line()));
     expect_answer(&rt, alloc, &shown, "position>A1>XYZ>100>1050/")?;
-    expect_answer(&rt, alloc, &Answer::Position(account, symbol, None), "none/")?;
+    expect_answer(
+        &rt,
+        alloc,
+        &Answer::Position(account, symbol, None),
+        "none/",
+    )?;
     Ok(())
 }
 
@@ -182,7 +209,13 @@ fn house_positions_are_told(rt: HostRuntime) -> Result<(), Fail> {
 }
 
 // A report of one order and one position.
-fn report(alloc: Global, day: Day, key: OrderKey, symbol: Text64, account: Text64) -> Result<DayLines, NoMemory> {
+fn report(
+    alloc: Global,
+    day: Day,
+    key: OrderKey,
+    symbol: Text64,
+    account: Text64,
+) -> Result<DayLines, NoMemory> {
     let line = order_line(symbol);
     let orders = vec![in alloc; OrderRow { order: key, line }]?;
     let line = position_line();
