@@ -3,4 +3,5 @@ pub mod WordLemmas
 pub mod FormLemmas
 pub mod MakingLemmas
 pub mod AllocateLemmas
+pub mod TableLemmas
 mod LineRows

@@ -9,4 +9,5 @@ pub mod Making
 pub mod Parsing
 pub mod Results
 pub mod Rows
+pub mod Tables
 pub mod Words

@@ -1,7 +1,8 @@
 //! Reads whole lines.
-ghost use Rattle.std.specs.Prelude.{◌≡◌, Err, IsOkAnd, true, false};
+ghost use Rattle.std.specs.Prelude.{◌≡◌, ℕ, Err, IsOkAnd, true, false};
 ghost use Rattle.blot_console.specs.Asks.{Gives, IsAllocate};
 ghost use Rattle.blot_console.specs.Parsing.{words_line, ask_of, parsed, is_out_of_memory};
+ghost use Rattle.blot_console.specs.Tables.{IsBadAt};
 
 use crate::allocate::allocate_line;
 use crate::fault::{Refusal, Wrong};
@@ -16,10 +17,13 @@ pub const LINE_MAX: usize = 65_536;
 
 /// What an operator's line asks, which is given without its end, or its first fault. `NoMemory` comes last, and only the
 /// lists of an allocation take any. This project's rule.
-#[tactic(auto, unfolding(crate::specs::Parsing::parsed))]
+#[tactic(auto, using(crate::proofs::TableLemmas::parsed_first), unfolding(crate::specs::Parsing::parsed))]
 pub fn parse_line(alloc: Global, line: &[u8]) -> Result<Ask, LineFault>
     ensures meaning { is_out_of_memory result ≡ false → result ≡ parsed line.now }
     ensures memory { is_out_of_memory result ≡ true → IsOkAnd (parsed line.now) IsAllocate }
+
+    // In a reader's words: the place that is told is the first bad one.
+    ensures first { (place : ℕ) → parsed line.now ≡ Err (LineFault.BadValue place) → IsBadAt line.now place }
 {
     match ask_of(alloc, line) {
         Ok(ask) => Ok(ask),
