@@ -10,3 +10,4 @@ pub mod Refusals
 pub mod Standing
 pub mod Survivors
 pub mod Text
+pub mod Told

@@ -33,3 +33,50 @@ pub enum Refused {
     /// No step is undone.
     NothingToRedo,
 }
+
+impl Refused {
+    ghost use Rattle.std.specs.Prelude.{◌≡◌};
+    ghost use Rattle.blot_types.specs.Told.{refused_number, refused_name};
+
+    /// The number under which a refusal is told. This project's rule.
+    pub fn number(self) -> u8
+        ensures { result ≡ refused_number self }
+    {
+        match self {
+            Refused::DuplicateExec(_) => 1,
+            Refused::DuplicateAlloc(_) => 2,
+            Refused::UnknownAlloc => 3,
+            Refused::DeadAlloc(_) => 4,
+            Refused::UnknownExec(_) => 5,
+            Refused::BustedExec(_) => 6,
+            Refused::RepeatedExec(_) => 7,
+            Refused::ExecTaken(_) => 8,
+            Refused::Instrument(_) => 9,
+            Refused::Quantity(..) => 10,
+            Refused::NothingToUndo => 13,
+            Refused::Moved(_) => 14,
+            Refused::NothingToRedo => 15,
+        }
+    }
+
+    /// The name under which a refusal is told: that of the variant.
+    pub fn name(self) -> &'static [u8]
+        ensures { result.now ≡ refused_name self }
+    {
+        match self {
+            Refused::DuplicateExec(_) => b"DuplicateExec",
+            Refused::DuplicateAlloc(_) => b"DuplicateAlloc",
+            Refused::UnknownAlloc => b"UnknownAlloc",
+            Refused::DeadAlloc(_) => b"DeadAlloc",
+            Refused::UnknownExec(_) => b"UnknownExec",
+            Refused::BustedExec(_) => b"BustedExec",
+            Refused::RepeatedExec(_) => b"RepeatedExec",
+            Refused::ExecTaken(_) => b"ExecTaken",
+            Refused::Instrument(_) => b"Instrument",
+            Refused::Quantity(..) => b"Quantity",
+            Refused::NothingToUndo => b"NothingToUndo",
+            Refused::Moved(_) => b"Moved",
+            Refused::NothingToRedo => b"NothingToRedo",
+        }
+    }
+}

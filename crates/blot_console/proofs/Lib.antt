@@ -1,0 +1,7 @@
+-- What the proofs of the functions share.
+pub mod WordLemmas
+pub mod FormLemmas
+pub mod MakingLemmas
+pub mod AllocateLemmas
+pub mod TableLemmas
+mod LineRows

@@ -1,0 +1,7 @@
+use Rattle.std.proofs.lemmas.List.{take_all}
+use Rattle.blot_console.specs.Words.{words_of}
+use Rattle.blot_console.proofs.WordLemmas.{words_of-few}
+use Rattle.blot_console.proofs.words.Words.of.Goals as goal
+
+pub returns : goal.returns
+returns c = take_all _ (words_of c.args.line.now) (words_of-few c.args.line.now)

@@ -1,0 +1,116 @@
+-- The text of an answer. Words are divided by tabs, and each line ends with LF. Source: this project's rule.
+use Rattle.std.specs.Prelude.{ℕ, ℤ, List, [], ◌∷◌, ◌++◌, codes, Option, Some, None}
+use Rattle.std.specs.Fmt.{decimal}
+use Rattle.blot_decimal.specs.Printed.{printed}
+use Rattle.blot_desk.specs.declared.event.Reply.{Reply}
+use Rattle.blot_desk.specs.declared.event.Reply.TheVariants as replies
+use Rattle.blot_report.specs.Text.{order_text, position_text, report_text}
+use Rattle.blot_types.specs.declared.keys.ExecKey.{ExecKey}
+use Rattle.blot_types.specs.declared.keys.OrderKey.{OrderKey}
+use Rattle.blot_types.specs.declared.lines.OrderLine.{OrderLine}
+use Rattle.blot_types.specs.declared.lines.PositionLine.{PositionLine}
+use Rattle.blot_types.specs.declared.refused.Refused.{Refused}
+use Rattle.blot_types.specs.declared.refused.Refused.TheVariants.{DuplicateExec, DuplicateAlloc, UnknownAlloc, DeadAlloc, UnknownExec, BustedExec, RepeatedExec, ExecTaken, Instrument, Quantity, NothingToUndo, Moved, NothingToRedo}
+use Rattle.blot_types.specs.Told.{refused_number, refused_name}
+use Rattle.blot_console.specs.declared.answer.Answer.{Answer}
+use Rattle.blot_console.specs.declared.answer.Answer.TheVariants as answers
+use Rattle.blot_console.specs.declared.fault.LineFault.{LineFault}
+use Rattle.blot_console.specs.declared.fault.LineFault.TheVariants.{UnknownWord, WrongCount, BadValue, TooLong, NoMemory}
+use Rattle.blot_console.specs.FaultText.{fault_number}
+
+-- a word behind a tab
+abbrev pub told : List ℕ → List ℕ
+told word = 9 ∷ word
+
+-- a number behind a tab
+abbrev pub number_text : ℕ → List ℕ
+number_text number = told (decimal number)
+
+-- an execution behind a tab: its peer and its ExecID
+abbrev pub exec_text : ExecKey → List ℕ
+exec_text key = told key.peer ++ told key.id
+
+-- two quantities, each behind a tab
+abbrev pub quantities_text : ℤ → ℤ → List ℕ
+quantities_text wanted found = told (printed 6 wanted) ++ told (printed 6 found)
+
+-- what a refusal tells behind its name
+abbrev pub values_text : Refused → List ℕ
+values_text (DuplicateExec number) = number_text number
+values_text (DuplicateAlloc number) = number_text number
+values_text UnknownAlloc = []
+values_text (DeadAlloc number) = number_text number
+values_text (UnknownExec key) = exec_text key
+values_text (BustedExec number) = number_text number
+values_text (RepeatedExec key) = exec_text key
+values_text (ExecTaken number) = number_text number
+values_text (Instrument key) = exec_text key
+values_text (Quantity wanted found) = quantities_text wanted found
+values_text NothingToUndo = []
+values_text (Moved newest) = number_text newest
+values_text NothingToRedo = []
+
+-- a refusal: its number, its name and its values
+abbrev pub refused_text : Refused → List ℕ
+refused_text refused =
+    codes "refused" ++ number_text (refused_number refused) ++ told (refused_name refused) ++ values_text refused ++ 10 ∷ []
+
+-- a line of one word
+abbrev pub word_line : List ℕ → List ℕ
+word_line name = name ++ 10 ∷ []
+
+-- a line of a word and a number
+abbrev pub number_line : List ℕ → ℕ → List ℕ
+number_line name number = name ++ number_text number ++ 10 ∷ []
+
+-- a reply; the line of an order or of a position is told with the key that was asked for
+abbrev pub reply_text : Reply → List ℕ
+reply_text (replies.Accepted number) = number_line (codes "accepted") number
+reply_text (replies.Refused refused) = refused_text refused
+reply_text (replies.Undone number) = number_line (codes "undone") number
+reply_text (replies.Redone number) = number_line (codes "redone") number
+reply_text (replies.Order line) = []
+reply_text (replies.Position line) = []
+
+-- the line of an order, if it has one
+abbrev pub order_answer : OrderKey → Option OrderLine → List ℕ
+order_answer order (Some line) = order_text order line
+order_answer order None = word_line (codes "none")
+
+-- the line of a position, if it has one
+abbrev pub position_answer : List ℕ → List ℕ → Option PositionLine → List ℕ
+position_answer account symbol (Some line) = position_text account symbol line
+position_answer account symbol None = word_line (codes "none")
+
+-- the place of a bad word
+abbrev pub place_text : LineFault → List ℕ
+place_text UnknownWord = []
+place_text WrongCount = []
+place_text (BadValue place) = number_text place
+place_text TooLong = []
+place_text NoMemory = []
+
+-- a line that asks nothing: the number of its fault, and the place of a bad word
+abbrev pub bad_text : LineFault → List ℕ
+bad_text fault = codes "bad" ++ number_text (fault_number fault) ++ place_text fault ++ 10 ∷ []
+
+-- an answer
+abbrev pub answer_text : Answer → List ℕ
+answer_text (answers.Replied reply) = reply_text reply
+answer_text (answers.Order order line) = order_answer order line
+answer_text (answers.Position account symbol line) = position_answer account symbol line
+answer_text (answers.Report lines) = report_text lines
+answer_text (answers.Bad fault) = bad_text fault
+answer_text answers.Full = word_line (codes "full")
+answer_text answers.Nothing = word_line (codes "none")
+
+-- a reply that is told without a key
+abbrev pub IsTold : Reply → Type 0
+IsTold (replies.Order line) = ⊥
+IsTold (replies.Position line) = ⊥
+IsTold _ = Unit {0}
+
+-- an answer whose reply, if it is one, is told without a key
+abbrev pub CanBeTold : Answer → Type 0
+CanBeTold (answers.Replied reply) = IsTold reply
+CanBeTold _ = Unit {0}

@@ -1,0 +1,66 @@
+-- What a line asks, or its first fault: it is too long; its first word is unknown; its words are too few or too many; the
+-- word at the least place that is bad. Source: this project's rule.
+use Rattle.std.specs.Prelude.{ℕ, Bool, true, false, nat_le, List, codes, length, Result, Ok, Err, if◌then◌else◌}
+use Rattle.blot_types.specs.Keys.{same_text}
+use Rattle.blot_console.specs.declared.ask.Ask.{Ask}
+use Rattle.blot_console.specs.declared.fault.LineFault.{LineFault}
+use Rattle.blot_console.specs.declared.fault.LineFault.TheVariants.{NoMemory}
+use Rattle.blot_console.specs.declared.fault.Wrong.{Wrong}
+use Rattle.blot_console.specs.declared.fault.Wrong.TheVariants.{UnknownWord, TooLong}
+use Rattle.blot_console.specs.declared.kinds.Kind.{Kind}
+use Rattle.blot_console.specs.declared.kinds.Kind.TheVariants as kinds
+use Rattle.blot_console.specs.declared.parsing.TheConstants.{LINE_MAX}
+use Rattle.blot_console.specs.Allocate.{allocate_line}
+use Rattle.blot_console.specs.Faults.{fault_of}
+use Rattle.blot_console.specs.Lines.{undo_line, redo_line, order_line, position_line, report_line}
+use Rattle.blot_console.specs.Results.{◌>>=◌}
+use Rattle.blot_console.specs.Words.{words_of, word_at}
+
+-- the kind of line that a first word names
+unfoldable pub kind_of : List ℕ → Result Kind Wrong
+kind_of word =
+    if same_text word (codes "undo") then Ok kinds.Undo
+    else (if same_text word (codes "redo") then Ok kinds.Redo
+    else (if same_text word (codes "order") then Ok kinds.Order
+    else (if same_text word (codes "position") then Ok kinds.Position
+    else (if same_text word (codes "report") then Ok kinds.Report
+    else (if same_text word (codes "allocate") then Ok kinds.Allocate
+    else Err UnknownWord)))))
+
+-- a line of a kind
+abbrev pub line_by : Kind → List (List ℕ) → Result Ask Wrong
+line_by kinds.Undo words = undo_line words
+line_by kinds.Redo words = redo_line words
+line_by kinds.Order words = order_line words
+line_by kinds.Position words = position_line words
+line_by kinds.Report words = report_line words
+line_by kinds.Allocate words = allocate_line words
+
+-- a line of words
+unfoldable pub words_line : List (List ℕ) → Result Ask Wrong
+words_line words = do
+  kind ← kind_of (word_at 0 words)
+  line_by kind words
+
+-- a line that isn't too long
+unfoldable pub ask_of : List ℕ → Result Ask Wrong
+ask_of line = if nat_le (length line) LINE_MAX then words_line (words_of line) else Err TooLong
+
+-- an ask, or a fault as it is told
+abbrev pub told : Result Ask Wrong → Result Ask LineFault
+told (Ok ask) = Ok ask
+told (Err wrong) = Err (fault_of wrong)
+
+-- what a line asks, or its first fault
+unfoldable pub parsed : List ℕ → Result Ask LineFault
+parsed line = told (ask_of line)
+
+-- whether a fault is that there was no memory
+abbrev pub is_no_memory : LineFault → Bool
+is_no_memory NoMemory = true
+is_no_memory _ = false
+
+-- whether an answer is that there was no memory
+abbrev pub is_out_of_memory : Result Ask LineFault → Bool
+is_out_of_memory (Ok ask) = false
+is_out_of_memory (Err fault) = is_no_memory fault

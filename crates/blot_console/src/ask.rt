@@ -1,0 +1,15 @@
+//! What an operator asks.
+
+use blot_desk::Event;
+use blot_time::Day;
+
+/// What an operator's line asks.
+#[derive(Debug, PartialEq, Eq, Drop)]
+pub enum Ask {
+    /// That the desk takes an event.
+    Step(Event),
+    /// The report of a day.
+    Report(Day),
+    /// That the newest command of this seat is taken back. No line asks it yet.
+    Mine,
+}

@@ -1,0 +1,46 @@
+//! Which line it is, by its first word.
+ghost use Rattle.std.specs.Prelude.{◌≡◌};
+ghost use Rattle.blot_types.specs.Keys.{same_text};
+ghost use Rattle.blot_console.specs.Parsing.{kind_of};
+
+use crate::fault::Wrong;
+
+/// The kinds of lines.
+#[derive(Clone, Copy)]
+pub(crate) enum Kind {
+    Undo,
+    Redo,
+    Order,
+    Position,
+    Report,
+    Allocate,
+}
+
+/// The kind of line that a first word names.
+#[tactic(auto, unfolding(crate::specs::Parsing::kind_of))]
+pub(crate) fn kind_of(word: &[u8]) -> Result<Kind, Wrong>
+    ensures { result ≡ kind_of word.now }
+{
+    if is_word(word, b"undo") {
+        Ok(Kind::Undo)
+    } else if is_word(word, b"redo") {
+        Ok(Kind::Redo)
+    } else if is_word(word, b"order") {
+        Ok(Kind::Order)
+    } else if is_word(word, b"position") {
+        Ok(Kind::Position)
+    } else if is_word(word, b"report") {
+        Ok(Kind::Report)
+    } else if is_word(word, b"allocate") {
+        Ok(Kind::Allocate)
+    } else {
+        Err(Wrong::UnknownWord)
+    }
+}
+
+// Whether a word is this one.
+fn is_word(word: &[u8], name: &[u8]) -> bool
+    ensures { result ≡ same_text word.now name.now }
+{
+    word == name
+}

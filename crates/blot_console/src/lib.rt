@@ -1,0 +1,23 @@
+//! An operator's line to an ask, an answer to its text. A line says what is asked by its first word, and the words
+//! behind it say of what; or the answer is the line's first fault. What the desk replies is told in lines of the same
+//! kind.
+#![tactic(auto)]
+
+mod allocate;
+mod answer;
+mod ask;
+mod digits;
+mod fault;
+mod forms;
+mod kinds;
+mod lines;
+mod making;
+mod parsing;
+mod rows;
+mod telling;
+mod words;
+
+pub use answer::{Answer, answer_text};
+pub use ask::Ask;
+pub use fault::LineFault;
+pub use parsing::{LINE_MAX, parse_line};
