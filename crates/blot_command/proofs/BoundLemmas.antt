@@ -23,7 +23,7 @@ use Rattle.blot_types.specs.Survivors.{links_of, versions_of, stands_in, survivo
 use Rattle.blot_types.proofs.SumLemmas.{total-cons, total-where}
 use Rattle.blot_position.specs.Positions.{Cells}
 use Rattle.blot_command.specs.Carried.{FillFits, ShowsPositions}
-use Rattle.blot_command.proofs.AccountLemmas.{few-survivors, length-filtered, light-list}
+use Rattle.blot_command.proofs.ReadyLemmas.{few-survivors, length-filtered, light-list}
 use Rattle.blot_command.proofs.CarryLemmas.{qty_at, value_at}
 
 bounded : (amount : ℤ) → unsigned_abs amount ≤ 4 * 10 ^ 37 → IsBounded amount

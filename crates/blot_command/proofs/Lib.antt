@@ -2,12 +2,14 @@ pub mod AccountLemmas
 pub mod BoundLemmas
 pub mod CarryLemmas
 pub mod ChangeListLemmas
+pub mod EntryMoveLemmas
 pub mod HouseLemmas
 pub mod LiveLemmas
 pub mod MoveLemmas
 pub mod OpenLemmas
 pub mod PositionLineLemmas
 pub mod ReachLemmas
+pub mod ReadyLemmas
 pub mod RecordLemmas
 pub mod RefusalLemmas
 pub mod ShowLemmas

@@ -18,7 +18,7 @@ use Rattle.blot_types.proofs.BookedLemmas.{BooksBlock, books_blocks}
 use Rattle.blot_types.proofs.ChangeLemmas.{allocations_in}
 use Rattle.blot_command.specs.Carried.{TermsFit}
 use Rattle.blot_command.specs.Sizes.{IsSmall}
-use Rattle.blot_command.proofs.AccountLemmas.{few-live, few-survivors, length-filtered}
+use Rattle.blot_command.proofs.ReadyLemmas.{few-live, few-survivors, length-filtered}
 use Rattle.blot_command.proofs.ReachLemmas.{sizes}
 use Rattle.blot_command.proofs.WeightLemmas.{AreBooked, AllBooked, all_booked}
 use Rattle.blot_report.specs.Day.{is_on, survivors_on, is_allocated_on, allocations_on, day_parts_of}

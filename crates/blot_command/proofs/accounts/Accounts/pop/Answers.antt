@@ -3,7 +3,8 @@ use Rattle.blot_types.specs.Legal.{is_book}
 use Rattle.blot_types.specs.Refusals.{alloc_reference}
 use Rattle.blot_types.specs.Survivors.{version_of}
 use Rattle.blot_command.specs.Booking.{rebooked, released, allocated}
-use Rattle.blot_command.proofs.AccountLemmas.{replaced_part, own_part, own_key, Reads, reads, goes-as, last-split, same-ends, move-second, move-third, move-shows}
+use Rattle.blot_command.proofs.EntryMoveLemmas.{replaced_part, own_part}
+use Rattle.blot_command.proofs.AccountLemmas.{own_key, Reads, reads, goes-as, last-split, same-ends, move-second, move-third, move-shows}
 use Rattle.blot_command.proofs.accounts.Accounts.pop.Goals as goal
 
 pub release-requires : goal.release-requires

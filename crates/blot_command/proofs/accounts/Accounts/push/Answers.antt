@@ -2,7 +2,8 @@ use Rattle.std.proofs.Common.{◌++◌, ◌∷◌, [], ap, ◌∙◌, sym, subst
 use Rattle.blot_types.specs.Legal.{is_book}
 use Rattle.blot_command.specs.Booking.{rebooked, released, allocated}
 use Rattle.blot_command.specs.Carried.{ShowsPositions}
-use Rattle.blot_command.proofs.AccountLemmas.{reads, comes-as, shows-opened, move-second, move-third, move-shows}
+use Rattle.blot_command.proofs.ReadyLemmas.{shows-opened}
+use Rattle.blot_command.proofs.AccountLemmas.{reads, comes-as, move-second, move-third, move-shows}
 use Rattle.blot_command.proofs.accounts.Accounts.push.Goals as goal
 
 pub rebook-requires : goal.rebook-requires
