@@ -3,9 +3,9 @@ ghost use Rattle.std.specs.Prelude.{◌≡◌, IfOk};
 ghost use Rattle.blot_fields.specs.Numbers.{NamesNumber};
 ghost use Rattle.blot_fields.specs.Messages.{logon_of, test_request_of, resend_request_of, sequence_reset_of};
 
+use crate::SEQUENCE_MAX;
 use crate::fault::Wrong;
 use crate::index::FieldIndex;
-use crate::SEQUENCE_MAX;
 use crate::rows::{needed, number, optional, zero};
 use blot_types::Text64;
 

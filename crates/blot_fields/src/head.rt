@@ -3,9 +3,9 @@ ghost use Rattle.std.specs.Prelude.{◌≡◌, ◌≤◌, IfOk};
 ghost use Rattle.blot_fields.specs.declared.TheConstants.{SEQUENCE_MAX};
 ghost use Rattle.blot_fields.specs.Messages.{head_of};
 
+use crate::SEQUENCE_MAX;
 use crate::fault::Wrong;
 use crate::index::FieldIndex;
-use crate::SEQUENCE_MAX;
 use crate::rows::{needed, number, optional};
 use blot_time::Moment;
 use blot_types::Text64;
