@@ -1,0 +1,210 @@
+//! Commands in words, as the rows of the tests write them.
+
+use crate::fixtures::{alloc_key, exec, fill, order, text};
+use blot_decimal::{Price, Qty};
+use blot_time::Day;
+use blot_types::{
+    AllocCancel, AllocNew, AllocReplace, Bust, Command, Correct, ExecKey, Fill, ITEMS_MAX, Items,
+    Line, Sign, Terms, Text64, Trade,
+};
+use std::alloc::Global;
+use std::test::Fail;
+
+/// A fill in words.
+#[derive(Drop)]
+pub enum Filled {
+    /// XYZ, bought for account A1: the order, the quantity, the price and the order's size.
+    Buys(&'static [u8], &'static [u8], &'static [u8], &'static [u8]),
+    /// ABC, sold for account A2, likewise.
+    Sells(&'static [u8], &'static [u8], &'static [u8], &'static [u8]),
+    /// XYZ of O1 of size 300, bought for account A1: the quantity and the price.
+    Bought(&'static [u8], &'static [u8]),
+    /// Of O1 of size 300: the account, none where it is empty, the symbol, the side, the quantity and the price.
+    Fills(&'static [u8], &'static [u8], Sign, &'static [u8], &'static [u8]),
+}
+
+/// An allocation of XYZ in words.
+#[derive(Drop)]
+pub struct Booked {
+    pub sign: Sign,
+    pub execs: &'static [&'static [u8]],
+    pub block: &'static [u8],
+    /// The account, the quantity and the price of each line.
+    pub lines: &'static [[&'static [u8]; 3]],
+}
+
+/// A command in words: the execution or the allocation that it takes up, then the one that it refers to, then
+/// what it brings.
+pub enum Step {
+    Trades(&'static [u8], Filled),
+    Corrects(&'static [u8], &'static [u8], Filled),
+    Busts(&'static [u8], &'static [u8]),
+    Allocates(&'static [u8], Booked),
+    Replaces(&'static [u8], &'static [u8], Booked),
+    Cancels(&'static [u8], &'static [u8]),
+}
+
+// The fill of a peer's order.
+fn fill_of(peer: &[u8], words: &Filled) -> Result<Fill, Fail> {
+    match words {
+        Filled::Buys(id, qty, price, size) => fill(order(peer, id)?, qty, price, size),
+        Filled::Sells(id, qty, price, size) => {
+            let mut sold = fill(order(peer, id)?, qty, price, size)?;
+            sold.account = Some(text(b"A2")?);
+            sold.symbol = text(b"ABC")?;
+            sold.sign = Sign::Sell;
+            Ok(sold)
+        }
+        Filled::Bought(qty, price) => fill(order(peer, b"O1")?, qty, price, b"300"),
+        Filled::Fills(account, symbol, sign, qty, price) => {
+            let mut filled = fill(order(peer, b"O1")?, qty, price, b"300")?;
+            filled.account = Text64::read(account);
+            filled.symbol = text(symbol)?;
+            filled.sign = *sign;
+            Ok(filled)
+        }
+    }
+}
+
+/// A trade in words.
+pub fn trade(peer: &[u8], id: &[u8], words: &Filled) -> Result<Trade, Fail> {
+    Ok(Trade {
+        key: exec(peer, id)?,
+        fill: fill_of(peer, words)?,
+    })
+}
+
+/// A correction in words.
+pub fn correct(peer: &[u8], id: &[u8], reference: &[u8], words: &Filled) -> Result<Correct, Fail> {
+    Ok(Correct {
+        key: exec(peer, id)?,
+        reference: exec(peer, reference)?,
+        fill: fill_of(peer, words)?,
+    })
+}
+
+/// A bust in words.
+pub fn bust(peer: &[u8], id: &[u8], reference: &[u8]) -> Result<Bust, Fail> {
+    Ok(Bust {
+        key: exec(peer, id)?,
+        reference: exec(peer, reference)?,
+    })
+}
+
+/// A line of an allocation, in words.
+pub fn line(account: &[u8], qty: &[u8], price: &[u8]) -> Result<Line, Fail> {
+    Ok(Line {
+        account: text(account)?,
+        qty: Qty::read(qty)?,
+        price: Price::read(price)?,
+    })
+}
+
+/// The terms of an allocation of XYZ: the side, the block, the executions and the lines.
+pub fn terms(sign: Sign, block: Qty, execs: Vec<ExecKey>, lines: Vec<Line>) -> Result<Terms, Fail> {
+    if execs.len() > ITEMS_MAX || lines.len() > ITEMS_MAX {
+        return Err(Fail::new("too many items"));
+    }
+    Ok(Terms {
+        symbol: text(b"XYZ")?,
+        sign,
+        day: Day::read(b"20240105")?,
+        block,
+        execs: Items::new(execs),
+        lines: Items::new(lines),
+    })
+}
+
+/// A peer's executions of these ids.
+pub fn execs(alloc: Global, peer: &[u8], ids: &[&[u8]]) -> Result<Vec<ExecKey>, Fail> {
+    let mut execs = Vec::new(alloc);
+    for id in ids {
+        execs.push(exec(peer, id)?)?;
+    }
+    Ok(execs)
+}
+
+// The lines of an allocation.
+fn lines(alloc: Global, words: &[[&[u8]; 3]]) -> Result<Vec<Line>, Fail> {
+    let mut lines = Vec::new(alloc);
+    for [account, qty, price] in words {
+        lines.push(line(account, qty, price)?)?;
+    }
+    Ok(lines)
+}
+
+// The terms of a peer's allocation in words.
+fn terms_of(alloc: Global, peer: &[u8], words: &Booked) -> Result<Terms, Fail> {
+    let block = Qty::read(words.block)?;
+    let execs = execs(alloc, peer, words.execs)?;
+    let lines = lines(alloc, words.lines)?;
+    terms(words.sign, block, execs, lines)
+}
+
+/// A new allocation in words.
+pub fn alloc_new(alloc: Global, peer: &[u8], id: &[u8], words: &Booked) -> Result<AllocNew, Fail> {
+    let key = alloc_key(peer, id)?;
+    match terms_of(alloc, peer, words) {
+        Ok(terms) => Ok(AllocNew { key, terms }),
+        Err(fail) => Err(fail),
+    }
+}
+
+/// An allocation in the place of another, in words.
+pub fn alloc_replace(
+    alloc: Global,
+    peer: &[u8],
+    id: &[u8],
+    reference: &[u8],
+    words: &Booked,
+) -> Result<AllocReplace, Fail> {
+    let (key, reference) = (alloc_key(peer, id)?, alloc_key(peer, reference)?);
+    match terms_of(alloc, peer, words) {
+        Ok(terms) => Ok(AllocReplace {
+            key,
+            reference,
+            terms,
+        }),
+        Err(fail) => Err(fail),
+    }
+}
+
+/// The end of an allocation, in words.
+pub fn alloc_cancel(peer: &[u8], id: &[u8], reference: &[u8]) -> Result<AllocCancel, Fail> {
+    Ok(AllocCancel {
+        key: alloc_key(peer, id)?,
+        reference: alloc_key(peer, reference)?,
+    })
+}
+
+/// A peer's command in words.
+pub fn command(alloc: Global, peer: &[u8], step: &Step) -> Result<Command, Fail> {
+    match step {
+        Step::Trades(id, words) => match trade(peer, id, words) {
+            Ok(trade) => Ok(Command::Trade(trade)),
+            Err(fail) => Err(fail),
+        },
+        Step::Corrects(id, reference, words) => match correct(peer, id, reference, words) {
+            Ok(correct) => Ok(Command::Correct(correct)),
+            Err(fail) => Err(fail),
+        },
+        Step::Busts(id, reference) => match bust(peer, id, reference) {
+            Ok(bust) => Ok(Command::Bust(bust)),
+            Err(fail) => Err(fail),
+        },
+        Step::Allocates(id, words) => match alloc_new(alloc, peer, id, words) {
+            Ok(new) => Ok(Command::AllocNew(new)),
+            Err(fail) => Err(fail),
+        },
+        Step::Replaces(id, reference, words) => {
+            match alloc_replace(alloc, peer, id, reference, words) {
+                Ok(replace) => Ok(Command::AllocReplace(replace)),
+                Err(fail) => Err(fail),
+            }
+        }
+        Step::Cancels(id, reference) => match alloc_cancel(peer, id, reference) {
+            Ok(cancel) => Ok(Command::AllocCancel(cancel)),
+            Err(fail) => Err(fail),
+        },
+    }
+}
