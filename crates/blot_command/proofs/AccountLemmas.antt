@@ -96,7 +96,7 @@ few-survivors list book =
 few-allocations : (list : List Entry) → is_book list ≡ true → length (allocations_in list) ≤ EVENTS_MAX + 1
 few-allocations list book = (let one = length-brought (λ (e : Entry). allocation_of e.command) list in let two = length-book list book in omega (arith, one, two))
 
-few-live : (list : List Entry) → is_book list ≡ true → length (live_allocations list) ≤ EVENTS_MAX + 1
+pub few-live : (list : List Entry) → is_book list ≡ true → length (live_allocations list) ≤ EVENTS_MAX + 1
 few-live list book = (let one = length-filtered (λ a. is_none (ended_in (instructions_of list) a.key)) (allocations_in list) in let two = few-allocations list book in omega (arith, one, two))
 
 few-beside : (list : List Entry) (reference : Option AllocKey) → is_book list ≡ true → length (live_beside list reference) ≤ EVENTS_MAX + 1

@@ -6,7 +6,7 @@ use Rattle.blot_types.specs.declared.lines.Part.{Part}
 use Rattle.blot_types.specs.Position.{is_at}
 use Rattle.blot_position.specs.declared.sums.Sums.{Sums}
 use Rattle.blot_position.specs.Positions.{Cells, sums_at, has_cell, same_position}
-use Rattle.blot_position.specs.Sums.{with_one, without_one, FitsSum}
+use Rattle.blot_position.specs.Sums.{with_one, without_one, FitsSum, HasRoom}
 use Rattle.blot_position.proofs.PositionLemmas.{sums_at-with_part, sums_at-without_part, same_position-refl}
 use Rattle.blot_command.specs.Booking.{put_in, taken_out, changed, CanChange}
 use Rattle.blot_command.specs.Carried.{amount_at, Carries}
@@ -170,10 +170,11 @@ abs_fits a small = (omega (arith, ints, small), omega (arith, ints, small))
 same_here : (part : Part) → is_at part.account part.symbol part ≡ true
 same_here part = same_position-refl part.account part.symbol
 
-pub can_put :
+-- there is room for one part more
+pub has-room :
     (part : Part) (whole : Whole) (cells : Cells) (count qty : ℕ) → Carries whole cells → Light (count + 1) qty (more part whole) → IsLightEnough (count + 1) qty
-    → has_cell cells part.account part.symbol ≡ true → CanChange (put_in part) cells
-can_put part whole cells count qty carried light enough made =
+    → HasRoom (sums_at cells part.account part.symbol) part.qty part.value
+has-room part whole cells count qty carried light enough =
     let a = part.account in
     let s = part.symbol in
     let here : is_at a s part ≡ true = same_here part in
@@ -186,14 +187,17 @@ can_put part whole cells count qty carried light enough made =
     let limit : qty * 10 ^ 16 ≤ 10 ^ 38 = omega (arith, enough.qty_fits) in
     let parts = carried.parts a s in
     let sum_qty : ((sums_at cells a s).qty +ℤ part.qty) ≡ (whole (qty_at a s) +ℤ qty_at a s part) = ap (λ x. x +ℤ part.qty) (carried.qty a s) ∙ ap (λ x. whole (qty_at a s) +ℤ x) (sym own_qty) in
-    let sum_value : ((sums_at cells a s).value +ℤ part.value) ≡ (whole (value_at a s) +ℤ value_at a s part) = ap (λ x. x +ℤ part.value) (carried.value a s) ∙ ap (λ x. whole (value_at a s) +ℤ x) (sym own_value) in (
-      made,
-      record {
-        fewer = omega (arith, ints, few, one, parts, enough.count_fits);
-        fits_qty = abs_fits _ (subst (λ sum. unsigned_abs sum ≤ 10 ^ 38) (sym sum_qty) (omega (arith, qtys, enough.qty_fits)));
-        fits_value = abs_fits _ (subst (λ sum. unsigned_abs sum ≤ 10 ^ 38) (sym sum_value) (omega (arith, values, limit)));
-      },
-    )
+    let sum_value : ((sums_at cells a s).value +ℤ part.value) ≡ (whole (value_at a s) +ℤ value_at a s part) = ap (λ x. x +ℤ part.value) (carried.value a s) ∙ ap (λ x. whole (value_at a s) +ℤ x) (sym own_value) in
+    record {
+      fewer = omega (arith, ints, few, one, parts, enough.count_fits);
+      fits_qty = abs_fits _ (subst (λ sum. unsigned_abs sum ≤ 10 ^ 38) (sym sum_qty) (omega (arith, qtys, enough.qty_fits)));
+      fits_value = abs_fits _ (subst (λ sum. unsigned_abs sum ≤ 10 ^ 38) (sym sum_value) (omega (arith, values, limit)));
+    }
+
+pub can_put :
+    (part : Part) (whole : Whole) (cells : Cells) (count qty : ℕ) → Carries whole cells → Light (count + 1) qty (more part whole) → IsLightEnough (count + 1) qty
+    → has_cell cells part.account part.symbol ≡ true → CanChange (put_in part) cells
+can_put part whole cells count qty carried light enough made = (made, has-room part whole cells count qty carried light enough)
 
 pub can_take :
     (part : Part) (rest : Whole) (cells : Cells) (count qty : ℕ) → Carries (more part rest) cells → Light count qty rest → IsLightEnough count qty → CanChange (taken_out part) cells

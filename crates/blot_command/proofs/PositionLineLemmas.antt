@@ -16,7 +16,7 @@ use Rattle.blot_position.specs.declared.sums.Sums.{Sums}
 use Rattle.blot_position.specs.Positions.{Cells, sums_at}
 use Rattle.blot_position.specs.Sums.{line_by}
 use Rattle.blot_position.proofs.PositionLemmas.{sums_at-empty}
-use Rattle.blot_command.specs.Carried.{HasFillCells, HasTermsCells, FillFits, TermsFit, ShowsPositions}
+use Rattle.blot_command.specs.Carried.{Carries, HasFillCells, HasTermsCells, FillFits, TermsFit, ShowsPositions}
 
 ones : (parts : List Part) → total (λ part. pos 1) parts ≡ pos (length parts)
 ones [] = refl
@@ -28,21 +28,29 @@ line-of (part ∷ parts) sums count qty value =
     let some : (sums.parts == 0) ≡ false = ne_eqb sums.parts 0 (λ none. omega (arith, ints, count, none)) in
     rw some (λ k. Some (record { qty = qty k; value = value k }))
 
+-- the cells that carry parts show the sums of those at each position
+pub line-carried : (parts : List Part) (cells : Cells) (a s : List ℕ) → Carries (λ f. total f parts) cells → line_by (sums_at cells a s) ≡ position_by (filter (is_at a s) parts)
+line-carried parts cells a s carried =
+    let here = filter (is_at a s) parts in
+    line-of here (sums_at cells a s) (carried.parts a s ∙ sym (total-where (λ part. pos 1) (is_at a s) parts) ∙ ones here)
+    (carried.qty a s ∙ sym (total-where (λ part. part.qty) (is_at a s) parts))
+    (carried.value a s ∙ sym (total-where (λ part. part.value) (is_at a s) parts))
+
 pub position-shown : (list : List Entry) (cells : Cells) (a s : List ℕ) → ShowsPositions list cells → line_by (sums_at cells a s) ≡ position_of list a s
-position-shown list cells a s shows =
-    let here = filter (is_at a s) (parts_of list) in
-    line-of here (sums_at cells a s) (shows.carried.parts a s ∙ sym (total-where (λ part. pos 1) (is_at a s) (parts_of list)) ∙ ones here)
-    (shows.carried.qty a s ∙ sym (total-where (λ part. part.qty) (is_at a s) (parts_of list)))
-    (shows.carried.value a s ∙ sym (total-where (λ part. part.value) (is_at a s) (parts_of list)))
+position-shown list cells a s shows = line-carried (parts_of list) cells a s shows.carried
+
+-- empty cells carry no parts
+pub carries-nothing : Carries (λ f. total f []) finite.empty
+carries-nothing = record {
+  parts = λ a s. ap (λ (sums : Sums). pos sums.parts) (sums_at-empty a s);
+  qty = λ a s. ap (λ (sums : Sums). sums.qty) (sums_at-empty a s);
+  value = λ a s. ap (λ (sums : Sums). sums.value) (sums_at-empty a s);
+}
 
 -- without an entry there is no part
 shows-nothing : ShowsPositions [] finite.empty
 shows-nothing = record {
-  carried = record {
-    parts = λ a s. ap (λ (sums : Sums). pos sums.parts) (sums_at-empty a s);
-    qty = λ a s. ap (λ (sums : Sums). sums.qty) (sums_at-empty a s);
-    value = λ a s. ap (λ (sums : Sums). sums.value) (sums_at-empty a s);
-  };
+  carried = carries-nothing;
   ready = record {
     fill_cells = All-nil (λ (version : Version). HasFillCells finite.empty version.fill);
     terms_cells = All-nil (λ (allocation : Allocation). HasTermsCells finite.empty allocation.terms);

@@ -24,7 +24,7 @@ pub(crate) fn house_account() -> Text64
 }
 
 /// What a fill adds to a position, where its chain is named by a live allocation or isn't.
-pub(crate) fn part_of_fill(named: bool, fill: &Fill) -> Part
+pub fn part_of_fill(named: bool, fill: &Fill) -> Part
     ensures part { result ≡ part_of_fill named fill.now }
     ensures small { IsSmall result }
 {
@@ -48,7 +48,7 @@ fn account_of(named: bool, fill: &Fill) -> Text64
 }
 
 /// What a line of an allocation adds to its account.
-pub(crate) fn part_of_line(terms: &Terms, line: &Line) -> Part
+pub fn part_of_line(terms: &Terms, line: &Line) -> Part
     ensures part { result ≡ part_of_line terms.now line.now }
     ensures small { IsSmall result }
 {
@@ -77,7 +77,7 @@ fn amounts(sign: Sign, qty: Qty, price: Price) -> (QtySum, Value)
 }
 
 /// The same amounts, taken from the house account.
-pub(crate) fn from_house(part: &Part) -> Part
+pub fn from_house(part: &Part) -> Part
     requires { IsSmall part.now }
     ensures part { result ≡ from_house part.now }
     ensures small { IsSmall result }

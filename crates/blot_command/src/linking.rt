@@ -13,7 +13,7 @@ use std::alloc::{AllocError as NoMemory, Global};
 
 /// Adds an entry that the chains and the allocations accept. Out of memory is the only error, and then
 /// nothing has changed.
-pub(crate) fn link_entry(
+pub fn link_entry(
     alloc: Global,
     chains: &mut Chains,
     allocs: &mut Allocs,

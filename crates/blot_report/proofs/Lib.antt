@@ -1,1 +1,9 @@
+mod DayLawLemmas
+mod DayRows
+mod LinkedLemmas
+mod ListLemmas
+mod PartLemmas
+mod RowLemmas
+mod ShowLemmas
 mod TextLemmas
+mod WeightLemmas

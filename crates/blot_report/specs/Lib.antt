@@ -1,1 +1,6 @@
+pub mod Day
+pub mod Laws
+pub mod Lines
+pub mod Linked
+pub mod Sums
 pub mod Text

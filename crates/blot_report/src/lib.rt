@@ -2,8 +2,15 @@
 //! book, and the text of these lines.
 #![tactic(auto)]
 
+mod day;
+mod executions;
 mod lines;
+mod linked;
+mod orders;
+mod parts;
+mod positions;
 mod text;
 
+pub use day::day_lines;
 pub use lines::{DayLines, OrderRow, PositionKey, PositionRow, Rows};
 pub use text::{put_order_line, put_position_line, report_text};

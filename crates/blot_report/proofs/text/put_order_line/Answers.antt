@@ -1,4 +1,4 @@
-use Rattle.std.proofs.Common.{◌∙◌}
+use Rattle.std.proofs.Common.{ℕ, List, ◌∙◌}
 use Rattle.blot_report.proofs.TextLemmas.{on_ok, six_behind}
 use Rattle.blot_report.proofs.text.put_order_line.Goals as goal
 
@@ -10,6 +10,8 @@ returns c =
     let w4 = c.in_ok-put_word-4.ensures in
     let w5 = c.in_ok-put_word-5.ensures in
     on_ok c.put_order_amounts.result
-    (λ last. last ∙ rw (w5, w4, w3, w2, w1, c.bytes.ensures.value, c.bytes-2.ensures.value, c.bytes-3.ensures.value, c.sign_word.ensures)
-    (six_behind c.args.text.now.items _ _ _ _ _ _))
+    (λ last.
+    (◌∙◌ {A = List ℕ} last
+    (rw (w5, w4, w3, w2, w1, c.bytes.ensures.value, c.bytes-2.ensures.value, c.bytes-3.ensures.value, c.sign_word.ensures)
+    (six_behind c.args.text.now.items _ _ _ _ _ _))))
     c.put_order_amounts.ensures

@@ -1,0 +1,67 @@
+-- What a loop has found, with one item more, and where nothing is left.
+use Rattle.std.proofs.Common.{◌≡◌, ℕ, ◌+◌, ◌<◌, ◌≤◌, List, [], ◌∷◌, ◌++◌, length, map, take, drop, get_or, Option, refl, sym, ap, subst, ◌∙◌}
+use Rattle.std.specs.Prelude.{fold, All}
+use Rattle.std.specs.BTreeSet.{insert_key}
+use Rattle.std.specs.List.{cons_option, filter_map, flat_map}
+use Rattle.std.specs.declared.cmp.Ordering.{Ordering}
+use Rattle.std.proofs.lemmas.List.{append-nil, append_assoc, drop_all, take_more}
+use Rattle.std.proofs.lemmas.List.Elements.{All-push, filter_map-append}
+
+pub found-all :
+    {A B : Type 0} (f : A → Option B) (items : List A) (index : ℕ) (found : List B) → found ++ filter_map f (drop index items) ≡ filter_map f items → length items ≤ index
+    → found ≡ filter_map f items
+found-all f items index found so_far done =
+    sym (append-nil found) ∙ ap (λ rest. found ++ filter_map f rest) (sym (drop_all index items done)) ∙ so_far
+
+-- the items up to one
+pub more : {A : Type 0} (items : List A) (index : ℕ) (item : A) → index < length items → item ≡ get_or items index item → take (index + 1) items ≡ take index items ++ item ∷ []
+more items index item within is = rw is (take_more items index item within)
+
+-- what was put behind a front, with more behind it
+pub behind : {B : Type 0} (initial done put items after : List B) → items ≡ initial ++ done → after ≡ items ++ put → after ≡ initial ++ (done ++ put)
+behind initial done put items after so_far is = is ∙ ap (λ front. front ++ put) so_far ∙ append_assoc initial done put
+
+map-push : {A B : Type 0} (f : A → B) (xs : List A) (x : A) → map f (xs ++ x ∷ []) ≡ map f xs ++ f x ∷ []
+map-push f [] x = refl
+map-push f (y ∷ xs) x = ap (λ rest. f y ∷ rest) (map-push f xs x)
+
+pub mapped-more : {A B : Type 0} (f : A → B) (items : List A) (index : ℕ) (item : A) → index < length items → item ≡ get_or items index item → map f (take (index + 1) items) ≡ map f (take index items) ++ f item ∷ []
+mapped-more f items index item within is = ap (map f) (more items index item within is) ∙ map-push f (take index items) item
+
+flat-push : {A B : Type 0} (f : A → List B) (xs : List A) (x : A) → flat_map f (xs ++ x ∷ []) ≡ flat_map f xs ++ f x
+flat-push f [] x = append-nil (f x)
+flat-push f (y ∷ xs) x = ap (λ rest. f y ++ rest) (flat-push f xs x) ∙ sym (append_assoc (f y) (flat_map f xs) (f x))
+
+pub flat-more : {A B : Type 0} (f : A → List B) (items : List A) (index : ℕ) (item : A) → index < length items → item ≡ get_or items index item → flat_map f (take (index + 1) items) ≡ flat_map f (take index items) ++ f item
+flat-more f items index item within is = ap (flat_map f) (more items index item within is) ∙ flat-push f (take index items) item
+
+pub found-more : {A B : Type 0} (f : A → Option B) (items : List A) (index : ℕ) (item : A) → index < length items → item ≡ get_or items index item → filter_map f (take (index + 1) items) ≡ filter_map f (take index items) ++ cons_option (f item) []
+found-more f items index item within is = ap (filter_map f) (more items index item within is) ∙ filter_map-append f (take index items) (item ∷ [])
+
+flat-append : {A B : Type 0} (f : A → List B) (xs ys : List A) → flat_map f (xs ++ ys) ≡ flat_map f xs ++ flat_map f ys
+flat-append f [] ys = refl
+flat-append f (x ∷ xs) ys = ap (λ rest. f x ++ rest) (flat-append f xs ys) ∙ sym (append_assoc (f x) (flat_map f xs) (flat_map f ys))
+
+-- what the items found hold, with what one item more holds
+pub flat_found-more :
+    {A B C : Type 0} (g : B → List C) (f : A → Option B) (items : List A) (index : ℕ) (item : A) → index < length items → item ≡ get_or items index item
+    → flat_map g (filter_map f (take (index + 1) items)) ≡ flat_map g (filter_map f (take index items)) ++ flat_map g (cons_option (f item) [])
+flat_found-more g f items index item within is = ap (flat_map g) (found-more f items index item within is) ∙ flat-append g (filter_map f (take index items)) (cons_option (f item) [])
+
+-- sorted keys, with one key more
+fold-push : {A B : Type 0} (g : B → A → B) (start : B) (xs : List A) (x : A) → fold g start (xs ++ x ∷ []) ≡ g (fold g start xs) x
+fold-push g start [] x = refl
+fold-push g start (y ∷ xs) x = fold-push g (g start y) xs x
+
+pub sorted-more :
+    {A K : Type 0} (cmp : K → K → Ordering) (f : A → K) (items : List A) (index : ℕ) (item : A) → index < length items → item ≡ get_or items index item
+    → fold (insert_key cmp) [] (map f (take (index + 1) items)) ≡ insert_key cmp (fold (insert_key cmp) [] (map f (take index items))) (f item)
+sorted-more cmp f items index item within is =
+    ap (fold (insert_key cmp) []) (mapped-more f items index item within is) ∙ fold-push (insert_key cmp) [] (map f (take index items)) (f item)
+
+-- all of some items are well, and one more is
+pub All-more : {A B : Type 0} (P : B → Type 0) (f : A → B) (items : List A) (index : ℕ) (item : A) → index < length items → item ≡ get_or items index item → All P (map f (take index items)) → P (f item) → All P (map f (take (index + 1) items))
+All-more P f items index item within is all one = subst (All P) (sym (mapped-more f items index item within is)) (All-push P (map f (take index items)) (f item) all one)
+
+pub All-item : {A : Type 0} (P : A → Type 0) (items : List A) (index : ℕ) (item : A) → index < length items → item ≡ get_or items index item → All P (take index items) → P item → All P (take (index + 1) items)
+All-item P items index item within is all one = subst (All P) (sym (more items index item within is)) (All-push P (take index items) item all one)

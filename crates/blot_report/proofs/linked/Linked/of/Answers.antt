@@ -1,0 +1,17 @@
+use Rattle.blot_report.proofs.LinkedLemmas.{is-next, links-next, holds-next}
+use Rattle.blot_report.proofs.linked.Linked.of.Goals as goal
+
+pub link_entry-requires : goal.link_entry-requires
+link_entry-requires c =
+    let list = c.args.entries.now in
+    let index = c.loop-entry.entry-index in
+    let entry = c.entry-item.result in
+    links-next list index entry c.loop-entry.chains c.loop-entry.allocs (is-next list index entry c.requires c.loop-entry-test.true c.entry-item.is) c.loop-entry.invariant
+
+pub loop-entry-preserved : goal.loop-entry-preserved
+loop-entry-preserved c =
+    let list = c.args.entries.now in
+    let index = c.loop-entry.entry-index in
+    let entry = c.entry-item.result in
+    holds-next list index entry c.loop-entry.chains _ c.loop-entry.allocs _ (is-next list index entry c.requires c.loop-entry-test.true c.entry-item.is) c.loop-entry.invariant
+    c.in_ok-link_entry.ensures.chains c.in_ok-link_entry.ensures.allocs

@@ -1,0 +1,17 @@
+use Rattle.std.proofs.Common.{Result, Ok, Err, ap, ◌∙◌}
+use Rattle.std.specs.Prelude.{IfOk}
+use Rattle.std.specs.List.{filter_map}
+use Rattle.blot_report.specs.Lines.{position_row}
+use Rattle.blot_report.proofs.RowLemmas.{rows-carried}
+use Rattle.blot_report.proofs.positions.position_rows.Goals as goal
+
+if_ok : {T E : Type 0} (r : Result T E) (P Q : T → Type 0) → ((x : T) → P x → Q x) → IfOk r P → IfOk r Q
+if_ok (Ok x) P Q f p = f x p
+if_ok (Err e) P Q f p = p
+
+pub returns : goal.returns
+returns c =
+    let parts = c.args.parts.now in
+    let keys = c.deref.result.now in
+    let rows = rows-carried parts c.in_ok-positions.positions keys c.in_ok-positions.ensures ∙ ap (filter_map (position_row parts)) (c.deref.ensures.value ∙ c.in_ok-keys.ensures) in
+    if_ok c.rows_of.result _ _ (λ found is. is ∙ rows) c.rows_of.ensures

@@ -1,0 +1,50 @@
+-- What stands on a day: a survivor counts on the day of its own fill, a live allocation on its own day. In which account
+-- a survivor sits is decided by the whole list, as in the book.
+use Rattle.std.specs.Prelude.{ℕ, ℤ, Bool, List, ◌++◌, map, filter, Option}
+use Rattle.std.specs.List.{flat_map}
+use Rattle.std.specs.Ordering.{int_eq}
+use Rattle.blot_types.specs.declared.command.Entry.{Entry}
+use Rattle.blot_types.specs.declared.fill.Fill.{Fill}
+use Rattle.blot_types.specs.declared.keys.OrderKey.{OrderKey}
+use Rattle.blot_types.specs.declared.lines.OrderLine.{OrderLine}
+use Rattle.blot_types.specs.declared.lines.Part.{Part}
+use Rattle.blot_types.specs.declared.lines.PositionLine.{PositionLine}
+use Rattle.blot_types.specs.declared.lines.Version.{Version}
+use Rattle.blot_types.specs.Allocations.{Allocation, live_allocations}
+use Rattle.blot_types.specs.Order.{line_of, fills_of}
+use Rattle.blot_types.specs.Position.{is_at, moves_of, part_of, position_by}
+use Rattle.blot_types.specs.Survivors.{survivors}
+
+-- whether a version is of a day: TradeDate(75), or else the date of its report
+abbrev pub is_on : ℤ → Version → Bool
+is_on day version = int_eq version.fill.day day
+
+-- the survivors of a day, in list order
+abbrev pub survivors_on : List Entry → ℤ → List Version
+survivors_on list day = filter (is_on day) (survivors list)
+
+-- whether an allocation is of a day: its own TradeDate(75), whatever the days of its executions
+abbrev pub is_allocated_on : ℤ → Allocation → Bool
+is_allocated_on day allocation = int_eq allocation.terms.day day
+
+-- the live allocations of a day, in list order
+abbrev pub allocations_on : List Entry → ℤ → List Allocation
+allocations_on list day = filter (is_allocated_on day) (live_allocations list)
+
+-- their fills
+abbrev pub fills_on : List Entry → ℤ → List Fill
+fills_on list day = map (λ version. version.fill) (survivors_on list day)
+
+-- the line of an order on a day: that of the fills of the day's survivors; none without one
+abbrev pub day_order_of : List Entry → ℤ → OrderKey → Option OrderLine
+day_order_of list day order = line_of (fills_of (fills_on list day) order)
+
+-- the parts of a day: those of its survivors, each in the house account where any live allocation of the list names its
+-- chain, and those of the lines of its live allocations
+abbrev pub day_parts_of : List Entry → ℤ → List Part
+day_parts_of list day =
+    map (part_of list) (survivors_on list day) ++ flat_map (λ allocation. moves_of allocation.terms) (allocations_on list day)
+
+-- the position of an account in a symbol on a day; none without a part
+abbrev pub day_position_of : List Entry → ℤ → List ℕ → List ℕ → Option PositionLine
+day_position_of list day account symbol = position_by (filter (is_at account symbol) (day_parts_of list day))

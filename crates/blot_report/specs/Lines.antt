@@ -1,0 +1,68 @@
+-- The lines of a day: each order and each position that is shown, once, in the order of its key.
+use Rattle.std.specs.Prelude.{ℤ, List, [], map, filter, fold, Option}
+use Rattle.std.specs.BTreeSet.{insert_key}
+use Rattle.std.specs.Cmp.Lexicographic.{slice_cmp}
+use Rattle.std.specs.List.{filter_map}
+use Rattle.std.specs.Option.{option_map}
+use Rattle.std.specs.Ordering.{nat_cmp, ordering_then}
+use Rattle.std.specs.declared.cmp.Ordering.{Ordering}
+use Rattle.blot_types.specs.declared.command.Entry.{Entry}
+use Rattle.blot_types.specs.declared.fill.Fill.{Fill}
+use Rattle.blot_types.specs.declared.keys.OrderKey.{OrderKey}
+use Rattle.blot_types.specs.declared.lines.Part.{Part}
+use Rattle.blot_types.specs.Order.{line_of, fills_of}
+use Rattle.blot_types.specs.Position.{is_at, position_by}
+use Rattle.blot_report.specs.declared.lines.DayLines.{DayLines}
+use Rattle.blot_report.specs.declared.lines.OrderRow.{OrderRow}
+use Rattle.blot_report.specs.declared.lines.PositionKey.{PositionKey}
+use Rattle.blot_report.specs.declared.lines.PositionRow.{PositionRow}
+use Rattle.blot_report.specs.Day.{fills_on, day_parts_of}
+
+-- orders by peer, and then by OrderID, each by its bytes
+abbrev pub order_cmp : OrderKey → OrderKey → Ordering
+order_cmp a b = ordering_then (slice_cmp nat_cmp a.peer b.peer) (slice_cmp nat_cmp a.id b.id)
+
+-- orders in that order, each once
+abbrev pub sorted_orders : List OrderKey → List OrderKey
+sorted_orders orders = fold (insert_key order_cmp) [] orders
+
+-- the orders that fills fill, sorted
+abbrev pub orders_among : List Fill → List OrderKey
+orders_among fills = sorted_orders (map (λ fill. fill.order) fills)
+
+-- the row of an order that fills fill; none without a fill of it
+abbrev pub order_row : List Fill → OrderKey → Option OrderRow
+order_row fills order = option_map (λ line. record { order = order; line = line }) (line_of (fills_of fills order))
+
+-- the rows of the orders that fills fill
+abbrev pub order_rows : List Fill → List OrderRow
+order_rows fills = filter_map (order_row fills) (orders_among fills)
+
+-- positions by account, and then by symbol, each by its bytes
+abbrev pub position_cmp : PositionKey → PositionKey → Ordering
+position_cmp a b = ordering_then (slice_cmp nat_cmp a.account b.account) (slice_cmp nat_cmp a.symbol b.symbol)
+
+-- positions in that order, each once
+abbrev pub sorted_positions : List PositionKey → List PositionKey
+sorted_positions positions = fold (insert_key position_cmp) [] positions
+
+-- the position that a part is of
+abbrev pub position_key : Part → PositionKey
+position_key part = record { account = part.account; symbol = part.symbol }
+
+-- the positions that parts are of, sorted
+abbrev pub positions_among : List Part → List PositionKey
+positions_among parts = sorted_positions (map position_key parts)
+
+-- the row of a position that parts are of; none without a part of it
+abbrev pub position_row : List Part → PositionKey → Option PositionRow
+position_row parts position =
+    option_map (λ line. record { position = position; line = line }) (position_by (filter (is_at position.account position.symbol) parts))
+
+-- the rows of the positions that parts are of
+abbrev pub position_rows : List Part → List PositionRow
+position_rows parts = filter_map (position_row parts) (positions_among parts)
+
+-- the lines of a day
+abbrev pub day_lines_of : List Entry → ℤ → DayLines
+day_lines_of list day = record { day = day; orders = order_rows (fills_on list day); positions = position_rows (day_parts_of list day) }

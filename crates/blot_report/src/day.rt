@@ -1,0 +1,38 @@
+//! `day_lines`.
+ghost use Rattle.std.specs.Prelude.{◌≡◌, IfOk};
+ghost use Rattle.blot_report.specs.Laws.{IsOfOneDay, ShowsDay, ShowsBook};
+ghost use Rattle.blot_report.specs.Lines.{day_lines_of};
+
+use crate::executions::survivors_on;
+use crate::linked::Linked;
+use crate::orders::order_rows;
+use crate::parts::parts_on;
+use crate::positions::position_rows;
+use crate::{DayLines, Rows};
+use blot_desk::Snapshot;
+use blot_time::Day;
+use std::alloc::{AllocError as NoMemory, Global};
+
+/// The lines of a day: of each order and each position that the executions that stand and the live allocations of that
+/// day show. Whether an execution sits in the house account is decided by the live allocations of all days. An
+/// error is out of memory.
+pub fn day_lines(alloc: Global, snapshot: &Snapshot, day: Day) -> Result<DayLines, NoMemory>
+    ensures lines { IfOk result (λ lines. lines ≡ day_lines_of snapshot.now day) }
+
+    // Each order and each position of the day is found among the lines, and no other. Where all that stands is of that
+    // day, so is each of the whole book.
+    ensures shown { IfOk result (ShowsDay snapshot.now day) }
+    ensures whole { IfOk result (λ lines. IsOfOneDay snapshot.now day → ShowsBook snapshot.now lines) }
+{
+    let entries = snapshot.entries();
+    let linked = Linked::of(alloc, entries)?;
+    let versions = survivors_on(alloc, entries, &linked, day)?;
+    let parts = parts_on(alloc, entries, &linked, &versions, day)?;
+    let orders = order_rows(alloc, &versions)?;
+    let positions = position_rows(alloc, &parts)?;
+    Ok(DayLines {
+        day,
+        orders: Rows::new(orders),
+        positions: Rows::new(positions),
+    })
+}

@@ -1,0 +1,103 @@
+//! What the executions and the allocations of a day add to the positions.
+ghost use Rattle.std.specs.Prelude.{◌≡◌, ◌++◌, map, All, IfOk, OnOk};
+ghost use Rattle.std.specs.List.{filter_map, flat_map};
+ghost use Rattle.std.specs.Option.{option_copied};
+ghost use Rattle.blot_types.specs.Allocations.{allocation_of};
+ghost use Rattle.blot_types.specs.Position.{moves_of};
+ghost use Rattle.blot_command.specs.Carried.{TermsFit};
+ghost use Rattle.blot_command.specs.Shown.{HoldsList};
+ghost use Rattle.blot_command.specs.Sizes.{IsSmall};
+ghost use Rattle.blot_report.specs.Day.{survivors_on, day_parts_of};
+ghost use Rattle.blot_report.specs.Linked.{part_by, is_live_on, terms_by};
+ghost use Rattle.blot_report.specs.Sums.{IsLight};
+
+use crate::linked::Linked;
+use blot_command::{from_house, part_of_line};
+use blot_time::Day;
+use blot_types::{AllocKey, Command, Entry, Part, Terms, Version};
+use std::alloc::{AllocError as NoMemory, Global};
+
+/// The parts of a day: those of its survivors, and those of the lines of its live allocations. An error is out of
+/// memory.
+pub(crate) fn parts_on(
+    alloc: Global,
+    entries: &[Entry],
+    linked: &Linked,
+    versions: &[Version],
+    day: Day,
+) -> Result<Vec<Part>, NoMemory>
+    requires book { HoldsList entries.now linked.now.chains linked.now.allocs }
+    requires survivors { versions.now ≡ survivors_on entries.now day }
+    ensures parts { IfOk result (λ parts. parts.items ≡ day_parts_of entries.now day) }
+    ensures light { IfOk result (λ parts. IsLight parts.items) }
+{
+    let mut parts = Vec::new(alloc);
+    put_fills(&mut parts, linked, versions)?;
+    put_allocations(&mut parts, linked, entries, day)?;
+    Ok(parts)
+}
+
+// Puts what versions add behind other parts.
+fn put_fills(parts: &mut Vec<Part>, linked: &Linked, versions: &[Version]) -> Result<(), NoMemory>
+    ensures parts { OnOk result (parts.new.items ≡ parts.old.items ++ map (part_by linked.now.chains linked.now.allocs) versions.now) }
+    ensures small { OnOk result (All IsSmall (map (part_by linked.now.chains linked.now.allocs) versions.now)) }
+{
+    for version in versions {
+        parts.push(linked.part_of(version))?;
+    }
+    Ok(())
+}
+
+// Puts what the live allocations of a day move behind other parts.
+fn put_allocations(
+    parts: &mut Vec<Part>,
+    linked: &Linked,
+    entries: &[Entry],
+    day: Day,
+) -> Result<(), NoMemory>
+    ensures parts { OnOk result (parts.new.items ≡ parts.old.items
+        ++ flat_map moves_of (filter_map (λ entry. terms_by linked.now.allocs day (allocation_of entry.command)) entries.now)) }
+    ensures fit { OnOk result (All TermsFit (filter_map (λ entry. terms_by linked.now.allocs day (allocation_of entry.command)) entries.now)) }
+{
+    for entry in entries {
+        if let Some(terms) = terms_on(linked, entry, day) {
+            put_moves(parts, terms)?;
+        }
+    }
+    Ok(())
+}
+
+// The terms of the allocation that an entry brings, where it is of the day and live.
+fn terms_on<'a>(linked: &Linked, entry: &'a Entry, day: Day) -> Option<&'a Terms>
+    ensures { option_copied result ≡ terms_by linked.now.allocs day (allocation_of entry.now.command) }
+{
+    match &entry.command {
+        Command::AllocNew(new) if is_live_on(linked, &new.key, &new.terms, day) => Some(&new.terms),
+        Command::AllocReplace(replace) if is_live_on(linked, &replace.key, &replace.terms, day) => {
+            Some(&replace.terms)
+        }
+        _ => None,
+    }
+}
+
+// Whether an allocation is of a day and live.
+fn is_live_on(linked: &Linked, key: &AllocKey, terms: &Terms, day: Day) -> bool
+    ensures { result ≡ is_live_on linked.now.allocs day key.now terms.now }
+{
+    terms.day == day && linked.is_live(key)
+}
+
+// Puts what the lines of terms move behind other parts.
+fn put_moves(parts: &mut Vec<Part>, terms: &Terms) -> Result<(), NoMemory>
+    ensures parts { OnOk result (parts.new.items ≡ parts.old.items ++ moves_of terms.now) }
+    ensures fit { OnOk result (TermsFit terms.now) }
+{
+    // The range of a quantity is known once its units are read.
+    let _block = terms.block.units();
+    for line in terms.lines.as_slice() {
+        let part = part_of_line(terms, line);
+        parts.push(part)?;
+        parts.push(from_house(&part))?;
+    }
+    Ok(())
+}
