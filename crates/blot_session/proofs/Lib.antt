@@ -1,3 +1,4 @@
+mod DeliveryLemmas
 mod RowLemmas
 mod Rows
 mod RunLemmas

@@ -36,7 +36,7 @@ behind_all-expected : (messages : List Outbound) (state : State) (now : ℤ) →
 behind_all-expected [] state now = refl
 behind_all-expected (message ∷ messages) state now = behind_all-expected messages (behind state message now) now
 
-behind_all-awaited : (messages : List Outbound) (state : State) (now : ℤ) → awaited_of (behind_all state messages now) ≡ awaited_of state
+pub behind_all-awaited : (messages : List Outbound) (state : State) (now : ℤ) → awaited_of (behind_all state messages now) ≡ awaited_of state
 behind_all-awaited [] state now = refl
 behind_all-awaited (message ∷ messages) state now = behind_all-awaited messages (behind state message now) now ∙ spoken-awaited now state.link
 

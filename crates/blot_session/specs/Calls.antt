@@ -1,5 +1,6 @@
 -- What each call of a session gives: the session behind it, and what is to be done.
-use Rattle.std.specs.Prelude.{◌≡◌, ℕ, ◌<◌, Bool, nat_lt, ◌&&◌, ℤ, List, [], ◌∷◌, ◌++◌, Option, Some, None, Result, Ok, Err, if◌then◌else◌}
+use Rattle.std.specs.Prelude.{◌≡◌, ℕ, ◌<◌, Bool, true, false, nat_lt, ◌&&◌, ℤ, List, [], ◌∷◌, ◌++◌, Option, Some, None, Result, Ok, Err, is_some, if◌then◌else◌}
+use Rattle.std.specs.List.{list_any}
 use Rattle.blot_fields.specs.Commands.{command_of}
 use Rattle.blot_fields.specs.declared.fault.FieldFault.{FieldFault}
 use Rattle.blot_fields.specs.declared.message.Message.{Message}
@@ -89,3 +90,19 @@ row_of_reply state reply = reply_row_by state (awaited_of state) reply
 
 abbrev pub on_reply : State → Result SeenReply NotTaken → ℤ → Outcome
 on_reply state reply now = outcome_of state (row_of_reply state reply) None now
+
+-- whether an action delivers a command
+abbrev pub is_deliver : Action → Bool
+is_deliver (Deliver command) = true
+is_deliver action = false
+
+-- only the last of some actions may deliver a command
+abbrev pub DeliversLast : List Action → Type 0
+DeliversLast [] = Unit {0}
+DeliversLast (action ∷ []) = Unit {0}
+DeliversLast (action ∷ next ∷ actions) = (is_deliver action ≡ false) × DeliversLast (next ∷ actions)
+
+-- what a call delivers awaits its reply, and nothing else does
+pub record Awaits (state : State) (actions : List Action) : Type 0 where
+  pub last : DeliversLast actions
+  pub awaited : list_any is_deliver actions ≡ is_some (awaited_of state)

@@ -4,7 +4,7 @@ ghost use Rattle.blot_tag.specs.Fields.{fields_of};
 ghost use Rattle.blot_tag.specs.Views.{text_of};
 ghost use Rattle.blot_fields.specs.Decoding.{decoded, is_out_of_memory};
 ghost use Rattle.blot_fields.specs.Numbers.{IsNumbered};
-ghost use Rattle.blot_session.specs.Calls.{command_said, ending, on_frame, on_tick, on_reply, outcome_of, row_of_reply};
+ghost use Rattle.blot_session.specs.Calls.{Awaits, command_said, ending, on_frame, on_tick, on_reply, outcome_of, row_of_reply};
 ghost use Rattle.blot_session.specs.Runs.{Call, AreMet, HasNoReset, IsInOrder};
 ghost use Rattle.blot_session.specs.States.{awaited_of, fresh, waiting_again, closed, phase_of, IsIdle, IsAwaiting, IsState};
 ghost use Rattle.blot_session.specs.Table.{Fits};
@@ -105,6 +105,7 @@ impl Session {
     }
 
     /// A frame came. Out of memory, the session is closed, with its number expected as before.
+    #[tactic(auto, using(crate::proofs::DeliveryLemmas::awaits_reply))]
     pub fn on_frame(
         &mut self,
         alloc: Global,
@@ -115,6 +116,9 @@ impl Session {
         ensures ok { IfOk result (λ actions. record { state = self.new; actions = actions.items }
             ≡ on_frame self.old (decoded (fields_of (text_of frame.now))) now) }
         ensures err { OnErr result (self.new ≡ closed self.old) }
+
+        // What is delivered is the last action, and its reply is awaited.
+        ensures awaits { IfOk result (λ actions. Awaits self.new actions.items) }
     {
         let closed = self.state.closed();
         let outcome = take_frame(alloc, self.state, frame, now);
