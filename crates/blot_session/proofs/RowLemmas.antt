@@ -36,19 +36,20 @@ use Rattle.blot_session.specs.Table.{silent, sends_both, closing}
 
 -- ---- what a row does to the number that is expected
 
--- a Sequence Reset names this number
-abbrev pub NamesBy : ℕ → Body → Type 0
-NamesBy number (bodies.Admin (admin.SequenceReset new_number gap_fill)) = number ≡ new_number
-NamesBy number body = ⊥
+-- a Sequence Reset names this number; a gap fill bears the expected one
+abbrev pub NamesBy : ℕ → ℕ → Result Message FieldFault → Body → Type 0
+NamesBy number expected said (bodies.Admin (admin.SequenceReset new_number true)) = (number ≡ new_number) × Bears expected said
+NamesBy number expected said (bodies.Admin (admin.SequenceReset new_number false)) = number ≡ new_number
+NamesBy number expected said body = ⊥
 
-abbrev pub Names : ℕ → Result Message FieldFault → Type 0
-Names number (Ok message) = NamesBy number message.body
-Names number (Err fault) = ⊥
+abbrev pub Names : ℕ → ℕ → Result Message FieldFault → Type 0
+Names number expected (Ok message) = NamesBy number expected (Ok message) message.body
+Names number expected (Err fault) = ⊥
 
 -- the number that is expected stays, or goes up by one behind a frame that bears it, or is set to a higher one
 abbrev pub Steps : ℕ → Result Message FieldFault → ℕ → Type 0
 Steps expected said next =
-    (next ≡ expected) ⊎ (((next ≡ expected + 1) × Bears expected said) ⊎ ((expected ≤ next) × Names next said))
+    (next ≡ expected) ⊎ (((next ≡ expected + 1) × Bears expected said) ⊎ ((expected ≤ next) × Names next expected said))
 
 -- whether a call ends with a delivery
 abbrev pub is_delivery : End → Bool
@@ -90,13 +91,18 @@ resend-moves s live said number begin idle bears =
     (λ y. inl (record { next_same = refl; idle = idle; end = refl; number = inr (inl (refl, bears)) }))
     (λ n. inl (record { next_same = refl; idle = idle; end = refl; number = inr (inl (refl, bears)) }))
 
-gap_fill-moves : (s : State) (live : Live) (head : Head) (number new_number : ℕ) (gap_fill : Bool) → live.awaited ≡ None
+names_gap : (expected : ℕ) (head : Head) (new_number : ℕ) (gap_fill : Bool) → head.number ≡ expected
+    → Names new_number expected (message head (bodies.Admin (admin.SequenceReset new_number gap_fill)))
+names_gap expected head new_number true bears = (refl, ap Some bears)
+names_gap expected head new_number false bears = refl
+
+gap_fill-moves : (s : State) (live : Live) (head : Head) (number new_number : ℕ) (gap_fill : Bool) → live.awaited ≡ None → head.number ≡ s.expected
     → Moves s.next s.expected (message head (bodies.Admin (admin.SequenceReset new_number gap_fill))) (gap_fill_row (with_live s live) number new_number)
 unfolding gap_fill_row
-gap_fill-moves s live head number new_number gap_fill idle =
+gap_fill-moves s live head number new_number gap_fill idle bears =
     cond_both (nat_le new_number s.expected) _ _ (λ row. Moves s.next s.expected (message head (bodies.Admin (admin.SequenceReset new_number gap_fill))) row)
     (λ y. inl (record { next_same = refl; idle = idle; end = refl; number = inl refl }))
-    (λ n. inl (record { next_same = refl; idle = idle; end = refl; number = inr (inr (omega (arith, leb-false new_number s.expected n), refl)) }))
+    (λ n. inl (record { next_same = refl; idle = idle; end = refl; number = inr (inr (omega (arith, leb-false new_number s.expected n), names_gap s.expected head new_number gap_fill bears)) }))
 
 admin-moves : (s : State) (live : Live) (head : Head) (number : ℕ) (a : Admin) → live.awaited ≡ None → head.number ≡ s.expected
     → Moves s.next s.expected (message head (bodies.Admin a)) (admin_row (with_live s live) number a)
@@ -107,7 +113,7 @@ admin-moves s live head number admin.Reject idle bears = inl (record { next_same
 admin-moves s live head number (admin.TestRequest id) idle bears = inl (record { next_same = refl; idle = idle; end = refl; number = inr (inl (refl, ap Some bears)) })
 admin-moves s live head number (admin.ResendRequest begin end) idle bears =
     resend-moves s live (message head (bodies.Admin (admin.ResendRequest begin end))) number begin idle (ap Some bears)
-admin-moves s live head number (admin.SequenceReset new_number gap_fill) idle bears = gap_fill-moves s live head number new_number gap_fill idle
+admin-moves s live head number (admin.SequenceReset new_number gap_fill) idle bears = gap_fill-moves s live head number new_number gap_fill idle bears
 admin-moves s live head number admin.Logout idle bears = inl (record { next_same = refl; idle = refl; end = refl; number = inr (inl (refl, ap Some bears)) })
 
 report-moves : (s : State) (live : Live) (head : Head) (report : Report) → live.awaited ≡ None → head.number ≡ s.expected
@@ -193,11 +199,11 @@ number-moves s live head said idle is =
 
 -- ---- what goes before the number
 
-reset-moves : (s : State) (live : Live) (head : Head) (number new_number : ℕ) (gap_fill : Bool) → live.awaited ≡ None
-    → Moves s.next s.expected (message head (bodies.Admin (admin.SequenceReset new_number gap_fill))) (reset_row (with_live s live) number new_number)
+reset-moves : (s : State) (live : Live) (head : Head) (number new_number : ℕ) → live.awaited ≡ None
+    → Moves s.next s.expected (message head (bodies.Admin (admin.SequenceReset new_number false))) (reset_row (with_live s live) number new_number)
 unfolding reset_row
-reset-moves s live head number new_number gap_fill idle =
-    cond_both (nat_lt new_number s.expected) _ _ (λ row. Moves s.next s.expected (message head (bodies.Admin (admin.SequenceReset new_number gap_fill))) row)
+reset-moves s live head number new_number idle =
+    cond_both (nat_lt new_number s.expected) _ _ (λ row. Moves s.next s.expected (message head (bodies.Admin (admin.SequenceReset new_number false))) row)
     (λ low. inl (record { next_same = refl; idle = idle; end = refl; number = inl refl }))
     (λ notlow. inl (record { next_same = refl; idle = idle; end = refl; number = inr (inr (omega (arith, ltb-false new_number s.expected notlow), refl)) }))
 
@@ -233,7 +239,7 @@ message-moves s live head (bodies.Admin (admin.TestRequest id)) now idle = inl (
 message-moves s live head (bodies.Admin (admin.ResendRequest begin end)) now idle = inl (number-moves s live head (message head (bodies.Admin (admin.ResendRequest begin end))) idle refl)
 message-moves s live head (bodies.Admin (admin.SequenceReset new_number true)) now idle =
     inl (number-moves s live head (message head (bodies.Admin (admin.SequenceReset new_number true))) idle refl)
-message-moves s live head (bodies.Admin (admin.SequenceReset new_number false)) now idle = inl (reset-moves s live head head.number new_number false idle)
+message-moves s live head (bodies.Admin (admin.SequenceReset new_number false)) now idle = inl (reset-moves s live head head.number new_number idle)
 message-moves s live head (bodies.Admin admin.Logout) now idle = inl (number-moves s live head (message head (bodies.Admin admin.Logout)) idle refl)
 message-moves s live head (bodies.Report report) now idle = inl (number-moves s live head (message head (bodies.Report report)) idle refl)
 message-moves s live head (bodies.Allocation allocation) now idle = inl (number-moves s live head (message head (bodies.Allocation allocation)) idle refl)

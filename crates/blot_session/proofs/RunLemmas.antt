@@ -55,10 +55,23 @@ delivered-none number (Closes reason) command none = refl
 abbrev pub Holds : List Numbered → State → Type 0
 Holds last state = IsAwaiting state → (state.next ≤ LAST_NUMBER) × (command : Command) × (last ≡ record { number = state.expected; command = command } ∷ [])
 
--- a call takes nothing, and passes each number that it goes by
+-- a frame bears a number, or covers it, where the session goes by it
+abbrev pub GoesBy : ℕ → State → Call → Type 0
+GoesBy number state (Frame text now memory) =
+    ((number ≡ state.expected) × Bears number (said_by text)) ⊎ Covers number state.expected (said_by text)
+GoesBy number state call = ⊥
+
+passes : (number : ℕ) (state : State) (call : Call) → GoesBy number state call → number < (outcome state call).state.expected → Passes number state call
+passes number state (Frame text now memory) by high = (high, by)
+passes number state (Reply reply now memory) by high = absurd by
+passes number state (Tick now memory) by high = absurd by
+passes number state Closing by high = absurd by
+passes number state WaitAgain by high = absurd by
+
+-- a call takes nothing, and goes by each number up to the one that is expected then
 record Aside (state : State) (call : Call) (next : Outcome) : Type 0 where
   pub grows : state.expected ≤ next.state.expected
-  pub passed : (number : ℕ) → state.expected ≤ number → number < next.state.expected → Passes number state call
+  pub passed : (number : ℕ) → state.expected ≤ number → number < next.state.expected → GoesBy number state call
   pub holds : Holds (delivered_by state.expected next.actions) next.state
 
 idle-holds : (last : List Numbered) (state : State) → IsIdle state → Holds last state
@@ -73,20 +86,21 @@ same-aside state call next same idle =
       holds = idle-holds (delivered_by state.expected next.actions) next.state idle;
     }
 
-covers_by : (body : Body) (number expected new_number : ℕ) → expected ≤ number → number < new_number → NamesBy new_number body → CoversBy number expected body
-covers_by (bodies.Admin (admin.SequenceReset named gap_fill)) number expected new_number low high is = (low, omega (arith, high, is))
-covers_by (bodies.Admin (admin.Logon heartbeat reset)) number expected new_number low high is = absurd is
-covers_by (bodies.Admin admin.Heartbeat) number expected new_number low high is = absurd is
-covers_by (bodies.Admin admin.Reject) number expected new_number low high is = absurd is
-covers_by (bodies.Admin (admin.TestRequest id)) number expected new_number low high is = absurd is
-covers_by (bodies.Admin (admin.ResendRequest begin end)) number expected new_number low high is = absurd is
-covers_by (bodies.Admin admin.Logout) number expected new_number low high is = absurd is
-covers_by (bodies.Report report) number expected new_number low high is = absurd is
-covers_by (bodies.Allocation allocation) number expected new_number low high is = absurd is
-covers_by bodies.Other number expected new_number low high is = absurd is
+covers_by : (body : Body) (said : Result Message FieldFault) (number expected new_number : ℕ) → expected ≤ number → number < new_number → NamesBy new_number expected said body → CoversBy number expected said body
+covers_by (bodies.Admin (admin.SequenceReset named true)) said number expected new_number low high is = (is.1, low, omega (arith, high, is.0))
+covers_by (bodies.Admin (admin.SequenceReset named false)) said number expected new_number low high is = (low, omega (arith, high, is))
+covers_by (bodies.Admin (admin.Logon heartbeat reset)) said number expected new_number low high is = absurd is
+covers_by (bodies.Admin admin.Heartbeat) said number expected new_number low high is = absurd is
+covers_by (bodies.Admin admin.Reject) said number expected new_number low high is = absurd is
+covers_by (bodies.Admin (admin.TestRequest id)) said number expected new_number low high is = absurd is
+covers_by (bodies.Admin (admin.ResendRequest begin end)) said number expected new_number low high is = absurd is
+covers_by (bodies.Admin admin.Logout) said number expected new_number low high is = absurd is
+covers_by (bodies.Report report) said number expected new_number low high is = absurd is
+covers_by (bodies.Allocation allocation) said number expected new_number low high is = absurd is
+covers_by bodies.Other said number expected new_number low high is = absurd is
 
-covers : (said : Result Message FieldFault) (number expected new_number : ℕ) → expected ≤ number → number < new_number → Names new_number said → Covers number expected said
-covers (Ok message) number expected new_number low high is = covers_by message.body number expected new_number low high is
+covers : (said : Result Message FieldFault) (number expected new_number : ℕ) → expected ≤ number → number < new_number → Names new_number expected said → Covers number expected said
+covers (Ok message) number expected new_number low high is = covers_by message.body (Ok message) number expected new_number low high is
 covers (Err fault) number expected new_number low high is = absurd is
 
 steps-grow : (said : Result Message FieldFault) (expected next : ℕ) → Steps expected said next → expected ≤ next
@@ -204,7 +218,7 @@ aside-law last state call calls none aside later =
       rise = subst (RiseFrom state.expected) (sym same) (rise-lower state.expected next.expected rest aside.grows later.rise);
       below = subst (AreBelow (behind_calls next calls).expected) (sym same) later.below;
       accounted = λ number low high. elim (cases_Bool (nat_lt number next.expected)) [
-        | inl y ↦ inr (inl (aside.passed number low (ltb-true number next.expected y)))
+        | inl y ↦ inr (inl (passes number state call (aside.passed number low (ltb-true number next.expected y)) (ltb-true number next.expected y)))
         | inr n ↦ elim (later.accounted number (ltb-false number next.expected n) high) [
           | inl taken ↦ inl (subst (IsTaken number) (sym same) taken)
           | inr passed ↦ inr (inr passed)

@@ -109,28 +109,29 @@ bears-small : (found : Option Head) (number : ℕ) → option_map (λ head. head
 bears-small (Some head) number is small = subst (λ n. n ≤ SEQUENCE_MAX) (ap (λ n. unwrap_or n 0) is) small
 bears-small None number is small = absurd cc
 
-names-small : (body : Body) (number : ℕ) → NamesBy number body → BodyNamesNumber body → number ≤ SEQUENCE_MAX
-names-small (bodies.Admin (admin.SequenceReset new_number gap_fill)) number is small = subst (λ n. n ≤ SEQUENCE_MAX) (sym is) small
-names-small (bodies.Admin (admin.Logon heartbeat reset)) number is small = absurd is
-names-small (bodies.Admin admin.Heartbeat) number is small = absurd is
-names-small (bodies.Admin admin.Reject) number is small = absurd is
-names-small (bodies.Admin (admin.TestRequest id)) number is small = absurd is
-names-small (bodies.Admin (admin.ResendRequest begin end)) number is small = absurd is
-names-small (bodies.Admin admin.Logout) number is small = absurd is
-names-small (bodies.Report report) number is small = absurd is
-names-small (bodies.Allocation allocation) number is small = absurd is
-names-small bodies.Other number is small = absurd is
+names-small : (body : Body) (said : Result Message FieldFault) (number expected : ℕ) → NamesBy number expected said body → BodyNamesNumber body → number ≤ SEQUENCE_MAX
+names-small (bodies.Admin (admin.SequenceReset new_number true)) said number expected is small = subst (λ n. n ≤ SEQUENCE_MAX) (sym is.0) small
+names-small (bodies.Admin (admin.SequenceReset new_number false)) said number expected is small = subst (λ n. n ≤ SEQUENCE_MAX) (sym is) small
+names-small (bodies.Admin (admin.Logon heartbeat reset)) said number expected is small = absurd is
+names-small (bodies.Admin admin.Heartbeat) said number expected is small = absurd is
+names-small (bodies.Admin admin.Reject) said number expected is small = absurd is
+names-small (bodies.Admin (admin.TestRequest id)) said number expected is small = absurd is
+names-small (bodies.Admin (admin.ResendRequest begin end)) said number expected is small = absurd is
+names-small (bodies.Admin admin.Logout) said number expected is small = absurd is
+names-small (bodies.Report report) said number expected is small = absurd is
+names-small (bodies.Allocation allocation) said number expected is small = absurd is
+names-small bodies.Other said number expected is small = absurd is
 
-names_said-small : (said : Result Message FieldFault) (number : ℕ) → Names number said → IfOk said (λ message. BodyNamesNumber message.body) → number ≤ SEQUENCE_MAX
-names_said-small (Ok message) number is small = names-small message.body number is small
-names_said-small (Err fault) number is small = absurd is
+names_said-small : (said : Result Message FieldFault) (number expected : ℕ) → Names number expected said → IfOk said (λ message. BodyNamesNumber message.body) → number ≤ SEQUENCE_MAX
+names_said-small (Ok message) number expected is small = names-small message.body (Ok message) number expected is small
+names_said-small (Err fault) number expected is small = absurd is
 
 steps-small : (said : Result Message FieldFault) (expected number : ℕ) → Steps expected said number → IsNumbered said → expected ≤ SEQUENCE_MAX + 1 → number ≤ SEQUENCE_MAX + 1
 steps-small said expected number steps is small = elim steps [
   | inl same ↦ omega (arith, same, small)
   | inr moved ↦ elim moved [
     | inl next ↦ omega (arith, next.0, bears-small (head_in said) expected next.1 is.head)
-    | inr named ↦ omega (arith, names_said-small said number named.1 is.named)
+    | inr named ↦ omega (arith, names_said-small said number expected named.1 is.named)
   ]
 ]
 

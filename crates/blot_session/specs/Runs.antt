@@ -141,23 +141,28 @@ abbrev pub AreBelow : ℕ → List Numbered → Type 0
 AreBelow number [] = Unit {0}
 AreBelow number (taken ∷ later) = (taken.number < number) × AreBelow number later
 
--- a message that covers a number, where this one is expected: a Sequence Reset to a higher one
-abbrev pub CoversBy : ℕ → ℕ → Body → Type 0
-CoversBy number expected (bodies.Admin (admin.SequenceReset new_number gap_fill)) = (expected ≤ number) × (number < new_number)
-CoversBy number expected body = ⊥
-
-abbrev pub Covers : ℕ → ℕ → Result Message FieldFault → Type 0
-Covers number expected (Ok message) = CoversBy number expected message.body
-Covers number expected (Err fault) = ⊥
-
 -- a frame bears a number
 abbrev pub Bears : ℕ → Result Message FieldFault → Type 0
 Bears number said = option_map (λ head. head.number) (head_in said) ≡ Some number
 
--- a call passes a number without a command that is taken: a frame bears it, or covers it
+-- a message that covers a number, where this one is expected: a Sequence Reset to a higher one. A gap fill has to bear the
+-- expected number itself
+abbrev pub CoversBy : ℕ → ℕ → Result Message FieldFault → Body → Type 0
+CoversBy number expected said (bodies.Admin (admin.SequenceReset new_number true)) =
+    Bears expected said × (expected ≤ number) × (number < new_number)
+CoversBy number expected said (bodies.Admin (admin.SequenceReset new_number false)) = (expected ≤ number) × (number < new_number)
+CoversBy number expected said body = ⊥
+
+abbrev pub Covers : ℕ → ℕ → Result Message FieldFault → Type 0
+Covers number expected (Ok message) = CoversBy number expected (Ok message) message.body
+Covers number expected (Err fault) = ⊥
+
+-- a call passes a number without a command that is taken: the session expects a higher one behind it, and its frame bears
+-- the number, or covers it
 abbrev pub Passes : ℕ → State → Call → Type 0
 Passes number state (Frame text now memory) =
-    ((number ≡ state.expected) × Bears number (said_by text)) ⊎ Covers number state.expected (said_by text)
+    (number < (outcome state (Frame text now memory)).state.expected)
+    × (((number ≡ state.expected) × Bears number (said_by text)) ⊎ Covers number state.expected (said_by text))
 Passes number state call = ⊥
 
 -- some call of a list does
