@@ -29,7 +29,7 @@ use Rattle.blot_session.specs.declared.state.Link.{Link}
 use Rattle.blot_session.specs.declared.state.Link.TheVariants as links
 use Rattle.blot_session.specs.declared.state.State.{State}
 use Rattle.blot_session.specs.Calls.{command_said}
-use Rattle.blot_session.specs.Rows.{logon_row, low_logon_row, first_logon_row, waiting_logon_row, waiting_body_row, waiting_row, reset_by, is_from_peer, resend_row, gap_fill_row, admin_row, report_row, other_row, body_row, expected_row, early_body_row, early_row, late_row, number_row, reset_row, message_row, peer_row, comp_id_tag, comp_id_row, head_row, on_row_by, on_row, frame_row_by, frame_row}
+use Rattle.blot_session.specs.Rows.{logon_row, low_logon_row, first_logon_row, waiting_logon_row, waiting_body_row, waiting_row, reset_by, is_from_peer, resend_row, gap_fill_row, admin_row, report_row, other_row, body_row, expected_row, high_body_row, high_row, low_row, number_row, reset_row, message_row, peer_row, comp_id_tag, comp_id_row, head_row, on_row_by, on_row, frame_row_by, frame_row}
 use Rattle.blot_session.specs.Runs.{Bears, CoversBy, Covers, is_reset_by, is_reset_said}
 use Rattle.blot_session.specs.States.{restarted, with_live, changed, awaited_by, awaited_of, IsIdle, IsAwaiting}
 use Rattle.blot_session.specs.Table.{silent, sends_both, closing}
@@ -158,31 +158,31 @@ expected-moves s live head (Err fault) idle is bears =
 
 -- ---- any other number
 
-early_body-moves : (s : State) (live : Live) (said : Result Message FieldFault) (body : Body) → live.awaited ≡ None
-    → Moves s.next s.expected said (early_body_row (with_live s live) body)
-unfolding early_body_row
-early_body-moves s live said (bodies.Admin (admin.Logon heartbeat reset)) idle = inl (record { next_same = refl; idle = idle; end = refl; number = inl refl })
-early_body-moves s live said (bodies.Admin admin.Heartbeat) idle = inl (record { next_same = refl; idle = idle; end = refl; number = inl refl })
-early_body-moves s live said (bodies.Admin admin.Reject) idle = inl (record { next_same = refl; idle = idle; end = refl; number = inl refl })
-early_body-moves s live said (bodies.Admin (admin.TestRequest id)) idle = inl (record { next_same = refl; idle = idle; end = refl; number = inl refl })
-early_body-moves s live said (bodies.Admin (admin.ResendRequest begin end)) idle =
+high_body-moves : (s : State) (live : Live) (said : Result Message FieldFault) (body : Body) → live.awaited ≡ None
+    → Moves s.next s.expected said (high_body_row (with_live s live) body)
+unfolding high_body_row
+high_body-moves s live said (bodies.Admin (admin.Logon heartbeat reset)) idle = inl (record { next_same = refl; idle = idle; end = refl; number = inl refl })
+high_body-moves s live said (bodies.Admin admin.Heartbeat) idle = inl (record { next_same = refl; idle = idle; end = refl; number = inl refl })
+high_body-moves s live said (bodies.Admin admin.Reject) idle = inl (record { next_same = refl; idle = idle; end = refl; number = inl refl })
+high_body-moves s live said (bodies.Admin (admin.TestRequest id)) idle = inl (record { next_same = refl; idle = idle; end = refl; number = inl refl })
+high_body-moves s live said (bodies.Admin (admin.ResendRequest begin end)) idle =
     cond_both (nat_lt begin s.next) _ _ (λ row. Moves s.next s.expected said row)
     (λ y. inl (record { next_same = refl; idle = idle; end = refl; number = inl refl }))
     (λ n. inl (record { next_same = refl; idle = idle; end = refl; number = inl refl }))
-early_body-moves s live said (bodies.Admin (admin.SequenceReset new_number gap_fill)) idle = inl (record { next_same = refl; idle = idle; end = refl; number = inl refl })
-early_body-moves s live said (bodies.Admin admin.Logout) idle = inl (record { next_same = refl; idle = idle; end = refl; number = inl refl })
-early_body-moves s live said (bodies.Report report) idle = inl (record { next_same = refl; idle = idle; end = refl; number = inl refl })
-early_body-moves s live said (bodies.Allocation allocation) idle = inl (record { next_same = refl; idle = idle; end = refl; number = inl refl })
-early_body-moves s live said bodies.Other idle = inl (record { next_same = refl; idle = idle; end = refl; number = inl refl })
+high_body-moves s live said (bodies.Admin (admin.SequenceReset new_number gap_fill)) idle = inl (record { next_same = refl; idle = idle; end = refl; number = inl refl })
+high_body-moves s live said (bodies.Admin admin.Logout) idle = inl (record { next_same = refl; idle = idle; end = refl; number = inl refl })
+high_body-moves s live said (bodies.Report report) idle = inl (record { next_same = refl; idle = idle; end = refl; number = inl refl })
+high_body-moves s live said (bodies.Allocation allocation) idle = inl (record { next_same = refl; idle = idle; end = refl; number = inl refl })
+high_body-moves s live said bodies.Other idle = inl (record { next_same = refl; idle = idle; end = refl; number = inl refl })
 
-early-moves : (s : State) (live : Live) (said : Result Message FieldFault) → live.awaited ≡ None → Moves s.next s.expected said (early_row (with_live s live) said)
-unfolding early_row
-early-moves s live (Ok m) idle = early_body-moves s live (Ok m) m.body idle
-early-moves s live (Err fault) idle = inl (record { next_same = refl; idle = idle; end = refl; number = inl refl })
+high-moves : (s : State) (live : Live) (said : Result Message FieldFault) → live.awaited ≡ None → Moves s.next s.expected said (high_row (with_live s live) said)
+unfolding high_row
+high-moves s live (Ok m) idle = high_body-moves s live (Ok m) m.body idle
+high-moves s live (Err fault) idle = inl (record { next_same = refl; idle = idle; end = refl; number = inl refl })
 
-late-moves : (s : State) (live : Live) (said : Result Message FieldFault) (dup : Bool) → live.awaited ≡ None → Moves s.next s.expected said (late_row (with_live s live) dup)
-unfolding late_row
-late-moves s live said dup idle =
+low-moves : (s : State) (live : Live) (said : Result Message FieldFault) (dup : Bool) → live.awaited ≡ None → Moves s.next s.expected said (low_row (with_live s live) dup)
+unfolding low_row
+low-moves s live said dup idle =
     cond_both dup _ _ (λ row. Moves s.next s.expected said row)
     (λ y. inl (record { next_same = refl; idle = idle; end = refl; number = inl refl }))
     (λ n. inl (record { next_same = refl; idle = refl; end = refl; number = inl refl }))
@@ -192,9 +192,9 @@ number-moves : (s : State) (live : Live) (head : Head) (said : Result Message Fi
 unfolding number_row
 number-moves s live head said idle is =
     cond_both (nat_lt head.number s.expected) _ _ (λ row. Moves s.next s.expected said row)
-    (λ low. late-moves s live said head.dup idle)
+    (λ low. low-moves s live said head.dup idle)
     (λ notlow. cond_both (nat_lt s.expected head.number) _ _ (λ row. Moves s.next s.expected said row)
-    (λ high. early-moves s live said idle)
+    (λ high. high-moves s live said idle)
     (λ nothigh. expected-moves s live head said idle is (omega (arith, ltb-false _ _ notlow, ltb-false _ _ nothigh))))
 
 -- ---- what goes before the number

@@ -12,7 +12,7 @@ use Rattle.blot_session.specs.declared.state.Live.{Live}
 use Rattle.blot_session.specs.declared.state.Link.TheVariants as links
 use Rattle.blot_session.specs.declared.state.State.{State}
 use Rattle.blot_session.specs.Calls.{is_spent, on_frame, on_tick, spent}
-use Rattle.blot_session.specs.Rows.{frame_row, logon_row, waiting_row, waiting_logon_row, first_logon_row, on_row, head_row, peer_row, message_row, number_row, late_row, early_row, early_body_row, expected_row, body_row, admin_row, resend_row, gap_fill_row, reset_row, tick_row, beat_row, asked_row, quiet_row, heartbeat_row}
+use Rattle.blot_session.specs.Rows.{frame_row, logon_row, waiting_row, waiting_logon_row, first_logon_row, on_row, head_row, peer_row, message_row, number_row, low_row, high_row, high_body_row, expected_row, body_row, admin_row, resend_row, gap_fill_row, reset_row, tick_row, beat_row, asked_row, quiet_row, heartbeat_row}
 use Rattle.blot_session.specs.States.{fresh, restarted, expecting, counted, opened, heard, asking}
 use Rattle.blot_session.specs.Table.{silent, sends, sends_both}
 
@@ -32,7 +32,7 @@ message number a = Ok (record { head = head number; body = bodies.Admin a })
 
 -- a lost message is asked for again
 gap : frame_row (session 5 2) (message 7 admin.Heartbeat) (pos 1) ≡ sends (ResendRequest 5) (heard (pos 1) (session 5 2))
-unfolding on_row head_row peer_row message_row number_row early_row early_body_row
+unfolding on_row head_row peer_row message_row number_row high_row high_body_row
 gap = refl
 
 -- a gap fill moves the expected number, under its own number alone
@@ -41,7 +41,7 @@ unfolding on_row head_row peer_row message_row number_row expected_row body_row 
 filled = refl
 
 not_filled : frame_row (session 5 2) (message 7 (admin.SequenceReset 9 true)) (pos 1) ≡ sends (ResendRequest 5) (heard (pos 1) (session 5 2))
-unfolding on_row head_row peer_row message_row number_row early_row early_body_row
+unfolding on_row head_row peer_row message_row number_row high_row high_body_row
 not_filled = refl
 
 -- a Sequence Reset that isn't a gap fill does so under any number

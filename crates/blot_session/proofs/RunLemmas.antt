@@ -28,7 +28,7 @@ use Rattle.blot_session.specs.Runs.Call.{Frame, Reply, Tick, Closing, WaitAgain}
 use Rattle.blot_session.specs.States.{closed, waiting_again, awaited_of, IsIdle, IsAwaiting}
 use Rattle.blot_session.specs.Table.{acts, messages_of}
 use Rattle.blot_session.proofs.RowLemmas.{Names, NamesBy, Steps, GoesOn, HandsOn, Moves, is_delivery, frame-moves}
-use Rattle.blot_session.proofs.StateLemmas.{spoken-awaited, unspent-last, idle-none, Rests, tick-rests, Settles, settles}
+use Rattle.blot_session.proofs.StateLemmas.{spoken-awaited, steps-grow, unspent-last, idle-none, Rests, tick-rests, Settles, settles}
 
 -- ---- what is sent changes no expected number, and delivers nothing
 
@@ -102,15 +102,6 @@ covers_by bodies.Other said number expected new_number low high is = absurd is
 covers : (said : Result Message FieldFault) (number expected new_number : ℕ) → expected ≤ number → number < new_number → Names new_number expected said → Covers number expected said
 covers (Ok message) number expected new_number low high is = covers_by message.body (Ok message) number expected new_number low high is
 covers (Err fault) number expected new_number low high is = absurd is
-
-steps-grow : (said : Result Message FieldFault) (expected next : ℕ) → Steps expected said next → expected ≤ next
-steps-grow said expected next steps = elim steps [
-  | inl same ↦ omega (arith, same)
-  | inr moved ↦ elim moved [
-    | inl one ↦ omega (arith, one.0)
-    | inr named ↦ named.0
-  ]
-]
 
 steps-pass : (said : Result Message FieldFault) (expected next number : ℕ) → Steps expected said next → expected ≤ number → number < next
     → ((number ≡ expected) × Bears number said) ⊎ Covers number expected said

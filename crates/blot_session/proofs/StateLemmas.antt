@@ -54,13 +54,14 @@ spoken-awaited now links.Waiting = refl
 spoken-awaited now (links.On live) = refl
 spoken-awaited now links.Closed = refl
 
-behind-state : (state : State) (message : Outbound) (now : ℤ) (next : ℕ) → 1 ≤ state.next → state.next ≤ next → state.expected ≤ SEQUENCE_MAX + 1
+behind-state : (state : State) (message : Outbound) (now : ℤ) (next : ℕ) → 1 ≤ state.next → state.next ≤ next → 1 ≤ state.expected → state.expected ≤ SEQUENCE_MAX + 1
     → (IsAwaiting state → state.expected ≤ SEQUENCE_MAX) → Fits (next + 1) (record { sends = Nothing; end = End.Stays; state = behind state message now })
-behind-state state message now next low high number awaited =
+behind-state state message now next low high first number awaited =
     let range = next_behind-range message state.next in
     record {
       low = omega (arith, low, range.0);
       high = omega (arith, high, range.1);
+      first = first;
       number = number;
       awaited = λ is. awaited (ap is_some (sym (spoken-awaited now state.link)) ∙ is);
     }
@@ -68,19 +69,19 @@ behind-state state message now next low high number awaited =
 sent-state : (sends : Sends) (end : End) (state : State) (now : ℤ) (next : ℕ) → Fits next (record { sends = sends; end = end; state = state })
     → next ≤ SEQUENCE_MAX → (acts_by sends end ≡ true → next ≤ LAST_NUMBER) → IsState (behind_all state (messages_of sends) now)
 sent-state Nothing end state now next fits small unspent =
-    record { expected = fits.number; awaited = fits.awaited; low = fits.low; next = omega (arith, fits.high, small) }
+    record { first = fits.first; expected = fits.number; awaited = fits.awaited; low = fits.low; next = omega (arith, fits.high, small) }
 sent-state (One message) end state now next fits small unspent =
     let last = unspent refl in
-    let first = behind-state state message now next fits.low fits.high fits.number fits.awaited in
-    record { expected = first.number; awaited = first.awaited; low = first.low; next = omega (arith, first.high, last) }
+    let first = behind-state state message now next fits.low fits.high fits.first fits.number fits.awaited in
+    record { first = first.first; expected = first.number; awaited = first.awaited; low = first.low; next = omega (arith, first.high, last) }
 sent-state (Two message more) end state now next fits small unspent =
     let last = unspent refl in
-    let first = behind-state state message now next fits.low fits.high fits.number fits.awaited in
-    let second = behind-state (behind state message now) more now (next + 1) first.low first.high first.number first.awaited in
-    record { expected = second.number; awaited = second.awaited; low = second.low; next = omega (arith, second.high, last) }
+    let first = behind-state state message now next fits.low fits.high fits.first fits.number fits.awaited in
+    let second = behind-state (behind state message now) more now (next + 1) first.low first.high first.first first.number first.awaited in
+    record { first = second.first; expected = second.number; awaited = second.awaited; low = second.low; next = omega (arith, second.high, last) }
 
 closed-state : (state : State) → IsState state → IsState (closed state)
-closed-state state is = record { expected = is.expected; awaited = λ a. absurd (false≢true a); low = is.low; next = is.next }
+closed-state state is = record { first = is.first; expected = is.expected; awaited = λ a. absurd (false≢true a); low = is.low; next = is.next }
 
 and-left : (a b : Bool) → (a && b) ≡ false → b ≡ true → a ≡ false
 and-left true b fails holds = absurd (false≢true (sym fails ∙ holds))
@@ -126,6 +127,15 @@ names_said-small : (said : Result Message FieldFault) (number expected : ℕ) �
 names_said-small (Ok message) number expected is small = names-small message.body (Ok message) number expected is small
 names_said-small (Err fault) number expected is small = absurd is
 
+pub steps-grow : (said : Result Message FieldFault) (expected next : ℕ) → Steps expected said next → expected ≤ next
+steps-grow said expected next steps = elim steps [
+  | inl same ↦ omega (arith, same)
+  | inr moved ↦ elim moved [
+    | inl one ↦ omega (arith, one.0)
+    | inr named ↦ named.0
+  ]
+]
+
 steps-small : (said : Result Message FieldFault) (expected number : ℕ) → Steps expected said number → IsNumbered said → expected ≤ SEQUENCE_MAX + 1 → number ≤ SEQUENCE_MAX + 1
 steps-small said expected number steps is small = elim steps [
   | inl same ↦ omega (arith, same, small)
@@ -139,17 +149,19 @@ pub idle-none : (state : State) → IsIdle state → IsAwaiting state → ⊥
 idle-none state idle awaiting = false≢true (sym (ap is_some idle) ∙ awaiting)
 
 moves-fit : (next expected limit : ℕ) (said : Result Message FieldFault) (row : Row) → Moves next expected said row → IsNumbered said
-    → 1 ≤ next → next ≤ limit → expected ≤ SEQUENCE_MAX + 1 → Fits limit row
-moves-fit next expected limit said row moves is low high small = elim moves [
+    → 1 ≤ next → next ≤ limit → 1 ≤ expected → expected ≤ SEQUENCE_MAX + 1 → Fits limit row
+moves-fit next expected limit said row moves is low high one small = elim moves [
   | inl on ↦ record {
     low = omega (arith, on.next_same, low);
     high = omega (arith, on.next_same, high);
+    first = omega (arith, one, steps-grow said expected row.state.expected on.number);
     number = steps-small said expected row.state.expected on.number is small;
     awaited = λ awaiting. absurd (idle-none row.state on.idle awaiting);
   }
   | inr hands ↦ record {
     low = omega (arith, hands.next_same, low);
     high = omega (arith, hands.next_same, high);
+    first = omega (arith, hands.same, one);
     number = omega (arith, hands.same, small);
     awaited = λ awaiting. omega (arith, hands.same, bears-small (head_in said) expected hands.bears is.head);
   }
@@ -157,8 +169,8 @@ moves-fit next expected limit said row moves is low high small = elim moves [
 
 pub frame-fits : (state : State) (said : Result Message FieldFault) (now : ℤ) → IsState state → IsIdle state → IsNumbered said → Fits state.next (frame_row state said now)
 frame-fits state said now is idle numbered = elim (frame-moves state said now idle) [
-  | inl moves ↦ moves-fit state.next state.expected state.next said (frame_row state said now) moves numbered is.low (omega arith) is.expected
-  | inr resets ↦ moves-fit 1 1 state.next said (frame_row state said now) resets.1 numbered (omega arith) is.low (omega arith)
+  | inl moves ↦ moves-fit state.next state.expected state.next said (frame_row state said now) moves numbered is.low (omega arith) is.first is.expected
+  | inr resets ↦ moves-fit 1 1 state.next said (frame_row state said now) resets.1 numbered (omega arith) is.low (omega arith) (omega arith)
 ]
 
 -- ---- moments
@@ -222,6 +234,7 @@ tick-fits state now is idle =
     record {
       low = omega (arith, rests.next, is.low);
       high = omega (arith, rests.next);
+      first = omega (arith, rests.expected, is.first);
       number = omega (arith, rests.expected, is.expected);
       awaited = λ awaiting. absurd (idle-none (tick_row state now).state rests.idle awaiting);
     }
@@ -261,6 +274,10 @@ settled-small : (state : State) (reply : Result SeenReply NotTaken) (row : Row) 
 settled-small state (Ok seen) row is small = omega (arith, is.taken seen refl, small)
 settled-small state (Err fault) row is small = omega (arith, is.not_taken fault refl, small)
 
+settled-first : (state : State) (reply : Result SeenReply NotTaken) (row : Row) → Settles state reply row → 1 ≤ state.expected → 1 ≤ row.state.expected
+settled-first state (Ok seen) row is one = omega (arith, is.taken seen refl, one)
+settled-first state (Err fault) row is one = omega (arith, is.not_taken fault refl, one)
+
 pub reply-fits : (state : State) (reply : Result SeenReply NotTaken) → IsState state → IsAwaiting state → Fits state.next (row_of_reply state reply)
 reply-fits state reply is awaiting =
     let row = row_of_reply state reply in
@@ -268,6 +285,7 @@ reply-fits state reply is awaiting =
     record {
       low = omega (arith, settled.next, is.low);
       high = omega (arith, settled.next);
+      first = settled-first state reply row settled is.first;
       number = settled-small state reply row settled (is.awaited awaiting);
       awaited = λ still. absurd (idle-none row.state settled.idle still);
     }
@@ -288,4 +306,4 @@ row_fits_reply state reply row is within awaiting = subst (Fits state.next) (sym
 -- the session of a row, closed
 pub closed_row : (next : ℕ) (row : Row) → Fits next row → next ≤ SEQUENCE_MAX → IsState (closed row.state)
 closed_row next row fits small =
-    record { expected = fits.number; awaited = λ a. absurd (false≢true a); low = fits.low; next = omega (arith, fits.high, small) }
+    record { first = fits.first; expected = fits.number; awaited = λ a. absurd (false≢true a); low = fits.low; next = omega (arith, fits.high, small) }

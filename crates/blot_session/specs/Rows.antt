@@ -1,4 +1,5 @@
--- The table of a session: what it does about a frame, a moment that passes and a reply, one line a row (FIX 4.4 volume 2,
+-- The table of a session: what it does about a frame, a moment that passes and a reply, a word for each row or
+-- choice between rows (FIX 4.4 volume 2,
 -- "Session protocol"; docs/SESSION.md has the rows that are this project's rule).
 use Rattle.std.specs.Prelude.{ℕ, ◌+◌, ◌*◌, ◌/◌, Bool, true, false, ◌&&◌, ◌==◌, nat_lt, nat_le, int_le, ℤ, pos, ◌+ℤ◌, List, codes, Option, Some, None, Result, Ok, Err, if◌then◌else◌}
 use Rattle.blot_fields.specs.declared.admin.Admin.{Admin}
@@ -134,28 +135,28 @@ expected_row state head (Err fault) = sends (Reject head.number fault.tag (reaso
 -- ---- phase On: a number above the expected one, and one below it
 
 -- what was lost is asked for again. A ResendRequest is answered at once, and so is a Logout
-unfoldable pub early_body_row : State → Body → Row
-early_body_row state (bodies.Admin (admin.ResendRequest begin end)) =
+unfoldable pub high_body_row : State → Body → Row
+high_body_row state (bodies.Admin (admin.ResendRequest begin end)) =
     (if nat_lt begin state.next then sends_both (GapFill begin) (ResendRequest state.expected) state
     else sends (ResendRequest state.expected) state)
-early_body_row state (bodies.Admin admin.Logout) = sends_both (ResendRequest state.expected) Logout state
-early_body_row state body = sends (ResendRequest state.expected) state
+high_body_row state (bodies.Admin admin.Logout) = sends_both (ResendRequest state.expected) Logout state
+high_body_row state body = sends (ResendRequest state.expected) state
 
-unfoldable pub early_row : State → Result Message FieldFault → Row
-early_row state (Ok message) = early_body_row state message.body
-early_row state (Err fault) = sends (ResendRequest state.expected) state
+unfoldable pub high_row : State → Result Message FieldFault → Row
+high_row state (Ok message) = high_body_row state message.body
+high_row state (Err fault) = sends (ResendRequest state.expected) state
 
 -- a message that came before is ignored, where it says that it may be one
-unfoldable pub late_row : State → Bool → Row
-late_row state dup =
+unfoldable pub low_row : State → Bool → Row
+low_row state dup =
     if dup then silent state
     else closing reasons.TooLow (sends Logout state)
 
 -- by the number
 unfoldable pub number_row : State → Head → Result Message FieldFault → Row
 number_row state head said =
-    if nat_lt head.number state.expected then late_row state head.dup
-    else (if nat_lt state.expected head.number then early_row state said
+    if nat_lt head.number state.expected then low_row state head.dup
+    else (if nat_lt state.expected head.number then high_row state said
     else expected_row state head said)
 
 -- ---- phase On: what goes before the number

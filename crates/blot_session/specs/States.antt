@@ -95,6 +95,7 @@ IsAwaiting state = is_some (awaited_of state) ≡ true
 -- the numbers of a session: past the last of all no number is expected, and a number is left to expect behind the one
 -- that a delivered command bore
 pub record IsState (state : State) : Type 0 where
+  pub first : 1 ≤ state.expected
   pub expected : state.expected ≤ SEQUENCE_MAX + 1
   pub awaited : IsAwaiting state → state.expected ≤ SEQUENCE_MAX
   pub low : 1 ≤ state.next

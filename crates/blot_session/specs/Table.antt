@@ -50,5 +50,6 @@ acts row = acts_by row.sends row.end
 pub record Fits (next : ℕ) (row : Row) : Type 0 where
   pub low : 1 ≤ row.state.next
   pub high : row.state.next ≤ next
+  pub first : 1 ≤ row.state.expected
   pub number : row.state.expected ≤ SEQUENCE_MAX + 1
   pub awaited : IsAwaiting row.state → row.state.expected ≤ SEQUENCE_MAX

@@ -3,7 +3,7 @@
 ghost use Rattle.std.specs.Prelude.{◌≡◌, ◌≤◌};
 ghost use Rattle.blot_fields.specs.declared.TheConstants.{SEQUENCE_MAX};
 ghost use Rattle.blot_fields.specs.Numbers.{HasNumber, head_in};
-ghost use Rattle.blot_session.specs.Rows.{comp_id_row, early_body_row, early_row, frame_row, head_row, late_row, message_row, number_row, on_row, peer_row, reset_row};
+ghost use Rattle.blot_session.specs.Rows.{comp_id_row, high_body_row, high_row, frame_row, head_row, low_row, message_row, number_row, on_row, peer_row, reset_row};
 
 use crate::CloseReason;
 use crate::expected::expected_row;
@@ -153,18 +153,18 @@ fn number_row(state: State, head: &Head, said: &Result<Message, FieldFault>) -> 
     ensures { result ≡ number_row state head.now said.now }
 {
     if head.number < state.expected {
-        return late_row(state, head.dup);
+        return low_row(state, head.dup);
     }
     if state.expected < head.number {
-        return early_row(state, said);
+        return high_row(state, said);
     }
     expected_row(state, head, said)
 }
 
 // A message that came before is ignored, where it says that it may be one.
-#[tactic(auto, unfolding(crate::specs::Rows::late_row))]
-fn late_row(state: State, dup: bool) -> Row
-    ensures { result ≡ late_row state dup }
+#[tactic(auto, unfolding(crate::specs::Rows::low_row))]
+fn low_row(state: State, dup: bool) -> Row
+    ensures { result ≡ low_row state dup }
 {
     if dup {
         return Row::silent(state);
@@ -173,20 +173,20 @@ fn late_row(state: State, dup: bool) -> Row
 }
 
 // Messages before this one were lost, and are asked for again.
-#[tactic(auto, unfolding(crate::specs::Rows::early_row))]
-fn early_row(state: State, said: &Result<Message, FieldFault>) -> Row
-    ensures { result ≡ early_row state said.now }
+#[tactic(auto, unfolding(crate::specs::Rows::high_row))]
+fn high_row(state: State, said: &Result<Message, FieldFault>) -> Row
+    ensures { result ≡ high_row state said.now }
 {
     match said {
-        Ok(message) => early_body_row(state, &message.body),
+        Ok(message) => high_body_row(state, &message.body),
         Err(_) => Row::sends(Outbound::asked_again(state.expected), state),
     }
 }
 
 // A Resend Request is answered at once, and so is a Logout.
-#[tactic(auto, unfolding(crate::specs::Rows::early_body_row))]
-fn early_body_row(state: State, body: &Body) -> Row
-    ensures { result ≡ early_body_row state body.now }
+#[tactic(auto, unfolding(crate::specs::Rows::high_body_row))]
+fn high_body_row(state: State, body: &Body) -> Row
+    ensures { result ≡ high_body_row state body.now }
 {
     match body {
         Body::Admin(Admin::ResendRequest { begin, .. }) if *begin < state.next => {

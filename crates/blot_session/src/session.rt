@@ -1,8 +1,9 @@
 //! The session with one peer.
-ghost use Rattle.std.specs.Prelude.{◌≡◌, List, Ok, None, is_some, IfOk, OnErr};
+ghost use Rattle.std.specs.Prelude.{◌≡◌, ◌+◌, ◌≤◌, List, Ok, None, is_some, IfOk, OnErr};
 ghost use Rattle.blot_tag.specs.Fields.{fields_of};
 ghost use Rattle.blot_tag.specs.Views.{text_of};
 ghost use Rattle.blot_fields.specs.Decoding.{decoded, is_out_of_memory};
+ghost use Rattle.blot_fields.specs.declared.TheConstants.{SEQUENCE_MAX};
 ghost use Rattle.blot_fields.specs.Numbers.{IsNumbered};
 ghost use Rattle.blot_session.specs.Calls.{Awaits, command_said, ending, on_frame, on_tick, on_reply, outcome_of, row_of_reply};
 ghost use Rattle.blot_session.specs.Runs.{Call, AreMet, HasNoReset, IsInOrder};
@@ -69,6 +70,7 @@ impl Session {
     #[tactic(auto, using(crate::proofs::RunLemmas::in_order))]
     pub fn expected(&self) -> u64
         ensures number { result ≡ self.now.expected }
+        ensures range { (1 ≤ result) × (result ≤ SEQUENCE_MAX + 1) }
 
         // Until the numbers are reset, the numbers of what is taken rise, and each that is missing was covered by a
         // Sequence Reset or borne by another message.
