@@ -1,6 +1,6 @@
 -- What a call delivers is last, and awaits its reply.
 use Rattle.std.proofs.Common.{◌≡◌, ◌⊎◌, ℕ, Bool, true, false, ◌&&◌, List, [], ◌∷◌, ◌++◌, Option, Some, None, Result, Ok, Err, refl, sym, ap, subst, ◌∙◌, inl, inr}
-use Rattle.std.specs.Prelude.{if◌then◌else◌, ℤ, is_some}
+use Rattle.std.specs.Prelude.{if◌then◌else◌, ℤ, is_some, IfOk, OnErr}
 use Rattle.std.specs.List.{list_any}
 use Rattle.std.proofs.lemmas.Bool.{cond_both, false≢true}
 use Rattle.blot_fields.specs.declared.fault.FieldFault.{FieldFault}
@@ -13,7 +13,7 @@ use Rattle.blot_session.specs.declared.row.End.{End}
 use Rattle.blot_session.specs.declared.row.End.TheVariants.{Stays, Delivers, Closes}
 use Rattle.blot_session.specs.declared.row.Row.{Row}
 use Rattle.blot_session.specs.declared.state.State.{State}
-use Rattle.blot_session.specs.Calls.{Outcome, Awaits, DeliversLast, behind, sent, ending, carried_out, is_deliver, is_spent, spent, command_said, on_frame}
+use Rattle.blot_session.specs.Calls.{Outcome, Awaits, DeliversLast, behind, sent, ending, carried_out, is_deliver, is_spent, spent, outcome_of, command_said, on_frame}
 use Rattle.blot_session.specs.Outbound.{text_of}
 use Rattle.blot_session.specs.Rows.{frame_row}
 use Rattle.blot_session.specs.States.{awaited_of, IsIdle}
@@ -91,3 +91,21 @@ pub awaits_reply : (state next : State) (actions : List Action) (said : Result M
     → record { state = next; actions = actions } ≡ on_frame state said now → Awaits next actions
 awaits_reply state next actions said now idle is =
     subst (λ (outcome : Outcome). Awaits outcome.state outcome.actions) (sym is) (frame-awaits state said now idle)
+
+-- ---- behind any other call nothing awaits a reply
+
+rests-idle : (row : Row) (state : State) (now : ℤ) → IsIdle row.state → IsIdle (outcome_of state row None now).state
+rests-idle row state now idle =
+    cond_both (is_spent state row) _ _ (λ (outcome : Outcome). IsIdle outcome.state)
+    (λ y. refl)
+    (λ n. behind_all-awaited (messages_of row.sends) row.state now ∙ idle)
+
+pub idle-outcome : {V E : Type 0} (items : V → List Action) (done : Result (State × V) E) (row : Row) (state : State) (now : ℤ) → IsIdle row.state
+    → IfOk done (λ done. record { state = done.0; actions = items done.1 } ≡ outcome_of state row None now) → IfOk done (λ done. IsIdle done.0)
+idle-outcome items (Ok (next, actions)) row state now idle is = subst (λ (outcome : Outcome). IsIdle outcome.state) (sym is) (rests-idle row state now idle)
+idle-outcome items (Err fault) row state now idle is = tt
+
+pub idle-behind : {V E : Type 0} (result : Result V E) (done : Result (State × V) E) (next shut : State) → IfOk result (λ actions. done ≡ Ok (next, actions))
+    → OnErr result (next ≡ shut) → IsIdle shut → IfOk done (λ done. IsIdle done.0) → IsIdle next
+idle-behind (Ok actions) done next shut ok err quiet idle = subst (λ given. IfOk given (λ done. IsIdle done.0)) ok idle
+idle-behind (Err fault) done next shut ok err quiet idle = subst IsIdle (sym err) quiet

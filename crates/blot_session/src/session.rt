@@ -134,6 +134,9 @@ impl Session {
         requires { IsIdle self.old }
         ensures ok { IfOk result (λ actions. record { state = self.new; actions = actions.items } ≡ on_tick self.old now) }
         ensures err { OnErr result (self.new ≡ closed self.old) }
+
+        // No command awaits its reply then.
+        ensures idle { IsIdle self.new }
     {
         let closed = self.state.closed();
         let row = tick_row(self.state, now);
@@ -153,6 +156,9 @@ impl Session {
         requires { IsAwaiting self.old }
         ensures ok { IfOk result (λ actions. record { state = self.new; actions = actions.items } ≡ on_reply self.old reply now) }
         ensures err { OnErr result (self.new ≡ closed (row_of_reply self.old reply).state) }
+
+        // No command awaits its reply then.
+        ensures idle { IsIdle self.new }
     {
         let row = row_of_reply(self.state, reply);
         let closed = row.state.closed();
