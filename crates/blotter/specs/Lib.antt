@@ -1,4 +1,3 @@
-pub mod Commands
+pub mod Capture
 pub mod Outcome
 pub mod Replay
-pub mod Report

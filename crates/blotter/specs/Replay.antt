@@ -1,64 +1,65 @@
--- What a capture comes to: the commands that its frames give, the book that they lead to, and its report.
-use Rattle.std.specs.Prelude.{◌≡◌, ℕ, ◌+◌, ◌≤◌, List, [], ◌++◌, fold, Option, Some, None, ⊤, is_none, if◌then◌else◌}
-use Rattle.std.specs.List.{filter_map}
+-- What a desk comes to by a capture, and the report of a day.
+use Rattle.std.specs.Prelude.{◌≡◌, ℕ, ℤ, ◌<◌, ⊤, List, ◌++◌, length, map, fold, Option, Some, None, Result, Ok, Err}
 use Rattle.blot_types.specs.declared.command.Command.{Command}
-use Rattle.blot_types.specs.declared.command.Command.TheVariants.{Trade, Correct}
 use Rattle.blot_types.specs.declared.command.Entry.{Entry}
-use Rattle.blot_types.specs.declared.keys.OrderKey.{OrderKey}
 use Rattle.blot_types.specs.declared.TheConstants.{EVENTS_MAX}
-use Rattle.blot_types.specs.Legal.{refusal_of}
 use Rattle.blot_tag.specs.Walking.{frames_of}
-use Rattle.blot_command.specs.Book.{numbers_of, after}
-use Rattle.blot_command.specs.Undoable.{AllBelow}
-use Rattle.blotter.specs.Commands.{command_in}
+use Rattle.blot_types.specs.Told.{refused_number}
+use Rattle.blot_session.specs.declared.replies.NotTaken.{NotTaken}
+use Rattle.blot_session.specs.declared.replies.SeenReply.{SeenReply}
+use Rattle.blot_session.specs.declared.replies.SeenReply.TheVariants as seen
+use Rattle.blot_desk.specs.declared.event.Event.TheVariants.{Submit}
+use Rattle.blot_desk.specs.declared.event.Reply.{Reply}
+use Rattle.blot_desk.specs.declared.event.Reply.TheVariants as replies
+use Rattle.blot_desk.specs.Desk.{Journal, recorded_of, run_of}
+use Rattle.blot_report.specs.Lines.{day_lines_of}
+use Rattle.blot_report.specs.Text.{report_text}
+use Rattle.blotter.specs.Capture.{Sessions, commands_over, commands_of}
+use Rattle.blotter.specs.declared.outcome.ReplayFault.{ReplayFault}
+use Rattle.blotter.specs.declared.outcome.ReplayFault.TheVariants.{Full}
 
--- a run of commands: the live list, the next number, and how many commands came
-pub record Run : Type 0 where
-  pub list : List Entry
-  pub next : ℕ
-  pub came : ℕ
+-- what a desk holds when some commands were submitted, in their order
+abbrev pub submitted : Journal → List Command → Journal
+submitted journal commands = fold (λ before command. recorded_of before (Submit command)) journal commands
 
--- the order that a command fills: a Trade and a Correct fill one
-abbrev pub order_filled : Command → Option OrderKey
-order_filled (Trade trade) = Some trade.fill.order
-order_filled (Correct correct) = Some correct.fill.order
-order_filled _ = None
+-- what a session is told of the desk's reply to a command that it delivered
+abbrev pub seen_by : Reply → Result SeenReply NotTaken
+seen_by (replies.Accepted number) = Ok seen.Accepted
+seen_by (replies.Refused refused) = Ok (seen.Refused (refused_number refused))
+seen_by reply = Err (record {})
 
--- the orders that the commands of a list fill, in list order
-abbrev pub orders_filled : List Entry → List OrderKey
-orders_filled list = filter_map (λ entry. order_filled entry.command) list
+-- a desk was submitted a front of some commands, and then a fault came. Full is answered only where as many events are recorded
+-- as a day has, and a further command came
+pub record Stopped (fault : ReplayFault) (before after : Journal) (commands : List Command) : Type 0 where
+  pub front : List Command
+  pub back : List Command
+  pub joined : front ++ back ≡ commands
+  pub taken : after ≡ submitted before front
+  pub full : fault ≡ Full → (length after.history ≡ EVENTS_MAX) × (0 < length back)
 
--- what the running book keeps
-pub record IsKept (list : List Entry) (orders : List OrderKey) (next came : ℕ) : Type 0 where
-  pub below : AllBelow next (numbers_of list)
-  pub started : 1 ≤ next
-  pub few : next ≤ came + 1
-  pub limited : came ≤ EVENTS_MAX
-  pub filled : orders ≡ orders_filled list
+-- the live list that a capture leads to: that of the run of its commands, each submitted, from the empty book
+abbrev pub list_of : List ℕ → List (List ℕ) → List ℕ → List Entry
+list_of own peers bytes = (run_of (map Submit (commands_of own peers bytes))).book.list
 
--- an empty book
-abbrev pub start : Run
-start = record { list = []; next = 1; came = 0 }
+-- the report of a day of a list
+abbrev pub report_of : List Entry → ℤ → List ℕ
+report_of list day = report_text (day_lines_of list day)
 
--- one more command: taken under the next number where the book accepts it, or refused
-abbrev pub step_of : Run → Command → Run
-step_of run command =
-    if is_none (refusal_of run.list command)
-    then (record { list = after run.list command run.next; next = run.next + 1; came = run.came + 1 })
-    else record run { came = run.came + 1 }
+-- ---- a capture that is partly taken
 
--- the run of commands, in their order
-abbrev pub run_of : Run → List Command → Run
-run_of run commands = fold step_of run commands
+-- the sessions and the desk as they are
+pub record Taking : Type 0 where
+  pub sessions : Sessions
+  pub journal : Journal
 
--- the commands that the listed peers' frames of a byte stream give, in the order of the stream
-abbrev pub commands_of : List (List ℕ) → List ℕ → List Command
-commands_of peers bytes = filter_map (command_in peers) (frames_of bytes)
+-- from here to there a front of the commands of some frames was submitted, and those of the frames that are left are the rest
+pub record Came (from : Taking) (texts : List (List ℕ)) (now : Taking) (left : List (List ℕ)) : Type 0 where
+  pub front : List Command
+  pub joined : front ++ commands_over now.sessions left ≡ commands_over from.sessions texts
+  pub taken : now.journal ≡ submitted from.journal front
 
--- what is known of an input's bytes, and of what is left of them, agrees with a run so far: with the unread
--- bytes and the rest it comes to what all bytes come to
-abbrev pub ComesTo : List (List ℕ) → Option (List ℕ) → Run → Option (List ℕ) → List ℕ → Run → Type 0
-ComesTo peers None from rest unread run = ⊤
-ComesTo peers (Some bytes) from None unread run = ⊥
-ComesTo peers (Some bytes) from (Some rest) unread run =
-    run_of run (commands_of peers (unread ++ rest)) ≡ run_of from (commands_of peers bytes)
+-- the same of an input's bytes, where they are known: some were read, and of those some are unread
+abbrev pub CameOf : Option (List ℕ) → Taking → Option (List ℕ) → List ℕ → Taking → Type 0
+CameOf None from rest unread now = ⊤
+CameOf (Some bytes) from None unread now = ⊥
+CameOf (Some bytes) from (Some rest) unread now = Came from (frames_of bytes) now (frames_of (unread ++ rest))

@@ -3,12 +3,9 @@
 //! this library.
 #![tactic(auto)]
 
-mod book;
-mod intake;
+mod driving;
+mod moment;
 mod outcome;
-mod replaying;
-mod report;
 mod transfer;
 
 pub use outcome::{Outcome, ReplayFault};
-pub use replaying::replay;

@@ -1,0 +1,127 @@
+-- What a frame comes to at its session.
+use Rattle.std.proofs.Common.{◌≡◌, ℕ, ◌+◌, ◌<◌, length, Bool, true, false, List, [], ◌∷◌, ◌++◌, map, Option, Some, None, Result, Ok, Err, refl, sym, ap, subst, ◌∙◌, inl, inr, pos, arith}
+use Rattle.std.specs.Prelude.{ℤ, IsSome, is_some, option_to_list, if◌then◌else◌}
+use Rattle.std.specs.List.{list_any}
+use Rattle.std.specs.Option.{option_and_then}
+use Rattle.std.proofs.lemmas.Bool.{cond_both, cases_Bool, cond-true, cond-false, false≢true}
+use Rattle.std.proofs.lemmas.List.{append-nil}
+use Rattle.blot_types.specs.declared.command.Command.{Command}
+use Rattle.blot_types.specs.declared.refused.Refused.{Refused as Refusal}
+use Rattle.blot_types.specs.Legal.{refusal_of}
+use Rattle.blot_types.specs.Told.{refused_number}
+use Rattle.blot_desk.specs.declared.event.Event.TheVariants.{Submit}
+use Rattle.blot_desk.specs.declared.event.Reply.{Reply as DeskReply}
+use Rattle.blot_desk.specs.Desk.{DeskBook, step_of, submit_by}
+use Rattle.blot_session.specs.declared.action.Action.{Action}
+use Rattle.blot_session.specs.declared.action.Action.TheVariants.{Send, Deliver, Close}
+use Rattle.blot_session.specs.declared.replies.NotTaken.{NotTaken}
+use Rattle.blot_session.specs.declared.replies.SeenReply.{SeenReply}
+use Rattle.blot_session.specs.declared.replies.SeenReply.TheVariants.{Accepted, Refused}
+use Rattle.blot_session.specs.declared.state.Awaited.{Awaited}
+use Rattle.blot_session.specs.declared.state.Awaited.TheVariants as awaits
+use Rattle.blot_session.specs.declared.state.State.{State}
+use Rattle.blot_session.specs.Calls.{Outcome, Awaits, DeliversLast, is_deliver, is_spent, outcome_of, reply_row_by, row_of_reply, on_reply}
+use Rattle.blot_session.specs.Rows.{reply_row}
+use Rattle.blot_session.specs.Runs.{Call, Numbered, outcome, behind_calls, delivered_by, taken_behind, taken_of}
+use Rattle.blot_session.specs.Runs.Call.{Frame, Reply, WaitAgain}
+use Rattle.blot_session.specs.States.{awaited_of, phase_of, waiting_again, IsIdle, IsAwaiting}
+use Rattle.blot_session.specs.Table.{messages_of}
+use Rattle.blotter.specs.Replay.{seen_by}
+use Rattle.blotter.specs.Capture.{delivered, frame_call, reply_calls, waiting_calls, behind_frame, behind_reply, calls_of, taken_by, sending_of, is_closed_phase}
+
+-- ---- what is delivered
+
+abbrev pub commands : ℕ → List Action → List Command
+commands number actions = map (λ numbered. numbered.command) (delivered_by number actions)
+
+delivered-skip : (number : ℕ) (action : Action) (actions : List Action) → is_deliver action ≡ false → delivered_by number (action ∷ actions) ≡ delivered_by number actions
+delivered-skip number (Send bytes) actions is = refl
+delivered-skip number (Deliver command) actions is = absurd (false≢true (sym is))
+delivered-skip number (Close reason) actions is = refl
+
+-- only the last may deliver
+delivered-last : (number : ℕ) (front : List Action) (last : Action) → DeliversLast (front ++ last ∷ [])
+    → delivered_by number (front ++ last ∷ []) ≡ delivered_by number (last ∷ [])
+delivered-last number [] last is = refl
+delivered-last number (action ∷ []) last is = delivered-skip number action (last ∷ []) is.0
+delivered-last number (action ∷ next ∷ front) last is =
+    delivered-skip number action (next ∷ front ++ last ∷ []) is.0 ∙ delivered-last number (next ∷ front) last is.1
+
+delivered-none : (number : ℕ) (actions : List Action) → list_any is_deliver actions ≡ false → delivered_by number actions ≡ []
+delivered-none number [] is = refl
+delivered-none number (Send bytes ∷ actions) is = delivered-none number actions is
+delivered-none number (Deliver command ∷ actions) is = absurd (false≢true (sym is))
+delivered-none number (Close reason ∷ actions) is = delivered-none number actions is
+
+commands-one : (number : ℕ) (action : Action) → commands number (action ∷ []) ≡ option_to_list (delivered action)
+commands-one number (Send bytes) = refl
+commands-one number (Deliver command) = refl
+commands-one number (Close reason) = refl
+
+pub commands-popped : (actions front : List Action) (last : Option Action) (number count : ℕ) → actions ≡ front ++ option_to_list last → length actions ≡ count
+    → (0 < count → IsSome last) → DeliversLast actions → commands number actions ≡ option_to_list (option_and_then delivered last)
+commands-popped actions front (Some last) number count is long some delivers =
+    ap (commands number) is ∙ ap (map (λ numbered. numbered.command)) (delivered-last number front last (subst DeliversLast is delivers)) ∙ commands-one number last
+commands-popped [] front None number count is long some delivers = refl
+commands-popped (action ∷ actions) front None number count is long some delivers = absurd (false≢true (some (omega (arith, long))))
+
+-- ---- the reply
+
+-- an acceptance and a refusal leave a session the same
+seen-by : (state : State) (found : Option Awaited) (seen : SeenReply) (now : ℤ)
+    → (outcome_of state (reply_row_by state found (Ok seen)) None now).state ≡ (outcome_of state (reply_row_by state found (Ok Accepted)) None now).state
+unfolding reply_row
+seen-by state (Some awaits.Report) seen now = refl
+seen-by state (Some (awaits.Allocation id)) seen now =
+    elim (cases_Bool (is_spent state (reply_row_by state (Some (awaits.Allocation id)) (Ok Accepted)))) [ inl y ↦ rw y refl | inr n ↦ rw n refl ]
+seen-by state None seen now = refl
+
+submit-seen : (book : DeskBook) (command : Command) (refused : Option Refusal) (state : State) (now : ℤ)
+    → (on_reply state (seen_by (submit_by book command refused).reply) now).state ≡ (on_reply state (Ok Accepted) now).state
+submit-seen book command None state now = refl
+submit-seen book command (Some reason) state now = seen-by state (awaited_of state) (Refused (refused_number reason)) now
+
+-- the session behind the desk's reply is the one behind an acceptance
+pub replied : (book : DeskBook) (command : Command) (reply : DeskReply) (seen : Result SeenReply NotTaken) (state next : State) (actions : List Action) (now : ℤ)
+    → reply ≡ (step_of book (Submit command)).reply → seen ≡ seen_by reply → record { state = next; actions = actions } ≡ on_reply state seen now
+    → next ≡ (on_reply state (Ok Accepted) now).state
+replied book command reply seen state next actions now given told is =
+    ap (λ (outcome : Outcome). outcome.state) is
+    ∙ ap (λ said. (on_reply state said now).state) (told ∙ ap seen_by given)
+    ∙ submit-seen book command (refusal_of book.list command) state now
+
+-- ---- the calls of a frame
+
+behind-append : (state : State) (calls more : List Call) → behind_calls state (calls ++ more) ≡ behind_calls (behind_calls state calls) more
+behind-append state [] more = refl
+behind-append state (call ∷ calls) more = behind-append (outcome state call).state calls more
+
+pub calls-behind : (state : State) (text : List ℕ) → behind_calls state (calls_of state text) ≡ behind_calls (behind_reply state text) (waiting_calls (behind_reply state text))
+calls-behind state text = behind-append (behind_frame state text) (reply_calls (behind_frame state text) text) (waiting_calls (behind_reply state text))
+
+waiting-takes : (last : List Numbered) (closed state : State) → taken_behind last state (waiting_calls closed) ≡ []
+waiting-takes last closed state = cond_both (is_closed_phase (phase_of closed)) _ _ (λ calls. taken_behind last state calls ≡ []) (λ y. refl) (λ n. refl)
+
+-- behind a frame, what it delivers is taken where a reply is awaited
+reply-takes : (last : List Numbered) (state closed : State) (text : List ℕ)
+    → taken_behind last state (reply_calls state text ++ waiting_calls closed) ≡ (if is_some (awaited_of state) then last else [])
+reply-takes last state closed text = elim (cases_Bool (is_some (awaited_of state))) [
+  | inl y ↦ rw y (ap (λ rest. last ++ rest) (waiting-takes _ closed _) ∙ append-nil last)
+  | inr n ↦ rw n (waiting-takes last closed state)
+]
+
+chosen : {A : Type 0} (awaiting : Bool) (items : List A) → (awaiting ≡ false → items ≡ []) → (if awaiting then items else []) ≡ items
+chosen true items none = refl
+chosen false items none = sym (none refl)
+
+-- a frame's calls take what the frame delivers
+pub calls-take : (state : State) (text : List ℕ) (actions : List Action) (command : Option Command)
+    → actions ≡ (outcome state (frame_call text)).actions → Awaits (behind_frame state text) actions
+    → ((number : ℕ) → commands number actions ≡ option_to_list command) → taken_by state text ≡ option_to_list command
+calls-take state text actions command are awaits gives =
+    let last = delivered_by state.expected (outcome state (frame_call text)).actions in
+    ap (map (λ numbered. numbered.command))
+    (reply-takes last (behind_frame state text) (behind_reply state text) text
+    ∙ chosen (is_some (awaited_of (behind_frame state text))) last
+    (λ none. ap (delivered_by state.expected) (sym are) ∙ delivered-none state.expected actions (awaits.awaited ∙ none)))
+    ∙ ap (commands state.expected) (sym are) ∙ gives state.expected

@@ -1,0 +1,97 @@
+-- What a capture comes to. Each frame goes to the session of its sender, with its own SendingTime as the moment; each command
+-- that a session takes goes to the desk.
+use Rattle.std.specs.Prelude.{ℕ, ℤ, pos, Bool, true, false, List, [], ◌∷◌, ◌++◌, ◌==◌, map, Option, Some, None, Ok, Err, is_some, if◌then◌else◌}
+use Rattle.std.specs.List.{list_any}
+use Rattle.std.specs.Option.{option_map, option_map_or, option_and_then}
+use Rattle.std.specs.Result.{result_unwrap_or}
+use Rattle.blot_time.specs.Moment.{moment_of}
+use Rattle.blot_tag.specs.Fields.{Item, fields_of}
+use Rattle.blot_tag.specs.Walking.{frames_of}
+use Rattle.blot_types.specs.declared.command.Command.{Command}
+use Rattle.blot_types.specs.Keys.{same_text}
+use Rattle.blot_fields.specs.Sender.{sender_of}
+use Rattle.blot_session.specs.declared.action.Action.{Action}
+use Rattle.blot_session.specs.declared.action.Action.TheVariants.{Deliver}
+use Rattle.blot_session.specs.declared.replies.SeenReply.TheVariants.{Accepted}
+use Rattle.blot_session.specs.declared.state.Phase.{Phase}
+use Rattle.blot_session.specs.declared.state.Phase.TheVariants.{Closed}
+use Rattle.blot_session.specs.declared.state.State.{State}
+use Rattle.blot_session.specs.Runs.{Call, outcome, behind_calls, taken_of}
+use Rattle.blot_session.specs.Runs.Call.{Frame, Reply, WaitAgain}
+use Rattle.blot_session.specs.States.{fresh, phase_of, awaited_of}
+
+-- ---- a frame at its session
+
+-- the command that an action delivers
+abbrev pub delivered : Action → Option Command
+delivered (Deliver command) = Some command
+delivered action = None
+
+-- the moment of a frame: its first field SendingTime(52), or the first moment of 1970 where that isn't there or can't be read
+abbrev pub sending_of : List Item → ℤ
+sending_of [] = pos 0
+sending_of (Err fault ∷ items) = pos 0
+sending_of (Ok field ∷ items) = if field.tag == 52 then result_unwrap_or (moment_of field.value) (pos 0) else sending_of items
+
+-- the frame comes to the session
+abbrev pub frame_call : List ℕ → Call
+frame_call text = Frame text (sending_of (fields_of text)) true
+
+-- what it delivers is taken; to the session it is one whether the book accepts it or refuses it
+abbrev pub reply_calls : State → List ℕ → List Call
+reply_calls state text = if is_some (awaited_of state) then Reply (Ok Accepted) (sending_of (fields_of text)) true ∷ [] else []
+
+-- a session that is closed waits for its next Logon
+abbrev pub is_closed_phase : Phase → Bool
+is_closed_phase Closed = true
+is_closed_phase phase = false
+
+abbrev pub waiting_calls : State → List Call
+waiting_calls state = if is_closed_phase (phase_of state) then WaitAgain ∷ [] else []
+
+-- a session behind the frame, and behind the reply to what that delivered
+abbrev pub behind_frame : State → List ℕ → State
+behind_frame state text = (outcome state (frame_call text)).state
+
+abbrev pub behind_reply : State → List ℕ → State
+behind_reply state text = behind_calls (behind_frame state text) (reply_calls (behind_frame state text) text)
+
+-- all calls that a frame comes to
+abbrev pub calls_of : State → List ℕ → List Call
+calls_of state text = frame_call text ∷ reply_calls (behind_frame state text) text ++ waiting_calls (behind_reply state text)
+
+-- the commands that are taken in these calls
+abbrev pub taken_by : State → List ℕ → List Command
+taken_by state text = map (λ taken. taken.command) (taken_of state (calls_of state text))
+
+-- ---- the frames of all peers
+
+-- the session of each peer; who isn't one has none
+abbrev pub Sessions : Type 0
+Sessions = List ℕ → Option State
+
+-- the peers were never heard of
+abbrev pub first_sessions : List ℕ → List (List ℕ) → Sessions
+first_sessions own peers peer = if list_any (λ listed. same_text listed peer) peers then Some (fresh own peer) else None
+
+-- whether a frame is a peer's: its SenderCompID(49) names it
+abbrev pub is_from : List ℕ → List ℕ → Bool
+is_from peer text = option_map_or (λ sender. same_text sender peer) (sender_of (fields_of text)) false
+
+-- the sessions behind a frame: that of its sender behind the frame's calls, the others as they were
+abbrev pub sessions_behind : Sessions → List ℕ → Sessions
+sessions_behind sessions text peer =
+    if is_from peer text then option_map (λ state. behind_calls state (calls_of state text)) (sessions peer) else sessions peer
+
+-- the commands that the session of a frame's sender takes; the frames of others bring none
+abbrev pub commands_in : Sessions → List ℕ → List Command
+commands_in sessions text = option_map_or (λ state. taken_by state text) (option_and_then sessions (sender_of (fields_of text))) []
+
+-- the commands of some frames, in their order
+abbrev pub commands_over : Sessions → List (List ℕ) → List Command
+commands_over sessions [] = []
+commands_over sessions (text ∷ texts) = commands_in sessions text ++ commands_over (sessions_behind sessions text) texts
+
+-- the commands of a byte stream
+abbrev pub commands_of : List ℕ → List (List ℕ) → List ℕ → List Command
+commands_of own peers bytes = commands_over (first_sessions own peers) (frames_of bytes)

@@ -1,0 +1,113 @@
+//! A frame at the session of its sender, and what that delivers at the desk.
+ghost use Rattle.std.specs.Prelude.{◌≡◌, ◌≢◌, ◌≤◌, ℕ, [], ◌∷◌, length, map, Ok, Err, OnOk, IfErr, option_to_list};
+ghost use Rattle.std.specs.Option.{option_and_then};
+ghost use Rattle.blot_tag.specs.Views.{text_of};
+ghost use Rattle.blot_types.specs.declared.TheConstants.{EVENTS_MAX};
+ghost use Rattle.blot_session.specs.Calls.{DeliversLast, on_reply};
+ghost use Rattle.blot_session.specs.declared.replies.SeenReply.TheVariants.{Accepted};
+ghost use Rattle.blot_session.specs.Runs.{behind_calls, delivered_by};
+ghost use Rattle.blot_session.specs.States.{IsIdle, IsAwaiting};
+ghost use Rattle.blot_desk.specs.declared.event.Event.TheVariants.{Submit};
+ghost use Rattle.blot_desk.specs.Desk.{recorded_of};
+ghost use Rattle.blotter.specs.Capture.{calls_of, delivered, waiting_calls, taken_by};
+ghost use Rattle.blotter.specs.Replay.{submitted, Stopped, seen_by};
+
+use crate::ReplayFault;
+use crate::moment::sending_of;
+use blot_desk::{DeskFault, Event, Held, Reply};
+use blot_session::{Action, NotTaken, Phase, SeenReply, Session};
+use blot_tag::Frame;
+use blot_time::Moment;
+use blot_types::Command;
+use std::alloc::Global;
+
+/// Gives a frame to its session, and what the session delivers to the desk. What it would send is dropped, and where it is
+/// closed then, it waits for its next Logon.
+pub(crate) fn take_frame(
+    alloc: Global,
+    session: &mut Session,
+    frame: &Frame,
+    held: &mut Held,
+) -> Result<(), ReplayFault>
+    requires { IsIdle session.old }
+    ensures session { OnOk result (session.new ≡ behind_calls session.old (calls_of session.old (text_of frame.now))) }
+    ensures idle { OnOk result (IsIdle session.new) }
+    ensures desk { OnOk result (held.new ≡ submitted held.old (taken_by session.old (text_of frame.now))) }
+    ensures err { IfErr result (λ fault. Stopped fault held.old held.new (taken_by session.old (text_of frame.now))) }
+    ensures no_write { result ≢ Err ReplayFault.Write }
+{
+    let now = sending_of(frame);
+    let Ok(actions) = session.on_frame(alloc, frame, now) else {
+        return Err(ReplayFault::NoMemory);
+    };
+    if let Some(command) = delivered(actions) {
+        submit(alloc, session, command, now, held)?;
+    }
+    wait_where_closed(session);
+    Ok(())
+}
+
+// What these actions deliver: only the last may.
+fn delivered(actions: Vec<Action>) -> Option<Command>
+    requires { DeliversLast actions.items }
+    ensures { (number : ℕ) → map (λ numbered. numbered.command) (delivered_by number actions.items) ≡ option_to_list result }
+{
+    let mut actions = actions;
+    command_of(actions.pop())
+}
+
+// The command that an action delivers, if it is one that does.
+fn command_of(action: Option<Action>) -> Option<Command>
+    ensures { result ≡ option_and_then delivered action }
+{
+    match action {
+        Some(Action::Deliver(command)) => Some(command),
+        _ => None,
+    }
+}
+
+// Submits a delivered command to the desk, and tells the session the reply.
+fn submit(
+    alloc: Global,
+    session: &mut Session,
+    command: Command,
+    now: Moment,
+    held: &mut Held,
+) -> Result<(), ReplayFault>
+    requires { IsAwaiting session.old }
+    ensures session { OnOk result (session.new ≡ (on_reply session.old (Ok Accepted) now).state) }
+    ensures idle { OnOk result (IsIdle session.new) }
+    ensures desk { OnOk result (held.new ≡ recorded_of held.old (Submit command)) }
+    ensures err { IfErr result (λ fault. Stopped fault held.old held.new (command ∷ [])) }
+    ensures no_write { result ≢ Err ReplayFault.Write }
+{
+    let reply = match held.step(Event::Submit(command)) {
+        Ok(reply) => reply,
+        Err(DeskFault::Full) => return Err(ReplayFault::Full),
+        Err(DeskFault::NoMemory) => return Err(ReplayFault::NoMemory),
+    };
+    let Ok(_) = session.on_reply(alloc, seen_by(reply), now) else {
+        return Err(ReplayFault::NoMemory);
+    };
+    Ok(())
+}
+
+// What a session is told of the desk's reply to a command.
+fn seen_by(reply: Reply) -> Result<SeenReply, NotTaken>
+    ensures { result ≡ seen_by reply }
+{
+    match reply {
+        Reply::Accepted(_) => Ok(SeenReply::Accepted),
+        Reply::Refused(refused) => Ok(SeenReply::Refused(refused.number())),
+        _ => Err(NotTaken),
+    }
+}
+
+// A session that is closed waits for its next Logon.
+fn wait_where_closed(session: &mut Session)
+    ensures { session.new ≡ behind_calls session.old (waiting_calls session.old) }
+{
+    if matches!(session.phase(), Phase::Closed) {
+        session.wait_again();
+    }
+}
