@@ -29,31 +29,28 @@ waiting-slot_of (slot ∷ slots) peer session waiting found =
     ]
 
 -- a change of one slot leaves the others
-pub waiting-with_slot :
+pub waiting_with_slot :
     (slots : List (List ℕ × Option State)) (peer : List ℕ) (session : Option State)
     → AreWaiting slots → IfSome session (IsWaiting peer) → AreWaiting (set_value (same_text peer) slots session)
-waiting-with_slot [] peer session waiting its = waiting
-waiting-with_slot (slot ∷ slots) peer session waiting its =
+waiting_with_slot [] peer session waiting its = waiting
+waiting_with_slot (slot ∷ slots) peer session waiting its =
     let rest = All-tail IsWaitingSlot slot slots waiting in
     elim (cases_Bool (same_text peer slot.0)) [
       | inl same ↦ rw same (All-cons IsWaitingSlot (slot.0, session) slots (subst (λ key. IfSome session (IsWaiting key)) ((bytes_decides peer slot.0).0 same) its) rest)
-      | inr other ↦ rw other (All-cons IsWaitingSlot slot (set_value (same_text peer) slots session) (All-head IsWaitingSlot slot slots waiting) (waiting-with_slot slots peer session rest its))
+      | inr other ↦ rw other (All-cons IsWaitingSlot slot (set_value (same_text peer) slots session) (All-head IsWaitingSlot slot slots waiting) (waiting_with_slot slots peer session rest its))
     ]
 
 -- a new session waits
-pub waiting-fresh : (own : List ℕ) (peers : List (List ℕ)) → AreWaiting (fresh_slots own peers)
-waiting-fresh own [] = All-nil IsWaitingSlot
-waiting-fresh own (peer ∷ peers) =
-    All-cons IsWaitingSlot (peer, Some (fresh own peer)) (fresh_slots own peers) (record { of_peer = refl; phase = refl }) (waiting-fresh own peers)
+pub waiting_fresh : (own : List ℕ) (peers : List (List ℕ)) → AreWaiting (fresh_slots own peers)
+waiting_fresh own [] = All-nil IsWaitingSlot
+waiting_fresh own (peer ∷ peers) =
+    All-cons IsWaitingSlot (peer, Some (fresh own peer)) (fresh_slots own peers) (record { of_peer = refl; phase = refl }) (waiting_fresh own peers)
 
+-- a session that waits for a Logon awaits no reply
 idle_link : (link : Link) → phase_by link ≡ phases.Waiting → awaited_by link ≡ None
 idle_link links.Waiting waiting = refl
 idle_link (links.On live) waiting = absurd cc
 idle_link links.Closed waiting = refl
-
--- a session that waits for a Logon awaits no reply
-pub waiting-idle : (peer : List ℕ) (session : State) → IsWaiting peer session → IsIdle session
-waiting-idle peer session waiting = idle_link session.link waiting.phase
 
 answer_of-ok : (slot : Option (Option State)) (session : State) → Ok session ≡ answer_of slot → slot ≡ Some (Some session)
 answer_of-ok None session is = absurd cc
@@ -61,19 +58,22 @@ answer_of-ok (Some None) session is = absurd cc
 answer_of-ok (Some (Some held)) session is = ap (λ held. Some (Some held)) cc
 
 -- a session that is handed out is its peer's and waits
-pub waiting-answer :
+pub waiting_answer :
     (slots : List (List ℕ × Option State)) (peer : List ℕ) (answer : Result State SlotFault)
     → answer ≡ answer_of (lookup (same_text peer) slots) → AreWaiting slots → IfOk answer (IsWaiting peer)
-waiting-answer slots peer (Err fault) is waiting = tt
-waiting-answer slots peer (Ok session) is waiting = waiting-slot_of slots peer session waiting (answer_of-ok _ session is)
+waiting_answer slots peer (Err fault) is waiting = tt
+waiting_answer slots peer (Ok session) is waiting = waiting-slot_of slots peer session waiting (answer_of-ok _ session is)
 
-pub idle-answer : (peer : List ℕ) (answer : Result State SlotFault) → IfOk answer (IsWaiting peer) → IfOk answer IsIdle
-idle-answer peer (Err fault) waiting = tt
-idle-answer peer (Ok session) waiting = waiting-idle peer session waiting
+-- and awaits no reply
+pub idle_answer :
+    (slots : List (List ℕ × Option State)) (peer : List ℕ) (answer : Result State SlotFault)
+    → answer ≡ answer_of (lookup (same_text peer) slots) → AreWaiting slots → IfOk answer IsIdle
+idle_answer slots peer (Err fault) is waiting = tt
+idle_answer slots peer (Ok session) is waiting = idle_link session.link (waiting_answer slots peer (Ok session) is waiting).phase
 
 -- what is left in waits
-pub waiting-left :
+pub waiting_left :
     (slots new : List (List ℕ × Option State)) (peer : List ℕ) (answer : Result State SlotFault)
     → OnOk answer (new ≡ set_value (same_text peer) slots None) → OnErr answer (new ≡ slots) → AreWaiting slots → AreWaiting new
-waiting-left slots new peer (Ok session) ok err waiting = subst AreWaiting (sym ok) (waiting-with_slot slots peer None waiting tt)
-waiting-left slots new peer (Err fault) ok err waiting = subst AreWaiting (sym err) waiting
+waiting_left slots new peer (Ok session) ok err waiting = subst AreWaiting (sym ok) (waiting_with_slot slots peer None waiting tt)
+waiting_left slots new peer (Err fault) ok err waiting = subst AreWaiting (sym err) waiting

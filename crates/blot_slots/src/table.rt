@@ -35,6 +35,7 @@ impl Model for SlotTable {
 impl SlotTable {
     /// The table of a blotter with these peers: each peer's session is new, and in. RepeatedPeer where two of them are the
     /// same, before any memory is asked for.
+    #[tactic(auto, using(crate::proofs::WaitingLemmas::waiting_fresh))]
     pub fn new(alloc: Global, own: Text64, peers: &[Text64]) -> Result<SlotTable, SlotFault>
         ensures ok { IfOk result (λ table. table ≡ all_in own peers.now) }
         ensures repeated { (result ≡ Err SlotFault.RepeatedPeer) ↔ (IsDistinct same_text peers.now → ⊥) }
@@ -56,6 +57,7 @@ impl SlotTable {
 
     /// Hands out the session of a peer, which is out then. UnknownPeer where the peer isn't listed, AlreadyOn where its
     /// session is out. No memory is taken.
+    #[tactic(auto, using(crate::proofs::WaitingLemmas::waiting_answer, crate::proofs::WaitingLemmas::idle_answer, crate::proofs::WaitingLemmas::waiting_left))]
     pub fn check_out(&mut self, peer: &Text64) -> Result<Session, SlotFault>
         ensures answer { result ≡ checked_out self.old peer.now }
         ensures ok { OnOk result (self.new ≡ with_slot peer.now None self.old) }
@@ -69,6 +71,7 @@ impl SlotTable {
     }
 
     /// Takes back the session of a peer. It waits for a Logon again, and keeps both numbers. No memory is taken.
+    #[tactic(auto, using(crate::proofs::WaitingLemmas::waiting_with_slot))]
     pub fn check_in(&mut self, mut session: Session)
         requires { slot_of self.old session.peer ≡ Some None }
         ensures { self.new ≡ with_slot session.peer (Some (waiting_again session)) self.old }
@@ -79,6 +82,7 @@ impl SlotTable {
 }
 
 // Takes the session of a peer out of its slot.
+#[tactic(auto, using(std::proofs::lemmas::Map::Steps::set_value_same))]
 fn take_out(
     slots: &mut IndexMap<Text64, Option<Session>>,
     peer: &Text64,
