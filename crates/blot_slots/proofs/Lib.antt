@@ -1,0 +1,4 @@
+mod FreshLemmas
+mod PeerLemmas
+pub mod SlotLemmas
+mod WaitingLemmas
