@@ -9,17 +9,20 @@ use Rattle.blot_types.specs.declared.command.Command.{Command}
 use Rattle.blot_session.specs.declared.action.Action.{Action}
 use Rattle.blot_session.specs.declared.action.Action.TheVariants.{Send, Deliver, Close}
 use Rattle.blot_session.specs.declared.outbound.Outbound.{Outbound}
+use Rattle.blot_session.specs.declared.replies.NotTaken.{NotTaken}
+use Rattle.blot_session.specs.declared.replies.SeenReply.{SeenReply}
 use Rattle.blot_session.specs.declared.row.End.{End}
 use Rattle.blot_session.specs.declared.row.End.TheVariants.{Stays, Delivers, Closes}
 use Rattle.blot_session.specs.declared.row.Row.{Row}
 use Rattle.blot_session.specs.declared.state.State.{State}
-use Rattle.blot_session.specs.Calls.{Outcome, Awaits, DeliversLast, behind, sent, ending, carried_out, is_deliver, is_spent, spent, outcome_of, command_said, on_frame}
+use Rattle.blot_session.specs.Calls.{Outcome, Awaits, DeliversLast, behind, sent, ending, carried_out, is_deliver, is_spent, spent, outcome_of, behind_all, command_said, on_frame, on_tick, row_of_reply, on_reply}
 use Rattle.blot_session.specs.Outbound.{text_of}
-use Rattle.blot_session.specs.Rows.{frame_row}
-use Rattle.blot_session.specs.States.{awaited_of, IsIdle}
+use Rattle.blot_session.specs.Rows.{frame_row, tick_row}
+use Rattle.blot_session.specs.States.{awaited_of, IsIdle, IsAwaiting}
 use Rattle.blot_session.specs.Table.{messages_of}
-use Rattle.blot_session.proofs.RowLemmas.{GoesOn, HandsOn, is_delivery, frame-moves}
+use Rattle.blot_session.proofs.RowLemmas.{GoesOn, HandsOn, Moves, is_delivery, frame-moves}
 use Rattle.blot_session.proofs.RunLemmas.{behind_all-awaited}
+use Rattle.blot_session.proofs.StateLemmas.{tick-rests, settles}
 
 -- ---- what is sent delivers nothing
 
@@ -62,11 +65,11 @@ carried-awaits row command now same =
           ∙ ap is_some (sym (behind_all-awaited (messages_of row.sends) row.state now));
     }
 
-went-on : (next expected : ℕ) (said : Result Message FieldFault) (row : Row) (command : Option Command) → GoesOn next expected said row
+went-on : (peer : List ℕ) (next expected : ℕ) (said : Result Message FieldFault) (row : Row) (command : Option Command) → GoesOn peer next expected said row
     → list_any is_deliver (ending row.end command) ≡ is_some (awaited_of row.state)
-went-on next expected said row command on = none-ending row.end command on.end ∙ ap is_some (sym on.idle)
+went-on peer next expected said row command on = none-ending row.end command on.end ∙ ap is_some (sym on.idle)
 
-handed-on : (next expected : ℕ) (said : Result Message FieldFault) (row : Row) (peer : List ℕ) → HandsOn next expected said row
+handed-on : (next expected : ℕ) (said : Result Message FieldFault) (row : Row) (peer : List ℕ) → HandsOn peer next expected said row
     → list_any is_deliver (ending row.end (command_said said peer)) ≡ is_some (awaited_of row.state)
 handed-on next expected said row peer hands = some-ending row.end (command_said said peer) hands.end (hands.command peer) ∙ sym hands.awaits
 
@@ -78,11 +81,11 @@ frame-awaits state said now idle =
     (λ y. record { last = tt; awaited = refl })
     (λ n. carried-awaits row command now (elim (frame-moves state said now idle) [
       | inl moves ↦ elim moves [
-        | inl on ↦ went-on state.next state.expected said row command on
+        | inl on ↦ went-on state.peer state.next state.expected said row command on
         | inr hands ↦ handed-on state.next state.expected said row state.peer hands
       ]
       | inr resets ↦ elim resets.1 [
-        | inl on ↦ went-on 1 1 said row command on
+        | inl on ↦ went-on state.peer 1 1 said row command on
         | inr hands ↦ handed-on 1 1 said row state.peer hands
       ]
     ]))
@@ -92,20 +95,58 @@ pub awaits_reply : (state next : State) (actions : List Action) (said : Result M
 awaits_reply state next actions said now idle is =
     subst (λ (outcome : Outcome). Awaits outcome.state outcome.actions) (sym is) (frame-awaits state said now idle)
 
--- ---- behind any other call nothing awaits a reply
+-- ---- the session behind a call
 
+-- nothing awaits a reply
 rests-idle : (row : Row) (state : State) (now : ℤ) → IsIdle row.state → IsIdle (outcome_of state row None now).state
 rests-idle row state now idle =
     cond_both (is_spent state row) _ _ (λ (outcome : Outcome). IsIdle outcome.state)
     (λ y. refl)
     (λ n. behind_all-awaited (messages_of row.sends) row.state now ∙ idle)
 
-pub idle-outcome : {V E : Type 0} (items : V → List Action) (done : Result (State × V) E) (row : Row) (state : State) (now : ℤ) → IsIdle row.state
-    → IfOk done (λ done. record { state = done.0; actions = items done.1 } ≡ outcome_of state row None now) → IfOk done (λ done. IsIdle done.0)
-idle-outcome items (Ok (next, actions)) row state now idle is = subst (λ (outcome : Outcome). IsIdle outcome.state) (sym is) (rests-idle row state now idle)
-idle-outcome items (Err fault) row state now idle is = tt
+pub tick-idle : (state : State) (now : ℤ) → IsIdle state → IsIdle (on_tick state now).state
+tick-idle state now idle = rests-idle (tick_row state now) state now (tick-rests state now idle).idle
 
-pub idle-behind : {V E : Type 0} (result : Result V E) (done : Result (State × V) E) (next shut : State) → IfOk result (λ actions. done ≡ Ok (next, actions))
-    → OnErr result (next ≡ shut) → IsIdle shut → IfOk done (λ done. IsIdle done.0) → IsIdle next
-idle-behind (Ok actions) done next shut ok err quiet idle = subst (λ given. IfOk given (λ done. IsIdle done.0)) ok idle
-idle-behind (Err fault) done next shut ok err quiet idle = subst IsIdle (sym err) quiet
+pub reply-idle : (state : State) (reply : Result SeenReply NotTaken) (now : ℤ) → IsAwaiting state → IsIdle (on_reply state reply now).state
+reply-idle state reply now awaiting = rests-idle (row_of_reply state reply) state now (settles state reply awaiting).idle
+
+-- it is the same peer's
+behind_all-peer : (messages : List Outbound) (state : State) (now : ℤ) → (behind_all state messages now).peer ≡ state.peer
+behind_all-peer [] state now = refl
+behind_all-peer (message ∷ messages) state now = behind_all-peer messages (behind state message now) now
+
+outcome-peer : (row : Row) (state : State) (command : Option Command) (now : ℤ) → row.state.peer ≡ state.peer → (outcome_of state row command now).state.peer ≡ state.peer
+outcome-peer row state command now same =
+    cond_both (is_spent state row) _ _ (λ (outcome : Outcome). outcome.state.peer ≡ state.peer)
+    (λ y. refl)
+    (λ n. behind_all-peer (messages_of row.sends) row.state now ∙ same)
+
+moves-peer : (peer : List ℕ) (next expected : ℕ) (said : Result Message FieldFault) (row : Row) → Moves peer next expected said row → row.state.peer ≡ peer
+moves-peer peer next expected said row (inl on) = on.of_peer
+moves-peer peer next expected said row (inr hands) = hands.of_peer
+
+pub frame-peer : (state : State) (said : Result Message FieldFault) (now : ℤ) → IsIdle state → (on_frame state said now).state.peer ≡ state.peer
+frame-peer state said now idle =
+    outcome-peer (frame_row state said now) state (command_said said state.peer) now (elim (frame-moves state said now idle) [
+      | inl moves ↦ moves-peer state.peer state.next state.expected said (frame_row state said now) moves
+      | inr resets ↦ moves-peer state.peer 1 1 said (frame_row state said now) resets.1
+    ])
+
+pub tick-peer : (state : State) (now : ℤ) → IsIdle state → (on_tick state now).state.peer ≡ state.peer
+tick-peer state now idle = outcome-peer (tick_row state now) state None now (tick-rests state now idle).of_peer
+
+pub row-peer : (state : State) (reply : Result SeenReply NotTaken) → IsAwaiting state → (row_of_reply state reply).state.peer ≡ state.peer
+row-peer state reply awaiting = (settles state reply awaiting).of_peer
+
+pub reply-peer : (state : State) (reply : Result SeenReply NotTaken) (now : ℤ) → IsAwaiting state → (on_reply state reply now).state.peer ≡ state.peer
+reply-peer state reply now awaiting = outcome-peer (row_of_reply state reply) state None now (row-peer state reply awaiting)
+
+-- what holds of the session that a call gives, and of the closed one, holds of the session behind it
+pub behind-call : {V E : Type 0} (P : State → Type 0) (items : V → List Action) (given : Outcome) (result : Result V E) (done : Result (State × V) E) (next shut : State)
+    → IfOk result (λ actions. done ≡ Ok (next, actions)) → OnErr result (next ≡ shut)
+    → IfOk done (λ done. record { state = done.0; actions = items done.1 } ≡ given) → P given.state → P shut → P next
+behind-call P items given (Ok actions) done next shut ok err is gives closed =
+    let same : record { state = next; actions = items actions } ≡ given =
+    subst (λ found. IfOk found (λ done. record { state = done.0; actions = items done.1 } ≡ given)) ok is in
+    subst (λ (outcome : Outcome). P outcome.state) (sym same) gives
+behind-call P items given (Err fault) done next shut ok err is gives closed = subst P (sym err) closed

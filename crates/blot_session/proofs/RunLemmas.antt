@@ -117,7 +117,7 @@ steps-pass said expected next number steps low high = elim steps [
 
 -- ---- a frame
 
-carried-on : (state : State) (text : List ℕ) (now moment : ℤ) (row : Row) (command : Option Command) → GoesOn state.next state.expected (said_by text) row
+carried-on : (state : State) (text : List ℕ) (now moment : ℤ) (row : Row) (command : Option Command) → GoesOn state.peer state.next state.expected (said_by text) row
     → Aside state (Frame text now true) (carried_out row command moment)
 carried-on state text now moment row command on =
     let same = behind_all-expected (messages_of row.sends) row.state moment in
@@ -146,7 +146,7 @@ acting-delivery Nothing session = refl
 acting-delivery (One message) session = refl
 acting-delivery (Two message more) session = refl
 
-carried-by_hand : (state : State) (text : List ℕ) (now : ℤ) (row : Row) (peer : List ℕ) → is_spent state row ≡ false → HandsOn state.next state.expected (said_by text) row
+carried-by_hand : (state : State) (text : List ℕ) (now : ℤ) (row : Row) (peer : List ℕ) → is_spent state row ≡ false → HandsOn state.peer state.next state.expected (said_by text) row
     → Aside state (Frame text now true) (carried_out row (command_said (said_by text) peer) now)
 carried-by_hand state text now row peer unspent hands =
     let same = behind_all-expected (messages_of row.sends) row.state now ∙ hands.same in

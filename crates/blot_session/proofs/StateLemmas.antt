@@ -148,9 +148,9 @@ steps-small said expected number steps is small = elim steps [
 pub idle-none : (state : State) → IsIdle state → IsAwaiting state → ⊥
 idle-none state idle awaiting = false≢true (sym (ap is_some idle) ∙ awaiting)
 
-moves-fit : (next expected limit : ℕ) (said : Result Message FieldFault) (row : Row) → Moves next expected said row → IsNumbered said
+moves-fit : (peer : List ℕ) (next expected limit : ℕ) (said : Result Message FieldFault) (row : Row) → Moves peer next expected said row → IsNumbered said
     → 1 ≤ next → next ≤ limit → 1 ≤ expected → expected ≤ SEQUENCE_MAX + 1 → Fits limit row
-moves-fit next expected limit said row moves is low high one small = elim moves [
+moves-fit peer next expected limit said row moves is low high one small = elim moves [
   | inl on ↦ record {
     low = omega (arith, on.next_same, low);
     high = omega (arith, on.next_same, high);
@@ -169,32 +169,33 @@ moves-fit next expected limit said row moves is low high one small = elim moves 
 
 pub frame-fits : (state : State) (said : Result Message FieldFault) (now : ℤ) → IsState state → IsIdle state → IsNumbered said → Fits state.next (frame_row state said now)
 frame-fits state said now is idle numbered = elim (frame-moves state said now idle) [
-  | inl moves ↦ moves-fit state.next state.expected state.next said (frame_row state said now) moves numbered is.low (omega arith) is.first is.expected
-  | inr resets ↦ moves-fit 1 1 state.next said (frame_row state said now) resets.1 numbered (omega arith) is.low (omega arith) (omega arith)
+  | inl moves ↦ moves-fit state.peer state.next state.expected state.next said (frame_row state said now) moves numbered is.low (omega arith) is.first is.expected
+  | inr resets ↦ moves-fit state.peer 1 1 state.next said (frame_row state said now) resets.1 numbered (omega arith) is.low (omega arith) (omega arith)
 ]
 
 -- ---- moments
 
 -- a row that changes no number, and awaits no reply
 pub record Rests (state : State) (row : Row) : Type 0 where
+  pub of_peer : row.state.peer ≡ state.peer
   pub next : row.state.next ≡ state.next
   pub expected : row.state.expected ≡ state.expected
   pub idle : IsIdle row.state
   pub end : is_delivery row.end ≡ false
 
-heartbeat-rests : (state base : State) (live : Live) (now : ℤ) → base.next ≡ state.next → base.expected ≡ state.expected → IsIdle base → Rests state (heartbeat_row base live now)
+heartbeat-rests : (state base : State) (live : Live) (now : ℤ) → base.peer ≡ state.peer → base.next ≡ state.next → base.expected ≡ state.expected → IsIdle base → Rests state (heartbeat_row base live now)
 unfolding heartbeat_row
-heartbeat-rests state base live now n e idle =
+heartbeat-rests state base live now p n e idle =
     cond_both (passed live.sent live.heartbeat now) _ _ (λ row. Rests state row)
-    (λ y. record { next = n; expected = e; idle = idle; end = refl })
-    (λ n'. record { next = n; expected = e; idle = idle; end = refl })
+    (λ y. record { of_peer = p; next = n; expected = e; idle = idle; end = refl })
+    (λ n'. record { of_peer = p; next = n; expected = e; idle = idle; end = refl })
 
 asked-rests : (state : State) (live : Live) (asked now : ℤ) → IsIdle state → Rests state (asked_row state live asked now)
 unfolding asked_row
 asked-rests state live asked now idle =
     cond_both (passed asked (patience live.heartbeat) now) _ _ (λ row. Rests state row)
-    (λ y. record { next = refl; expected = refl; idle = refl; end = refl })
-    (λ n. heartbeat-rests state state live now refl refl idle)
+    (λ y. record { of_peer = refl; next = refl; expected = refl; idle = refl; end = refl })
+    (λ n. heartbeat-rests state state live now refl refl refl idle)
 
 asking-idle : (now : ℤ) (link : Link) → awaited_by link ≡ None → awaited_by (changed (λ live. record live { asked = Some now }) link) ≡ None
 asking-idle now links.Waiting idle = refl
@@ -205,8 +206,8 @@ quiet-rests : (state : State) (live : Live) (now : ℤ) → IsIdle state → Res
 unfolding quiet_row
 quiet-rests state live now idle =
     cond_both (passed live.received (patience live.heartbeat) now) _ _ (λ row. Rests state row)
-    (λ y. record { next = refl; expected = refl; idle = asking-idle now state.link idle; end = refl })
-    (λ n. heartbeat-rests state state live now refl refl idle)
+    (λ y. record { of_peer = refl; next = refl; expected = refl; idle = asking-idle now state.link idle; end = refl })
+    (λ n. heartbeat-rests state state live now refl refl refl idle)
 
 beat_by-rests : (state : State) (live : Live) (asked : Option ℤ) (now : ℤ) → IsIdle state → Rests state (beat_row_by state live asked now)
 beat_by-rests state live (Some asked) now idle = asked-rests state live asked now idle
@@ -216,13 +217,13 @@ beat-rests : (state : State) (live : Live) (now : ℤ) → IsIdle state → Rest
 unfolding beat_row
 beat-rests state live now idle =
     cond_both (live.heartbeat == 0) _ _ (λ row. Rests state row)
-    (λ y. record { next = refl; expected = refl; idle = idle; end = refl })
+    (λ y. record { of_peer = refl; next = refl; expected = refl; idle = idle; end = refl })
     (λ n. beat_by-rests state live live.asked now idle)
 
 tick_by-rests : (state : State) (link : Link) (now : ℤ) → IsIdle state → Rests state (tick_row_by state link now)
-tick_by-rests state links.Waiting now idle = record { next = refl; expected = refl; idle = idle; end = refl }
+tick_by-rests state links.Waiting now idle = record { of_peer = refl; next = refl; expected = refl; idle = idle; end = refl }
 tick_by-rests state (links.On live) now idle = beat-rests state live now idle
-tick_by-rests state links.Closed now idle = record { next = refl; expected = refl; idle = idle; end = refl }
+tick_by-rests state links.Closed now idle = record { of_peer = refl; next = refl; expected = refl; idle = idle; end = refl }
 
 pub tick-rests : (state : State) (now : ℤ) → IsIdle state → Rests state (tick_row state now)
 unfolding tick_row
@@ -243,6 +244,7 @@ tick-fits state now is idle =
 
 -- what a reply does: the number of what was taken is counted
 pub record Settles (state : State) (reply : Result SeenReply NotTaken) (row : Row) : Type 0 where
+  pub of_peer : row.state.peer ≡ state.peer
   pub next : row.state.next ≡ state.next
   pub taken : (seen : SeenReply) → reply ≡ Ok seen → row.state.expected ≡ state.expected + 1
   pub not_taken : (fault : NotTaken) → reply ≡ Err fault → row.state.expected ≡ state.expected
@@ -257,11 +259,11 @@ answered-idle links.Closed = refl
 reply-settles : (state : State) (awaited : Awaited) (reply : Result SeenReply NotTaken) → Settles state reply (reply_row state awaited reply)
 unfolding reply_row
 reply-settles state awaits.Report (Ok seen) =
-    record { next = refl; taken = λ s is. refl; not_taken = λ f is. absurd cc; idle = answered-idle state.link; end = refl }
+    record { of_peer = refl; next = refl; taken = λ s is. refl; not_taken = λ f is. absurd cc; idle = answered-idle state.link; end = refl }
 reply-settles state (awaits.Allocation id) (Ok seen) =
-    record { next = refl; taken = λ s is. refl; not_taken = λ f is. absurd cc; idle = answered-idle state.link; end = refl }
+    record { of_peer = refl; next = refl; taken = λ s is. refl; not_taken = λ f is. absurd cc; idle = answered-idle state.link; end = refl }
 reply-settles state awaited (Err fault) =
-    record { next = refl; taken = λ s is. absurd cc; not_taken = λ f is. refl; idle = refl; end = refl }
+    record { of_peer = refl; next = refl; taken = λ s is. absurd cc; not_taken = λ f is. refl; idle = refl; end = refl }
 
 settles_by : (state : State) (found : Option Awaited) (reply : Result SeenReply NotTaken) → is_some found ≡ true → Settles state reply (reply_row_by state found reply)
 settles_by state (Some awaited) reply is = reply-settles state awaited reply

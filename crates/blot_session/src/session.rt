@@ -119,6 +119,9 @@ impl Session {
             ≡ on_frame self.old (decoded (fields_of (text_of frame.now))) now) }
         ensures err { OnErr result (self.new ≡ closed self.old) }
 
+        // It is the same peer's.
+        ensures peer { self.new.peer ≡ self.old.peer }
+
         // What is delivered is the last action, and its reply is awaited.
         ensures awaits { IfOk result (λ actions. Awaits self.new actions.items) }
     {
@@ -135,7 +138,8 @@ impl Session {
         ensures ok { IfOk result (λ actions. record { state = self.new; actions = actions.items } ≡ on_tick self.old now) }
         ensures err { OnErr result (self.new ≡ closed self.old) }
 
-        // No command awaits its reply then.
+        // It is the same peer's, and no command awaits its reply.
+        ensures peer { self.new.peer ≡ self.old.peer }
         ensures idle { IsIdle self.new }
     {
         let closed = self.state.closed();
@@ -157,7 +161,8 @@ impl Session {
         ensures ok { IfOk result (λ actions. record { state = self.new; actions = actions.items } ≡ on_reply self.old reply now) }
         ensures err { OnErr result (self.new ≡ closed (row_of_reply self.old reply).state) }
 
-        // No command awaits its reply then.
+        // It is the same peer's, and no command awaits its reply.
+        ensures peer { self.new.peer ≡ self.old.peer }
         ensures idle { IsIdle self.new }
     {
         let row = row_of_reply(self.state, reply);

@@ -20,14 +20,14 @@ use Rattle.blot_session.specs.declared.replies.SeenReply.TheVariants.{Accepted, 
 use Rattle.blot_session.specs.declared.state.Awaited.{Awaited}
 use Rattle.blot_session.specs.declared.state.Awaited.TheVariants as awaits
 use Rattle.blot_session.specs.declared.state.State.{State}
-use Rattle.blot_session.specs.Calls.{Outcome, Awaits, DeliversLast, is_deliver, is_spent, outcome_of, reply_row_by, row_of_reply, on_reply}
+use Rattle.blot_session.specs.Calls.{Outcome, Awaits, DeliversLast, is_deliver, is_spent, outcome_of, reply_row_by, row_of_reply, on_frame, on_reply}
 use Rattle.blot_session.specs.Rows.{reply_row}
-use Rattle.blot_session.specs.Runs.{Call, Numbered, outcome, behind_calls, delivered_by, taken_behind, taken_of}
+use Rattle.blot_session.specs.Runs.{Call, Numbered, outcome, behind_calls, said_by, delivered_by, taken_behind, taken_of}
 use Rattle.blot_session.specs.Runs.Call.{Frame, Reply, WaitAgain}
 use Rattle.blot_session.specs.States.{awaited_of, phase_of, waiting_again, IsIdle, IsAwaiting}
 use Rattle.blot_session.specs.Table.{messages_of}
 use Rattle.blotter.specs.Replay.{seen_by}
-use Rattle.blotter.specs.Capture.{delivered, frame_call, reply_calls, waiting_calls, behind_frame, behind_reply, calls_of, taken_by, sending_of, is_closed_phase}
+use Rattle.blotter.specs.Capture.{delivered, frame_call, reply_calls, waiting_calls, behind_frame, behind_reply, calls_of, taken_by, moment_at, is_closed_phase}
 
 -- ---- what is delivered
 
@@ -65,6 +65,20 @@ commands-popped actions front (Some last) number count is long some delivers =
 commands-popped [] front None number count is long some delivers = refl
 commands-popped (action ∷ actions) front None number count is long some delivers = absurd (false≢true (some (omega (arith, long))))
 
+-- and one delivers just where the last does
+any-last : (front : List Action) (last : Action) → DeliversLast (front ++ last ∷ []) → list_any is_deliver (front ++ last ∷ []) ≡ is_some (delivered last)
+any-last [] (Send bytes) is = refl
+any-last [] (Deliver command) is = refl
+any-last [] (Close reason) is = refl
+any-last (action ∷ []) last is = rw is.0 (any-last [] last tt)
+any-last (action ∷ next ∷ front) last is = rw is.0 (any-last (next ∷ front) last is.1)
+
+pub any-popped : (actions front : List Action) (last : Option Action) (count : ℕ) → actions ≡ front ++ option_to_list last → length actions ≡ count
+    → (0 < count → IsSome last) → DeliversLast actions → list_any is_deliver actions ≡ is_some (option_and_then delivered last)
+any-popped actions front (Some last) count is long some delivers = ap (list_any is_deliver) is ∙ any-last front last (subst DeliversLast is delivers)
+any-popped [] front None count is long some delivers = refl
+any-popped (action ∷ actions) front None count is long some delivers = absurd (false≢true (some (omega (arith, long))))
+
 -- ---- the reply
 
 -- an acceptance and a refusal leave a session the same
@@ -92,20 +106,13 @@ replied book command reply seen state next actions now given told is =
 
 -- ---- the calls of a frame
 
-behind-append : (state : State) (calls more : List Call) → behind_calls state (calls ++ more) ≡ behind_calls (behind_calls state calls) more
-behind-append state [] more = refl
-behind-append state (call ∷ calls) more = behind-append (outcome state call).state calls more
-
-pub calls-behind : (state : State) (text : List ℕ) → behind_calls state (calls_of state text) ≡ behind_calls (behind_reply state text) (waiting_calls (behind_reply state text))
-calls-behind state text = behind-append (behind_frame state text) (reply_calls (behind_frame state text) text) (waiting_calls (behind_reply state text))
-
 waiting-takes : (last : List Numbered) (closed state : State) → taken_behind last state (waiting_calls closed) ≡ []
 waiting-takes last closed state = cond_both (is_closed_phase (phase_of closed)) _ _ (λ calls. taken_behind last state calls ≡ []) (λ y. refl) (λ n. refl)
 
 -- behind a frame, what it delivers is taken where a reply is awaited
-reply-takes : (last : List Numbered) (state closed : State) (text : List ℕ)
-    → taken_behind last state (reply_calls state text ++ waiting_calls closed) ≡ (if is_some (awaited_of state) then last else [])
-reply-takes last state closed text = elim (cases_Bool (is_some (awaited_of state))) [
+reply-takes : (last : List Numbered) (state closed : State) (now : ℤ)
+    → taken_behind last state (reply_calls state now ++ waiting_calls closed) ≡ (if is_some (awaited_of state) then last else [])
+reply-takes last state closed now = elim (cases_Bool (is_some (awaited_of state))) [
   | inl y ↦ rw y (ap (λ rest. last ++ rest) (waiting-takes _ closed _) ∙ append-nil last)
   | inr n ↦ rw n (waiting-takes last closed state)
 ]
@@ -115,13 +122,21 @@ chosen true items none = refl
 chosen false items none = sym (none refl)
 
 -- a frame's calls take what the frame delivers
-pub calls-take : (state : State) (text : List ℕ) (actions : List Action) (command : Option Command)
-    → actions ≡ (outcome state (frame_call text)).actions → Awaits (behind_frame state text) actions
-    → ((number : ℕ) → commands number actions ≡ option_to_list command) → taken_by state text ≡ option_to_list command
-calls-take state text actions command are awaits gives =
-    let last = delivered_by state.expected (outcome state (frame_call text)).actions in
+calls-take : (state : State) (text : List ℕ) (command : Option Command)
+    → Awaits (behind_frame state text) (outcome state (frame_call text)).actions
+    → ((number : ℕ) → commands number (outcome state (frame_call text)).actions ≡ option_to_list command) → taken_by state text ≡ option_to_list command
+calls-take state text command awaits gives =
+    let actions = (outcome state (frame_call text)).actions in
+    let last = delivered_by state.expected actions in
     ap (map (λ numbered. numbered.command))
-    (reply-takes last (behind_frame state text) (behind_reply state text) text
-    ∙ chosen (is_some (awaited_of (behind_frame state text))) last
-    (λ none. ap (delivered_by state.expected) (sym are) ∙ delivered-none state.expected actions (awaits.awaited ∙ none)))
-    ∙ ap (commands state.expected) (sym are) ∙ gives state.expected
+    (reply-takes last (behind_frame state text) (behind_reply state text) (moment_at text)
+    ∙ chosen (is_some (awaited_of (behind_frame state text))) last (λ none. delivered-none state.expected actions (awaits.awaited ∙ none)))
+    ∙ gives state.expected
+
+pub frame-takes : (state next : State) (text : List ℕ) (actions : List Action) (command : Option Command) (now : ℤ)
+    → now ≡ moment_at text → record { state = next; actions = actions } ≡ on_frame state (said_by text) now → Awaits next actions
+    → ((number : ℕ) → commands number actions ≡ option_to_list command) → taken_by state text ≡ option_to_list command
+frame-takes state next text actions command now at is awaits gives =
+    let gave : record { state = next; actions = actions } ≡ outcome state (frame_call text) = is ∙ ap (on_frame state (said_by text)) at in
+    calls-take state text command (subst (λ (given : Outcome). Awaits given.state given.actions) gave awaits)
+    (subst (λ (given : Outcome). (number : ℕ) → commands number given.actions ≡ option_to_list command) gave gives)

@@ -27,19 +27,23 @@ abbrev pub delivered : Action → Option Command
 delivered (Deliver command) = Some command
 delivered action = None
 
--- the moment of a frame: its first field SendingTime(52), or the first moment of 1970 where that isn't there or can't be read
+-- the moment of some fields: its first field SendingTime(52), or the first moment of 1970 where that isn't there or can't be read
 abbrev pub sending_of : List Item → ℤ
 sending_of [] = pos 0
 sending_of (Err fault ∷ items) = pos 0
 sending_of (Ok field ∷ items) = if field.tag == 52 then result_unwrap_or (moment_of field.value) (pos 0) else sending_of items
 
+-- the moment of a frame
+abbrev pub moment_at : List ℕ → ℤ
+moment_at text = sending_of (fields_of text)
+
 -- the frame comes to the session
 abbrev pub frame_call : List ℕ → Call
-frame_call text = Frame text (sending_of (fields_of text)) true
+frame_call text = Frame text (moment_at text) true
 
 -- what it delivers is taken; to the session it is one whether the book accepts it or refuses it
-abbrev pub reply_calls : State → List ℕ → List Call
-reply_calls state text = if is_some (awaited_of state) then Reply (Ok Accepted) (sending_of (fields_of text)) true ∷ [] else []
+abbrev pub reply_calls : State → ℤ → List Call
+reply_calls state now = if is_some (awaited_of state) then Reply (Ok Accepted) now true ∷ [] else []
 
 -- a session that is closed waits for its next Logon
 abbrev pub is_closed_phase : Phase → Bool
@@ -54,11 +58,11 @@ abbrev pub behind_frame : State → List ℕ → State
 behind_frame state text = (outcome state (frame_call text)).state
 
 abbrev pub behind_reply : State → List ℕ → State
-behind_reply state text = behind_calls (behind_frame state text) (reply_calls (behind_frame state text) text)
+behind_reply state text = behind_calls (behind_frame state text) (reply_calls (behind_frame state text) (moment_at text))
 
 -- all calls that a frame comes to
 abbrev pub calls_of : State → List ℕ → List Call
-calls_of state text = frame_call text ∷ reply_calls (behind_frame state text) text ++ waiting_calls (behind_reply state text)
+calls_of state text = frame_call text ∷ reply_calls (behind_frame state text) (moment_at text) ++ waiting_calls (behind_reply state text)
 
 -- the commands that are taken in these calls
 abbrev pub taken_by : State → List ℕ → List Command

@@ -1,3 +1,4 @@
 pub mod Capture
 pub mod Outcome
 pub mod Replay
+pub mod Sessions

@@ -1,15 +1,16 @@
 //! A frame at the session of its sender, and what that delivers at the desk.
-ghost use Rattle.std.specs.Prelude.{◌≡◌, ◌≢◌, ◌≤◌, ℕ, [], ◌∷◌, length, map, Ok, Err, OnOk, IfErr, option_to_list};
+ghost use Rattle.std.specs.Prelude.{◌≡◌, ◌≢◌, ◌≤◌, ℕ, [], ◌∷◌, length, map, Ok, Err, OnOk, IfErr, is_some, option_to_list};
+ghost use Rattle.std.specs.List.{list_any};
 ghost use Rattle.std.specs.Option.{option_and_then};
 ghost use Rattle.blot_tag.specs.Views.{text_of};
 ghost use Rattle.blot_types.specs.declared.TheConstants.{EVENTS_MAX};
-ghost use Rattle.blot_session.specs.Calls.{DeliversLast, on_reply};
+ghost use Rattle.blot_session.specs.Calls.{DeliversLast, is_deliver, on_reply};
 ghost use Rattle.blot_session.specs.declared.replies.SeenReply.TheVariants.{Accepted};
 ghost use Rattle.blot_session.specs.Runs.{behind_calls, delivered_by};
-ghost use Rattle.blot_session.specs.States.{IsIdle, IsAwaiting};
+ghost use Rattle.blot_session.specs.States.{awaited_of, IsIdle, IsAwaiting};
 ghost use Rattle.blot_desk.specs.declared.event.Event.TheVariants.{Submit};
 ghost use Rattle.blot_desk.specs.Desk.{recorded_of};
-ghost use Rattle.blotter.specs.Capture.{calls_of, delivered, waiting_calls, taken_by};
+ghost use Rattle.blotter.specs.Capture.{calls_of, delivered, reply_calls, waiting_calls, taken_by};
 ghost use Rattle.blotter.specs.Replay.{submitted, Stopped, seen_by};
 
 use crate::ReplayFault;
@@ -40,8 +41,8 @@ pub(crate) fn take_frame(
     let Ok(actions) = session.on_frame(alloc, frame, now) else {
         return Err(ReplayFault::NoMemory);
     };
-    if let Some(command) = delivered(actions) {
-        submit(alloc, session, command, now, held)?;
+    if let Err(fault) = take_delivered(alloc, session, delivered(actions), now, held) {
+        return Err(fault);
     }
     wait_where_closed(session);
     Ok(())
@@ -50,7 +51,8 @@ pub(crate) fn take_frame(
 // What these actions deliver: only the last may.
 fn delivered(actions: Vec<Action>) -> Option<Command>
     requires { DeliversLast actions.items }
-    ensures { (number : ℕ) → map (λ numbered. numbered.command) (delivered_by number actions.items) ≡ option_to_list result }
+    ensures command { (number : ℕ) → map (λ numbered. numbered.command) (delivered_by number actions.items) ≡ option_to_list result }
+    ensures some { list_any is_deliver actions.items ≡ is_some result }
 {
     let mut actions = actions;
     command_of(actions.pop())
@@ -63,6 +65,27 @@ fn command_of(action: Option<Action>) -> Option<Command>
     match action {
         Some(Action::Deliver(command)) => Some(command),
         _ => None,
+    }
+}
+
+// Takes what was delivered, if a command was.
+fn take_delivered(
+    alloc: Global,
+    session: &mut Session,
+    command: Option<Command>,
+    now: Moment,
+    held: &mut Held,
+) -> Result<(), ReplayFault>
+    requires { is_some command ≡ is_some (awaited_of session.old) }
+    ensures session { OnOk result (session.new ≡ behind_calls session.old (reply_calls session.old now)) }
+    ensures idle { OnOk result (IsIdle session.new) }
+    ensures desk { OnOk result (held.new ≡ submitted held.old (option_to_list command)) }
+    ensures err { IfErr result (λ fault. Stopped fault held.old held.new (option_to_list command)) }
+    ensures no_write { result ≢ Err ReplayFault.Write }
+{
+    match command {
+        Some(command) => submit(alloc, session, command, now, held),
+        None => Ok(()),
     }
 }
 

@@ -6,6 +6,7 @@
 mod driving;
 mod moment;
 mod outcome;
+mod sessions;
 mod transfer;
 
 pub use outcome::{Outcome, ReplayFault};

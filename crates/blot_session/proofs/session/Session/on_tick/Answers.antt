@@ -1,14 +1,21 @@
-use Rattle.std.proofs.Common.{subst, sym, refl}
+use Rattle.std.proofs.Common.{◌≡◌, sym, subst, refl, ap, ◌∙◌}
+use Rattle.blot_session.specs.Calls.{on_tick}
 use Rattle.blot_session.specs.States.{IsIdle}
-use Rattle.blot_session.proofs.DeliveryLemmas.{idle-outcome, idle-behind}
-use Rattle.blot_session.proofs.StateLemmas.{tick-rests}
+use Rattle.blot_session.proofs.DeliveryLemmas.{tick-idle, tick-peer, behind-call}
 use Rattle.blot_session.proofs.session.Session.on_tick.Goals as goal
+
+pub returns-clause-peer : goal.returns-clause-peer
+returns-clause-peer c =
+    let state = c.self.inside.state in
+    behind-call (λ next. next.peer ≡ c.args.self.now.peer) (λ actions. actions.items) (on_tick state c.args.now) c.go_on.result c.take_row-outcome.result
+    c.go_on.new.state c.closed-closed.result c.go_on.ensures.ok c.go_on.ensures.err (rw (← c.tick_row-row.ensures) c.take_row-outcome.ensures.outcome)
+    (tick-peer state c.args.now (subst IsIdle (sym c.self.view_is) c.requires) ∙ ap (λ was. was.peer) c.self.view_is)
+    (ap (λ shut. shut.peer) c.closed-closed.ensures ∙ ap (λ was. was.peer) c.self.view_is)
 
 pub returns-clause-idle : goal.returns-clause-idle
 returns-clause-idle c =
-    let idle = subst IsIdle (sym c.self.view_is) c.requires in
-    idle-behind c.go_on.result c.take_row-outcome.result c.go_on.new.state c.closed-closed.result c.go_on.ensures.ok c.go_on.ensures.err
+    let state = c.self.inside.state in
+    behind-call IsIdle (λ actions. actions.items) (on_tick state c.args.now) c.go_on.result c.take_row-outcome.result
+    c.go_on.new.state c.closed-closed.result c.go_on.ensures.ok c.go_on.ensures.err (rw (← c.tick_row-row.ensures) c.take_row-outcome.ensures.outcome)
+    (tick-idle state c.args.now (subst IsIdle (sym c.self.view_is) c.requires))
     (subst IsIdle (sym c.closed-closed.ensures) refl)
-    (idle-outcome (λ actions. actions.items) c.take_row-outcome.result c.tick_row-row.result c.self.inside.state c.args.now
-    (subst (λ row. IsIdle row.state) (sym c.tick_row-row.ensures) (tick-rests c.self.inside.state c.args.now idle).idle)
-    c.take_row-outcome.ensures.outcome)
