@@ -1,2 +1,4 @@
 mod DeskLemmas
+mod LookupLemmas
+mod ResultLemmas
 mod SessionLemmas

@@ -96,12 +96,10 @@ submit-seen book command None state now = refl
 submit-seen book command (Some reason) state now = seen-by state (awaited_of state) (Refused (refused_number reason)) now
 
 -- the session behind the desk's reply is the one behind an acceptance
-pub replied : (book : DeskBook) (command : Command) (reply : DeskReply) (seen : Result SeenReply NotTaken) (state next : State) (actions : List Action) (now : ℤ)
-    → reply ≡ (step_of book (Submit command)).reply → seen ≡ seen_by reply → record { state = next; actions = actions } ≡ on_reply state seen now
-    → next ≡ (on_reply state (Ok Accepted) now).state
-replied book command reply seen state next actions now given told is =
-    ap (λ (outcome : Outcome). outcome.state) is
-    ∙ ap (λ said. (on_reply state said now).state) (told ∙ ap seen_by given)
+pub replied : (book : DeskBook) (command : Command) (reply : DeskReply) (seen : Result SeenReply NotTaken) (state : State) (now : ℤ)
+    → reply ≡ (step_of book (Submit command)).reply → seen ≡ seen_by reply → (on_reply state seen now).state ≡ (on_reply state (Ok Accepted) now).state
+replied book command reply seen state now given told =
+    ap (λ said. (on_reply state said now).state) (told ∙ ap seen_by given)
     ∙ submit-seen book command (refusal_of book.list command) state now
 
 -- ---- the calls of a frame

@@ -9,6 +9,8 @@ use Rattle.blot_session.specs.declared.replies.NotTaken.{NotTaken}
 use Rattle.blot_session.specs.declared.replies.SeenReply.{SeenReply}
 use Rattle.blot_session.specs.declared.replies.SeenReply.TheVariants as seen
 use Rattle.blot_desk.specs.declared.event.Event.TheVariants.{Submit}
+use Rattle.blot_desk.specs.declared.fault.DeskFault.{DeskFault}
+use Rattle.blot_desk.specs.declared.fault.DeskFault.TheVariants as desk
 use Rattle.blot_desk.specs.declared.event.Reply.{Reply}
 use Rattle.blot_desk.specs.declared.event.Reply.TheVariants as replies
 use Rattle.blot_desk.specs.Desk.{Journal, recorded_of, run_of}
@@ -16,7 +18,7 @@ use Rattle.blot_report.specs.Lines.{day_lines_of}
 use Rattle.blot_report.specs.Text.{report_text}
 use Rattle.blotter.specs.Capture.{Sessions, commands_over, commands_of}
 use Rattle.blotter.specs.declared.outcome.ReplayFault.{ReplayFault}
-use Rattle.blotter.specs.declared.outcome.ReplayFault.TheVariants.{Full}
+use Rattle.blotter.specs.declared.outcome.ReplayFault.TheVariants.{Full, NoMemory}
 
 -- what a desk holds when some commands were submitted, in their order
 abbrev pub submitted : Journal → List Command → Journal
@@ -27,6 +29,11 @@ abbrev pub seen_by : Reply → Result SeenReply NotTaken
 seen_by (replies.Accepted number) = Ok seen.Accepted
 seen_by (replies.Refused refused) = Ok (seen.Refused (refused_number refused))
 seen_by reply = Err (record {})
+
+-- a fault of the desk, as a capture's
+abbrev pub fault_of : DeskFault → ReplayFault
+fault_of desk.Full = Full
+fault_of desk.NoMemory = NoMemory
 
 -- a desk was submitted a front of some commands, and then a fault came. Full is answered only where as many events are recorded
 -- as a day has, and a further command came

@@ -1,5 +1,5 @@
 -- The sessions of a capture: those that are out, and behind them those of the table.
-use Rattle.std.specs.Prelude.{◌≡◌, ℕ, true, List, [], ◌∷◌, ◌++◌, length, find, Option, Some, None}
+use Rattle.std.specs.Prelude.{◌≡◌, ◌<◌, ℕ, List, length, take, slice_index_or, find, Option, Some, None}
 use Rattle.std.specs.Option.{option_or}
 use Rattle.blot_types.specs.Keys.{same_text}
 use Rattle.blot_session.specs.declared.state.State.{State}
@@ -29,10 +29,6 @@ sessions_of parts = session_in parts.out parts.table
 
 -- the first session of a peer stands at this place
 pub record IsAt (peer : List ℕ) (sessions : List State) (place : ℕ) : Type 0 where
-  pub front : List State
-  pub session : State
-  pub back : List State
-  pub joined : sessions ≡ front ++ session ∷ back
-  pub place_is : place ≡ length front
-  pub first : session_among peer front ≡ None
-  pub of_peer : same_text session.peer peer ≡ true
+  pub within : place < length sessions
+  pub first : session_among peer (take place sessions) ≡ None
+  pub of_peer : (other : State) → (slice_index_or sessions place other).peer ≡ peer

@@ -11,7 +11,7 @@ ghost use Rattle.blot_session.specs.States.{awaited_of, IsIdle, IsAwaiting};
 ghost use Rattle.blot_desk.specs.declared.event.Event.TheVariants.{Submit};
 ghost use Rattle.blot_desk.specs.Desk.{recorded_of};
 ghost use Rattle.blotter.specs.Capture.{calls_of, delivered, reply_calls, waiting_calls, taken_by};
-ghost use Rattle.blotter.specs.Replay.{submitted, Stopped, seen_by};
+ghost use Rattle.blotter.specs.Replay.{submitted, Stopped, seen_by, fault_of};
 
 use crate::ReplayFault;
 use crate::moment::sending_of;
@@ -32,7 +32,8 @@ pub(crate) fn take_frame(
 ) -> Result<(), ReplayFault>
     requires { IsIdle session.old }
     ensures session { OnOk result (session.new ≡ behind_calls session.old (calls_of session.old (text_of frame.now))) }
-    ensures idle { OnOk result (IsIdle session.new) }
+    ensures peer { session.new.peer ≡ session.old.peer }
+    ensures idle { IsIdle session.new }
     ensures desk { OnOk result (held.new ≡ submitted held.old (taken_by session.old (text_of frame.now))) }
     ensures err { IfErr result (λ fault. Stopped fault held.old held.new (taken_by session.old (text_of frame.now))) }
     ensures no_write { result ≢ Err ReplayFault.Write }
@@ -78,7 +79,8 @@ fn take_delivered(
 ) -> Result<(), ReplayFault>
     requires { is_some command ≡ is_some (awaited_of session.old) }
     ensures session { OnOk result (session.new ≡ behind_calls session.old (reply_calls session.old now)) }
-    ensures idle { OnOk result (IsIdle session.new) }
+    ensures peer { session.new.peer ≡ session.old.peer }
+    ensures idle { IsIdle session.new }
     ensures desk { OnOk result (held.new ≡ submitted held.old (option_to_list command)) }
     ensures err { IfErr result (λ fault. Stopped fault held.old held.new (option_to_list command)) }
     ensures no_write { result ≢ Err ReplayFault.Write }
@@ -89,7 +91,7 @@ fn take_delivered(
     }
 }
 
-// Submits a delivered command to the desk, and tells the session the reply.
+// Submits a delivered command to the desk, and tells the session the reply, or that the command wasn't taken.
 fn submit(
     alloc: Global,
     session: &mut Session,
@@ -99,20 +101,48 @@ fn submit(
 ) -> Result<(), ReplayFault>
     requires { IsAwaiting session.old }
     ensures session { OnOk result (session.new ≡ (on_reply session.old (Ok Accepted) now).state) }
-    ensures idle { OnOk result (IsIdle session.new) }
+    ensures peer { session.new.peer ≡ session.old.peer }
+    ensures idle { IsIdle session.new }
     ensures desk { OnOk result (held.new ≡ recorded_of held.old (Submit command)) }
     ensures err { IfErr result (λ fault. Stopped fault held.old held.new (command ∷ [])) }
     ensures no_write { result ≢ Err ReplayFault.Write }
 {
-    let reply = match held.step(Event::Submit(command)) {
-        Ok(reply) => reply,
-        Err(DeskFault::Full) => return Err(ReplayFault::Full),
-        Err(DeskFault::NoMemory) => return Err(ReplayFault::NoMemory),
-    };
-    let Ok(_) = session.on_reply(alloc, seen_by(reply), now) else {
-        return Err(ReplayFault::NoMemory);
-    };
-    Ok(())
+    match held.step(Event::Submit(command)) {
+        Ok(reply) => tell(alloc, session, seen_by(reply), now),
+        Err(fault) => {
+            let _ = tell(alloc, session, Err(NotTaken), now);
+            Err(fault_of(fault))
+        }
+    }
+}
+
+// Tells a session what became of the command that it delivered.
+fn tell(
+    alloc: Global,
+    session: &mut Session,
+    seen: Result<SeenReply, NotTaken>,
+    now: Moment,
+) -> Result<(), ReplayFault>
+    requires { IsAwaiting session.old }
+    ensures session { OnOk result (session.new ≡ (on_reply session.old seen now).state) }
+    ensures fault { IfErr result (λ fault. fault ≡ ReplayFault.NoMemory) }
+    ensures peer { session.new.peer ≡ session.old.peer }
+    ensures idle { IsIdle session.new }
+{
+    match session.on_reply(alloc, seen, now) {
+        Ok(_) => Ok(()),
+        Err(_) => Err(ReplayFault::NoMemory),
+    }
+}
+
+// A fault of the desk, as a capture's.
+fn fault_of(fault: DeskFault) -> ReplayFault
+    ensures { result ≡ fault_of fault }
+{
+    match fault {
+        DeskFault::Full => ReplayFault::Full,
+        DeskFault::NoMemory => ReplayFault::NoMemory,
+    }
 }
 
 // What a session is told of the desk's reply to a command.
@@ -128,7 +158,9 @@ fn seen_by(reply: Reply) -> Result<SeenReply, NotTaken>
 
 // A session that is closed waits for its next Logon.
 fn wait_where_closed(session: &mut Session)
-    ensures { session.new ≡ behind_calls session.old (waiting_calls session.old) }
+    ensures session { session.new ≡ behind_calls session.old (waiting_calls session.old) }
+    ensures peer { session.new.peer ≡ session.old.peer }
+    ensures idle { IsIdle session.old → IsIdle session.new }
 {
     if matches!(session.phase(), Phase::Closed) {
         session.wait_again();

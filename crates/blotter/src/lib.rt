@@ -3,10 +3,15 @@
 //! this library.
 #![tactic(auto)]
 
+mod capturing;
 mod driving;
+mod intake;
 mod moment;
 mod outcome;
+mod replaying;
 mod sessions;
 mod transfer;
 
+pub use capturing::capture;
 pub use outcome::{Outcome, ReplayFault};
+pub use replaying::replay;

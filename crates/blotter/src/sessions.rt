@@ -88,7 +88,7 @@ fn place_of(
 ) -> Result<Option<usize>, NoMemory>
     requires { All IsIdle out.old.items }
     ensures same { IfOk result (λ place. session_in out.new.items table.new ≡ session_in out.old.items table.old) }
-    ensures idle { OnOk result (All IsIdle out.new.items) }
+    ensures idle { All IsIdle out.new.items }
     ensures place { IfOk result (λ place. MatchOption place (session_in out.new.items table.new peer.now ≡ None) (IsAt peer.now out.new.items)) }
 {
     if let Some(place) = place_out(out, peer) {

@@ -1,9 +1,13 @@
 //! Bytes in and out, a piece at a time.
-ghost use Rattle.std.specs.Prelude.{◌≡◌, ◌<◌, ◌≤◌, List, ℕ, ◌++◌, length, take, MatchOption, OnOk, OnErr, IfOk, IfErr};
+ghost use Rattle.std.specs.Prelude.{◌≡◌, ◌<◌, ◌≤◌, List, ℕ, ◌++◌, length, take, MatchOption, vec_len, OnOk, OnErr, IfOk, IfErr};
 ghost use Rattle.std.specs.Io.KnownBytes.{Appends, Keeps, Consumes, IsAtEnd};
 
 use crate::ReplayFault;
+use std::alloc::{AllocError as NoMemory, Global};
 use std::io::{ErrorKind, Read, Write};
+
+// The bytes of one read.
+const PIECE: usize = 65_536;
 
 /// Reads a piece into the buffer: how many bytes, none at the end of the input, or 0 where the read was
 /// interrupted.
@@ -67,4 +71,11 @@ fn write_piece<W: Write>(output: &mut W, text: &[u8]) -> Result<usize, ReplayFau
             }
         }
     }
+}
+
+/// Room for one read.
+pub(crate) fn empty_piece(alloc: Global) -> Result<Vec<u8>, NoMemory>
+    ensures { IfOk result (λ buffer. vec_len buffer ≡ PIECE) }
+{
+    vec![in alloc; 0; PIECE]
 }

@@ -1,26 +1,25 @@
-use Rattle.std.proofs.Common.{rules, ◌≡◌, ◌≢◌, ◌++◌, ◌∷◌, [], All, Err, IfOk, IfErr, OnOk, MatchOption, None, find, length, ℕ, ◌+◌, ◌-◌, ◌*◌, ◌<◌, ◌≤◌, ◌/◌, ◌%◌, Bool, true, false, nat_eq, nat_lt, List, slice_index_or, slice_set, bit_and, bit_or, Fits, w8, w32, w64, Bor, MutBor}
-use Rattle.std.specs.List.{IsDistinct}
-use Rattle.blot_tag.specs.Fields.{fields_of}
-use Rattle.blot_tag.specs.Views.{text_of}
+use Rattle.std.proofs.Common.{◌≡◌, ◌≤◌, ◌∙◌, refl, sym, ap, subst, arith, length, take, None}
+use Rattle.std.proofs.lemmas.List.{take_all}
 use Rattle.blot_types.specs.Keys.{same_text}
-use Rattle.blot_session.specs.States.{IsIdle}
-use Rattle.blotter.specs.Capture.{first_sessions, sessions_behind, commands_in}
-use Rattle.blotter.specs.Replay.{submitted, Stopped}
-use Rattle.blotter.specs.Sessions.{session_in, sessions_of, IsAt}
+use Rattle.blot_session.specs.declared.state.State.{State}
+use Rattle.blotter.specs.Sessions.{session_among}
+use Rattle.blotter.proofs.LookupLemmas.{among-more, is_at}
 use Rattle.blotter.proofs.sessions.place_out.Goals as goal
 
--- src/sessions.rt:111:5
 pub loop-place-init : goal.loop-place-init
-loop-place-init c = ?
+loop-place-init c = refl
 
--- src/sessions.rt:113:13
-pub returns-then-eq : goal.returns-then-eq
-returns-then-eq c = ?
-
--- src/sessions.rt:111:5
 pub loop-place-preserved : goal.loop-place-preserved
-loop-place-preserved c = ?
+loop-place-preserved c =
+    among-more c.args.peer.now c.args.out.now c.loop-place.place c.index-out-place.result (omega (arith, c.loop-place-test.true)) c.index-out-place.is c.loop-place.invariant
+    (ap (λ text. same_text text c.args.peer.now) (sym c.peer.ensures) ∙ sym c.eq.ensures ∙ c.if-eq.false)
 
--- src/sessions.rt:108:1
+pub returns-then-eq : goal.returns-then-eq
+returns-then-eq c =
+    is_at c.args.peer.now c.args.out.now c.loop-place.place c.index-out-place.result (omega (arith, c.loop-place-test.true)) c.index-out-place.is c.loop-place.invariant
+    (ap (λ text. same_text text c.args.peer.now) (sym c.peer.ensures) ∙ sym c.eq.ensures ∙ c.if-eq.true)
+
 pub returns : goal.returns
-returns c = ?
+returns c =
+    let past : length c.args.out.now ≤ c.loop-place.place = omega (arith, c.loop-place-test.false) in
+    subst (λ sessions. session_among c.args.peer.now sessions ≡ None) (take_all c.loop-place.place c.args.out.now past) c.loop-place.invariant

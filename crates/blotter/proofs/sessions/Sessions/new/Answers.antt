@@ -1,14 +1,10 @@
-use Rattle.std.proofs.Common.{rules, ◌≡◌, ◌≢◌, ◌++◌, ◌∷◌, [], All, Err, IfOk, IfErr, OnOk, MatchOption, None, find, length, ℕ, ◌+◌, ◌-◌, ◌*◌, ◌<◌, ◌≤◌, ◌/◌, ◌%◌, Bool, true, false, nat_eq, nat_lt, List, slice_index_or, slice_set, bit_and, bit_or, Fits, w8, w32, w64, Bor, MutBor}
-use Rattle.std.specs.List.{IsDistinct}
-use Rattle.blot_tag.specs.Fields.{fields_of}
-use Rattle.blot_tag.specs.Views.{text_of}
-use Rattle.blot_types.specs.Keys.{same_text}
-use Rattle.blot_session.specs.States.{IsIdle}
-use Rattle.blotter.specs.Capture.{first_sessions, sessions_behind, commands_in}
-use Rattle.blotter.specs.Replay.{submitted, Stopped}
-use Rattle.blotter.specs.Sessions.{session_in, sessions_of, IsAt}
+use Rattle.std.proofs.Common.{[], ap, ◌∙◌}
+use Rattle.blot_slots.specs.Slots.{all_in}
+use Rattle.blotter.specs.Sessions.{session_in}
+use Rattle.blotter.proofs.LookupLemmas.{sessions-first}
 use Rattle.blotter.proofs.sessions.Sessions.new.Goals as goal
 
--- src/sessions.rt:45:5
 pub returns-in-Ok : goal.returns-in-Ok
-returns-in-Ok c = ?
+returns-in-Ok c =
+    ap (λ out. session_in out c.in-Ok.table) c.new-in-Ok.ensures.items ∙ ap (session_in []) c.in-Ok.ensures.ok
+    ∙ sessions-first c.args.own c.args.peers.now

@@ -1,0 +1,56 @@
+//! `capture`.
+ghost use Rattle.std.specs.Prelude.{◌≡◌, ◌≢◌, Err, OnOk, IfErr, IfSome};
+ghost use Rattle.std.specs.Io.KnownBytes.{IsAtEnd};
+ghost use Rattle.std.specs.List.{IsDistinct};
+ghost use Rattle.blot_types.specs.Keys.{same_text};
+ghost use Rattle.blotter.specs.Capture.{commands_of};
+ghost use Rattle.blotter.specs.Replay.{submitted, Stopped};
+
+use crate::ReplayFault;
+use crate::intake::take_piece;
+use crate::sessions::Sessions;
+use crate::transfer::{empty_piece, read_piece};
+use blot_desk::Held;
+use blot_tag::Reader;
+use blot_types::Text64;
+use std::alloc::Global;
+use std::io::Read;
+
+/// The most reads of one input.
+pub const READS_MAX: u64 = 1 << 30;
+
+/// Takes a capture into a desk, to the end of the input. Each frame goes to the session of the peer that its SenderCompID
+/// names, at its own SendingTime; each command that a session takes is submitted to the desk. What a session would send is
+/// dropped, and one that closes waits for its next Logon. The frames of others are passed over, and so are the bytes of an
+/// unfinished frame at the end. No peer may be listed twice.
+///
+/// A fault is Read, Full (as many events are recorded as a day has, and a further command came), NoMemory or TooLong (more
+/// than `READS_MAX` reads). The desk has taken a front of the commands then.
+pub fn capture<R: Read>(
+    alloc: Global,
+    input: &mut R,
+    own: Text64,
+    peers: &[Text64],
+    held: &mut Held,
+) -> Result<(), ReplayFault>
+    requires { IsDistinct same_text peers.now }
+    ensures taken { OnOk result (IfSome (R.remaining input.old) (λ bytes. held.new ≡ submitted held.old (commands_of own peers.now bytes))) }
+    ensures read_to_the_end { OnOk result (IsAtEnd (R.remaining input.new)) }
+    ensures stopped { IfErr result (λ fault. IfSome (R.remaining input.old) (λ bytes.
+        Stopped fault held.old held.new (commands_of own peers.now bytes))) }
+    ensures no_write { result ≢ Err ReplayFault.Write }
+{
+    let mut sessions = Sessions::new(alloc, own, peers)?;
+    let mut reader = Reader::new(alloc);
+    let mut buffer = empty_piece(alloc)?;
+    for _ in 0..READS_MAX {
+        let Some(count) = read_piece(input, &mut buffer)? else {
+            return Ok(());
+        };
+        match take_piece(alloc, &mut reader, &mut sessions, held, &buffer[..count]) {
+            Ok(()) => {}
+            Err(fault) => return Err(fault),
+        }
+    }
+    Err(ReplayFault::TooLong)
+}
