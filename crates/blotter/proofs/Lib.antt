@@ -1,4 +1,6 @@
 mod DeskLemmas
 mod LookupLemmas
+mod PieceLemmas
 mod ResultLemmas
 mod SessionLemmas
+mod StreamLemmas

@@ -3,7 +3,9 @@ ghost use Rattle.std.specs.Prelude.{◌≡◌, ◌≢◌, Err, OnOk, IfErr, IfSo
 ghost use Rattle.std.specs.Io.KnownBytes.{IsAtEnd};
 ghost use Rattle.std.specs.List.{IsDistinct};
 ghost use Rattle.blot_types.specs.Keys.{same_text};
-ghost use Rattle.blotter.specs.Capture.{commands_of};
+ghost use Rattle.blot_tag.specs.Walking.{frames_of};
+ghost use Rattle.blotter.specs.Capture.{commands_of, commands_over};
+ghost use Rattle.blotter.specs.Sessions.{sessions_of};
 ghost use Rattle.blotter.specs.Replay.{submitted, Stopped};
 
 use crate::ReplayFault;
@@ -40,14 +42,33 @@ pub fn capture<R: Read>(
         Stopped fault held.old held.new (commands_of own peers.now bytes))) }
     ensures no_write { result ≢ Err ReplayFault.Write }
 {
-    let mut sessions = Sessions::new(alloc, own, peers)?;
+    match Sessions::new(alloc, own, peers) {
+        Ok(mut sessions) => take_all(alloc, input, &mut sessions, held),
+        Err(_) => Err(ReplayFault::NoMemory),
+    }
+}
+
+// Takes the frames of an input, to its end.
+fn take_all<R: Read>(
+    alloc: Global,
+    input: &mut R,
+    sessions: &mut Sessions,
+    held: &mut Held,
+) -> Result<(), ReplayFault>
+    ensures taken { OnOk result (IfSome (R.remaining input.old) (λ bytes.
+        held.new ≡ submitted held.old (commands_over (sessions_of sessions.old) (frames_of bytes)))) }
+    ensures read_to_the_end { OnOk result (IsAtEnd (R.remaining input.new)) }
+    ensures stopped { IfErr result (λ fault. IfSome (R.remaining input.old) (λ bytes.
+        Stopped fault held.old held.new (commands_over (sessions_of sessions.old) (frames_of bytes)))) }
+    ensures no_write { result ≢ Err ReplayFault.Write }
+{
     let mut reader = Reader::new(alloc);
     let mut buffer = empty_piece(alloc)?;
     for _ in 0..READS_MAX {
         let Some(count) = read_piece(input, &mut buffer)? else {
             return Ok(());
         };
-        match take_piece(alloc, &mut reader, &mut sessions, held, &buffer[..count]) {
+        match take_piece(alloc, &mut reader, sessions, held, &buffer[..count]) {
             Ok(()) => {}
             Err(fault) => return Err(fault),
         }
