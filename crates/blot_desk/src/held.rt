@@ -1,5 +1,5 @@
 //! What a desk holds.
-ghost use Rattle.std.specs.Prelude.{◌≡◌, ◌↔◌, ◌∷◌, ◌++◌, [], Err, IfOk, OnErr, IsOk, IsTrue, ◌<◌, length, vec_capacity};
+ghost use Rattle.std.specs.Prelude.{◌≡◌, ◌↔◌, ◌∷◌, ◌++◌, [], Err, IfOk, OnErr, IsOk, IsTrue, ◌<◌, ◌≤◌, length, vec_capacity};
 ghost use Rattle.blot_types.specs.Legal.{is_book};
 ghost use Rattle.blot_types.specs.Order.{order_of};
 ghost use Rattle.blot_types.specs.Position.{position_of};
@@ -85,6 +85,9 @@ impl Held {
         ensures list { IfOk result (λ snapshot. snapshot ≡ self.now.book.list) }
         ensures run { IfOk result (λ snapshot. snapshot ≡ (run_of (events_of self.now.history)).book.list) }
         ensures book { IfOk result (λ snapshot. IsTrue (is_book snapshot)) }
+
+        // No more events are recorded than a day has.
+        ensures few { length self.now.history ≤ EVENTS_MAX }
     {
         match self.steps.state().entries(self.alloc) {
             Ok(entries) => Ok(Snapshot::of(entries)),

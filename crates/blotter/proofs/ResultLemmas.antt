@@ -1,6 +1,6 @@
 -- What holds of a result.
-use Rattle.std.proofs.Common.{Result, Ok, Err}
-use Rattle.std.specs.Prelude.{OnOk, IfErr}
+use Rattle.std.proofs.Common.{◌≡◌, ap, Result, Option, Ok, Err, Some, None}
+use Rattle.std.specs.Prelude.{OnOk, IfErr, IfSome}
 
 pub on-ok : {T E P Q : Type 0} (result : Result T E) → OnOk result P → (P → Q) → OnOk result Q
 on-ok (Ok x) p more = more p
@@ -9,3 +9,15 @@ on-ok (Err e) p more = tt
 pub if-err : {T E : Type 0} (P Q : E → Type 0) (result : Result T E) → IfErr result P → ((e : E) → P e → Q e) → IfErr result Q
 if-err P Q (Ok x) p more = tt
 if-err P Q (Err e) p more = more e p
+
+pub if-some : {A : Type 0} (P Q : A → Type 0) (known : Option A) → IfSome known P → ((x : A) → P x → Q x) → IfSome known Q
+if-some P Q None p more = tt
+if-some P Q (Some x) p more = more x p
+
+fault_or : {T E : Type 0} → E → Result T E → E
+fault_or other (Ok x) = other
+fault_or other (Err e) = e
+
+pub same-fault : {T E : Type 0} (a b : E) → ◌≡◌ {A = Result T E} (Err a) (Err b) → a ≡ b
+unfolding fault_or
+same-fault a b is = ap (fault_or a) is

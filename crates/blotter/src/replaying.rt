@@ -43,19 +43,42 @@ pub fn replay<R: Read, W: Write>(
     ensures other_faults { (fault : ReplayFault) → result ≡ Err fault → fault ≢ ReplayFault.Write
         → Keeps (W.contents output.old) (W.contents output.new) }
 {
+    match captured_report(alloc, input, own, peers, day) {
+        Ok(text) => write_text(output, &text),
+        Err(fault) => Err(fault),
+    }
+}
+
+// The report of a day of a capture.
+fn captured_report<R: Read>(
+    alloc: Global,
+    input: &mut R,
+    own: Text64,
+    peers: &[Text64],
+    day: Day,
+) -> Result<Vec<u8>, ReplayFault>
+    requires { IsDistinct same_text peers.now }
+    ensures text { IfOk result (λ text. IfSome (R.remaining input.old) (λ bytes. text.items ≡ report_of (list_of own peers.now bytes) day)) }
+    ensures read_to_the_end { OnOk result (IsAtEnd (R.remaining input.new)) }
+    ensures few { OnOk result (IfSome (R.remaining input.old) (λ bytes. length (commands_of own peers.now bytes) ≤ EVENTS_MAX)) }
+    ensures full { result ≡ Err ReplayFault.Full
+        → IfSome (R.remaining input.old) (λ bytes. EVENTS_MAX < length (commands_of own peers.now bytes)) }
+    ensures no_write { result ≢ Err ReplayFault.Write }
+{
     let mut held = Held::new(alloc);
     if let Err(fault) = capture(alloc, input, own, peers, &mut held) {
         return Err(fault);
     }
-    let Ok(text) = report_of(alloc, &held, day) else {
-        return Err(ReplayFault::NoMemory);
-    };
-    write_text(output, &text)
+    match day_report(alloc, &held, day) {
+        Ok(text) => Ok(text),
+        Err(_) => Err(ReplayFault::NoMemory),
+    }
 }
 
 // The report of a day of a desk.
-fn report_of(alloc: Global, held: &Held, day: Day) -> Result<Vec<u8>, NoMemory>
-    ensures { IfOk result (λ text. text.items ≡ report_of (run_of (events_of held.now.history)).book.list day) }
+fn day_report(alloc: Global, held: &Held, day: Day) -> Result<Vec<u8>, NoMemory>
+    ensures text { IfOk result (λ text. text.items ≡ report_of (run_of (events_of held.now.history)).book.list day) }
+    ensures few { length held.now.history ≤ EVENTS_MAX }
 {
     let snapshot = held.snapshot()?;
     let lines = day_lines(alloc, &snapshot, day)?;

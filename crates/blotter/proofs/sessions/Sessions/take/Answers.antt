@@ -24,7 +24,7 @@ returns-in-Some-place-clause-desk c =
     let text = text_of c.args.frame.now in
     let at : IsAt c.in-Some.sender c.place_of.new.out.items c.in-Some-place.place = rw c.in-Some-place.is at c.in-Ok.ensures.place in
     let commands = commands-at c.in-Some.sender c.place_of.new.out.items c.place_of.new.table c.in-Some-place.place c.index_mut.result.now text
-        at c.index_mut.ensures.value (sym c.in-Some.ensures) in
+    at c.index_mut.ensures.value (sym c.in-Some.ensures) in
     on-ok c.take_frame.result c.take_frame.ensures.desk (λ taken.
     taken ∙ ap (submitted c.args.held.now) (sym commands ∙ ap (λ sessions. commands_in sessions text) (c.in-Ok.ensures.same ∙ ap sessions_of c.self.view_is)))
 
@@ -33,7 +33,7 @@ returns-in-Some-place-clause-err c =
     let text = text_of c.args.frame.now in
     let at : IsAt c.in-Some.sender c.place_of.new.out.items c.in-Some-place.place = rw c.in-Some-place.is at c.in-Ok.ensures.place in
     let commands = commands-at c.in-Some.sender c.place_of.new.out.items c.place_of.new.table c.in-Some-place.place c.index_mut.result.now text
-        at c.index_mut.ensures.value (sym c.in-Some.ensures) in
+    at c.index_mut.ensures.value (sym c.in-Some.ensures) in
     if-err (λ fault. Stopped fault c.args.held.now c.take_frame.new.held (taken_by c.index_mut.result.now text))
     (λ fault. Stopped fault c.args.held.now c.take_frame.new.held (commands_in (sessions_of c.args.self.now) text)) c.take_frame.result c.take_frame.ensures.err
     (λ fault stopped. subst (Stopped fault c.args.held.now c.take_frame.new.held)
