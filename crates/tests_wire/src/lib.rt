@@ -25,6 +25,8 @@ mod sessions;
 #[cfg(test)]
 mod shown;
 #[cfg(test)]
+mod slots;
+#[cfg(test)]
 mod times;
 #[cfg(test)]
 mod writing;
