@@ -1,3 +1,4 @@
+mod AnswerLemmas
 mod FreshLemmas
 mod PeerLemmas
 pub mod SlotLemmas

@@ -57,13 +57,16 @@ impl SlotTable {
 
     /// Hands out the session of a peer, which is out then. UnknownPeer where the peer isn't listed, AlreadyOn where its
     /// session is out. No memory is taken.
-    #[tactic(auto, using(crate::proofs::WaitingLemmas::waiting_answer, crate::proofs::WaitingLemmas::idle_answer, crate::proofs::WaitingLemmas::waiting_left))]
+    #[tactic(auto, using(crate::proofs::AnswerLemmas::answers))]
     pub fn check_out(&mut self, peer: &Text64) -> Result<Session, SlotFault>
         ensures answer { result ≡ checked_out self.old peer.now }
         ensures ok { OnOk result (self.new ≡ with_slot peer.now None self.old) }
+        ensures unknown { (result ≡ Err SlotFault.UnknownPeer) ↔ (slot_of self.old peer.now ≡ None) }
+        ensures already_on { (result ≡ Err SlotFault.AlreadyOn) ↔ (slot_of self.old peer.now ≡ Some None) }
         ensures err { OnErr result (self.new ≡ self.old) }
 
-        // What is handed out is the peer's, and waits for its Logon.
+        // What is handed out is the peer's, waits for its Logon, and is out.
+        ensures out { OnOk result (slot_of self.new peer.now ≡ Some None) }
         ensures waiting { IfOk result (IsWaiting peer.now) }
         ensures idle { IfOk result IsIdle }
     {

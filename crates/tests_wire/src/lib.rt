@@ -11,6 +11,8 @@ mod callers;
 #[cfg(test)]
 mod decimals;
 #[cfg(test)]
+mod draws;
+#[cfg(test)]
 mod expect;
 #[cfg(test)]
 mod field_rows;
@@ -19,11 +21,21 @@ mod fields;
 #[cfg(test)]
 mod frames;
 #[cfg(test)]
+mod generated_sessions;
+#[cfg(test)]
+mod plain_messages;
+#[cfg(test)]
+mod plain_rows;
+#[cfg(test)]
+mod plain_session;
+#[cfg(test)]
 mod session_rows;
 #[cfg(test)]
 mod sessions;
 #[cfg(test)]
 mod shown;
+#[cfg(test)]
+mod slots;
 #[cfg(test)]
 mod times;
 #[cfg(test)]

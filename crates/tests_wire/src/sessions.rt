@@ -162,8 +162,8 @@ fn push_word(shown: &mut String, word: &str, id: &Text64) -> Result<(), NoMemory
     Ok(())
 }
 
-// A phase.
-fn phase_text(phase: Phase) -> &'static str {
+/// A phase.
+pub fn phase_text(phase: Phase) -> &'static str {
     match phase {
         Phase::Waiting => "Waiting",
         Phase::On => "On",
