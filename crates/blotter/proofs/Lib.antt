@@ -1,1 +1,4 @@
+pub mod LineLemmas
+pub mod OperatingLemmas
+pub mod PieceLemmas
 pub mod StreamLemmas

@@ -3,12 +3,16 @@
 //! this library.
 #![tactic(auto)]
 
+mod answering;
 mod book;
 mod intake;
+mod lines;
+mod operating;
 mod outcome;
 mod replaying;
 mod report;
 mod transfer;
 
+pub use operating::desk_lines;
 pub use outcome::{Outcome, ReplayFault};
 pub use replaying::replay;

@@ -78,8 +78,8 @@ fn take_all<R: Read>(
     Err(ReplayFault::TooLong)
 }
 
-// Room for one read.
-fn empty_piece(alloc: Global) -> Result<Vec<u8>, NoMemory>
+/// Room for one read.
+pub(crate) fn empty_piece(alloc: Global) -> Result<Vec<u8>, NoMemory>
     ensures { IfOk result (λ buffer. vec_len buffer ≡ PIECE) }
 {
     vec![in alloc; 0; PIECE]
