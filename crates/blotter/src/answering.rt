@@ -1,7 +1,9 @@
 //! The answer to a line of an operator.
-ghost use Rattle.std.specs.Prelude.{◌≡◌, ◌≢◌, OnOk, OnErr, IfOk, Ok, Err};
+ghost use Rattle.std.specs.Prelude.{◌≡◌, ◌≢◌, length, IsOk, OnOk, OnErr, IfOk, Ok, Err};
 ghost use Rattle.std.specs.Io.KnownBytes.{Appends};
+ghost use Rattle.blot_types.specs.declared.TheConstants.{EVENTS_MAX};
 ghost use Rattle.blot_console.specs.Answers.{CanBeTold};
+ghost use Rattle.blot_console.specs.Parsing.{parsed};
 ghost use Rattle.blot_report.specs.Lines.{day_lines_of};
 ghost use Rattle.blotter.specs.Operating.{asked_by, with_key, telling, told_event, told_ask, answer_to, StopsAt};
 
@@ -41,12 +43,14 @@ pub(crate) fn answer_line<W: Write>(
     flush(output)
 }
 
-// What a line comes to: an event is taken, a report is made, and a fault is told. An error is out of memory.
+// What a line comes to: an event is taken, a report is made, and a fault is told. An error is out of memory, and comes
+// only where the line asks something.
 #[tactic(auto, unfolding(crate::specs::Operating::answer_to))]
 fn answer_to(alloc: Global, held: &mut Held, line: &[u8]) -> Result<Answer, NoMemory>
     ensures ok { IfOk result (λ answer. telling held.new answer ≡ answer_to held.old line.now) }
     ensures tellable { IfOk result CanBeTold }
     ensures err { OnErr result (held.new ≡ held.old) }
+    ensures err_of_an_ask { OnErr result (IsOk (parsed line.now)) }
 {
     match parse_line(alloc, line) {
         Ok(ask) => answer_ask(alloc, held, ask),
@@ -68,11 +72,13 @@ fn answer_ask(alloc: Global, held: &mut Held, ask: Ask) -> Result<Answer, NoMemo
     }
 }
 
-// Takes an event: the reply to it, or that no more events are taken. An error is out of memory.
+// Takes an event: the reply to it, or that no more events are taken. An error is out of memory, and comes only where
+// there is room for the event.
 fn answer_event(held: &mut Held, event: Event) -> Result<Answer, NoMemory>
     ensures ok { IfOk result (λ answer. telling held.new answer ≡ told_event held.old event) }
     ensures tellable { IfOk result CanBeTold }
     ensures err { OnErr result (held.new ≡ held.old) }
+    ensures err_with_room { OnErr result (length held.old.history ≢ EVENTS_MAX) }
 {
     let asked = asked_by(&event);
     match held.step(event) {
