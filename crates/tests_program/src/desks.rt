@@ -3,7 +3,7 @@
 use crate::captures::frame;
 use crate::desk_rows::{AT_LIMITS, FIRST_TRADE, FULL, MORNING, Script, scripts};
 use crate::terminal::{Keyboard, NO_TROUBLE, Screen, Trouble};
-use blot_desk::{Event, Held};
+use blot_desk::{Event, Held, Reply};
 use blot_fields::{command_of, decode};
 use blot_tag::Reader;
 use blot_types::{Command, EVENTS_MAX, Text64};
@@ -75,18 +75,36 @@ fn command(alloc: Global, bytes: &[u8]) -> Result<Command, Fail> {
     }
 }
 
+// Submits the command of a message of BRKA.
+fn submit(alloc: Global, held: &mut Held, message: &str) -> Result<(), Fail> {
+    let bytes = frame(alloc, message)?;
+    let command = match command(alloc, &bytes) {
+        Ok(command) => command,
+        Err(fail) => return Err(fail),
+    };
+    match held.step(Event::Submit(command)) {
+        Ok(Reply::Accepted(_)) => Ok(()),
+        _ => Err(Fail::new("not accepted")),
+    }
+}
+
 // A desk that took the commands of some messages of BRKA.
 fn desk(alloc: Global, captured: &str) -> Result<Held, Fail> {
     let mut held = Held::new(alloc);
     for message in captured.lines() {
-        let bytes = frame(alloc, message)?;
-        let command = match command(alloc, &bytes) {
-            Ok(command) => command,
-            Err(fail) => return Err(fail),
-        };
-        let Ok(_) = held.step(Event::Submit(command)) else {
-            return Err(Fail::new("no step"));
-        };
+        submit(alloc, &mut held, message)?;
+    }
+    Ok(held)
+}
+
+// A desk that took 200 trades of BRKA, E1 to E200, of 1 at 10.50 each.
+fn desk_of_200(alloc: Global) -> Result<Held, Fail> {
+    let mut held = Held::new(alloc);
+    for number in 1..201 {
+        let message = format!(in alloc;
+            "35=8|49=BRKA|56=MO|34=2|52=20240105-10:00:00|37=O1|17=E{number}|150=F|39=1|1=A1|55=XYZ|54=1|38=300|32=1|31=10.50|151=299|14=1|6=10.50|75=20240105|"
+        )?;
+        submit(alloc, &mut held, message.as_str())?;
     }
     Ok(held)
 }
@@ -268,11 +286,13 @@ fn a_full_desk_goes_on(rt: HostRuntime) -> Result<(), Fail> {
     check_typed(&rt, "a full desk", &mut held, &typed, &answers, BY_LINES)
 }
 
-// Puts a line with so many executions and pairs behind a text.
-fn push_lists(text: &mut Vec<u8>, head: &str, execs: u64, pairs: u64) -> Result<(), AllocError> {
-    push_words(text, head)?;
-    for _ in 0..execs {
-        push_words(text, ">E")?;
+// Puts a line with so many executions, from E1 on, and pairs behind a text.
+fn push_lists(alloc: Global, text: &mut Vec<u8>, execs: u64, pairs: u64) -> Result<(), AllocError> {
+    let head = format!(in alloc; "allocate>BRKA>AL1>XYZ>B>20240105>10.5>{execs}")?;
+    push_words(text, head.as_str())?;
+    for exec in 0..execs {
+        let number = exec + 1;
+        push_words(text, format!(in alloc; ">E{number}")?.as_str())?;
     }
     for _ in 0..pairs {
         push_words(text, ">A>1")?;
@@ -296,31 +316,16 @@ fn push_zeros(text: &mut Vec<u8>, length: usize) -> Result<(), AllocError> {
 fn lines_at_their_limits(rt: HostRuntime) -> Result<(), Fail> {
     let mut typed = Vec::new(rt.alloc());
     let mut answers = Vec::new(rt.alloc());
-    push_lists(
-        &mut typed,
-        "allocate>BRKA>AL1>XYZ>B>20240105>10.5>200",
-        200,
-        200,
-    )?;
-    push_lists(
-        &mut typed,
-        "allocate>BRKA>AL1>XYZ>B>20240105>10.5>201",
-        201,
-        200,
-    )?;
-    push_lists(
-        &mut typed,
-        "allocate>BRKA>AL1>XYZ>B>20240105>10.5>200",
-        200,
-        201,
-    )?;
+    for (execs, pairs) in [(200, 200), (201, 200), (200, 201)] {
+        push_lists(rt.alloc(), &mut typed, execs, pairs)?;
+    }
     for length in [65_536, 65_537, 200_000] {
         push_zeros(&mut typed, length)?;
     }
     push_words(&mut typed, "fly")?;
     push_words(&mut answers, AT_LIMITS)?;
     for manner in [BY_LINES, AT_ONCE, BY_BYTES] {
-        let mut held = Held::new(rt.alloc());
+        let mut held = desk_of_200(rt.alloc())?;
         check_typed(
             &rt,
             "lines at their limits",
