@@ -1,5 +1,7 @@
 mod DeskLemmas
+mod LineLemmas
 mod LookupLemmas
+mod OperatingLemmas
 mod PieceLemmas
 mod ResultLemmas
 mod SessionLemmas

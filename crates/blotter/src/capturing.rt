@@ -11,15 +11,12 @@ ghost use Rattle.blotter.specs.Replay.{submitted, Stopped};
 use crate::ReplayFault;
 use crate::intake::take_piece;
 use crate::sessions::Sessions;
-use crate::transfer::{empty_piece, read_piece};
+use crate::transfer::{READS_MAX, empty_piece, read_piece};
 use blot_desk::Held;
 use blot_tag::Reader;
 use blot_types::Text64;
 use std::alloc::Global;
 use std::io::Read;
-
-/// The most reads of one input.
-pub const READS_MAX: u64 = 1 << 30;
 
 /// Takes a capture into a desk, to the end of the input. Each frame goes to the session of the peer that its SenderCompID
 /// names, at its own SendingTime; each command that a session takes is submitted to the desk. What a session would send is
@@ -27,7 +24,7 @@ pub const READS_MAX: u64 = 1 << 30;
 /// unfinished frame at the end. No peer may be listed twice.
 ///
 /// A fault is Read, Full (as many events are recorded as a day has, and a further command came), NoMemory or TooLong (more
-/// than `READS_MAX` reads). The desk has taken a front of the commands then.
+/// than 2^30 reads). The desk has taken a front of the commands then.
 pub fn capture<R: Read>(
     alloc: Global,
     input: &mut R,

@@ -3,15 +3,19 @@
 //! this library.
 #![tactic(auto)]
 
+mod answering;
 mod capturing;
 mod driving;
 mod intake;
+mod lines;
 mod moment;
+mod operating;
 mod outcome;
 mod replaying;
 mod sessions;
 mod transfer;
 
 pub use capturing::capture;
+pub use operating::desk_lines;
 pub use outcome::{Outcome, ReplayFault};
 pub use replaying::replay;

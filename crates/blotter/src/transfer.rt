@@ -6,6 +6,9 @@ use crate::ReplayFault;
 use std::alloc::{AllocError as NoMemory, Global};
 use std::io::{ErrorKind, Read, Write};
 
+/// The most reads of one input.
+pub(crate) const READS_MAX: u64 = 1 << 30;
+
 // The bytes of one read.
 const PIECE: usize = 65_536;
 
@@ -51,6 +54,36 @@ pub(crate) fn write_text<W: Write>(output: &mut W, text: &[u8]) -> Result<(), Re
         written += count;
     }
     Err(ReplayFault::Write)
+}
+
+/// Flushes an output.
+pub(crate) fn flush<W: Write>(output: &mut W) -> Result<(), ReplayFault>
+    ensures fault { IfErr result (λ fault. fault ≡ ReplayFault.Write) }
+    ensures kept { Keeps (W.contents output.old) (W.contents output.new) }
+{
+    for _ in 0..u64::MAX {
+        if flush_once(output)? {
+            return Ok(());
+        }
+    }
+    Err(ReplayFault::Write)
+}
+
+// Flushes an output: whether it was done, or was interrupted.
+fn flush_once<W: Write>(output: &mut W) -> Result<bool, ReplayFault>
+    ensures fault { IfErr result (λ fault. fault ≡ ReplayFault.Write) }
+    ensures kept { Keeps (W.contents output.old) (W.contents output.new) }
+{
+    match output.flush() {
+        Ok(()) => Ok(true),
+        Err(error) => {
+            if error.kind() == ErrorKind::Interrupted {
+                Ok(false)
+            } else {
+                Err(ReplayFault::Write)
+            }
+        }
+    }
 }
 
 // Writes some of a text: how many bytes, or 0 where the write was interrupted.

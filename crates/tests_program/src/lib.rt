@@ -1,4 +1,5 @@
-//! Tests of the program's calls over readers and writers in memory: captures whole, cut, damaged and failing.
+//! Tests of the program's calls over readers and writers in memory: captures whole, cut, damaged and
+//! failing, and operators' scripts.
 #![tactic(auto)]
 
 #[cfg(test)]
@@ -6,6 +7,12 @@ mod captures;
 #[cfg(test)]
 mod correction_rows;
 #[cfg(test)]
+mod desk_rows;
+#[cfg(test)]
+mod desks;
+#[cfg(test)]
 mod memory;
 #[cfg(test)]
 mod replays;
+#[cfg(test)]
+mod terminal;
