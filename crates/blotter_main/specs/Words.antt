@@ -1,11 +1,16 @@
 -- What the words of the command line ask for.
-use Rattle.std.specs.Prelude.{◌≡◌, ℕ, ◌<◌, ℤ, true, List, length, Option, IsSomeAnd, IsTrue}
+use Rattle.std.specs.Prelude.{◌≡◌, ℕ, ◌<◌, ℤ, Bool, true, false, List, length, Option, Some, None, IfSome, IsSome, IsSomeAnd, IsTrue}
+use Rattle.std.specs.Io.KnownBytes.{Appends}
 use Rattle.std.specs.List.{IsDistinct, list_all}
 use Rattle.blot_time.specs.Day.{IsDayText}
 use Rattle.blot_types.specs.Keys.{same_text}
 use Rattle.blot_types.specs.Text.{is_text}
+use Rattle.blot_desk.specs.Desk.{Journal}
+use Rattle.blotter.specs.Lines.{lines_of}
+use Rattle.blotter.specs.Operating.{told_over}
+use Rattle.blotter.specs.Replay.{list_of, report_of}
 use Rattle.blotter_main.specs.declared.words.Words.{Words}
-use Rattle.blotter_main.specs.declared.words.Words.TheVariants.{Replay}
+use Rattle.blotter_main.specs.declared.words.Words.TheVariants.{Replay, Desk}
 
 -- the peers of a replay: one or more texts, and no two the same
 pub record IsPeerList (peers : List (List ℕ)) : Type 0 where
@@ -19,12 +24,37 @@ pub record IsReplay (own day : Option (List ℕ)) (peers : Option (List (List �
   pub day_text : IsSomeAnd day IsDayText
   pub peer_list : IsSomeAnd peers IsPeerList
 
--- one's own CompID, the day, and the peers that the words name
+-- the words of a desk: one's own CompID is a text, a file is named, and the peers are as above
+pub record IsDesk (own capture : Option (List ℕ)) (peers : Option (List (List ℕ))) : Type 0 where
+  pub own_text : IsSomeAnd own (λ text. IsTrue (is_text text))
+  pub file : IsSome capture
+  pub peer_list : IsSomeAnd peers IsPeerList
+
+-- one's own CompID, the day, the file with the capture, and the peers that the words name
 abbrev pub own_of : Words → List ℕ
 own_of (Replay own day peers) = own
+own_of (Desk own capture peers) = own
 
-abbrev pub day_named : Words → ℤ
-day_named (Replay own day peers) = day
+abbrev pub day_named : Words → Option ℤ
+day_named (Replay own day peers) = Some day
+day_named (Desk own capture peers) = None
+
+abbrev pub capture_named : Words → Option (List ℕ)
+capture_named (Replay own day peers) = None
+capture_named (Desk own capture peers) = Some capture.bytes.items
 
 abbrev pub peers_of : Words → List (List ℕ)
 peers_of (Replay own day peers) = peers.items
+peers_of (Desk own capture peers) = peers.items
+
+-- what the words ask for was done: the report of the day stands behind what was written, or the answers to the lines, of a desk
+-- as the capture left it
+abbrev pub Did : Words → Option (List ℕ) → Option (List ℕ) → Option (List ℕ) → Type 0
+Did (Replay own day peers) input before after = IfSome input (λ bytes. Appends before after (report_of (list_of own peers.items bytes) day))
+Did (Desk own capture peers) input before after =
+    (journal : Journal) × IfSome input (λ bytes. Appends before after (told_over journal (lines_of bytes)).text)
+
+-- whether the words ask for a desk
+abbrev pub is_desk : Words → Bool
+is_desk (Replay own day peers) = false
+is_desk (Desk own capture peers) = true

@@ -6,10 +6,14 @@ use std::alloc::{AllocError, Global};
 
 /// The subcommand that replays a capture.
 pub const REPLAY: &str = "replay";
+/// The subcommand that keeps a desk for its operator.
+pub const DESK: &str = "desk";
 /// The option with one's own CompID.
 pub const OWN: &str = "own";
 /// The option with the trading day.
 pub const DAY: &str = "day";
+/// The option with the file that holds a capture.
+pub const CAPTURE: &str = "capture";
 /// The peers, behind the options.
 pub const PEER: &str = "peer";
 
@@ -22,13 +26,14 @@ pub fn command<'a>(alloc: Global) -> Result<Command<'a>, AllocError> {
         )
         .subcommand_required(true)
         .arg_required_else_help(true)
-        .subcommand(replay_command(alloc)?)
+        .subcommand(replay_command(alloc)?)?
+        .subcommand(desk_command(alloc)?)
 }
 
 // The subcommand that replays a capture, with its options and its help.
 fn replay_command<'a>(alloc: Global) -> Result<Command<'a>, AllocError> {
     Command::new(alloc, REPLAY)
-        .about("Reads a capture from standard input and prints a line for each order with a fill")
+        .about("Reads a capture from standard input and prints the report of a day")
         .long_about(ABOUT_REPLAY)
         .after_help(EXAMPLE)
         .after_long_help(AFTER_REPLAY)
@@ -36,6 +41,28 @@ fn replay_command<'a>(alloc: Global) -> Result<Command<'a>, AllocError> {
         .arg(own_option(alloc))?
         .arg(day_option(alloc))?
         .arg(peer_words(alloc))
+}
+
+// The subcommand that keeps a desk for its operator, with its options and its help.
+fn desk_command<'a>(alloc: Global) -> Result<Command<'a>, AllocError> {
+    Command::new(alloc, DESK)
+        .about("Reads a capture from a file and answers an operator's lines from standard input")
+        .long_about(ABOUT_DESK)
+        .after_help(DESK_EXAMPLE)
+        .after_long_help(AFTER_DESK)
+        .arg_required_else_help(true)
+        .arg(own_option(alloc))?
+        .arg(capture_option(alloc))?
+        .arg(peer_words(alloc))
+}
+
+// The option with the file that holds a capture.
+fn capture_option<'a>(alloc: Global) -> Arg<'a> {
+    Arg::new(alloc, CAPTURE)
+        .long(CAPTURE)
+        .value_name("FILE")
+        .required(true)
+        .help("The file with the capture, as examples/first_trade.fix")
 }
 
 // The option with one's own CompID.
@@ -54,7 +81,7 @@ fn day_option<'a>(alloc: Global) -> Arg<'a> {
         .value_name("YYYYMMDD")
         .required(true)
         .value_parser(ValueParser::unsigned(0, 99_991_231))
-        .help("The trading day, as 20240105 (for now orders of every day are printed)")
+        .help("The trading day of the report, as 20240105")
 }
 
 // The peers, one word each.
@@ -68,14 +95,16 @@ fn peer_words<'a>(alloc: Global) -> Arg<'a> {
 
 // What `replay --help` begins with.
 const ABOUT_REPLAY: &str = "\
-Reads a capture from standard input and, at its end, prints a line for each order with a fill.
+Reads a capture from standard input and, at its end, prints the report of a day: a line for each order
+with a fill, and one for each position.
 
 For every fill a broker sends its client's middle office a drop copy: a FIX 4.4 Execution Report
 (35=8 with 150=F). A correction (150=G) brings another version of a fill, whole, and a bust (150=H)
-takes a fill away with all its corrections. An Allocation Instruction (35=J) books fills to accounts,
-and changes no order's line. A capture is the bytes that came in, message behind message, of one
-broker or of several. Bytes that are no whole message with the right BodyLength and CheckSum are
-passed over, and so are the messages of brokers that aren't named.";
+takes a fill away with all its corrections. An Allocation Instruction (35=J) books fills to accounts.
+A capture is the bytes that came in, message behind message, of one broker or of several. Each broker
+has a session, which begins with its Logon: messages count by their number, each once and in order.
+Bytes that are no whole message with the right BodyLength and CheckSum are passed over, and so are
+the messages of brokers that aren't named.";
 
 // What `replay -h` ends with.
 const EXAMPLE: &str = "\
@@ -84,10 +113,16 @@ Example:
 
 // What `replay --help` ends with.
 const AFTER_REPLAY: &str = "\
-A line has these words, with a tab between two, and lines are sorted by broker and then OrderID:
-  order PEER ORDERID SYMBOL SIDE FILLED LEFT VALUE
+A line has these words, with a tab between two. Orders are sorted by broker and then OrderID,
+positions by account and then symbol:
+  report   DAY
+  order    PEER ORDERID SYMBOL SIDE FILLED LEFT VALUE
+  position ACCOUNT SYMBOL QUANTITY VALUE
+  end      LINES
 SIDE is B or S, FILLED the quantity filled, LEFT what is left of the order's quantity, and VALUE the
-sum of quantity times price over the fills, as last corrected and without the busted ones.
+sum of quantity times price over the fills, as last corrected and without the busted ones. A sold
+position is negative. Account * is the house: what is allocated, less what was booked on, and fills
+without an account. LINES is how many lines of orders and positions stand between.
 
 Example:
   blotter replay --own MO --day 20240105 BRKA < examples/first_trade.fix
@@ -95,5 +130,47 @@ Example:
 Exit status:
   0  done
   1  the input, the output or the capture is at fault
+  2  the words of the command line are refused, or help was asked for
+  3  no memory is left";
+
+// What `desk --help` begins with.
+const ABOUT_DESK: &str = "\
+Reads a capture from a file, as replay does, and then answers the lines that its operator types, or
+that come from standard input, each at once and to the end of the input.";
+
+// What `desk -h` ends with.
+const DESK_EXAMPLE: &str = "\
+Example:
+  blotter desk --own MO --capture examples/first_trade.fix BRKA";
+
+// What `desk --help` ends with.
+const AFTER_DESK: &str = "\
+The words of a line are divided by tabs (shown here as spaces):
+  order BRKA O1             the line of BRKA's order O1, or none
+  position A1 XYZ           the position of account A1 in XYZ, or none; account * is the house
+  report 20240105           the report of that day
+  undo 7                    undoes the newest step, which has to be number 7
+  redo                      does again what was undone last
+  allocate BRKA AL1 XYZ B 20240105 10.5 2 E1 E2 A1 60 A2 40
+                            books executions to accounts: broker, AllocID, symbol, side, day, price,
+                            how many executions and their ExecIDs, and then each account with its
+                            quantity
+
+The answers:
+  accepted 7, undone 7, redone 7      what was done, with its number
+  order .., position .., report ..    what was asked for, or none
+  refused 10 Quantity 100 90          the book doesn't take it: the refusal's number, its name, and
+                                      what it names
+  bad 3 2                             the line asks nothing: 1 an unknown word, 2 too few or too many
+                                      words, 3 a bad value and its place, 4 a line that is too long
+  full                                the day's record has no room for another event
+
+Example:
+  printf 'order\\tBRKA\\tO1\\nundo\\t1\\n' |
+      blotter desk --own MO --capture examples/first_trade.fix BRKA
+
+Exit status:
+  0  done
+  1  the input, the output or the capture is at fault, or the file can't be opened
   2  the words of the command line are refused, or help was asked for
   3  no memory is left";

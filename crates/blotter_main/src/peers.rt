@@ -1,10 +1,9 @@
 //! The peers whose messages are read.
-ghost use Rattle.std.specs.Prelude.{◌≡◌, ◌≢◌, ◌↔◌, IfErr, IfOk, IsTrue, map};
-ghost use Rattle.std.specs.List.{IsDistinct, list_any};
-ghost use Rattle.blot_types.specs.Keys.{same_text};
+ghost use Rattle.std.specs.Prelude.{◌≡◌, ◌≢◌, IfErr, IfOk, map};
 ghost use Rattle.blotter_main.specs.Words.{IsPeerList};
 
 use crate::refusal::Refusal;
+use blot_slots::are_distinct;
 use blot_types::Text64;
 use std::alloc::Global;
 
@@ -26,23 +25,4 @@ pub fn read_peers(alloc: Global, named: &[&str]) -> Result<Vec<Text64>, Refusal>
         return Err(Refusal::BadWords);
     }
     Ok(peers)
-}
-
-/// Whether no two of these peers are the same.
-pub fn are_distinct(peers: &[Text64]) -> bool
-    ensures { IsTrue result ↔ IsDistinct same_text peers.now }
-{
-    for (index, peer) in peers.iter().enumerate() {
-        if is_among(peer, &peers[index + 1..]) {
-            return false;
-        }
-    }
-    true
-}
-
-// Whether this peer is one of the others.
-fn is_among(peer: &Text64, others: &[Text64]) -> bool
-    ensures { result ≡ list_any (λ other. same_text peer.now other) others.now }
-{
-    others.iter().any(|other| *peer == *other)
 }

@@ -1,35 +1,43 @@
-//! One run of the program, over any words and any streams.
-ghost use Rattle.std.specs.Prelude.{◌≡◌, ◌≢◌, ℕ, List, IfOk, IfSome};
+//! One run of the program, over any words, files and streams.
+ghost use Rattle.std.specs.Prelude.{◌≡◌, ◌≢◌, ◌⊎◌, true, ℕ, List, IfOk, IfSome};
 ghost use Rattle.std.specs.Io.KnownBytes.{Appends, IsAtEnd, Keeps};
-ghost use Rattle.blotter.specs.Report.{report_of};
+ghost use Rattle.std.specs.List.{IsDistinct};
+ghost use Rattle.blot_types.specs.Keys.{same_text};
+ghost use Rattle.blot_desk.specs.Desk.{Journal, empty_journal};
+ghost use Rattle.blotter.specs.Capture.{commands_of};
+ghost use Rattle.blotter.specs.Lines.{lines_of};
+ghost use Rattle.blotter.specs.Operating.{told_over};
+ghost use Rattle.blotter.specs.Replay.{submitted};
 ghost use Rattle.blotter.specs.declared.outcome.Outcome.TheVariants.{BadWords, Done, NoMemory};
-ghost use Rattle.blotter_main.specs.Words.{IsPeerList, peers_of};
+ghost use Rattle.blotter_main.specs.Words.{IsPeerList, Did, is_desk, peers_of};
 
 use crate::refusal::Refusal;
 use crate::words::{Words, given, parse};
-use blotter::{Outcome, replay};
+use blot_desk::Held;
+use blot_types::Text64;
+use blotter::{Outcome, capture, desk_lines, replay};
 use std::alloc::Global;
 use std::env::Env;
-use std::io::{Read, Write};
+use std::fs::{File, Files};
+use std::io::{ErrorKind, Read, Write};
 
 /// Does what the command line asks for, and says how it ended. What the user has to know goes to `errors`;
 /// a fault in writing that is let go.
-pub fn run<S: Env + AllocGlobal, R: Read, W: Write, E: Write>(
+pub fn run<S: Env + AllocGlobal, F: Files, R: Read, W: Write, E: Write>(
     system: &S,
+    files: &F,
     input: &mut R,
     output: &mut W,
     errors: &mut E,
 ) -> Outcome
-    ensures wrote { result ≡ Done → (peers : List (List ℕ)) × IsPeerList peers × IfSome (R.remaining input.old) (λ bytes.
-        Appends (W.contents output.old) (W.contents output.new) (report_of peers bytes)) }
+    ensures did { result ≡ Done → (words : Words) × IsPeerList (peers_of words) × Did words (R.remaining input.old) (W.contents output.old) (W.contents output.new) }
     ensures read_to_the_end { result ≡ Done → IsAtEnd (R.remaining input.new) }
-    ensures no_memory { result ≡ NoMemory → Keeps (W.contents output.old) (W.contents output.new) }
     ensures unread { result ≡ BadWords → input.new ≡ input.old }
     ensures unwritten { result ≡ BadWords → output.new ≡ output.old }
 {
     match words_of(system) {
         Ok(words) => {
-            let outcome = perform(system.alloc(), words, input, output);
+            let outcome = perform(system.alloc(), files, words, input, output);
             tell(errors, outcome.last_line());
             outcome
         }
@@ -48,16 +56,88 @@ fn words_of<S: Env + AllocGlobal>(system: &S) -> Result<Words, Refusal>
     parse(system.alloc(), words.as_slice())
 }
 
-// Does what the words ask for.
-fn perform<R: Read, W: Write>(alloc: Global, words: Words, input: &mut R, output: &mut W) -> Outcome
-    ensures wrote { result ≡ Done → IfSome (R.remaining input.old) (λ bytes.
-        Appends (W.contents output.old) (W.contents output.new) (report_of (peers_of words) bytes)) }
+// Does what the words ask for. Out of memory, a replay has written nothing.
+fn perform<F: Files, R: Read, W: Write>(
+    alloc: Global,
+    files: &F,
+    words: Words,
+    input: &mut R,
+    output: &mut W,
+) -> Outcome
+    requires { IsPeerList (peers_of words) }
+    ensures did { result ≡ Done → Did words (R.remaining input.old) (W.contents output.old) (W.contents output.new) }
     ensures read_to_the_end { result ≡ Done → IsAtEnd (R.remaining input.new) }
-    ensures no_memory { result ≡ NoMemory → Keeps (W.contents output.old) (W.contents output.new) }
+    ensures no_memory { result ≡ NoMemory → (is_desk words ≡ true) ⊎ Keeps (W.contents output.old) (W.contents output.new) }
     ensures words { result ≢ BadWords }
 {
-    let Words::Replay { own, day, peers } = words;
-    Outcome::of_replay(replay(alloc, input, output, own, peers.as_slice(), day))
+    match words {
+        Words::Replay { own, day, peers } => {
+            Outcome::of_replay(replay(alloc, input, output, own, peers.as_slice(), day))
+        }
+        Words::Desk {
+            own,
+            capture,
+            peers,
+        } => open_desk(
+            alloc,
+            files,
+            capture.as_str(),
+            own,
+            peers.as_slice(),
+            input,
+            output,
+        ),
+    }
+}
+
+// Takes the capture in a file, and then answers the lines of the input. A file that can't be opened is an input fault.
+fn open_desk<F: Files, R: Read, W: Write>(
+    alloc: Global,
+    files: &F,
+    path: &str,
+    own: Text64,
+    peers: &[Text64],
+    input: &mut R,
+    output: &mut W,
+) -> Outcome
+    requires { IsDistinct same_text peers.now }
+    ensures told { result ≡ Done → (journal : Journal) × IfSome (R.remaining input.old) (λ bytes.
+        Appends (W.contents output.old) (W.contents output.new) (told_over journal (lines_of bytes)).text) }
+    ensures read_to_the_end { result ≡ Done → IsAtEnd (R.remaining input.new) }
+    ensures words { result ≢ BadWords }
+{
+    match File::open(files, path) {
+        Ok(mut file) => keep_desk(alloc, &mut file, own, peers, input, output),
+        Err(error) if error.kind() == ErrorKind::OutOfMemory => Outcome::NoMemory,
+        Err(_) => Outcome::InputFault,
+    }
+}
+
+// Takes a capture, and then answers the lines of the input.
+fn keep_desk<C: Read, R: Read, W: Write>(
+    alloc: Global,
+    captured: &mut C,
+    own: Text64,
+    peers: &[Text64],
+    input: &mut R,
+    output: &mut W,
+) -> Outcome
+    requires { IsDistinct same_text peers.now }
+    ensures told { result ≡ Done → (journal : Journal) × IfSome (R.remaining input.old) (λ bytes.
+        Appends (W.contents output.old) (W.contents output.new) (told_over journal (lines_of bytes)).text) }
+
+    // The desk is the one that the capture leads to.
+    ensures captured { result ≡ Done → IfSome (C.remaining captured.old) (λ frames. IfSome (R.remaining input.old) (λ bytes.
+        Appends (W.contents output.old) (W.contents output.new)
+        (told_over (submitted empty_journal (commands_of own peers.now frames)) (lines_of bytes)).text)) }
+    ensures read_to_the_end { result ≡ Done → IsAtEnd (R.remaining input.new) }
+    ensures words { result ≢ BadWords }
+{
+    let mut held = Held::new(alloc);
+    match capture(alloc, captured, own, peers, &mut held) {
+        Ok(()) => Outcome::of_replay(desk_lines(alloc, input, output, &mut held)),
+        Err(fault) => Outcome::of_replay(Err(fault)),
+    }
 }
 
 // Writes the text and an LF, where there is one.

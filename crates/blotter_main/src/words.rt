@@ -3,9 +3,9 @@ ghost use Rattle.std.specs.Prelude.{◌≡◌, ◌≢◌, ◌↔◌, Ok, Some, I
 ghost use Rattle.clap.specs.Matches.{first_value, found_of, matched_of, raw_values};
 ghost use Rattle.blot_time.specs.Day.{day_of, IsDayText};
 ghost use Rattle.blot_types.specs.Text.{is_text};
-ghost use Rattle.blotter_main.specs.Words.{IsPeerList, IsReplay, own_of, day_named, peers_of};
+ghost use Rattle.blotter_main.specs.Words.{IsPeerList, IsReplay, IsDesk, own_of, day_named, capture_named, peers_of};
 
-use crate::command_line::{DAY, OWN, PEER, REPLAY, command};
+use crate::command_line::{CAPTURE, DAY, DESK, OWN, PEER, REPLAY, command};
 use crate::peers::read_peers;
 use crate::refusal::{Refusal, refusal_of};
 use blot_time::Day;
@@ -19,10 +19,16 @@ use std::io::ErrorKind;
 /// What the command line asks for.
 #[derive(Debug, Drop)]
 pub enum Words {
-    /// What the fills of the capture on standard input made of each order.
+    /// The report of a day, of the capture on standard input.
     Replay {
         own: Text64,
         day: Day,
+        peers: Vec<Text64>,
+    },
+    /// The answers to the lines on standard input, of the capture in a file.
+    Desk {
+        own: Text64,
+        capture: String,
         peers: Vec<Text64>,
     },
 }
@@ -44,8 +50,11 @@ pub fn parse<S: AsStr>(alloc: Global, words: &[S]) -> Result<Words, Refusal>
         Ok(matches) => matches,
         Err(error) => return Err(refusal_of(alloc, error)),
     };
-    match matches.subcommand_matches(REPLAY) {
-        Some(matches) => read_replay(alloc, matches),
+    if let Some(matches) = matches.subcommand_matches(REPLAY) {
+        return read_replay(alloc, matches);
+    }
+    match matches.subcommand_matches(DESK) {
+        Some(matches) => read_desk(alloc, matches),
         None => Err(Refusal::BadWords),
     }
 }
@@ -53,7 +62,7 @@ pub fn parse<S: AsStr>(alloc: Global, words: &[S]) -> Result<Words, Refusal>
 // The words of a replay, as `clap` found them.
 fn read_replay(alloc: Global, matches: &ArgMatches<'_>) -> Result<Words, Refusal>
     ensures own { IfOk result (λ words. first_value (found_of matches.now) (codes "own") ≡ Some (own_of words)) }
-    ensures day { IfOk result (λ words. IfSome (first_value (found_of matches.now) (codes "day")) (λ word. day_of word ≡ Ok (day_named words))) }
+    ensures day { IfOk result (λ words. IfSome (first_value (found_of matches.now) (codes "day")) (λ word. option_map Ok (day_named words) ≡ Some (day_of word))) }
     ensures named { IfOk result (λ words. option_map raw_values (matched_of (found_of matches.now) (codes "peer")) ≡ Some (peers_of words)) }
     ensures peers { IfOk result (λ words. IsPeerList (peers_of words)) }
     ensures refused { IfErr result (λ refusal. refusal ≢ Refusal.NoMemory
@@ -71,6 +80,34 @@ fn read_replay(alloc: Global, matches: &ArgMatches<'_>) -> Result<Words, Refusal
     };
     let peers = read_peers(alloc, named)?;
     Ok(Words::Replay { own, day, peers })
+}
+
+// The words of a desk, as `clap` found them.
+fn read_desk(alloc: Global, matches: &ArgMatches<'_>) -> Result<Words, Refusal>
+    ensures own { IfOk result (λ words. first_value (found_of matches.now) (codes "own") ≡ Some (own_of words)) }
+    ensures capture { IfOk result (λ words. first_value (found_of matches.now) (codes "capture") ≡ capture_named words) }
+    ensures named { IfOk result (λ words. option_map raw_values (matched_of (found_of matches.now) (codes "peer")) ≡ Some (peers_of words)) }
+    ensures peers { IfOk result (λ words. IsPeerList (peers_of words)) }
+    ensures refused { IfErr result (λ refusal. refusal ≢ Refusal.NoMemory
+        → IsDesk (first_value (found_of matches.now) (codes "own")) (first_value (found_of matches.now) (codes "capture"))
+        (option_map raw_values (matched_of (found_of matches.now) (codes "peer"))) → ⊥) }
+{
+    let Some(own) = read_text(matches.get_str(OWN)) else {
+        return Err(Refusal::BadWords);
+    };
+    let Some(file) = matches.get_str(CAPTURE) else {
+        return Err(Refusal::BadWords);
+    };
+    let Some(named) = matches.get_strs(PEER) else {
+        return Err(Refusal::BadWords);
+    };
+    let capture = String::from_str(alloc, file)?;
+    let peers = read_peers(alloc, named)?;
+    Ok(Words::Desk {
+        own,
+        capture,
+        peers,
+    })
 }
 
 // The text of a word, if it is one.
