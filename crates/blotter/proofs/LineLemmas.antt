@@ -5,7 +5,7 @@ use Rattle.std.proofs.lemmas.Bool.{cases_Bool, eqb-true, leb-true, leb-false, lt
 use Rattle.std.proofs.lemmas.List.{append_assoc, append-nil, take_all, take-append-le, length-take-le, length-append, nil_from_length}
 use Rattle.std.proofs.lemmas.List.Sums.{fold-append}
 use Rattle.blot_console.specs.declared.parsing.TheConstants.{LINE_MAX}
-use Rattle.blotter.specs.Lines.{onto_first, lines_of, Split, split_on, split_of, last_line, kept}
+use Rattle.blotter.specs.Lines.{onto_first, lines_of, Split, split_on, split_of, kept}
 
 -- texts and their lines
 none_of_nothing : lines_of [] ≡ []
@@ -23,6 +23,11 @@ nothing line none = nil_from_length line (eqb-true (length line) 0 none)
 
 pub something : (line : List ℕ) → (length line == 0) ≡ false → line ≢ []
 something line some none = absurd (cc (ap length none))
+
+-- a line that has begun, where the text ends there: without a byte it is none
+abbrev pub last_line : List ℕ → List (List ℕ)
+last_line [] = []
+last_line (byte ∷ line) = (byte ∷ line) ∷ []
 
 -- the lines of a text whose first line has begun
 abbrev pub onto : List ℕ → List (List ℕ) → List (List ℕ)

@@ -20,9 +20,9 @@ use Rattle.blot_console.specs.Parsing.{parsed, ask_of, told}
 use Rattle.blot_types.specs.declared.TheConstants.{EVENTS_MAX}
 use Rattle.blotter.specs.declared.answering.Asked.{Asked}
 use Rattle.blotter.specs.declared.answering.Asked.TheVariants as asks
-use Rattle.blotter.specs.Lines.{lines_of, split_of, last_line, kept}
+use Rattle.blotter.specs.Lines.{lines_of, split_of, kept}
 use Rattle.blotter.specs.Operating.{asked_by, with_key, telling, told_event, told_ask, answer_to, told_on, told_over, StoppedIn, StopsAt, HasAnswered}
-use Rattle.blotter.proofs.LineLemmas.{onto, lines_of-append, lines_of-ended, lines_of-last, split_of-end, split_of-more, kept-nil, kept-none, kept-byte, lines_of-begun}
+use Rattle.blotter.proofs.LineLemmas.{last_line, onto, lines_of-append, lines_of-ended, lines_of-last, split_of-end, split_of-more, kept-nil, kept-none, kept-byte, lines_of-begun}
 
 pub OnErr-always : {T E P : Type 0} (result : Result T E) → P → OnErr result P
 OnErr-always (Ok value) p = tt

@@ -23,14 +23,9 @@ split_on split byte =
     if byte == 10 then (record { ended = split.ended ++ split.begun ∷ []; begun = [] })
     else (record { ended = split.ended; begun = split.begun ++ byte ∷ [] })
 
--- a text as far as it came
+-- a text, byte by byte
 abbrev pub split_of : List ℕ → Split
 split_of text = fold split_on (record { ended = []; begun = [] }) text
-
--- a line that has begun, where the text ends there: without a byte it is none
-abbrev pub last_line : List ℕ → List (List ℕ)
-last_line [] = []
-last_line (byte ∷ line) = (byte ∷ line) ∷ []
 
 -- what is kept of a line: enough of it to see that it is too long
 unfoldable pub kept : List ℕ → List ℕ

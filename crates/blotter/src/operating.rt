@@ -13,7 +13,8 @@ use std::io::{Read, Write};
 
 /// Answers an operator's lines to the end of the input. Each line's answer is written and flushed before the next line
 /// is taken. A line that asks nothing is answered by its fault, and an event that the desk has no room for by `full`;
-/// both leave what the desk holds as it is, and the next line is taken.
+/// both leave what the desk holds as it is, and the next line is taken. It ends early where a read, a write or a flush
+/// fails, where memory runs out, and behind 2^30 reads; never as `Full`.
 pub fn desk_lines<R: Read, W: Write>(
     alloc: Global,
     input: &mut R,
