@@ -1,5 +1,5 @@
 //! Generated runs of commands and their inverses, compared with the plain slow program after every step.
-ghost use Rattle.std.specs.Prelude.{◌≡◌, ◌+◌, ◌<◌, ◌≤◌, All, IfOk};
+ghost use Rattle.std.specs.Prelude.{◌≡◌, ◌+◌, ◌<◌, ◌≤◌, IfOk};
 ghost use Rattle.blot_command.specs.Undoable.{IsAbove};
 ghost use Rattle.blot_command.specs.Kinds.{command_meaning};
 

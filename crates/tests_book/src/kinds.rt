@@ -1,5 +1,5 @@
 //! Each kind of command by itself: taken and taken back by its own calls, and refused.
-ghost use Rattle.std.specs.Prelude.{◌≡◌, ◌<◌, ◌≤◌, [], All, IfOk};
+ghost use Rattle.std.specs.Prelude.{◌≡◌, ◌≤◌, [], IfOk};
 ghost use Rattle.blot_command.specs.Undoable.{IsAbove};
 ghost use Rattle.blot_command.specs.Kinds.{trade_meaning, correct_meaning, bust_meaning, alloc_new_meaning, alloc_replace_meaning, alloc_cancel_meaning};
 

@@ -1,5 +1,5 @@
 //! Rows of commands, each with what the book says to it and shows after it.
-ghost use Rattle.std.specs.Prelude.{◌≡◌, ◌<◌, ◌≤◌, All, IfOk};
+ghost use Rattle.std.specs.Prelude.{◌≡◌, ◌≤◌, IfOk};
 ghost use Rattle.blot_command.specs.Undoable.{IsAbove};
 ghost use Rattle.blot_command.specs.Kinds.{command_meaning};
 ghost use Rattle.blot_types.specs.declared.TheConstants.{EVENTS_MAX};
