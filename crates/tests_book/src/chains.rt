@@ -1,12 +1,12 @@
 //! Chains of executions: corrections, busts, and what the book refuses. The first row of a table has number 1.
 
-use crate::fixtures::order;
 use crate::rows::Outcome::{Busted, Duplicate, Taken, Unknown};
 use crate::rows::{Row, play_all};
-use crate::words::Filled::{Buys, Sells};
-use crate::words::Step::{Busts, Corrects, Trades};
 use blot_types::OrderKey;
 use std::test::Fail;
+use tests_words::Filled::{Buys, Sells};
+use tests_words::Step::{Busts, Corrects, Trades};
+use tests_words::order;
 
 const A: &[u8] = b"BRKA";
 

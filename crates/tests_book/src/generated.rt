@@ -1,13 +1,10 @@
 //! Generated runs of commands and their inverses, compared with the plain slow program after every step.
-ghost use Rattle.std.specs.Prelude.{◌≡◌, ◌+◌, ◌<◌, ◌≤◌, All, IfOk};
+ghost use Rattle.std.specs.Prelude.{◌≡◌, ◌+◌, ◌<◌, ◌≤◌, IfOk};
 ghost use Rattle.blot_command.specs.Undoable.{IsAbove};
 ghost use Rattle.blot_command.specs.Kinds.{command_meaning};
 
-use crate::draws::{Draws, drawn_orders};
-use crate::fixtures::{alloc_key, exec, expect_back, expect_refused, fill, order};
-use crate::model::{compare, expect_entry, live};
-use crate::tally::Tally;
-use crate::words::terms;
+use crate::answers::{expect_back, expect_refused, expect_taken};
+use crate::model::{compare, live};
 use blot_command::{Tables, Undoable};
 use blot_decimal::Qty;
 use blot_model::accepts;
@@ -17,6 +14,7 @@ use blot_types::{
 };
 use std::alloc::Global;
 use std::test::Fail;
+use tests_words::{Draws, Tally, alloc_key, drawn_orders, exec, fill, order, terms};
 
 // What the plain program says of a command.
 fn expected(
@@ -30,14 +28,6 @@ fn expected(
     Ok(accepts(alloc, &live(alloc, tables, next)?, command)?)
 }
 
-// A command was taken where the plain program accepts it.
-fn expect_taken(expected: Option<Refused>, number: u64) -> Result<(), Fail> {
-    match expected {
-        None => Ok(()),
-        Some(refused) => Err(Fail::new(format_args!("{refused:?}, but taken under {number}"))),
-    }
-}
-
 // A command is taken or refused as the plain program says, and taken back.
 fn try_command(alloc: Global, tables: &mut Tables, number: u64, sent: &Command) -> Result<(), Fail>
     requires above { IsAbove command_meaning number tables.old }
@@ -47,7 +37,7 @@ fn try_command(alloc: Global, tables: &mut Tables, number: u64, sent: &Command) 
     let refusal = expected(alloc, tables, number, sent)?;
     match sent.try_copy(alloc)?.apply(tables, number) {
         Ok(inverse) => {
-            expect_taken(refusal, number)?;
+            expect_taken(tables, refusal, number, sent)?;
             let back = Command::revert(inverse, tables);
             expect_back(sent, back, number)
         }
@@ -143,6 +133,22 @@ fn others(draws: &mut Draws, steps: u32) -> u32
     if draws.draw() & 3 == 0 { steps / 4 } else { 0 }
 }
 
+// The book, and an execution and an allocation that are drawn, are what the plain program says.
+fn examine(
+    alloc: Global,
+    tables: &mut Tables,
+    draws: &mut Draws,
+    orders: &[OrderKey],
+    number: u64,
+) -> Result<(), Fail>
+    requires above { IsAbove command_meaning number tables.old }
+    requires within { number ≤ EVENTS_MAX }
+    ensures { IfOk result (λ _. tables.new.list ≡ tables.old.list) }
+{
+    compare(alloc, tables, number, orders)?;
+    try_keys(alloc, tables, draws, number)
+}
+
 // A command for the book as it is.
 fn drawn(alloc: Global, tables: &Tables, draws: &mut Draws) -> Result<Command, Fail> {
     let list = tables.entries(alloc)?;
@@ -164,8 +170,7 @@ fn explore(
     requires within { number + steps ≤ EVENTS_MAX }
     ensures { IfOk result (λ _. tables.new.list ≡ tables.old.list) }
 {
-    compare(alloc, tables, number, orders)?;
-    try_keys(alloc, tables, draws, number)?;
+    examine(alloc, tables, draws, orders, number)?;
     if steps == 0 {
         return Ok(());
     }
@@ -174,8 +179,7 @@ fn explore(
     tally.count(&sent, refusal);
     match sent.try_copy(alloc)?.apply(tables, number) {
         Ok(inverse) => {
-            expect_taken(refusal, number)?;
-            expect_entry(tables, number, &sent)?;
+            expect_taken(tables, refusal, number, &sent)?;
             explore(alloc, tables, draws, tally, orders, number + 1, steps - 1)?;
             let others = others(draws, steps);
             explore(alloc, tables, draws, tally, orders, number + 1, others)?;

@@ -1,15 +1,14 @@
 //! Each kind of command by itself: taken and taken back by its own calls, and refused.
-ghost use Rattle.std.specs.Prelude.{◌≡◌, ◌<◌, ◌≤◌, [], All, IfOk};
+ghost use Rattle.std.specs.Prelude.{◌≡◌, ◌≤◌, [], IfOk};
 ghost use Rattle.blot_command.specs.Undoable.{IsAbove};
 ghost use Rattle.blot_command.specs.Kinds.{trade_meaning, correct_meaning, bust_meaning, alloc_new_meaning, alloc_replace_meaning, alloc_cancel_meaning};
 
-use crate::bookings::FIRST;
-use crate::words::Filled::Buys;
-use crate::words::{alloc_cancel, alloc_new, alloc_replace, bust, correct, trade};
 use blot_command::{ApplyFault, Tables, Undoable};
 use blot_types::{AllocCancel, AllocNew, AllocReplace, Bust, Correct, EVENTS_MAX, Refused, Trade};
 use std::alloc::Global;
 use std::test::Fail;
+use tests_words::Filled::Buys;
+use tests_words::{FIRST, alloc_cancel, alloc_new, alloc_replace, bust, correct, trade};
 
 // A trade is taken, and its inverse hands it back.
 fn trade_and_back(tables: &mut Tables, number: u64, sent: Trade) -> Result<(), Fail>

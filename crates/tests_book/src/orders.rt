@@ -1,12 +1,12 @@
 //! Orders as trades fill them. The first row of a table has number 1.
 
-use crate::fixtures::order;
 use crate::rows::Outcome::{Duplicate, Taken};
 use crate::rows::{Row, play_all};
-use crate::words::Filled::Buys;
-use crate::words::Step::Trades;
 use blot_types::OrderKey;
 use std::test::Fail;
+use tests_words::Filled::Buys;
+use tests_words::Step::Trades;
+use tests_words::order;
 
 const A: &[u8] = b"BRKA";
 

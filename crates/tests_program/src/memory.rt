@@ -1,7 +1,6 @@
 //! A reader and a writer in memory that fail where they are told.
 ghost use Rattle.std.specs.Prelude.{Some};
 
-use std::alloc::Global;
 use std::io::{Error, ErrorKind, Read, Result, Write};
 
 /// Gives its bytes in pieces: a first one of its own size, then the rest as it fits.

@@ -5,7 +5,7 @@ use Rattle.blot_command.specs.Kinds.{command_meaning, command_lawful}
 use Rattle.blot_command.specs.Undoable.{IsAbove}
 use Rattle.blot_command.proofs.StepLemmas.{below_next}
 use Rattle.tests_book.proofs.rows.+play.Goals as goal
-use Rattle.tests_book.proofs.rows.+play.Goals.{in-Ok+in_ok-expect_taken-in-Ok+in_ok-expect_entry-in-Ok+in_ok-play-in-Ok+in_ok-expect_back-in-Ok, in-Err+in_ok-expect_refused-in-Err+in_ok-play-in-Err}
+use Rattle.tests_book.proofs.rows.+play.Goals.{in-Ok+in_ok-expect_taken-in-Ok+in_ok-play-in-Ok+in_ok-expect_back-in-Ok, in-Err+in_ok-expect_refused-in-Err+in_ok-play-in-Err}
 
 if_ok : {T E : Type 0} (r : Result T E) (P : Type 0) → P → IfOk r (λ _. P)
 if_ok (Ok x) P p = p
@@ -19,8 +19,8 @@ play-requires t c =
 
 pub returns : goal.returns
 returns t c =
-    if_ok c.expect_lines-2.result _ (elim c.match-apply.branch [
-      | in-Ok+in_ok-expect_taken-in-Ok+in_ok-expect_entry-in-Ok+in_ok-play-in-Ok+in_ok-expect_back-in-Ok w ↦
+    if_ok c.expect_again.result _ (elim c.match-apply.branch [
+      | in-Ok+in_ok-expect_taken-in-Ok+in_ok-play-in-Ok+in_ok-expect_back-in-Ok w ↦
           let step = w.in-Ok.ensures.accepted in
           let stood = command_lawful.before_after _ _ _ step.is_next in
           let left = w.in_ok-play-in-Ok.ensures ∙ step.list_is in

@@ -1,4 +1,4 @@
-//! Allocations that the scripts speak of.
+//! Allocations that the tests speak of.
 
 use crate::words::Booked;
 use blot_types::Sign::Buy;

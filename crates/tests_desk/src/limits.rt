@@ -1,13 +1,12 @@
 //! An allocation of as many executions and lines as there may be.
 
-use crate::fixtures::{alloc_key, exec, fill, order, text};
 use crate::scripts::Desk;
-use crate::words::terms;
 use blot_decimal::{Price, Qty, QtySum, Value};
 use blot_desk::{Event, Reply};
 use blot_types::{AllocNew, Command, ExecKey, Line, PositionLine, Refused, Sign, Trade};
 use std::alloc::Global;
 use std::test::Fail;
+use tests_words::{alloc_key, exec, fill, order, terms, text};
 
 // The execution of a number.
 fn numbered_exec(alloc: Global, number: u64) -> Result<ExecKey, Fail> {
@@ -69,18 +68,33 @@ fn expect_last(desk: &mut Desk, position: Option<PositionLine>) -> Result<(), Fa
     desk.expect(asked, Reply::Position(position))
 }
 
-#[test]
-fn two_hundred_executions_and_lines(rt: HostRuntime) -> Result<(), Fail> {
-    let mut desk = Desk::new(rt.alloc(), "200 executions and lines");
-    expect_trades(&mut desk)?;
+// The allocation of one execution too many is refused, that of the 200 is taken under 201.
+fn expect_allocations(desk: &mut Desk) -> Result<(), Fail> {
     let unknown = Refused::UnknownExec(exec(b"BRKA", b"E201")?);
-    expect_reply(&mut desk, 2, b"1", Reply::Refused(unknown))?;
-    expect_reply(&mut desk, 1, b"1", Reply::Accepted(201))?;
+    expect_reply(desk, 2, b"1", Reply::Refused(unknown))?;
+    expect_reply(desk, 1, b"1", Reply::Accepted(201))
+}
+
+// The last account has 1 at 10, until the allocation is undone.
+fn expect_positions(desk: &mut Desk) -> Result<(), Fail> {
     let line = PositionLine {
         qty: QtySum::from_units(1_000_000),
         value: Value::from_units(1_000_000_000_000_000),
     };
-    expect_last(&mut desk, Some(line))?;
+    expect_last(desk, Some(line))?;
     desk.expect(Event::Undo { newest: 201 }, Reply::Undone(201))?;
-    expect_last(&mut desk, None)
+    expect_last(desk, None)
+}
+
+// The trades, the allocations and the positions.
+fn expect_all(desk: &mut Desk) -> Result<(), Fail> {
+    expect_trades(desk)?;
+    expect_allocations(desk)?;
+    expect_positions(desk)
+}
+
+#[test]
+fn two_hundred_executions_and_lines(rt: HostRuntime) -> Result<(), Fail> {
+    let mut desk = Desk::new(rt.alloc(), "200 executions and lines");
+    expect_all(&mut desk)
 }

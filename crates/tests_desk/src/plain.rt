@@ -2,7 +2,7 @@
 ghost use Rattle.std.specs.Prelude.{IsTrue};
 ghost use Rattle.blot_types.specs.Legal.{is_book};
 
-use crate::fixtures::record;
+use crate::history::record;
 use blot_desk::{Event, Recorded, Reply};
 use blot_model::{accepts, order_of, position_of};
 use blot_types::{Command, Entry, Refused};

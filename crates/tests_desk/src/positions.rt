@@ -1,15 +1,14 @@
 //! Positions. Each script is played, undone command by command, and redone.
 
-use crate::bookings::{ALL_TO_A, BOTH, SECOND};
 use crate::scripts::Answer::{Accepted, BustedExec, Quantity};
 use crate::scripts::Said::Sends;
 use crate::scripts::Watch::{Order, Position};
 use crate::scripts::{Act, Script, play_back_and_forth};
-use crate::words::Booked;
-use crate::words::Filled::{Bought, Buys, Fills, Sells};
-use crate::words::Step::{Allocates, Busts, Cancels, Corrects, Replaces, Trades};
 use blot_types::Sign::{Buy, Sell};
 use std::test::Fail;
+use tests_words::Filled::{Bought, Buys, Fills, Sells};
+use tests_words::Step::{Allocates, Busts, Cancels, Corrects, Replaces, Trades};
+use tests_words::{ALL_TO_A, BOTH, Booked, SECOND};
 
 // A trade, a second fill, a correction of the first, and its bust by the correction's key.
 fn executions() -> &'static Script {

@@ -1,13 +1,12 @@
 //! Generated runs of all events at the desk, compared with the plain desk after every step.
 
-use crate::draws::{Draws, drawn_orders};
-use crate::fixtures::{accounts, symbols};
 use crate::plain::PlainDesk;
-use crate::tally::Tally;
+use crate::replies::Replies;
 use blot_desk::{Event, Held, Reply};
 use blot_types::OrderKey;
 use std::alloc::Global;
 use std::test::Fail;
+use tests_words::{Draws, accounts, drawn_orders, symbols};
 
 // The desk beside the plain desk.
 #[derive(Drop)]
@@ -55,6 +54,14 @@ impl Run {
         }
     }
 
+    // Both desks take an event that is drawn.
+    fn step_drawn(&mut self, draws: &mut Draws) -> Result<(), Fail> {
+        match self.event(draws) {
+            Ok(event) => self.step(event),
+            Err(fail) => Err(fail),
+        }
+    }
+
     // Both desks are asked for the lines of some orders.
     fn ask_orders(&mut self, orders: &[OrderKey]) -> Result<(), Fail> {
         for order in orders {
@@ -96,13 +103,10 @@ fn same_reply(found: &Reply, expected: &Reply) -> Result<(), Fail> {
 
 // Takes events that are drawn. After each both desks show the same: their entries, the lines of all orders, all
 // positions, and the history.
-fn explore(run: &mut Run, draws: &mut Draws, orders: &[OrderKey], steps: u32) -> Result<(), Fail> {
+fn explore(run: &mut Run, draws: &mut Draws, orders: &[OrderKey]) -> Result<(), Fail> {
     run.compare()?;
-    for _ in 0..steps {
-        match run.event(draws) {
-            Ok(event) => run.step(event)?,
-            Err(fail) => return Err(fail),
-        }
+    for _ in 0..60u32 {
+        run.step_drawn(draws)?;
         run.compare()?;
         run.ask_orders(orders)?;
         run.ask_positions()?;
@@ -111,17 +115,26 @@ fn explore(run: &mut Run, draws: &mut Draws, orders: &[OrderKey], steps: u32) ->
     Ok(())
 }
 
+// A run of its own, whose replies are counted.
+fn run_once(
+    alloc: Global,
+    draws: &mut Draws,
+    orders: &[OrderKey],
+    replies: &mut Replies,
+) -> Result<(), Fail> {
+    let mut run = Run::new(alloc);
+    explore(&mut run, draws, orders)?;
+    replies.count_history(run.held.history());
+    Ok(())
+}
+
 #[test]
 fn runs_of_events(rt: HostRuntime) -> Result<(), Fail> {
     let orders = drawn_orders()?;
     let mut draws = Draws::new(2);
-    let mut tally = Tally::new();
+    let mut replies = Replies::new();
     for _ in 0..16u32 {
-        let mut run = Run::new(rt.alloc());
-        explore(&mut run, &mut draws, &orders, 60)?;
-        tally.count_history(run.held.history());
+        run_once(rt.alloc(), &mut draws, &orders, &mut replies)?;
     }
-    tally.expect_each_kind()?;
-    tally.expect_each_refusal(13)?;
-    tally.expect_each_reply()
+    replies.expect_each(13)
 }

@@ -1,21 +1,20 @@
 //! Which refusal of an allocation comes first: each pair of reasons that can apply to one command, in both orders
 //! of the executions that it lists, and each reason twice over.
 
-use crate::fixtures::{alloc_key, text};
 use crate::scripts::Answer::{
     Accepted, BustedExec, DeadAlloc, DuplicateAlloc, ExecTaken, Instrument, Quantity, RepeatedExec,
     UnknownAlloc, UnknownExec,
 };
 use crate::scripts::Said::Sends;
 use crate::scripts::{Act, Answer, Desk, Script, play, reply};
-use crate::words::Filled::{Bought, Fills};
-use crate::words::Step::{Allocates, Busts, Cancels, Corrects, Trades};
-use crate::words::{Booked, execs, terms};
 use blot_decimal::{Price, Qty};
 use blot_desk::{Event, Reply};
 use blot_types::{AllocCancel, AllocKey, AllocNew, AllocReplace, Command, Line, Sign, Terms};
 use std::alloc::{AllocError, Global};
 use std::test::Fail;
+use tests_words::Filled::{Bought, Fills};
+use tests_words::Step::{Allocates, Busts, Cancels, Corrects, Trades};
+use tests_words::{Booked, alloc_key, execs, terms, text};
 
 // What is wrong with a command, in the order of the reasons.
 #[derive(Clone, Copy, Debug, PartialEq, Eq)]
@@ -337,16 +336,20 @@ fn expect_sound(desk: &mut Desk, kind: Kind, number: u64) -> Result<(), Fail> {
     desk.expect(Event::Undo { newest: number }, Reply::Undone(number))
 }
 
+// The commands of each kind.
+fn expect_each_kind(desk: &mut Desk) -> Result<(), Fail> {
+    expect_each_pair(desk, Kind::New, flaws_of_new())?;
+    expect_each_pair(desk, Kind::Replace, flaws_of_replace())?;
+    expect_each_pair(desk, Kind::Cancel, flaws_of_cancel())?;
+    expect_sound(desk, Kind::New, 21)?;
+    expect_sound(desk, Kind::Replace, 22)?;
+    expect_sound(desk, Kind::Cancel, 23)
+}
+
 #[test]
 fn the_first_refusal(rt: HostRuntime) -> Result<(), Fail> {
-    let mut desk = match play(rt.alloc(), flawed()) {
-        Ok(desk) => desk,
-        Err(fail) => return Err(fail),
-    };
-    expect_each_pair(&mut desk, Kind::New, flaws_of_new())?;
-    expect_each_pair(&mut desk, Kind::Replace, flaws_of_replace())?;
-    expect_each_pair(&mut desk, Kind::Cancel, flaws_of_cancel())?;
-    expect_sound(&mut desk, Kind::New, 21)?;
-    expect_sound(&mut desk, Kind::Replace, 22)?;
-    expect_sound(&mut desk, Kind::Cancel, 23)
+    match play(rt.alloc(), flawed()) {
+        Ok(mut desk) => expect_each_kind(&mut desk),
+        Err(fail) => Err(fail),
+    }
 }

@@ -1,6 +1,6 @@
 //! Commands in words, as the rows of the tests write them.
 
-use crate::fixtures::{alloc_key, exec, fill, order, text};
+use crate::keys::{alloc_key, exec, fill, order, text};
 use blot_decimal::{Price, Qty};
 use blot_time::Day;
 use blot_types::{
@@ -91,8 +91,8 @@ pub fn bust(peer: &[u8], id: &[u8], reference: &[u8]) -> Result<Bust, Fail> {
     })
 }
 
-/// A line of an allocation, in words.
-pub fn line(account: &[u8], qty: &[u8], price: &[u8]) -> Result<Line, Fail> {
+// A line of an allocation, in words.
+fn line(account: &[u8], qty: &[u8], price: &[u8]) -> Result<Line, Fail> {
     Ok(Line {
         account: text(account)?,
         qty: Qty::read(qty)?,
@@ -180,31 +180,15 @@ pub fn alloc_cancel(peer: &[u8], id: &[u8], reference: &[u8]) -> Result<AllocCan
 /// A peer's command in words.
 pub fn command(alloc: Global, peer: &[u8], step: &Step) -> Result<Command, Fail> {
     match step {
-        Step::Trades(id, words) => match trade(peer, id, words) {
-            Ok(trade) => Ok(Command::Trade(trade)),
-            Err(fail) => Err(fail),
-        },
-        Step::Corrects(id, reference, words) => match correct(peer, id, reference, words) {
-            Ok(correct) => Ok(Command::Correct(correct)),
-            Err(fail) => Err(fail),
-        },
-        Step::Busts(id, reference) => match bust(peer, id, reference) {
-            Ok(bust) => Ok(Command::Bust(bust)),
-            Err(fail) => Err(fail),
-        },
-        Step::Allocates(id, words) => match alloc_new(alloc, peer, id, words) {
-            Ok(new) => Ok(Command::AllocNew(new)),
-            Err(fail) => Err(fail),
-        },
-        Step::Replaces(id, reference, words) => {
-            match alloc_replace(alloc, peer, id, reference, words) {
-                Ok(replace) => Ok(Command::AllocReplace(replace)),
-                Err(fail) => Err(fail),
-            }
+        Step::Trades(id, words) => trade(peer, id, words).map(Command::Trade),
+        Step::Corrects(id, reference, words) => {
+            correct(peer, id, reference, words).map(Command::Correct)
         }
-        Step::Cancels(id, reference) => match alloc_cancel(peer, id, reference) {
-            Ok(cancel) => Ok(Command::AllocCancel(cancel)),
-            Err(fail) => Err(fail),
-        },
+        Step::Busts(id, reference) => bust(peer, id, reference).map(Command::Bust),
+        Step::Allocates(id, words) => alloc_new(alloc, peer, id, words).map(Command::AllocNew),
+        Step::Replaces(id, reference, words) => {
+            alloc_replace(alloc, peer, id, reference, words).map(Command::AllocReplace)
+        }
+        Step::Cancels(id, reference) => alloc_cancel(peer, id, reference).map(Command::AllocCancel),
     }
 }

@@ -1,16 +1,14 @@
-//! How often each kind of command was taken, and each refusal and each kind of reply came.
+//! How often each kind of command was taken, and each refusal came.
 ghost use Rattle.std.specs.Prelude.{◌<◌};
 
-use blot_desk::{Event, Recorded, Reply};
 use blot_types::{Command, Refused};
 use std::test::Fail;
 
-/// How often each kind of command was taken, each refusal came, and each kind of reply, each in its order.
+/// How often each kind of command was taken, and each refusal came, each in its order.
 #[derive(Drop)]
 pub struct Tally {
     taken: [u32; 6],
     refused: [u32; 13],
-    replied: [u32; 8],
 }
 
 // The place of a kind of command.
@@ -48,28 +46,12 @@ fn place_of_refusal(refused: &Refused) -> usize
     }
 }
 
-// The place of a kind of reply.
-fn place_of_reply(reply: &Reply) -> usize
-    ensures { result < 8 }
-{
-    match reply {
-        Reply::Accepted(_) => 0,
-        Reply::Refused(_) => 1,
-        Reply::Undone(_) => 2,
-        Reply::Redone(_) => 3,
-        Reply::Order(None) => 4,
-        Reply::Order(Some(_)) => 5,
-        Reply::Position(None) => 6,
-        Reply::Position(Some(_)) => 7,
-    }
-}
-
 impl Tally {
+    /// Nothing came yet.
     pub fn new() -> Tally {
         Tally {
             taken: [0; 6],
             refused: [0; 13],
-            replied: [0; 8],
         }
     }
 
@@ -81,44 +63,21 @@ impl Tally {
         }
     }
 
-    // A command was taken.
-    fn count_taken(&mut self, command: &Command) {
+    /// A command was taken.
+    pub fn count_taken(&mut self, command: &Command) {
         let place = place_of_kind(command);
         self.taken[place] = self.taken[place].saturating_add(1);
     }
 
-    // An event was refused.
-    fn count_refused(&mut self, refused: Refused) {
+    /// An event was refused.
+    pub fn count_refused(&mut self, refused: Refused) {
         let place = place_of_refusal(&refused);
         self.refused[place] = self.refused[place].saturating_add(1);
-    }
-
-    // An event was replied to.
-    fn count_recorded(&mut self, recorded: &Recorded) {
-        let place = place_of_reply(&recorded.reply);
-        self.replied[place] = self.replied[place].saturating_add(1);
-        match (&recorded.event, &recorded.reply) {
-            (Event::Submit(command), Reply::Accepted(_)) => self.count_taken(command),
-            (_, Reply::Refused(refused)) => self.count_refused(*refused),
-            _ => {}
-        }
-    }
-
-    /// The events of a history were replied to.
-    pub fn count_history(&mut self, history: &[Recorded]) {
-        for recorded in history {
-            self.count_recorded(recorded);
-        }
     }
 
     /// Each kind of command was taken.
     pub fn expect_each_kind(&self) -> Result<(), Fail> {
         expect_each(&self.taken, "kind")
-    }
-
-    /// Each kind of reply came.
-    pub fn expect_each_reply(&self) -> Result<(), Fail> {
-        expect_each(&self.replied, "reply")
     }
 
     /// Each of the first refusals came: ten of a book, all of a desk.
@@ -130,8 +89,8 @@ impl Tally {
     }
 }
 
-// Each of these came.
-fn expect_each(counts: &[u32], what: &str) -> Result<(), Fail> {
+/// Each of these came.
+pub fn expect_each(counts: &[u32], what: &str) -> Result<(), Fail> {
     for (place, count) in counts.iter().enumerate() {
         if *count == 0 {
             return Err(Fail::new(format_args!("no {what} {place} among {counts:?}")));

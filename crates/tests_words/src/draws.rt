@@ -1,6 +1,6 @@
 //! Commands drawn from a seed: few keys, accounts and symbols, so that a book takes many and refuses many.
 
-use crate::fixtures::{alloc_key, exec, fill, order, text};
+use crate::keys::{alloc_key, exec, fill, order, text};
 use crate::words::terms;
 use blot_decimal::{Price, Qty};
 use blot_model::{current, root_of};
@@ -63,6 +63,14 @@ impl Draws {
     pub fn any_exec(&mut self) -> Result<ExecKey, Fail> {
         let peer = self.peer();
         self.exec(peer)
+    }
+
+    /// A bust of an execution of either peer, under a key that no other kind of command takes up.
+    pub fn any_bust(&mut self) -> Result<Command, Fail> {
+        let peer = self.peer();
+        let key = exec(peer, self.pick(&[b"B0", b"B1", b"B2", b"B3"]))?;
+        let reference = self.exec(peer)?;
+        Ok(Command::Bust(Bust { key, reference }))
     }
 
     /// An allocation of either peer.
@@ -222,6 +230,24 @@ pub fn drawn_orders() -> Result<[OrderKey; 6], Fail> {
         order(b"BRKB", b"O0")?,
         order(b"BRKB", b"O1")?,
         order(b"BRKB", b"O2")?,
+    ])
+}
+
+/// The executions that are drawn.
+pub fn drawn_execs() -> Result<[ExecKey; 12], Fail> {
+    Ok([
+        exec(b"BRKA", b"E0")?,
+        exec(b"BRKA", b"E1")?,
+        exec(b"BRKA", b"E2")?,
+        exec(b"BRKA", b"E3")?,
+        exec(b"BRKA", b"E4")?,
+        exec(b"BRKA", b"E5")?,
+        exec(b"BRKB", b"E0")?,
+        exec(b"BRKB", b"E1")?,
+        exec(b"BRKB", b"E2")?,
+        exec(b"BRKB", b"E3")?,
+        exec(b"BRKB", b"E4")?,
+        exec(b"BRKB", b"E5")?,
     ])
 }
 

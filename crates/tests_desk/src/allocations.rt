@@ -1,6 +1,5 @@
 //! Allocations: what ends one, and what each refuses. Each script is played, undone command by command, and redone.
 
-use crate::bookings::{ALL_TO_A, BOTH, FIRST, SECOND};
 use crate::scripts::Answer::{
     Accepted, DeadAlloc, DuplicateAlloc, DuplicateExec, ExecTaken, Instrument, Quantity,
     RepeatedExec, UnknownAlloc, UnknownExec,
@@ -8,11 +7,11 @@ use crate::scripts::Answer::{
 use crate::scripts::Said::{OtherSends, Sends};
 use crate::scripts::Watch::Position;
 use crate::scripts::{Act, Script, play_back_and_forth};
-use crate::words::Booked;
-use crate::words::Filled::{Bought, Fills};
-use crate::words::Step::{Allocates, Cancels, Corrects, Replaces, Trades};
 use blot_types::Sign::{Buy, Sell};
 use std::test::Fail;
+use tests_words::Filled::{Bought, Fills};
+use tests_words::Step::{Allocates, Cancels, Corrects, Replaces, Trades};
+use tests_words::{ALL_TO_A, BOTH, Booked, FIRST, SECOND};
 
 // 50 of E2 in the block, 49 in the lines.
 const LINES_OF_49: Booked = Booked {

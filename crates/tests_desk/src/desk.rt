@@ -1,19 +1,18 @@
 //! The desk: events, replies, the history and the snapshot.
 
-use crate::fixtures::{exec, fill, order, text};
 use crate::scripts::Answer::{
     Accepted, DuplicateExec, Moved, NothingToRedo, NothingToUndo, Redone, Undone, UnknownExec,
 };
 use crate::scripts::Said::{Redoes, Sends, Undoes};
 use crate::scripts::Watch::{Live, Order};
 use crate::scripts::{Act, Desk, Script, play};
-use crate::words::Filled::Bought;
-use crate::words::Step::{Allocates, Busts, Cancels, Corrects, Replaces, Trades};
-use crate::words::{Booked, Step, command};
 use blot_desk::{DeskFault, Event, Held, Recorded, Reply};
 use blot_types::{Command, Entry, OrderKey, Refused, Sign, Trade};
 use std::alloc::Global;
 use std::test::Fail;
+use tests_words::Filled::Bought;
+use tests_words::Step::{Allocates, Busts, Cancels, Corrects, Replaces, Trades};
+use tests_words::{Booked, Step, command, exec, fill, order, text};
 
 // Five trades undone and redone, then two undone, and a new command, which takes the place of the undone.
 fn five_undone_and_redone() -> &'static Script {
@@ -201,15 +200,18 @@ fn trade_up_to(alloc: Global, desk: &mut Desk, last: u64) -> Result<(), Fail> {
     Ok(())
 }
 
+// An entry has this number and this command.
+fn expect_entry(entry: &Entry, number: u64, command: &Command) -> Result<(), Fail> {
+    if entry.number != number || entry.command != *command {
+        return Err(Fail::new(format_args!("another entry under {number}")));
+    }
+    Ok(())
+}
+
 // An entry is the trade of a number.
 fn expect_trade(alloc: Global, entry: &Entry, number: u64) -> Result<(), Fail> {
     match trade_of(alloc, number) {
-        Ok(trade) => {
-            if entry.number != number || entry.command != trade {
-                return Err(Fail::new(format_args!("another entry under {number}")));
-            }
-            Ok(())
-        }
+        Ok(trade) => expect_entry(entry, number, &trade),
         Err(fail) => Err(fail),
     }
 }
@@ -228,15 +230,19 @@ fn expect_trades_up_to(alloc: Global, held: &Held, last: u64) -> Result<(), Fail
     Ok(())
 }
 
-#[test]
-fn a_moved_undo(rt: HostRuntime) -> Result<(), Fail> {
-    let alloc = rt.alloc();
-    let mut desk = Desk::new(alloc, "a moved undo");
-    trade_up_to(alloc, &mut desk, 42)?;
+// After 42 trades the undo of the 41st leaves them all.
+fn expect_moved(alloc: Global, desk: &mut Desk) -> Result<(), Fail> {
+    trade_up_to(alloc, desk, 42)?;
     expect_trades_up_to(alloc, desk.held(), 42)?;
     let moved = Reply::Refused(Refused::Moved(42));
     desk.expect(Event::Undo { newest: 41 }, moved)?;
     expect_trades_up_to(alloc, desk.held(), 42)
+}
+
+#[test]
+fn a_moved_undo(rt: HostRuntime) -> Result<(), Fail> {
+    let mut desk = Desk::new(rt.alloc(), "a moved undo");
+    expect_moved(rt.alloc(), &mut desk)
 }
 
 // The line of an order that nothing was filled of is none.
@@ -248,12 +254,20 @@ fn ask_unknown(held: &mut Held, unknown: OrderKey) -> Result<(), Fail> {
     }
 }
 
-// A record is that of an order that is asked for and has no line.
-fn expect_asked(recorded: &Recorded, unknown: &OrderKey) -> Result<(), Fail> {
-    if recorded.event != Event::AskOrder(*unknown) || recorded.reply != Reply::Order(None) {
-        return Err(Fail::new("another record"));
+// As many asks for this order as can be are recorded.
+fn fill_up(held: &mut Held, unknown: &OrderKey) -> Result<(), Fail> {
+    for _ in 0..100_000u32 {
+        ask_unknown(held, *unknown)?;
     }
     Ok(())
+}
+
+// A record is that of an order that is asked for and has no line.
+fn expect_asked(recorded: &Recorded, unknown: &OrderKey) -> Result<(), Fail> {
+    match (&recorded.event, &recorded.reply) {
+        (Event::AskOrder(order), Reply::Order(None)) if order == unknown => Ok(()),
+        _ => Err(Fail::new("another record")),
+    }
 }
 
 // As many events as can be are recorded, each of them this order asked for.
@@ -288,19 +302,27 @@ fn expect_full_of_commands(alloc: Global, held: &mut Held) -> Result<(), Fail> {
     Ok(())
 }
 
+// The desk is full for each other event.
+fn expect_full_of_others(held: &mut Held, unknown: OrderKey) -> Result<(), Fail> {
+    let (account, symbol) = (text(b"A1")?, text(b"XYZ")?);
+    expect_full(held, Event::Undo { newest: 1 })?;
+    expect_full(held, Event::Redo)?;
+    expect_full(held, Event::AskOrder(unknown))?;
+    expect_full(held, Event::AskPosition(account, symbol))
+}
+
+// Full, the desk takes no event, and shows what it did.
+fn expect_filled(alloc: Global, held: &mut Held) -> Result<(), Fail> {
+    let unknown = order(b"BRKA", b"O9")?;
+    fill_up(held, &unknown)?;
+    expect_full_of_commands(alloc, held)?;
+    expect_full_of_others(held, unknown)?;
+    expect_full_record(held, &unknown)?;
+    expect_trades_up_to(alloc, held, 0)
+}
+
 #[test]
 fn a_full_desk(rt: HostRuntime) -> Result<(), Fail> {
     let mut held = Held::new(rt.alloc());
-    let unknown = order(b"BRKA", b"O9")?;
-    for _ in 0..100_000u32 {
-        ask_unknown(&mut held, unknown)?;
-    }
-    expect_full_of_commands(rt.alloc(), &mut held)?;
-    expect_full(&mut held, Event::Undo { newest: 1 })?;
-    expect_full(&mut held, Event::Redo)?;
-    expect_full(&mut held, Event::AskOrder(unknown))?;
-    let (account, symbol) = (text(b"A1")?, text(b"XYZ")?);
-    expect_full(&mut held, Event::AskPosition(account, symbol))?;
-    expect_full_record(&held, &unknown)?;
-    expect_trades_up_to(rt.alloc(), &held, 0)
+    expect_filled(rt.alloc(), &mut held)
 }

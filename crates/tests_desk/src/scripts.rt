@@ -1,15 +1,14 @@
 //! Scripts of a desk: events in words, each with the reply to it and with what the desk shows after it. The
 //! first command that is taken has number 1.
 
-use crate::fixtures::{exec, order, record, text};
-use crate::shown::{order_text, position_text};
-use crate::words::{Step, command};
+use crate::history::record;
 use blot_decimal::{Qty, QtySum};
 use blot_desk::{Event, Held, Recorded, Reply};
 use blot_model::position_of;
 use blot_types::{OrderKey, OrderLine, PositionLine, Refused, Text64};
 use std::alloc::{AllocError, Global};
 use std::test::Fail;
+use tests_words::{Step, command, exec, order, order_text, position_text, text};
 
 /// An event in words.
 pub enum Said {
@@ -161,8 +160,8 @@ impl Desk {
     }
 
     /// The desk itself.
-    pub fn held(&mut self) -> &mut Held {
-        &mut self.held
+    pub fn held(&self) -> &Held {
+        &self.held
     }
 
     // The numbers of the live entries.
