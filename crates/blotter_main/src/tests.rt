@@ -86,9 +86,44 @@ fn words_are_read(rt: HostRuntime) -> Result<(), Fail> {
         ),
     ];
     for (line, want_own, want_peers) in rows {
-        let Words::Replay { own, day, peers } = parse_line(rt.alloc(), line)?;
+        let Words::Replay { own, day, peers } = parse_line(rt.alloc(), line)? else {
+            return Err(Fail::from(line));
+        };
         assert_eq!(rt; own.bytes(), want_own, "{line}");
         assert_eq!(rt; day.write().as_slice(), b"20240105".as_slice(), "{line}");
+        let peers = spelled(rt.alloc(), peers.as_slice())?;
+        assert_eq!(rt; peers.as_slice(), want_peers, "{line}");
+    }
+    Ok(())
+}
+
+#[test]
+fn words_of_a_desk_are_read(rt: HostRuntime) -> Result<(), Fail> {
+    let rows: [(&str, &[u8], &str, &[u8]); 2] = [
+        (
+            "blotter desk --own MO --capture day.fix BRKB BRKA",
+            b"MO",
+            "day.fix",
+            b" BRKB BRKA",
+        ),
+        (
+            "blotter desk BRKA --capture=a/b --own=-M",
+            b"-M",
+            "a/b",
+            b" BRKA",
+        ),
+    ];
+    for (line, want_own, want_file, want_peers) in rows {
+        let Words::Desk {
+            own,
+            capture,
+            peers,
+        } = parse_line(rt.alloc(), line)?
+        else {
+            return Err(Fail::from(line));
+        };
+        assert_eq!(rt; own.bytes(), want_own, "{line}");
+        assert_eq!(rt; capture.as_str(), want_file, "{line}");
         let peers = spelled(rt.alloc(), peers.as_slice())?;
         assert_eq!(rt; peers.as_slice(), want_peers, "{line}");
     }
@@ -107,6 +142,31 @@ fn words_are_refused(rt: HostRuntime) -> Result<(), Fail> {
             "blotter replay --help",
             "Reads a capture from standard input and, at its end,",
         ),
+        (
+            "blotter desk --help",
+            "Reads a capture from a file, as replay does,",
+        ),
+        (
+            "blotter desk --own MO A",
+            "error: the following required arguments were not provided:\n  --capture <FILE>",
+        ),
+        (
+            "blotter desk --capture F A",
+            "error: the following required arguments were not provided:\n  --own <OWN>",
+        ),
+        (
+            "blotter desk --own MO --capture F",
+            "error: the following required arguments were not provided:\n  <PEER>...",
+        ),
+        (
+            "blotter desk --own MO --day 20240105 --capture F A",
+            "error: unexpected argument '--day' found",
+        ),
+        (
+            "blotter desk --own MO --capture F A A",
+            "blotter: bad words",
+        ),
+        ("blotter desk --own= --capture F A", "blotter: bad words"),
         ("blotter play", "error: unrecognized subcommand 'play'"),
         (
             "blotter replay --size 1 --own MO --day 20240105 A",
@@ -212,7 +272,7 @@ fn outcomes_have_a_status_and_a_last_line(rt: HostRuntime) {
 
 #[test]
 fn runs_end_and_tell(rt: HostRuntime) {
-    let rows: [(&[u8], bool, u8, &[u8]); 4] = [
+    let rows: [(&[u8], bool, u8, &[u8]); 6] = [
         (b"blotter replay --own MO --day 20240105 A", false, 0, b""),
         (
             b"blotter replay --own MO --day 20240105 A",
@@ -227,6 +287,18 @@ fn runs_end_and_tell(rt: HostRuntime) {
             b"blotter: bad words\n",
         ),
         (b"blotter repl\xE4y", true, 2, b"blotter: bad words\n"),
+        (
+            b"blotter desk --own MO --capture no/such/file A",
+            false,
+            1,
+            b"blotter: input fault\n",
+        ),
+        (
+            b"blotter desk --own MO --capture no/such/file A A",
+            false,
+            2,
+            b"blotter: bad words\n",
+        ),
     ];
     for (line, is_broken, status, told) in rows {
         let mut input = Input { is_broken };
@@ -234,12 +306,17 @@ fn runs_end_and_tell(rt: HostRuntime) {
         let mut errors = Vec::new(rt.alloc());
         let outcome = run(
             &(Typed(line), rt.alloc()),
+            &rt,
             &mut input,
             &mut output,
             &mut errors,
         );
         assert_eq!(rt; outcome.status(), status);
-        assert!(rt; status == 0 || output.is_empty());
+        if status == 0 {
+            assert_eq!(rt; output.as_slice(), b"report\t20240105\nend\t0\n".as_slice());
+        } else {
+            assert!(rt; output.is_empty());
+        }
         assert_eq!(rt; errors.as_slice(), told);
     }
 }
