@@ -6,7 +6,6 @@
 mod allocation;
 mod command;
 mod fill;
-mod filled;
 mod items;
 mod keys;
 mod lines;
