@@ -1,16 +1,14 @@
 //! The rows of operators' scripts: a line, and its answer. `>` stands for a tab, and `/` for the end of a line within an
 //! answer.
 
-/// The messages of a capture, as `frame` has them, and the script behind it.
+use crate::capture_rows::TRADE;
+
+/// A script behind the capture of a Logon of BRKA and some messages.
 pub struct Script {
     pub name: &'static str,
     pub captured: &'static str,
     pub lines: &'static str,
 }
-
-/// 100 of 300 at 10.50.
-pub const FIRST_TRADE: &str =
-    "35=8|49=BRKA|56=MO|34=2|52=20240105-10:00:00|37=O1|17=E1|150=F|39=1|1=A1|55=XYZ|54=1|38=300|32=100|31=10.50|151=200|14=100|6=10.50|60=20240105-10:00:00|75=20240105|";
 
 /// An operator's morning, each answer to it worked out by hand.
 pub const MORNING: &str = "\
@@ -51,7 +49,7 @@ pub fn scripts() -> &'static [Script] {
     static SCRIPTS: [Script; 3] = [
         Script {
             name: "an operator's morning",
-            captured: FIRST_TRADE,
+            captured: TRADE,
             lines: MORNING,
         },
         Script {
@@ -71,7 +69,7 @@ withdraw>3 => bad>1
         },
         Script {
             name: "each fault of a line in each place, and then a report",
-            captured: FIRST_TRADE,
+            captured: TRADE,
             lines: "\
 fly => bad>1
  => bad>1

@@ -1,12 +1,12 @@
 //! `desk_lines` over terminals in memory.
 
-use crate::captures::frame;
-use crate::desk_rows::{AT_LIMITS, FIRST_TRADE, FULL, MORNING, Script, scripts};
-use crate::terminal::{Keyboard, NO_TROUBLE, Screen, Trouble};
-use blot_desk::{Event, Held, Reply};
-use blot_fields::{command_of, decode};
-use blot_tag::Reader;
-use blot_types::{Command, EVENTS_MAX, Text64};
+use crate::calls::{push_words, taken};
+use crate::capture_rows::{LOGON, TRADE};
+use crate::captures::{capture, frame};
+use crate::desk_rows::{AT_LIMITS, FULL, MORNING, Script, scripts};
+use crate::memory::{AT_ONCE, BY_BYTES, BY_LINES, INTERRUPTED, Manner, failing, reader, writer};
+use blot_desk::{Event, Held};
+use blot_types::EVENTS_MAX;
 use blotter::{ReplayFault, desk_lines};
 use std::alloc::{AllocError, Global};
 use std::process::Abort;
@@ -19,106 +19,33 @@ struct Dialogue {
     answers: Vec<u8>,
 }
 
-// How a terminal reads and writes.
-#[derive(Clone, Copy)]
-struct Manner {
-    // The most bytes of a call.
-    most: usize,
-    // Each read ends at the end of a line.
-    by_lines: bool,
-    // Each call of an odd number is interrupted.
-    interrupts: bool,
-}
-
-// A line a read, and an answer a write.
-const BY_LINES: Manner = Manner {
-    most: 100_000,
-    by_lines: true,
-    interrupts: false,
-};
-
-// All at once.
-const AT_ONCE: Manner = Manner {
-    most: 1_000_000,
-    by_lines: false,
-    interrupts: false,
-};
-
-// A byte a call.
-const BY_BYTES: Manner = Manner {
-    most: 1,
-    by_lines: false,
-    interrupts: false,
-};
-
-// Seven bytes a call, and each other call interrupted.
-const INTERRUPTED: Manner = Manner {
-    most: 7,
-    by_lines: false,
-    interrupts: true,
-};
-
-// The command of a frame of BRKA.
-fn command(alloc: Global, bytes: &[u8]) -> Result<Command, Fail> {
-    let peer = Text64::read(b"BRKA").ok_or("no text")?;
-    let mut reader = Reader::new(alloc);
-    reader.feed(bytes)?;
-    let Some(frame) = reader.next()? else {
-        return Err(Fail::new("no frame"));
-    };
-    let Ok(message) = decode(alloc, &frame) else {
-        return Err(Fail::new("a fault"));
-    };
-    match command_of(alloc, &message, peer) {
-        Ok(Some(command)) => Ok(command),
-        _ => Err(Fail::new("no command")),
-    }
-}
-
-// Submits the command of a message of BRKA.
-fn submit(alloc: Global, held: &mut Held, message: &str) -> Result<(), Fail> {
-    let bytes = frame(alloc, message)?;
-    let command = match command(alloc, &bytes) {
-        Ok(command) => command,
-        Err(fail) => return Err(fail),
-    };
-    match held.step(Event::Submit(command)) {
-        Ok(Reply::Accepted(_)) => Ok(()),
-        _ => Err(Fail::new("not accepted")),
-    }
-}
-
-// A desk that took the commands of some messages of BRKA.
-fn desk(alloc: Global, captured: &str) -> Result<Held, Fail> {
+// A desk that took a capture.
+fn desk(alloc: Global, bytes: &[u8]) -> Result<Held, Fail> {
     let mut held = Held::new(alloc);
-    for message in captured.lines() {
-        submit(alloc, &mut held, message)?;
+    match taken(alloc, &mut reader(bytes, AT_ONCE), &mut held)? {
+        Ok(()) => Ok(held),
+        Err(fault) => Err(Fail::new(format_args!("{fault}"))),
     }
-    Ok(held)
 }
 
-// A desk that took 200 trades of BRKA, E1 to E200, of 1 at 10.50 each.
-fn desk_of_200(alloc: Global) -> Result<Held, Fail> {
-    let mut held = Held::new(alloc);
+// The capture of BRKA's Logon and some messages.
+fn captured(alloc: Global, messages: &str) -> Result<Vec<u8>, AllocError> {
+    let mut bytes = frame(alloc, LOGON)?;
+    bytes.extend_from_slice(capture(alloc, messages)?.as_slice())?;
+    Ok(bytes)
+}
+
+// The capture of 200 trades of BRKA, E1 to E200, of 1 at 10.50 each.
+fn captured_200(alloc: Global) -> Result<Vec<u8>, AllocError> {
+    let mut bytes = frame(alloc, LOGON)?;
     for number in 1..201 {
+        let next = number + 1;
         let message = format!(in alloc;
-            "35=8|49=BRKA|56=MO|34=2|52=20240105-10:00:00|37=O1|17=E{number}|150=F|39=1|1=A1|55=XYZ|54=1|38=300|32=1|31=10.50|151=299|14=1|6=10.50|75=20240105|"
+            "35=8|49=BRKA|56=MO|34={next}|52=20240105-10:00:00|37=O1|17=E{number}|150=F|39=1|1=A1|55=XYZ|54=1|38=300|32=1|31=10.50|151=299|14=1|6=10.50|75=20240105|"
         )?;
-        submit(alloc, &mut held, message.as_str())?;
+        bytes.extend_from_slice(frame(alloc, message.as_str())?.as_slice())?;
     }
-    Ok(held)
-}
-
-// Puts words behind a text: a tab for each `>`, an LF for each `/`.
-fn push_words(text: &mut Vec<u8>, words: &str) -> Result<(), AllocError> {
-    for byte in words.as_bytes() {
-        text.push(match *byte {
-            b'>' => b'\t',
-            b'/' => b'\n',
-            other => other,
-        })?;
-    }
-    Ok(())
+    Ok(bytes)
 }
 
 // The bytes of some rows.
@@ -135,28 +62,6 @@ fn spell(alloc: Global, rows: &str) -> Result<Dialogue, Fail> {
     Ok(Dialogue { typed, answers })
 }
 
-// A keyboard on which this is typed.
-fn keyboard(rest: &[u8], manner: Manner, trouble: Trouble) -> Keyboard<'_> {
-    Keyboard {
-        rest,
-        most: manner.most,
-        by_lines: manner.by_lines,
-        trouble,
-        reads: 0,
-    }
-}
-
-// An empty screen.
-fn screen(alloc: Global, manner: Manner, trouble: Trouble) -> Screen {
-    Screen {
-        written: Vec::new(alloc),
-        most: manner.most,
-        trouble,
-        calls: 0,
-        flushes: 0,
-    }
-}
-
 // What is typed comes to its answers.
 fn check_typed(
     rt: &(impl Abort + AllocGlobal),
@@ -166,17 +71,8 @@ fn check_typed(
     answers: &[u8],
     manner: Manner,
 ) -> Result<(), Fail> {
-    let trouble = Trouble {
-        fails_at: 0,
-        interrupts: manner.interrupts,
-    };
-    let mut screen = screen(rt.alloc(), manner, trouble);
-    let outcome = desk_lines(
-        rt.alloc(),
-        &mut keyboard(typed, manner, trouble),
-        &mut screen,
-        held,
-    );
+    let mut screen = writer(rt.alloc(), manner);
+    let outcome = desk_lines(rt.alloc(), &mut reader(typed, manner), &mut screen, held);
     assert_eq!(rt; outcome, Ok(()), "{name}");
     assert_eq!(rt; screen.written.as_slice(), answers, "{name}");
     Ok(())
@@ -190,8 +86,9 @@ fn check_script(
 ) -> Result<(), Fail> {
     let Dialogue { typed, answers } = spell(rt.alloc(), script.lines)?;
     let unended = typed.as_slice().strip_suffix(b"\n").ok_or("no end")?;
+    let bytes = captured(rt.alloc(), script.captured)?;
     for typed in [typed.as_slice(), unended] {
-        let mut held = desk(rt.alloc(), script.captured)?;
+        let mut held = desk(rt.alloc(), &bytes)?;
         check_typed(rt, script.name, &mut held, typed, &answers, manner)?;
     }
     Ok(())
@@ -227,17 +124,17 @@ fn answers_to(answers: &[u8], count: u64) -> &[u8] {
 // flushed.
 fn check_failure(
     rt: &(impl Abort + AllocGlobal),
-    reads: Trouble,
-    calls: Trouble,
+    reads: Manner,
+    calls: Manner,
     answered: u64,
     flushed: u64,
 ) -> Result<ReplayFault, Fail> {
     let Dialogue { typed, answers } = spell(rt.alloc(), MORNING)?;
-    let mut held = desk(rt.alloc(), FIRST_TRADE)?;
-    let mut screen = screen(rt.alloc(), BY_LINES, calls);
+    let mut held = desk(rt.alloc(), &captured(rt.alloc(), TRADE)?)?;
+    let mut screen = writer(rt.alloc(), calls);
     let outcome = desk_lines(
         rt.alloc(),
-        &mut keyboard(&typed, BY_LINES, reads),
+        &mut reader(&typed, reads),
         &mut screen,
         &mut held,
     );
@@ -250,38 +147,42 @@ fn check_failure(
     Ok(outcome.err().ok_or("no fault")?)
 }
 
-// A call that fails.
-fn failing(fails_at: u64) -> Trouble {
-    Trouble {
-        fails_at,
-        interrupts: false,
-    }
-}
-
 #[test]
 fn each_line_is_answered_before_a_call_that_fails(rt: HostRuntime) -> Result<(), Fail> {
     // A line a read, and at last the end.
     for read in 1..14 {
-        let fault = check_failure(&rt, failing(read), NO_TROUBLE, read - 1, read - 1)?;
+        let fault = check_failure(&rt, failing(BY_LINES, read), BY_LINES, read - 1, read - 1)?;
         assert_eq!(rt; fault, ReplayFault::Read, "read {read}");
     }
 
     // A write and a flush for each line.
     for call in 1..25 {
-        let fault = check_failure(&rt, NO_TROUBLE, failing(call), call / 2, (call - 1) / 2)?;
+        let fault = check_failure(
+            &rt,
+            BY_LINES,
+            failing(BY_LINES, call),
+            call / 2,
+            (call - 1) / 2,
+        )?;
         assert_eq!(rt; fault, ReplayFault::Write, "call {call}");
     }
     Ok(())
 }
 
-#[test]
-fn a_full_desk_goes_on(rt: HostRuntime) -> Result<(), Fail> {
-    let mut held = Held::new(rt.alloc());
+// A desk with room for one event more.
+fn almost_full(alloc: Global) -> Result<Held, Fail> {
+    let mut held = Held::new(alloc);
     for _ in 1..EVENTS_MAX {
         let Ok(_) = held.step(Event::Redo) else {
             return Err(Fail::new("no step"));
         };
     }
+    Ok(held)
+}
+
+#[test]
+fn a_full_desk_goes_on(rt: HostRuntime) -> Result<(), Fail> {
+    let mut held = almost_full(rt.alloc())?;
     let Dialogue { typed, answers } = spell(rt.alloc(), FULL)?;
     check_typed(&rt, "a full desk", &mut held, &typed, &answers, BY_LINES)
 }
@@ -324,8 +225,9 @@ fn lines_at_their_limits(rt: HostRuntime) -> Result<(), Fail> {
     }
     push_words(&mut typed, "fly")?;
     push_words(&mut answers, AT_LIMITS)?;
+    let bytes = captured_200(rt.alloc())?;
     for manner in [BY_LINES, AT_ONCE, BY_BYTES] {
-        let mut held = desk_of_200(rt.alloc())?;
+        let mut held = desk(rt.alloc(), &bytes)?;
         check_typed(
             &rt,
             "lines at their limits",

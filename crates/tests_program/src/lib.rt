@@ -3,6 +3,10 @@
 #![tactic(auto)]
 
 #[cfg(test)]
+mod calls;
+#[cfg(test)]
+mod capture_rows;
+#[cfg(test)]
 mod captures;
 #[cfg(test)]
 mod correction_rows;
@@ -14,5 +18,3 @@ mod desks;
 mod memory;
 #[cfg(test)]
 mod replays;
-#[cfg(test)]
-mod terminal;
