@@ -10,6 +10,7 @@ use blot_time::Day;
 use blot_types::Text64;
 use blotter::{ReplayFault, capture, replay};
 use std::alloc::{AllocError, Global};
+use std::process::Abort;
 use std::test::Fail;
 
 // A text.
@@ -73,4 +74,20 @@ pub fn report(alloc: Global, day: &str, lines: &str) -> Result<Vec<u8>, AllocErr
     push_words(&mut report, lines)?;
     push_words(&mut report, format!(in alloc; "end>{count}/")?.as_str())?;
     Ok(report)
+}
+
+/// A capture is taken into a desk with this outcome; so many events are recorded then, and so many entries are live.
+pub fn check_taken(
+    rt: &(impl Abort + AllocGlobal),
+    name: &str,
+    held: &mut Held,
+    source: &mut Source,
+    expected: (Result<(), ReplayFault>, usize, usize),
+) -> Result<(), Fail> {
+    let (outcome, events, entries) = expected;
+    assert_eq!(rt; taken(rt.alloc(), source, held)?, outcome, "{name}");
+    assert_eq!(rt; held.history().len(), events, "{name}");
+    let live = held.snapshot()?.entries().len();
+    assert_eq!(rt; live, entries, "{name}");
+    Ok(())
 }

@@ -1,10 +1,12 @@
 //! `desk_lines` over terminals in memory.
 
-use crate::calls::{push_words, taken};
+use crate::calls::{check_taken, push_words, taken};
 use crate::capture_rows::{LOGON, TRADE};
 use crate::captures::{capture, frame};
-use crate::desk_rows::{AT_LIMITS, FULL, MORNING, Script, scripts};
-use crate::memory::{AT_ONCE, BY_BYTES, BY_LINES, INTERRUPTED, Manner, failing, reader, writer};
+use crate::desk_rows::{AT_LIMITS, FULL, MORNING, OTHER_TRADE, REPORT, Script, scripts};
+use crate::memory::{
+    AT_ONCE, BY_BYTES, BY_LINES, INTERRUPTED, Manner, cut_at, failing, reader, writer,
+};
 use blot_desk::{Event, Held};
 use blot_types::EVENTS_MAX;
 use blotter::{ReplayFault, desk_lines};
@@ -178,6 +180,60 @@ fn almost_full(alloc: Global) -> Result<Held, Fail> {
         };
     }
     Ok(held)
+}
+
+// The Logon of BRKA, the first trade, and another of 50 at 11.
+fn two_trades(alloc: Global) -> Result<Vec<u8>, AllocError> {
+    let mut bytes = captured(alloc, TRADE)?;
+    bytes.extend_from_slice(frame(alloc, OTHER_TRADE)?.as_slice())?;
+    Ok(bytes)
+}
+
+#[test]
+fn captures_into_a_desk_that_holds_events(rt: HostRuntime) -> Result<(), Fail> {
+    // A read that fails leaves the commands taken that came before. Each capture has sessions of its own.
+    let mut held = Held::new(rt.alloc());
+    let bytes = captured(rt.alloc(), TRADE)?;
+    for (fails_at, events) in [(1, 0), (2, 0), (3, 1), (0, 2)] {
+        let mut source = reader(&bytes, failing(cut_at(100), fails_at));
+        let outcome = if fails_at == 0 {
+            Ok(())
+        } else {
+            Err(ReplayFault::Read)
+        };
+        let expected = (outcome, events, events.min(1));
+        check_taken(&rt, "a desk", &mut held, &mut source, expected)?;
+    }
+    let bytes = two_trades(rt.alloc())?;
+    let mut source = reader(&bytes, AT_ONCE);
+    check_taken(&rt, "a desk", &mut held, &mut source, (Ok(()), 4, 2))?;
+    let (typed, answer) = REPORT;
+    let mut script = Vec::new(rt.alloc());
+    push_words(&mut script, typed)?;
+    let mut answers = Vec::new(rt.alloc());
+    push_words(&mut answers, answer)?;
+    check_typed(&rt, "a desk", &mut held, &script, &answers, BY_LINES)
+}
+
+#[test]
+fn a_capture_into_a_full_desk(rt: HostRuntime) -> Result<(), Fail> {
+    let mut held = almost_full(rt.alloc())?;
+    let bytes = two_trades(rt.alloc())?;
+    let full = EVENTS_MAX as usize;
+    for _ in 0..2 {
+        let mut source = reader(&bytes, AT_ONCE);
+        let expected = (Err(ReplayFault::Full), full, 1);
+        check_taken(&rt, "a full desk", &mut held, &mut source, expected)?;
+    }
+    let logon = frame(rt.alloc(), LOGON)?;
+    let mut source = reader(&logon, AT_ONCE);
+    check_taken(
+        &rt,
+        "a full desk",
+        &mut held,
+        &mut source,
+        (Ok(()), full, 1),
+    )
 }
 
 #[test]

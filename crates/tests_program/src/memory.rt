@@ -78,6 +78,11 @@ pub const INTERRUPTED: Manner = Manner {
     },
 };
 
+/// A first read of so many bytes, and then all the rest.
+pub fn cut_at(first: usize) -> Manner {
+    Manner { first, ..AT_ONCE }
+}
+
 /// A call that fails.
 pub fn failing(manner: Manner, fails_at: u64) -> Manner {
     Manner {

@@ -1,12 +1,12 @@
 //! `replay` and `capture` over captures in memory.
 
-use crate::calls::{replayed, report, taken};
+use crate::calls::{check_taken, replayed, report};
 use crate::capture_rows::{
     Capture, LINES, LOGON, LOGONS, THREE_DAYS, TRADE, captures, days, trades,
 };
 use crate::captures::{capture, frame};
 use crate::correction_rows::corrections;
-use crate::memory::{AT_ONCE, BY_BYTES, INTERRUPTED, Manner, failing, reader, writer};
+use crate::memory::{AT_ONCE, BY_BYTES, INTERRUPTED, Manner, cut_at, failing, reader, writer};
 use blot_desk::Held;
 use blotter::ReplayFault;
 use std::process::Abort;
@@ -32,22 +32,6 @@ fn check_report(
     Ok(())
 }
 
-// So many commands of a capture are taken, and of these the book accepts so many.
-fn check_taken(
-    rt: &(impl Abort + AllocGlobal),
-    row: &Capture,
-    bytes: &[u8],
-    manner: Manner,
-) -> Result<(), Fail> {
-    let mut held = Held::new(rt.alloc());
-    let outcome = taken(rt.alloc(), &mut reader(bytes, manner), &mut held)?;
-    assert_eq!(rt; outcome, Ok(()), "{}", row.name);
-    assert_eq!(rt; held.history().len(), row.events, "{}", row.name);
-    let entries = held.snapshot()?.entries().len();
-    assert_eq!(rt; entries, row.entries, "{}", row.name);
-    Ok(())
-}
-
 // Captures behind the Logons of BRKA and BRKB come to their reports.
 fn check_trades(rt: &(impl Abort + AllocGlobal), rows: &[(&str, &str, &str)]) -> Result<(), Fail> {
     for (name, messages, lines) in rows {
@@ -59,30 +43,41 @@ fn check_trades(rt: &(impl Abort + AllocGlobal), rows: &[(&str, &str, &str)]) ->
     Ok(())
 }
 
-#[test]
-fn captures_and_their_reports(rt: HostRuntime) -> Result<(), Fail> {
-    for row in captures() {
-        let bytes = capture(rt.alloc(), row.messages)?;
-        let expected = report(rt.alloc(), DAY, row.lines)?;
-        for manner in [AT_ONCE, BY_BYTES, INTERRUPTED] {
-            check_report(&rt, row.name, &bytes, DAY, &expected, manner)?;
-            check_taken(&rt, row, &bytes, manner)?;
-        }
-    }
-    check_trades(&rt, trades())?;
-    check_trades(&rt, corrections())?;
+// A capture comes to its report, and as much of it is taken as its row says.
+fn check_capture(
+    rt: &(impl Abort + AllocGlobal),
+    row: &Capture,
+    manner: Manner,
+) -> Result<(), Fail> {
+    let bytes = capture(rt.alloc(), row.messages)?;
+    let expected = report(rt.alloc(), DAY, row.lines)?;
+    check_report(rt, row.name, &bytes, DAY, &expected, manner)?;
+    let mut held = Held::new(rt.alloc());
+    let mut source = reader(&bytes, manner);
+    let expected = (Ok(()), row.events, row.entries);
+    check_taken(rt, row.name, &mut held, &mut source, expected)
+}
 
+// One capture comes to the reports of its days.
+fn check_days(rt: &(impl Abort + AllocGlobal)) -> Result<(), Fail> {
     let bytes = capture(rt.alloc(), THREE_DAYS)?;
     for (day, lines) in days() {
         let expected = report(rt.alloc(), day, lines)?;
-        check_report(&rt, day, &bytes, day, &expected, AT_ONCE)?;
+        check_report(rt, day, &bytes, day, &expected, AT_ONCE)?;
     }
     Ok(())
 }
 
-// A first read of so many bytes, and then all the rest.
-fn cut_at(first: usize) -> Manner {
-    Manner { first, ..AT_ONCE }
+#[test]
+fn captures_and_their_reports(rt: HostRuntime) -> Result<(), Fail> {
+    for row in captures() {
+        for manner in [AT_ONCE, BY_BYTES, INTERRUPTED] {
+            check_capture(&rt, row, manner)?;
+        }
+    }
+    check_trades(&rt, trades())?;
+    check_trades(&rt, corrections())?;
+    check_days(&rt)
 }
 
 // Four bytes a write, and one that fails.
