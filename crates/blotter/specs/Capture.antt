@@ -41,7 +41,8 @@ moment_at text = sending_of (fields_of text)
 abbrev pub frame_call : List ℕ → Call
 frame_call text = Frame text (moment_at text) true
 
--- what it delivers is taken; to the session it is one whether the book accepts it or refuses it
+-- what it delivers is taken. The reply says that the book accepts it; a refusal leads to the same session, and only what is sent,
+-- which is dropped here, would be another
 abbrev pub reply_calls : State → ℤ → List Call
 reply_calls state now = if is_some (awaited_of state) then Reply (Ok Accepted) now true ∷ [] else []
 

@@ -5,7 +5,7 @@ ghost use Rattle.blotter.specs.Outcome.{outcome_of, status_of, last_line_of};
 use std::alloc::AllocError as NoMemory;
 use thiserror::Error;
 
-/// Why a replay stopped before its end.
+/// Why a replay, a capture or an operator's lines stopped before their end.
 #[derive(Clone, Copy, Debug, PartialEq, Eq, Error)]
 pub enum ReplayFault {
     /// The input couldn't be read.
@@ -14,7 +14,7 @@ pub enum ReplayFault {
     /// The output couldn't be written.
     #[error("the output can't be written")]
     Write = 2,
-    /// The capture holds more commands than a day has events.
+    /// As many events are recorded as a day has, and a further command came.
     #[error("the capture has too many commands")]
     Full = 3,
     /// Memory ran out.
@@ -48,7 +48,7 @@ pub enum Outcome {
 }
 
 impl Outcome {
-    /// How a run ends whose replay answered this.
+    /// How a run ends whose last call answered this.
     pub fn of_replay(replayed: Result<(), ReplayFault>) -> Outcome
         ensures { result ≡ outcome_of replayed }
     {

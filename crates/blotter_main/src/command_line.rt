@@ -119,10 +119,15 @@ positions by account and then symbol:
   order    PEER ORDERID SYMBOL SIDE FILLED LEFT VALUE
   position ACCOUNT SYMBOL QUANTITY VALUE
   end      LINES
-SIDE is B or S, FILLED the quantity filled, LEFT what is left of the order's quantity, and VALUE the
-sum of quantity times price over the fills, as last corrected and without the busted ones. A sold
-position is negative. Account * is the house: what is allocated, less what was booked on, and fills
-without an account. LINES is how many lines of orders and positions stand between.
+SIDE is B for buy and S for sell, FILLED the quantity filled, LEFT what is left of the order's
+quantity, and an order's VALUE the sum of quantity times price over its fills, as last corrected and
+without the busted ones. A position is what its account bought less what it sold, at the prices of its
+fills or, where it was allocated, of the allocation. Account * is the house: it has the fills without
+an account and those that an allocation names, less what the allocation gave to accounts. LINES is
+how many lines of orders and positions stand between.
+
+A report without lines where some are expected: is OWN the TargetCompID(56) of the messages, and
+does each broker's part begin with its Logon, number 1?
 
 Example:
   blotter replay --own MO --day 20240105 BRKA < examples/first_trade.fix
@@ -135,8 +140,9 @@ Exit status:
 
 // What `desk --help` begins with.
 const ABOUT_DESK: &str = "\
-Reads a capture from a file, as replay does, and then answers the lines that its operator types, or
-that come from standard input, each at once and to the end of the input.";
+Reads a capture from a file: the messages of one broker or of several, each broker's from its Logon on.
+Then it answers the lines that its operator types, or that come from standard input, each at once and
+to the end of the input.";
 
 // What `desk -h` ends with.
 const DESK_EXAMPLE: &str = "\
@@ -146,23 +152,29 @@ Example:
 // What `desk --help` ends with.
 const AFTER_DESK: &str = "\
 The words of a line are divided by tabs (shown here as spaces):
-  order BRKA O1             the line of BRKA's order O1, or none
-  position A1 XYZ           the position of account A1 in XYZ, or none; account * is the house
-  report 20240105           the report of that day
-  undo 7                    undoes the newest step, which has to be number 7
+  order BRKA O1             the line of BRKA's order O1 over all days, or none
+  position A1 XYZ           the position of account A1 in XYZ over all days, or none; account * is the
+                            house
+  report 20240105           the report of that day alone
+  undo 1                    undoes the newest step, which has to be number 1
   redo                      does again what was undone last
-  allocate BRKA AL1 XYZ B 20240105 10.5 2 E1 E2 A1 60 A2 40
-                            books executions to accounts: broker, AllocID, symbol, side, day, price,
-                            how many executions and their ExecIDs, and then each account with its
-                            quantity
+  allocate BRKA AL1 XYZ B 20240105 10.5 1 E1 A1 60 A2 40
+                            books executions to accounts: broker, AllocID, symbol, side (B or S), day,
+                            price, how many executions and their ExecIDs, and then each account with
+                            its quantity
 
 The answers:
-  accepted 7, undone 7, redone 7      what was done, with its number
-  order .., position .., report ..    what was asked for, or none
+  order BRKA O1 XYZ B 100 200 1050    broker, OrderID, symbol, side, quantity filled, quantity left,
+                                      value (the sum of quantity times price)
+  position A1 XYZ 100 1050            account, symbol, quantity and value; negative where it sold
+  report 20240105 ..                  lines of orders and positions, and end with their count
+  none                                no such order or position
+  accepted 2, undone 1, redone 1      what was done, with its number
   refused 10 Quantity 100 90          the book doesn't take it: the refusal's number, its name, and
                                       what it names
-  bad 3 2                             the line asks nothing: 1 an unknown word, 2 too few or too many
-                                      words, 3 a bad value and its place, 4 a line that is too long
+  bad 3 2                             the line isn't understood: 1 an unknown word, 2 too few or too
+                                      many words, 3 a bad value and its place behind the first word,
+                                      4 a line that is too long
   full                                the day's record has no room for another event
 
 Example:

@@ -7,6 +7,7 @@ use blot_types::Text64;
 use blotter::{Outcome, ReplayFault};
 use std::alloc::{AllocError, Global};
 use std::env::{Env, FillError};
+use std::fs;
 use std::io::{self, ErrorKind, Read};
 use std::test::Fail;
 
@@ -144,7 +145,7 @@ fn words_are_refused(rt: HostRuntime) -> Result<(), Fail> {
         ),
         (
             "blotter desk --help",
-            "Reads a capture from a file, as replay does,",
+            "Reads a capture from a file: the messages of one broker",
         ),
         (
             "blotter desk --own MO A",
@@ -319,4 +320,40 @@ fn runs_end_and_tell(rt: HostRuntime) {
         }
         assert_eq!(rt; errors.as_slice(), told);
     }
+}
+
+// The first trade: BRKA's Logon, and its report of 100 of 300 XYZ bought at 10.50.
+const FIRST_TRADE: &[u8] =
+    b"8=FIX.4.4\x019=57\x0135=A\x0149=BRKA\x0156=MO\x0134=1\x0152=20240105-09:59:59\x0198=0\x01108=30\x0110=003\x018=FIX.4.4\x019=164\x0135=8\x0149=BRKA\x0156=MO\x0134=2\x0152=20240105-10:00:00\x0137=O1\x0117=E1\x01150=F\x0139=1\x011=A1\x0155=XYZ\x0154=1\x0138=300\x0132=100\x0131=10.50\x01151=200\x0114=100\x016=10.50\x0160=20240105-10:00:00\x0175=20240105\x0110=199\x01";
+
+// What a desk with the capture in a file answers these lines, and the status of its end.
+fn answers(rt: &HostRuntime, line: &'static [u8], asked: &[u8]) -> (Vec<u8>, u8) {
+    let mut lines = asked;
+    let mut output = Vec::new(rt.alloc());
+    let mut errors = Vec::new(rt.alloc());
+    let outcome = run(
+        &(Typed(line), rt.alloc()),
+        rt,
+        &mut lines,
+        &mut output,
+        &mut errors,
+    );
+    (output, outcome.status())
+}
+
+#[test]
+fn a_desk_answers_by_the_capture_in_its_file(rt: HostRuntime) -> Result<(), Fail> {
+    let path = "/tmp/blotter_main_first_trade.fix";
+    fs::write(&rt, path, FIRST_TRADE)?;
+    let (told, status) = answers(
+        &rt,
+        b"blotter desk --own MO --capture /tmp/blotter_main_first_trade.fix BRKA",
+        b"order\tBRKA\tO1\nundo\t1\norder\tBRKA\tO1\n",
+    );
+    fs::remove_file(&rt, path)?;
+    assert_eq!(rt;
+        told.as_slice(),
+        b"order\tBRKA\tO1\tXYZ\tB\t100\t200\t1050\nundone\t1\nnone\n".as_slice()
+    );
+    Ok(())
 }
