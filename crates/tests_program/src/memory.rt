@@ -1,6 +1,7 @@
 //! A reader and a writer in memory, whose calls fail or are interrupted where they are told to.
 ghost use Rattle.std.specs.Prelude.{◌≡◌, ◌≤◌, length, Some};
 
+use std::alloc::Global;
 use std::io::{Error, ErrorKind, Read, Result, Write};
 
 /// Which call fails, and whether some are interrupted.
