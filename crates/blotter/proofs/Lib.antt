@@ -2,6 +2,7 @@ mod DeskLemmas
 mod LineLemmas
 mod LookupLemmas
 mod OperatingLemmas
+mod PeerLemmas
 mod PieceLemmas
 mod ResultLemmas
 mod SessionLemmas

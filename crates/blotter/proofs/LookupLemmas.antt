@@ -1,19 +1,17 @@
 -- The session of a peer, among those that are out and in the table.
-use Rattle.std.proofs.Common.{◌≡◌, ℕ, ◌+◌, ◌≤◌, ◌<◌, Bool, true, false, List, [], ◌∷◌, ◌++◌, length, take, Option, Some, None, Result, Ok, Err, refl, sym, ap, subst, ◌∙◌, inl, inr, arith, zero, suc, slice_index_or, slice_set}
-use Rattle.std.specs.Prelude.{ℤ, is_some, if◌then◌else◌, find, All}
-use Rattle.std.specs.Cmp.Lexicographic.{bytes_decides, nat_list_eq_equiv}
+use Rattle.std.proofs.Common.{◌≡◌, ℕ, ◌+◌, ◌<◌, true, false, List, [], ◌∷◌, ◌++◌, length, take, Option, Some, None, Ok, Err, refl, sym, ap, subst, ◌∙◌, inl, inr, arith, zero, suc, slice_index_or, slice_set}
+use Rattle.std.specs.Prelude.{is_some, if◌then◌else◌}
+use Rattle.std.specs.Cmp.Lexicographic.{bytes_decides}
 use Rattle.std.specs.List.{list_any}
-use Rattle.std.specs.Option.{option_map, option_map_or, option_or, option_and_then}
-use Rattle.std.proofs.lemmas.Bool.{cases_Bool, cond_both, false≢true}
+use Rattle.std.specs.Option.{option_map_or, option_or, option_and_then}
+use Rattle.std.proofs.lemmas.Bool.{cases_Bool}
 use Rattle.std.proofs.lemmas.List.{length-append, take_at}
 use Rattle.std.proofs.lemmas.List.Folds.{find-append}
-use Rattle.std.proofs.lemmas.Grind.{take_at_read}
 use Rattle.blot_tag.specs.Fields.{fields_of}
 use Rattle.blot_fields.specs.Sender.{sender_of}
 use Rattle.blot_types.specs.Keys.{same_text}
 use Rattle.blot_session.specs.declared.state.State.{State}
 use Rattle.blot_session.specs.Runs.{behind_calls}
-use Rattle.blot_session.specs.States.{fresh}
 use Rattle.blot_slots.specs.declared.slot_fault.SlotFault.{SlotFault}
 use Rattle.blot_slots.specs.Slots.{Slots, slot_of, with_slot, all_in, answer_of}
 use Rattle.blot_slots.proofs.SlotLemmas.{slot_of-with_slot, slot_of-all_in}

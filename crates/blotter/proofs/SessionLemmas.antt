@@ -1,9 +1,9 @@
 -- What a frame comes to at its session.
-use Rattle.std.proofs.Common.{◌≡◌, ℕ, ◌+◌, ◌<◌, length, Bool, true, false, List, [], ◌∷◌, ◌++◌, map, Option, Some, None, Result, Ok, Err, refl, sym, ap, subst, ◌∙◌, inl, inr, pos, arith}
+use Rattle.std.proofs.Common.{◌≡◌, ℕ, ◌<◌, length, Bool, true, false, List, [], ◌∷◌, ◌++◌, map, Option, Some, None, Result, Ok, refl, sym, ap, subst, ◌∙◌, inl, inr, arith}
 use Rattle.std.specs.Prelude.{ℤ, IsSome, is_some, option_to_list, if◌then◌else◌}
 use Rattle.std.specs.List.{list_any}
 use Rattle.std.specs.Option.{option_and_then}
-use Rattle.std.proofs.lemmas.Bool.{cond_both, cases_Bool, cond-true, cond-false, false≢true}
+use Rattle.std.proofs.lemmas.Bool.{cond_both, cases_Bool, false≢true}
 use Rattle.std.proofs.lemmas.List.{append-nil}
 use Rattle.blot_types.specs.declared.command.Command.{Command}
 use Rattle.blot_types.specs.declared.refused.Refused.{Refused as Refusal}
@@ -20,14 +20,12 @@ use Rattle.blot_session.specs.declared.replies.SeenReply.TheVariants.{Accepted, 
 use Rattle.blot_session.specs.declared.state.Awaited.{Awaited}
 use Rattle.blot_session.specs.declared.state.Awaited.TheVariants as awaits
 use Rattle.blot_session.specs.declared.state.State.{State}
-use Rattle.blot_session.specs.Calls.{Outcome, Awaits, DeliversLast, is_deliver, is_spent, outcome_of, reply_row_by, row_of_reply, on_frame, on_reply}
+use Rattle.blot_session.specs.Calls.{Outcome, Awaits, DeliversLast, is_deliver, is_spent, outcome_of, reply_row_by, on_frame, on_reply}
 use Rattle.blot_session.specs.Rows.{reply_row}
-use Rattle.blot_session.specs.Runs.{Call, Numbered, outcome, behind_calls, said_by, delivered_by, taken_behind, taken_of}
-use Rattle.blot_session.specs.Runs.Call.{Frame, Reply, WaitAgain}
-use Rattle.blot_session.specs.States.{awaited_of, phase_of, waiting_again, IsIdle, IsAwaiting}
-use Rattle.blot_session.specs.Table.{messages_of}
+use Rattle.blot_session.specs.Runs.{Numbered, outcome, said_by, delivered_by, taken_behind}
+use Rattle.blot_session.specs.States.{awaited_of, phase_of}
 use Rattle.blotter.specs.Replay.{seen_by}
-use Rattle.blotter.specs.Capture.{delivered, frame_call, reply_calls, waiting_calls, behind_frame, behind_reply, calls_of, taken_by, moment_at, is_closed_phase}
+use Rattle.blotter.specs.Capture.{delivered, frame_call, reply_calls, waiting_calls, behind_frame, behind_reply, taken_by, moment_at, is_closed_phase}
 
 -- ---- what is delivered
 

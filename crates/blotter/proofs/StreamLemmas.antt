@@ -1,16 +1,15 @@
 -- The frames of a stream, taken one by one, and its pieces, one behind the other.
-use Rattle.std.proofs.Common.{◌≡◌, ℕ, ◌+◌, ◌<◌, ◌≤◌, List, [], ◌∷◌, ◌++◌, length, Option, Some, None, Result, Ok, Err, refl, sym, ap, ◌∙◌, arith, subst}
+use Rattle.std.proofs.Common.{◌≡◌, ℕ, List, [], ◌∷◌, ◌++◌, Option, Some, None, refl, sym, ap, ◌∙◌, subst}
 use Rattle.std.specs.Prelude.{IfSome}
 use Rattle.std.specs.Io.KnownBytes.{Consumes, Keeps, IsAtEnd}
 use Rattle.std.proofs.lemmas.List.{append_assoc, append-nil}
-use Rattle.blot_types.specs.declared.command.Command.{Command}
 use Rattle.blot_tag.specs.Reading.{Reading, TakesFirst, FindsNone}
 use Rattle.blot_tag.specs.Walking.{frames_of, joined_with}
 use Rattle.blot_tag.proofs.WalkLemmas.{walk_of-append, walk_of-prefix, look_of-nil}
 use Rattle.blot_tag.proofs.FrameLemmas.{look_of-prefix}
 use Rattle.blot_desk.specs.Desk.{Journal}
 use Rattle.blotter.specs.declared.outcome.ReplayFault.{ReplayFault}
-use Rattle.blotter.specs.declared.outcome.ReplayFault.TheVariants.{Full, NoMemory}
+use Rattle.blotter.specs.declared.outcome.ReplayFault.TheVariants.{Full}
 use Rattle.blotter.specs.Capture.{Sessions, sessions_behind, commands_in, commands_over}
 use Rattle.blotter.specs.Replay.{Taking, Came, CameOf, Stopped, submitted}
 use Rattle.blotter.proofs.DeskLemmas.{submitted-append, stopped-behind, stopped-before}

@@ -1,6 +1,6 @@
 -- What a capture comes to. Each frame goes to the session of its sender, with its own SendingTime as the moment; each command
 -- that a session takes goes to the desk.
-use Rattle.std.specs.Prelude.{ℕ, ℤ, pos, Bool, true, false, List, [], ◌∷◌, ◌++◌, ◌==◌, map, Option, Some, None, Ok, Err, is_some, if◌then◌else◌}
+use Rattle.std.specs.Prelude.{◌≡◌, ℕ, ℤ, pos, Bool, true, false, List, [], ◌∷◌, ◌++◌, ◌==◌, map, filter, Option, Some, None, Ok, Err, is_some, if◌then◌else◌}
 use Rattle.std.specs.List.{list_any}
 use Rattle.std.specs.Option.{option_map, option_map_or, option_and_then}
 use Rattle.std.specs.Result.{result_unwrap_or}
@@ -96,6 +96,28 @@ commands_in sessions text = option_map_or (λ state. taken_by state text) (optio
 abbrev pub commands_over : Sessions → List (List ℕ) → List Command
 commands_over sessions [] = []
 commands_over sessions (text ∷ texts) = commands_in sessions text ++ commands_over (sessions_behind sessions text) texts
+
+-- ---- the law: the commands that the frames of one peer bring are those that its session takes of them
+
+-- the commands of some frames that those of one peer bring
+abbrev pub commands_from : List ℕ → Sessions → List (List ℕ) → List Command
+commands_from peer sessions [] = []
+commands_from peer sessions (text ∷ texts) =
+    (if is_from peer text then commands_in sessions text else []) ++ commands_from peer (sessions_behind sessions text) texts
+
+-- all calls of a session over its own frames, one behind the other
+abbrev pub calls_over : State → List (List ℕ) → List Call
+calls_over state [] = []
+calls_over state (text ∷ texts) = calls_of state text ++ calls_over (behind_calls state (calls_of state text)) texts
+
+-- for each listed peer: what `taken_of` says of the calls of its own session, over the frames that are its own
+abbrev pub TakesEachPeer : List ℕ → List (List ℕ) → Type 0
+TakesEachPeer own peers =
+    (peer : List ℕ) (texts : List (List ℕ)) → list_any (λ listed. same_text listed peer) peers ≡ true
+    → commands_from peer (first_sessions own peers) texts
+    ≡ map (λ taken. taken.command) (taken_of (fresh own peer) (calls_over (fresh own peer) (filter (is_from peer) texts)))
+
+-- ---- a byte stream
 
 -- the commands of a byte stream
 abbrev pub commands_of : List ℕ → List (List ℕ) → List ℕ → List Command

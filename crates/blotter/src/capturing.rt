@@ -4,7 +4,7 @@ ghost use Rattle.std.specs.Io.KnownBytes.{IsAtEnd};
 ghost use Rattle.std.specs.List.{IsDistinct};
 ghost use Rattle.blot_types.specs.Keys.{same_text};
 ghost use Rattle.blot_tag.specs.Walking.{frames_of};
-ghost use Rattle.blotter.specs.Capture.{commands_of, commands_over};
+ghost use Rattle.blotter.specs.Capture.{commands_of, commands_over, TakesEachPeer};
 ghost use Rattle.blotter.specs.Sessions.{sessions_of};
 ghost use Rattle.blotter.specs.Replay.{submitted, Stopped};
 
@@ -25,6 +25,7 @@ use std::io::Read;
 ///
 /// A fault is Read, Full (as many events are recorded as a day has, and a further command came), NoMemory or TooLong (more
 /// than 2^30 reads). The desk has taken a front of the commands then.
+#[tactic(auto, using(crate::proofs::PeerLemmas::each_peer))]
 pub fn capture<R: Read>(
     alloc: Global,
     input: &mut R,
@@ -38,6 +39,9 @@ pub fn capture<R: Read>(
     ensures stopped { IfErr result (λ fault. IfSome (R.remaining input.old) (λ bytes.
         Stopped fault held.old held.new (commands_of own peers.now bytes))) }
     ensures no_write { result ≢ Err ReplayFault.Write }
+
+    // The commands that a peer's frames bring are those that its own session takes of them, in their order.
+    ensures each_peer { TakesEachPeer own peers.now }
 {
     match Sessions::new(alloc, own, peers) {
         Ok(mut sessions) => take_all(alloc, input, &mut sessions, held),

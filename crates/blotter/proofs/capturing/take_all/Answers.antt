@@ -1,4 +1,4 @@
-use Rattle.std.proofs.Common.{◌≡◌, ◌≤◌, ℕ, List, ◌++◌, length, take, drop, arith, refl, sym, ap, ◌∙◌}
+use Rattle.std.proofs.Common.{◌≡◌, length, take, drop, arith, refl, ap, ◌∙◌}
 use Rattle.blot_tag.specs.Walking.{frames_of}
 use Rattle.blotter.specs.Replay.{Taking}
 use Rattle.blotter.specs.Sessions.{sessions_of}

@@ -1,4 +1,4 @@
-use Rattle.std.proofs.Common.{sym, ap, subst, ◌∙◌, Ok}
+use Rattle.std.proofs.Common.{ap, subst, ◌∙◌, Ok}
 use Rattle.blot_tag.specs.Reading.{Leaves, TakesFirst, FindsNone}
 use Rattle.blot_tag.specs.Views.{text_of}
 use Rattle.blotter.specs.Replay.{Taking}

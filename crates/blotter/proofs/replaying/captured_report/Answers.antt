@@ -1,7 +1,6 @@
-use Rattle.std.proofs.Common.{◌≡◌, ◌<◌, ◌≤◌, ℕ, List, length, ap, arith, subst, sym, ◌∙◌, Ok, Err, refl}
+use Rattle.std.proofs.Common.{◌≡◌, ◌<◌, ◌≤◌, ℕ, List, length, ap, arith, subst, ◌∙◌}
 use Rattle.blot_types.specs.declared.TheConstants.{EVENTS_MAX}
 use Rattle.blot_desk.specs.Desk.{run_of}
-use Rattle.blotter.specs.declared.outcome.ReplayFault.{ReplayFault}
 use Rattle.blotter.specs.declared.outcome.ReplayFault.TheVariants.{Full}
 use Rattle.blotter.specs.Capture.{commands_of}
 use Rattle.blotter.specs.Replay.{Stopped, submitted, list_of, report_of}

@@ -1,7 +1,6 @@
-use Rattle.std.proofs.Common.{◌≡◌, ◌≤◌, ◌∙◌, refl, sym, ap, subst, arith, length, take, None}
+use Rattle.std.proofs.Common.{◌≡◌, ◌≤◌, ◌∙◌, refl, sym, ap, subst, arith, length, None}
 use Rattle.std.proofs.lemmas.List.{take_all}
 use Rattle.blot_types.specs.Keys.{same_text}
-use Rattle.blot_session.specs.declared.state.State.{State}
 use Rattle.blotter.specs.Sessions.{session_among}
 use Rattle.blotter.proofs.LookupLemmas.{among-more, is_at}
 use Rattle.blotter.proofs.sessions.place_out.Goals as goal

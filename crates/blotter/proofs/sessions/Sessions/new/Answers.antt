@@ -1,5 +1,4 @@
 use Rattle.std.proofs.Common.{[], ap, ◌∙◌}
-use Rattle.blot_slots.specs.Slots.{all_in}
 use Rattle.blotter.specs.Sessions.{session_in}
 use Rattle.blotter.proofs.LookupLemmas.{sessions-first}
 use Rattle.blotter.proofs.sessions.Sessions.new.Goals as goal

@@ -1,9 +1,6 @@
-use Rattle.std.proofs.Common.{◌≡◌, ◌∙◌, ap, sym, subst, Some, None, slice_index_or, slice_set}
-use Rattle.blot_tag.specs.Fields.{fields_of}
+use Rattle.std.proofs.Common.{◌≡◌, ◌∙◌, ap, sym, subst, None}
 use Rattle.blot_tag.specs.Views.{text_of}
-use Rattle.blot_fields.specs.Sender.{sender_of}
-use Rattle.blot_session.specs.Runs.{behind_calls}
-use Rattle.blotter.specs.Capture.{sessions_behind, commands_in, calls_of, taken_by}
+use Rattle.blotter.specs.Capture.{sessions_behind, commands_in, taken_by}
 use Rattle.blotter.specs.Replay.{submitted, Stopped}
 use Rattle.blotter.specs.Sessions.{session_in, sessions_of, IsAt}
 use Rattle.blotter.proofs.LookupLemmas.{sessions-changed, commands-at, sessions-strange, commands-strange}
