@@ -95,6 +95,27 @@ pub awaits_reply : (state next : State) (actions : List Action) (said : Result M
 awaits_reply state next actions said now idle is =
     subst (λ (outcome : Outcome). Awaits outcome.state outcome.actions) (sym is) (frame-awaits state said now idle)
 
+-- ---- a moment and a reply deliver nothing
+
+rests-awaits : (row : Row) (state : State) (now : ℤ) → IsIdle row.state → is_delivery row.end ≡ false
+    → Awaits (outcome_of state row None now).state (outcome_of state row None now).actions
+rests-awaits row state now idle end =
+    cond_both (is_spent state row) _ _ (λ (outcome : Outcome). Awaits outcome.state outcome.actions)
+    (λ y. record { last = tt; awaited = refl })
+    (λ n. carried-awaits row None now (none-ending row.end None end ∙ ap is_some (sym idle)))
+
+pub awaits_tick : (state next : State) (actions : List Action) (now : ℤ) → IsIdle state
+    → record { state = next; actions = actions } ≡ on_tick state now → Awaits next actions
+awaits_tick state next actions now idle is =
+    let rests = tick-rests state now idle in
+    subst (λ (outcome : Outcome). Awaits outcome.state outcome.actions) (sym is) (rests-awaits (tick_row state now) state now rests.idle rests.end)
+
+pub awaits_after_reply : (state next : State) (actions : List Action) (reply : Result SeenReply NotTaken) (now : ℤ) → IsAwaiting state
+    → record { state = next; actions = actions } ≡ on_reply state reply now → Awaits next actions
+awaits_after_reply state next actions reply now awaiting is =
+    let settled = settles state reply awaiting in
+    subst (λ (outcome : Outcome). Awaits outcome.state outcome.actions) (sym is) (rests-awaits (row_of_reply state reply) state now settled.idle settled.end)
+
 -- ---- the session behind a call
 
 -- nothing awaits a reply

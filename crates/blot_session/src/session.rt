@@ -132,14 +132,15 @@ impl Session {
 
     /// A moment passes: a Heartbeat or a TestRequest may be due, or the peer given up. Out of memory, the session is
     /// closed, with its number expected as before.
-    #[tactic(auto, using(crate::proofs::StateLemmas::row_fits_tick))]
+    #[tactic(auto, using(crate::proofs::StateLemmas::row_fits_tick, crate::proofs::DeliveryLemmas::awaits_tick))]
     pub fn on_tick(&mut self, alloc: Global, now: Moment) -> Result<Vec<Action>, NoMemory>
         requires { IsIdle self.old }
         ensures ok { IfOk result (λ actions. record { state = self.new; actions = actions.items } ≡ on_tick self.old now) }
         ensures err { OnErr result (self.new ≡ closed self.old) }
 
-        // It is the same peer's, and no command awaits its reply.
+        // It is the same peer's, nothing is delivered, and no command awaits its reply.
         ensures peer { self.new.peer ≡ self.old.peer }
+        ensures awaits { IfOk result (λ actions. Awaits self.new actions.items) }
         ensures idle { IsIdle self.new }
     {
         let closed = self.state.closed();
@@ -150,7 +151,7 @@ impl Session {
 
     /// The reply to the command that was delivered last. Out of memory, the session is closed; a command that was taken
     /// counts all the same.
-    #[tactic(auto, using(crate::proofs::StateLemmas::row_fits_reply, crate::proofs::StateLemmas::closed_row))]
+    #[tactic(auto, using(crate::proofs::StateLemmas::row_fits_reply, crate::proofs::StateLemmas::closed_row, crate::proofs::DeliveryLemmas::awaits_after_reply))]
     pub fn on_reply(
         &mut self,
         alloc: Global,
@@ -161,8 +162,9 @@ impl Session {
         ensures ok { IfOk result (λ actions. record { state = self.new; actions = actions.items } ≡ on_reply self.old reply now) }
         ensures err { OnErr result (self.new ≡ closed (row_of_reply self.old reply).state) }
 
-        // It is the same peer's, and no command awaits its reply.
+        // It is the same peer's, nothing is delivered, and no command awaits its reply.
         ensures peer { self.new.peer ≡ self.old.peer }
+        ensures awaits { IfOk result (λ actions. Awaits self.new actions.items) }
         ensures idle { IsIdle self.new }
     {
         let row = row_of_reply(self.state, reply);
