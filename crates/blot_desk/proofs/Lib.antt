@@ -1,1 +1,3 @@
 pub mod DeskLemmas
+pub mod EqualLemmas
+pub mod MarkLemmas

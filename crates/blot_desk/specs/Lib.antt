@@ -1,1 +1,3 @@
 pub mod Desk
+pub mod Marks
+pub mod Receipts

@@ -1,5 +1,5 @@
 //! What a desk holds.
-ghost use Rattle.std.specs.Prelude.{◌≡◌, ◌↔◌, ◌∷◌, ◌++◌, [], Err, IfOk, OnErr, IsOk, IsTrue, ◌<◌, ◌≤◌, length, vec_capacity};
+ghost use Rattle.std.specs.Prelude.{◌≡◌, ◌≢◌, ◌↔◌, ◌∷◌, ◌++◌, [], Err, IfOk, OnErr, IsOk, IsTrue, ◌<◌, ◌≤◌, length, vec_capacity};
 ghost use Rattle.blot_types.specs.Legal.{is_book};
 ghost use Rattle.blot_types.specs.Order.{order_of};
 ghost use Rattle.blot_types.specs.Position.{position_of};
@@ -61,6 +61,7 @@ impl Held {
             → IfOk result (λ reply. reply ≡ Reply.Position (position_of (run_of (events_of self.old.history)).book.list account symbol)) }
 
         ensures full { (result ≡ Err DeskFault.Full) ↔ (length self.old.history ≡ EVENTS_MAX) }
+        ensures faults { result ≢ Err DeskFault.Unsettled }
         ensures err { OnErr result (self.new ≡ self.old) }
     {
         if self.history.len() as u64 == EVENTS_MAX {

@@ -1,15 +1,25 @@
 //! The desk: one event at a time, answered, and recorded with its answer. `Held` keeps the book with its steps,
 //! done and undone, and the history of the day; its book and its replies are those of the run of the events that
-//! it recorded. It has no lock: who shares it puts one round it.
+//! it recorded. `Desk` is one under its lock: each caller has a seat, which keeps a receipt of every answer, and at the
+//! end of the day the receipts are laid beside the history.
 #![tactic(auto)]
 
+mod closed;
+mod desk;
 mod event;
 mod fault;
 mod held;
+mod receipt;
+mod seat;
+mod settling;
 mod snapshot;
 mod taking;
 
+pub use closed::{Closed, Settled};
+pub use desk::Desk;
 pub use event::{Event, Recorded, Reply};
 pub use fault::DeskFault;
 pub use held::Held;
+pub use receipt::Receipt;
+pub use seat::Seat;
 pub use snapshot::Snapshot;

@@ -82,6 +82,23 @@ impl SlotTable {
         session.wait_again();
         put_in(&mut self.slots, session);
     }
+
+    /// Takes back the session of a peer where that is out, and else leaves the table as it is.
+    pub(crate) fn take_back(&mut self, session: Session)
+        ensures out { slot_of self.old session.peer ≡ Some None → self.new ≡ with_slot session.peer (Some (waiting_again session)) self.old }
+        ensures other { (slot_of self.old session.peer ≡ Some None → ⊥) → self.new ≡ self.old }
+    {
+        if is_out(&self.slots, &session.peer()) {
+            self.check_in(session);
+        }
+    }
+}
+
+// Whether the session of a listed peer is out.
+fn is_out(slots: &IndexMap<Text64, Option<Session>>, peer: &Text64) -> bool
+    ensures { (result ≡ true) ↔ (lookup (same_text peer.now) slots.now.entries ≡ Some None) }
+{
+    matches!(slots.get(peer), Some(None))
 }
 
 // Takes the session of a peer out of its slot.

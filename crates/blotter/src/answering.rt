@@ -84,7 +84,7 @@ fn answer_event(held: &mut Held, event: Event) -> Result<Answer, NoMemory>
     match held.step(event) {
         Ok(reply) => Ok(with_key(&asked, &reply)),
         Err(DeskFault::Full) => Ok(Answer::Full),
-        Err(DeskFault::NoMemory) => Err(NoMemory),
+        Err(_) => Err(NoMemory),
     }
 }
 

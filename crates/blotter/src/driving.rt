@@ -135,13 +135,13 @@ fn tell(
     }
 }
 
-// A fault of the desk, as a capture's.
+// A fault of a step, as a capture's: the desk is full, or memory ran out.
 fn fault_of(fault: DeskFault) -> ReplayFault
     ensures { result ≡ fault_of fault }
 {
     match fault {
         DeskFault::Full => ReplayFault::Full,
-        DeskFault::NoMemory => ReplayFault::NoMemory,
+        _ => ReplayFault::NoMemory,
     }
 }
 

@@ -1,0 +1,27 @@
+-- Marks on the places of a history that have a receipt.
+use Rattle.std.specs.Prelude.{◌≡◌, ℕ, ◌+◌, ◌<◌, ◌≤◌, Bool, true, false, List, length, slice_index_or, if◌then◌else◌}
+use Rattle.blot_desk.specs.declared.event.Recorded.{Recorded}
+use Rattle.blot_desk.specs.declared.receipt.Receipt.{Receipt}
+use Rattle.blot_desk.specs.Receipts.{AllStand, EachRises, RiseFrom, all_receipts, count_at}
+
+-- how many marks a place has: 1 or none
+abbrev pub mark_at : List Bool → ℕ → ℕ
+mark_at marks place = if slice_index_or marks place false then 1 else 0
+
+-- the receipts of a seat stand in the history, their places rise, and each marks a place that had no mark
+pub record AreMarked (history : List Recorded) (before after : List Bool) (receipts : List Receipt) : Type 0 where
+  pub stand : AllStand history receipts
+  pub rise : RiseFrom 0 receipts
+  pub counted : (place : ℕ) → mark_at after place ≡ mark_at before place + count_at place receipts
+
+-- some receipts are of a place that has a mark already, or two of them are of one place
+pub record HasTwo (history : List Recorded) (before : List Bool) (receipts : List Receipt) : Type 0 where
+  pub place : ℕ
+  pub within : place < length history
+  pub two : 2 ≤ mark_at before place + count_at place receipts
+
+-- the receipts of all seats are marked
+pub record AllMarked (history : List Recorded) (before after : List Bool) (seats : List (List Receipt)) : Type 0 where
+  pub stand : AllStand history (all_receipts seats)
+  pub rise : EachRises seats
+  pub counted : (place : ℕ) → mark_at after place ≡ mark_at before place + count_at place (all_receipts seats)

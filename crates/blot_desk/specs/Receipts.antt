@@ -1,0 +1,77 @@
+-- The receipts of a seat: what it was told, at which place of the history.
+use Rattle.std.specs.Prelude.{◌≡◌, ℕ, ◌+◌, ◌<◌, ◌≤◌, ◌==◌, Bool, true, false, nat_le, List, [], ◌∷◌, ◌++◌, fold, length, slice_get, Option, Some, None, if◌then◌else◌}
+use Rattle.blot_desk.specs.declared.event.Event.{Event}
+use Rattle.blot_desk.specs.declared.event.Recorded.{Recorded}
+use Rattle.blot_desk.specs.declared.event.Reply.{Reply}
+use Rattle.blot_desk.specs.declared.event.Reply.TheVariants.{Accepted, Undone, Redone}
+use Rattle.blot_desk.specs.declared.receipt.Receipt.{Receipt}
+
+-- some receipts are others, and one more behind them: of this event and this reply, at some place
+pub record IsOneMore (before after : List Receipt) (event : Event) (reply : Reply) : Type 0 where
+  pub place : ℕ
+  pub more : after ≡ before ++ record { place = place; event = event; reply = reply } ∷ []
+
+-- ---- the newest number of a seat
+
+-- whether a number is undone behind a reply; a number that is accepted or done again isn't
+abbrev pub undone_by : ℕ → Bool → Reply → Bool
+undone_by number undone (Undone other) = if other == number then true else undone
+undone_by number undone (Redone other) = if other == number then false else undone
+undone_by number undone reply = undone
+
+-- whether some receipts leave a number undone
+abbrev pub is_undone : ℕ → List Receipt → Bool
+is_undone number receipts = fold (λ undone receipt. undone_by number undone receipt.reply) false receipts
+
+-- a number that a reply accepts, where the later receipts don't leave it undone
+abbrev pub standing : Reply → List Receipt → Option ℕ
+standing (Accepted number) later = if is_undone number later then None else Some number
+standing reply later = None
+
+-- the greater of two numbers that may be there
+abbrev pub greater : Option ℕ → Option ℕ → Option ℕ
+greater None other = other
+greater (Some number) None = Some number
+greater (Some number) (Some other) = if nat_le number other then Some other else Some number
+
+-- the greatest number that some receipts show as accepted and don't leave undone
+abbrev pub newest_of : List Receipt → Option ℕ
+newest_of [] = None
+newest_of (receipt ∷ later) = greater (standing receipt.reply later) (newest_of later)
+
+-- ---- receipts laid beside the history
+
+-- the history has the event and the reply of a receipt at its place
+abbrev pub Stands : List Recorded → Receipt → Type 0
+Stands history receipt = slice_get history receipt.place ≡ Some (record { event = receipt.event; reply = receipt.reply })
+
+abbrev pub AllStand : List Recorded → List Receipt → Type 0
+AllStand history [] = Unit {0}
+AllStand history (receipt ∷ later) = Stands history receipt × AllStand history later
+
+-- the places of some receipts rise, from this place on
+abbrev pub RiseFrom : ℕ → List Receipt → Type 0
+RiseFrom from [] = Unit {0}
+RiseFrom from (receipt ∷ later) = (from ≤ receipt.place) × RiseFrom (receipt.place + 1) later
+
+-- those of each seat do
+abbrev pub EachRises : List (List Receipt) → Type 0
+EachRises [] = Unit {0}
+EachRises (receipts ∷ seats) = RiseFrom 0 receipts × EachRises seats
+
+-- how many of some receipts are of this place
+abbrev pub count_at : ℕ → List Receipt → ℕ
+count_at place [] = 0
+count_at place (receipt ∷ later) = (if receipt.place == place then 1 else 0) + count_at place later
+
+-- the receipts of all seats
+abbrev pub all_receipts : List (List Receipt) → List Receipt
+all_receipts [] = []
+all_receipts (receipts ∷ seats) = receipts ++ all_receipts seats
+
+-- every answer that a seat got stands in the history at its place, each seat got its answers in the order of the history, and
+-- every answer of the history was got once
+pub record IsSettled (history : List Recorded) (seats : List (List Receipt)) : Type 0 where
+  pub stand : AllStand history (all_receipts seats)
+  pub rise : EachRises seats
+  pub once : (place : ℕ) → place < length history → count_at place (all_receipts seats) ≡ 1

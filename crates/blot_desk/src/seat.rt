@@ -1,0 +1,156 @@
+//! A seat at a desk, which keeps its receipts.
+ghost use Rattle.std.specs.Prelude.{◌≡◌, ◌≢◌, ◌↔◌, ◌+◌, ◌<◌, ◌++◌, ◌∷◌, [], length, vec_capacity, Err, IfOk, OnOk, OnErr};
+ghost use Rattle.blot_types.specs.declared.TheConstants.{EVENTS_MAX};
+ghost use Rattle.blot_desk.specs.Desk.{recorded_of, step_of};
+ghost use Rattle.blot_desk.specs.Receipts.{greater, is_undone, newest_of, standing, undone_by};
+
+use crate::{DeskFault, Event, Held, Receipt, Reply};
+use blot_types::EVENTS_MAX;
+use std::alloc::Global;
+use std::marker::Model;
+use std::sync::ledger::{Book, Ledger, Share};
+
+/// A seat at the desk of a ledger: whoever submits events has one. A contract sees it as its receipts, in the order in which
+/// it got them.
+#[derive(Drop)]
+pub struct Seat<L: Ledger> {
+    receipts: Vec<Receipt>,
+    share: Share<L>,
+}
+
+impl<L: Ledger> Model for Seat<L> {
+    ghost use Rattle.std.specs.Prelude.{◌≡◌, List, length};
+    ghost use Rattle.blot_desk.specs.declared.receipt.Receipt.{Receipt};
+
+    ghost Value = { List Receipt };
+
+    ghost view = { λ seat. seat.receipts.items };
+
+    ghost invariant = { λ seat. (seat.share.parts ≡ 1) × (seat.share.amount ≡ length seat.receipts.items) };
+}
+
+impl<L: Ledger> Seat<L> {
+    /// A seat without receipts.
+    pub(crate) fn new(alloc: Global, share: Share<L>) -> Seat<L>
+        requires parts { share.parts ≡ 1 }
+        requires amount { share.amount ≡ 0 }
+        ensures { result ≡ [] }
+    {
+        Seat {
+            receipts: Vec::new(alloc),
+            share,
+        }
+    }
+
+    /// Takes an event to a desk, and keeps a receipt of the reply. Where the desk is full, or memory runs out, nothing is recorded
+    /// and no receipt kept.
+    pub(crate) fn take(
+        &mut self,
+        alloc: Global,
+        held: &mut Held,
+        book: &mut Book<L>,
+        event: Event,
+    ) -> Result<Reply, DeskFault>
+        ensures reply { IfOk result (λ reply. reply ≡ (step_of held.old.book event).reply) }
+        ensures taken { IfOk result (λ reply. held.new ≡ recorded_of held.old event) }
+        ensures counted { OnOk result (book.new.total ≡ book.old.total + 1) }
+        ensures receipt { IfOk result (λ reply. self.new ≡ self.old ++ record { place = length held.old.history; event = event; reply = reply } ∷ []) }
+        ensures full { (result ≡ Err DeskFault.Full) ↔ (length held.old.history ≡ EVENTS_MAX) }
+        ensures err { OnErr result ((held.new ≡ held.old) × (book.new.total ≡ book.old.total) × (self.new ≡ self.old)) }
+        ensures faults { result ≢ Err DeskFault.Unsettled }
+    {
+        let place = held.history().len() as u64;
+        if place == EVENTS_MAX {
+            return Err(DeskFault::Full);
+        }
+        let Ok(()) = self.receipts.reserve(1) else {
+            return Err(DeskFault::NoMemory);
+        };
+        let Ok(copy) = event.try_copy(alloc) else {
+            return Err(DeskFault::NoMemory);
+        };
+        let reply = match held.step(event) {
+            Ok(reply) => reply,
+            Err(fault) => return Err(fault),
+        };
+        book.add(&mut self.share, 1);
+        keep(&mut self.receipts, place, copy, &reply);
+        Ok(reply)
+    }
+
+    /// What the seat was told, in that order.
+    pub fn receipts(&self) -> &[Receipt]
+        ensures { result.now ≡ self.now }
+    {
+        &self.receipts
+    }
+
+    /// The greatest number that its receipts show as accepted and don't leave undone. No memory is taken.
+    pub fn newest(&self) -> Option<u64>
+        ensures { result ≡ newest_of self.now }
+    {
+        newest_of(&self.receipts)
+    }
+}
+
+// Keeps a receipt among some that have room.
+fn keep(receipts: &mut Vec<Receipt>, place: u64, event: Event, reply: &Reply)
+    requires { length receipts.old.items < vec_capacity receipts.old }
+    ensures { receipts.new.items ≡ receipts.old.items ++ record { place = place; event = event; reply = reply.now } ∷ [] }
+{
+    let reply = *reply;
+    receipts.push_reserved(Receipt {
+        place,
+        event,
+        reply,
+    });
+}
+
+// The greatest number that some receipts show as accepted and don't leave undone.
+fn newest_of(receipts: &[Receipt]) -> Option<u64>
+    ensures { result ≡ newest_of receipts.now }
+{
+    let mut newest = None;
+    for behind in 0..receipts.len() {
+        let place = receipts.len() - 1 - behind;
+        newest = newest_with(&receipts[place].reply, &receipts[place + 1..], newest);
+    }
+    newest
+}
+
+// The newest number of some receipts, with one before them. It is looked at whether they leave a number undone only where it
+// is greater than theirs.
+fn newest_with(reply: &Reply, later: &[Receipt], newest: Option<u64>) -> Option<u64>
+    ensures { result ≡ greater (standing reply.now later.now) newest }
+{
+    let number = match *reply {
+        Reply::Accepted(number) => number,
+        _ => return newest,
+    };
+    if newest.is_some_and(|newest| number <= newest) || is_undone(number, later) {
+        return newest;
+    }
+    Some(number)
+}
+
+// Whether some receipts leave a number undone.
+fn is_undone(number: u64, receipts: &[Receipt]) -> bool
+    ensures { result ≡ is_undone number receipts.now }
+{
+    let mut undone = false;
+    for receipt in receipts {
+        undone = undone_by(number, undone, &receipt.reply);
+    }
+    undone
+}
+
+// Whether a number is undone behind a reply.
+fn undone_by(number: u64, undone: bool, reply: &Reply) -> bool
+    ensures { result ≡ undone_by number undone reply.now }
+{
+    match *reply {
+        Reply::Undone(other) if other == number => true,
+        Reply::Redone(other) if other == number => false,
+        _ => undone,
+    }
+}
