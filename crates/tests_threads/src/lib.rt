@@ -1,5 +1,5 @@
-//! Tests of a desk under its lock: seats in threads of their own, what each is told, and how the receipts are settled at the
-//! end of the day.
+//! Tests of what threads share: a desk under its lock, with seats, what each is told, and how the receipts are settled at the
+//! end of the day; the table of sessions under its lock.
 #![tactic(auto)]
 
 #[cfg(test)]
@@ -8,5 +8,7 @@ mod many;
 mod pairs;
 #[cfg(test)]
 mod single;
+#[cfg(test)]
+mod slots;
 #[cfg(test)]
 mod words;
