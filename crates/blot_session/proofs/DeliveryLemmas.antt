@@ -1,13 +1,13 @@
 -- What a call delivers is last, and awaits its reply.
-use Rattle.std.proofs.Common.{◌≡◌, ◌⊎◌, ℕ, Bool, true, false, ◌&&◌, List, [], ◌∷◌, ◌++◌, Option, Some, None, Result, Ok, Err, refl, sym, ap, subst, ◌∙◌, inl, inr}
-use Rattle.std.specs.Prelude.{if◌then◌else◌, ℤ, is_some, IfOk, OnErr}
+use Rattle.std.proofs.Common.{◌≡◌, ℕ, true, false, List, [], ◌∷◌, ◌++◌, Option, Some, None, Result, Ok, Err, refl, sym, ap, subst, ◌∙◌, inl, inr}
+use Rattle.std.specs.Prelude.{ℤ, is_some, IfOk, OnErr}
 use Rattle.std.specs.List.{list_any}
 use Rattle.std.proofs.lemmas.Bool.{cond_both, false≢true}
 use Rattle.blot_fields.specs.declared.fault.FieldFault.{FieldFault}
 use Rattle.blot_fields.specs.declared.message.Message.{Message}
 use Rattle.blot_types.specs.declared.command.Command.{Command}
 use Rattle.blot_session.specs.declared.action.Action.{Action}
-use Rattle.blot_session.specs.declared.action.Action.TheVariants.{Send, Deliver, Close}
+use Rattle.blot_session.specs.declared.action.Action.TheVariants.{Send}
 use Rattle.blot_session.specs.declared.outbound.Outbound.{Outbound}
 use Rattle.blot_session.specs.declared.replies.NotTaken.{NotTaken}
 use Rattle.blot_session.specs.declared.replies.SeenReply.{SeenReply}
@@ -15,7 +15,7 @@ use Rattle.blot_session.specs.declared.row.End.{End}
 use Rattle.blot_session.specs.declared.row.End.TheVariants.{Stays, Delivers, Closes}
 use Rattle.blot_session.specs.declared.row.Row.{Row}
 use Rattle.blot_session.specs.declared.state.State.{State}
-use Rattle.blot_session.specs.Calls.{Outcome, Awaits, DeliversLast, behind, sent, ending, carried_out, is_deliver, is_spent, spent, outcome_of, behind_all, command_said, on_frame, on_tick, row_of_reply, on_reply}
+use Rattle.blot_session.specs.Calls.{Outcome, Awaits, DeliversLast, behind, sent, ending, carried_out, is_deliver, is_spent, outcome_of, behind_all, command_said, on_frame, on_tick, row_of_reply, on_reply}
 use Rattle.blot_session.specs.Outbound.{text_of}
 use Rattle.blot_session.specs.Rows.{frame_row, tick_row}
 use Rattle.blot_session.specs.States.{awaited_of, IsIdle, IsAwaiting}
@@ -171,3 +171,8 @@ behind-call P items given (Ok actions) done next shut ok err is gives closed =
     subst (λ found. IfOk found (λ done. record { state = done.0; actions = items done.1 } ≡ given)) ok is in
     subst (λ (outcome : Outcome). P outcome.state) (sym same) gives
 behind-call P items given (Err fault) done next shut ok err is gives closed = subst P (sym err) closed
+
+pub behind-taken : {V E : Type 0} (P : State → Type 0) (items : V → List Action) (given : Outcome) (result : Result V E) (next shut : State)
+    → IfOk result (λ actions. record { state = next; actions = items actions } ≡ given) → OnErr result (next ≡ shut) → P given.state → P shut → P next
+behind-taken P items given (Ok actions) next shut ok err gives closed = subst (λ (outcome : Outcome). P outcome.state) (sym ok) gives
+behind-taken P items given (Err fault) next shut ok err gives closed = subst P (sym err) closed

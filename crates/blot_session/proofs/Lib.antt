@@ -1,4 +1,5 @@
 mod DeliveryLemmas
+mod InTurnLemmas
 mod RowLemmas
 mod Rows
 mod RunLemmas

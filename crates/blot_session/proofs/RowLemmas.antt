@@ -1,11 +1,10 @@
 -- How each row of the table moves the numbers, and what it delivers.
-use Rattle.std.proofs.Common.{◌≡◌, ◌⊎◌, ℕ, ◌+◌, ◌≤◌, ◌<◌, ◌==◌, Bool, true, false, ◌&&◌, ltb, leb, List, Option, Some, None, Result, Ok, Err, refl, sym, ap, subst, ◌∙◌, arith, inl, inr}
-use Rattle.std.specs.Prelude.{if◌then◌else◌, nat_lt, nat_le, codes, ℤ, is_some, unwrap_or}
+use Rattle.std.proofs.Common.{◌≡◌, ◌⊎◌, ℕ, ◌+◌, ◌≤◌, ◌==◌, Bool, true, false, List, Option, Some, None, Result, Ok, Err, refl, sym, ap, subst, ◌∙◌, arith, inl, inr}
+use Rattle.std.specs.Prelude.{nat_lt, nat_le, codes, ℤ, is_some, unwrap_or}
 use Rattle.std.specs.Option.{option_map}
 use Rattle.std.proofs.lemmas.Bool.{cond_both, ltb-false, leb-false, eqb-true}
 use Rattle.blot_fields.specs.declared.admin.Admin.{Admin}
 use Rattle.blot_fields.specs.declared.admin.Admin.TheVariants as admin
-use Rattle.blot_fields.specs.declared.allocation.Allocation.{Allocation}
 use Rattle.blot_fields.specs.declared.fault.FieldFault.{FieldFault}
 use Rattle.blot_fields.specs.declared.head.Head.{Head}
 use Rattle.blot_fields.specs.declared.message.Body.{Body}
@@ -13,15 +12,12 @@ use Rattle.blot_fields.specs.declared.message.Body.TheVariants as bodies
 use Rattle.blot_fields.specs.declared.message.Message.{Message}
 use Rattle.blot_fields.specs.declared.report.Report.{Report}
 use Rattle.blot_fields.specs.declared.report.Report.TheVariants as reports
-use Rattle.blot_fields.specs.Commands.{command_of}
 use Rattle.blot_fields.specs.Numbers.{head_in}
 use Rattle.blot_types.specs.Keys.{same_text}
-use Rattle.blot_types.specs.declared.command.Command.{Command}
 use Rattle.blot_session.specs.declared.row.End.{End}
 use Rattle.blot_session.specs.declared.row.End.TheVariants.{Stays, Delivers, Closes}
 use Rattle.blot_session.specs.declared.row.Row.{Row}
 use Rattle.blot_session.specs.declared.row.Sends.TheVariants.{Nothing}
-use Rattle.blot_session.specs.declared.state.Awaited.{Awaited}
 use Rattle.blot_session.specs.declared.state.Live.{Live}
 use Rattle.blot_session.specs.declared.action.CloseReason.TheVariants as reasons
 use Rattle.blot_session.specs.declared.outbound.Outbound.TheVariants.{Reject, Logout}
@@ -29,9 +25,9 @@ use Rattle.blot_session.specs.declared.state.Link.{Link}
 use Rattle.blot_session.specs.declared.state.Link.TheVariants as links
 use Rattle.blot_session.specs.declared.state.State.{State}
 use Rattle.blot_session.specs.Calls.{command_said}
-use Rattle.blot_session.specs.Rows.{logon_row, low_logon_row, first_logon_row, waiting_logon_row, waiting_body_row, waiting_row, reset_by, is_from_peer, resend_row, gap_fill_row, admin_row, report_row, other_row, body_row, expected_row, high_body_row, high_row, low_row, number_row, reset_row, message_row, peer_row, comp_id_tag, comp_id_row, head_row, on_row_by, on_row, frame_row_by, frame_row}
-use Rattle.blot_session.specs.Runs.{Bears, CoversBy, Covers, is_reset_by, is_reset_said}
-use Rattle.blot_session.specs.States.{restarted, with_live, changed, awaited_by, awaited_of, IsIdle, IsAwaiting}
+use Rattle.blot_session.specs.Rows.{logon_row, low_logon_row, first_logon_row, waiting_logon_row, waiting_body_row, waiting_row, is_from_peer, resend_row, gap_fill_row, admin_row, report_row, other_row, body_row, expected_row, high_body_row, high_row, low_row, number_row, reset_row, message_row, peer_row, comp_id_tag, comp_id_row, head_row, on_row_by, on_row, frame_row_by, frame_row}
+use Rattle.blot_session.specs.Runs.{Bears, is_reset_said}
+use Rattle.blot_session.specs.States.{restarted, with_live, changed, awaited_by, IsIdle, IsAwaiting}
 use Rattle.blot_session.specs.Table.{silent, sends_both, closing}
 
 -- ---- what a row does to the number that is expected

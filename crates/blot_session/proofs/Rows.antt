@@ -1,20 +1,20 @@
 -- Worked rows that compute, among them those that no test can reach: the numbers to send are used up.
-use Rattle.std.proofs.Common.{◌≡◌, ℕ, Bool, true, false, List, [], ◌∷◌, Option, Some, None, Result, Ok, Err, refl}
-use Rattle.std.specs.Prelude.{codes, ℤ, pos}
+use Rattle.std.proofs.Common.{◌≡◌, ℕ, true, false, [], None, Result, Ok, refl}
+use Rattle.std.specs.Prelude.{codes, pos}
 use Rattle.blot_fields.specs.declared.admin.Admin.{Admin}
 use Rattle.blot_fields.specs.declared.admin.Admin.TheVariants as admin
 use Rattle.blot_fields.specs.declared.fault.FieldFault.{FieldFault}
 use Rattle.blot_fields.specs.declared.head.Head.{Head}
 use Rattle.blot_fields.specs.declared.message.Body.TheVariants as bodies
 use Rattle.blot_fields.specs.declared.message.Message.{Message}
-use Rattle.blot_session.specs.declared.outbound.Outbound.TheVariants.{Logon, Heartbeat, TestRequest, ResendRequest, Reject, GapFill, Logout}
+use Rattle.blot_session.specs.declared.outbound.Outbound.TheVariants.{Heartbeat, TestRequest, ResendRequest, GapFill, Logout}
 use Rattle.blot_session.specs.declared.state.Live.{Live}
 use Rattle.blot_session.specs.declared.state.Link.TheVariants as links
 use Rattle.blot_session.specs.declared.state.State.{State}
 use Rattle.blot_session.specs.Calls.{is_spent, on_frame, on_tick, spent}
-use Rattle.blot_session.specs.Rows.{frame_row, logon_row, waiting_row, waiting_logon_row, first_logon_row, on_row, head_row, peer_row, message_row, number_row, low_row, high_row, high_body_row, expected_row, body_row, admin_row, resend_row, gap_fill_row, reset_row, tick_row, beat_row, asked_row, quiet_row, heartbeat_row}
-use Rattle.blot_session.specs.States.{fresh, restarted, expecting, counted, opened, heard, asking}
-use Rattle.blot_session.specs.Table.{silent, sends, sends_both}
+use Rattle.blot_session.specs.Rows.{frame_row, logon_row, on_row, head_row, peer_row, message_row, number_row, high_row, high_body_row, expected_row, body_row, admin_row, resend_row, gap_fill_row, reset_row, tick_row, beat_row, quiet_row, heartbeat_row}
+use Rattle.blot_session.specs.States.{expecting, counted, heard, asking}
+use Rattle.blot_session.specs.Table.{silent, sends}
 
 -- a session that is on since moment 0, with a HeartBtInt of 30 seconds
 abbrev live : Live

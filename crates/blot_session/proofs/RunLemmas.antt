@@ -1,14 +1,12 @@
 -- Over any calls without a reset the numbers of what is taken rise, and none is lost unseen.
-use Rattle.std.proofs.Common.{◌≡◌, ◌⊎◌, ℕ, ◌+◌, ◌≤◌, ◌<◌, Bool, true, false, ◌&&◌, ltb, List, [], ◌∷◌, ◌++◌, Option, Some, None, Result, Ok, Err, refl, sym, ap, subst, ◌∙◌, arith, inl, inr}
-use Rattle.std.specs.Prelude.{if◌then◌else◌, nat_lt, ℤ, is_some}
-use Rattle.std.specs.Option.{option_map}
+use Rattle.std.proofs.Common.{◌≡◌, ◌⊎◌, ℕ, ◌+◌, ◌≤◌, ◌<◌, Bool, true, false, ◌&&◌, List, [], ◌∷◌, ◌++◌, Option, Some, None, Result, Ok, Err, refl, sym, ap, subst, ◌∙◌, arith, inl, inr}
+use Rattle.std.specs.Prelude.{nat_lt, ℤ, is_some}
 use Rattle.std.proofs.lemmas.Bool.{cond_both, cond-false, cases_Bool, ltb-true, ltb-false, false≢true}
 use Rattle.blot_fields.specs.declared.admin.Admin.TheVariants as admin
 use Rattle.blot_fields.specs.declared.fault.FieldFault.{FieldFault}
 use Rattle.blot_fields.specs.declared.message.Body.{Body}
 use Rattle.blot_fields.specs.declared.message.Body.TheVariants as bodies
 use Rattle.blot_fields.specs.declared.message.Message.{Message}
-use Rattle.blot_fields.specs.Numbers.{head_in}
 use Rattle.blot_types.specs.declared.command.Command.{Command}
 use Rattle.blot_session.specs.declared.action.Action.{Action}
 use Rattle.blot_session.specs.declared.outbound.Outbound.{Outbound}
@@ -23,12 +21,12 @@ use Rattle.blot_session.specs.declared.state.State.{State}
 use Rattle.blot_session.specs.declared.carrying.TheConstants.{LAST_NUMBER}
 use Rattle.blot_session.specs.Calls.{Outcome, behind, behind_all, sent, ending, carried_out, is_spent, spent, outcome_of, command_said, on_frame, row_of_reply}
 use Rattle.blot_session.specs.Rows.{frame_row, tick_row}
-use Rattle.blot_session.specs.Runs.{Call, Numbered, outcome, said_by, quiet, behind_calls, delivered_by, taken_by, taken_behind, taken_of, Meets, AreMet, is_reset, is_reset_said, HasNoReset, RiseFrom, AreBelow, CoversBy, Covers, Bears, Passes, IsPassed, IsTaken, IsInOrder}
+use Rattle.blot_session.specs.Runs.{Call, Numbered, outcome, said_by, quiet, behind_calls, delivered_by, taken_by, taken_behind, AreMet, is_reset, HasNoReset, RiseFrom, AreBelow, CoversBy, Covers, Bears, Passes, IsPassed, IsTaken, IsInOrder}
 use Rattle.blot_session.specs.Runs.Call.{Frame, Reply, Tick, Closing, WaitAgain}
 use Rattle.blot_session.specs.States.{closed, waiting_again, awaited_of, IsIdle, IsAwaiting}
 use Rattle.blot_session.specs.Table.{acts, messages_of}
-use Rattle.blot_session.proofs.RowLemmas.{Names, NamesBy, Steps, GoesOn, HandsOn, Moves, is_delivery, frame-moves}
-use Rattle.blot_session.proofs.StateLemmas.{spoken-awaited, steps-grow, unspent-last, idle-none, Rests, tick-rests, Settles, settles}
+use Rattle.blot_session.proofs.RowLemmas.{Names, NamesBy, Steps, GoesOn, HandsOn, is_delivery, frame-moves}
+use Rattle.blot_session.proofs.StateLemmas.{spoken-awaited, steps-grow, unspent-last, idle-none, Rests, tick-rests, settles}
 
 -- ---- what is sent changes no expected number, and delivers nothing
 

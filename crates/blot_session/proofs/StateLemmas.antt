@@ -1,5 +1,5 @@
 -- A session's numbers stay in their ranges over a call.
-use Rattle.std.proofs.Common.{◌≡◌, ◌⊎◌, ℕ, ◌+◌, ◌≤◌, ◌<◌, ◌==◌, Bool, true, false, ◌&&◌, List, [], ◌∷◌, ◌++◌, Option, Some, None, Result, Ok, Err, refl, sym, ap, subst, ◌∙◌, arith, inl, inr}
+use Rattle.std.proofs.Common.{◌≡◌, ℕ, ◌+◌, ◌≤◌, ◌==◌, Bool, true, false, ◌&&◌, List, ◌++◌, Option, Some, None, Result, Ok, Err, refl, sym, ap, subst, ◌∙◌, arith, inl, inr}
 use Rattle.std.specs.Prelude.{if◌then◌else◌, nat_lt, ℤ, is_some, IfSome, IfOk, unwrap_or}
 use Rattle.std.specs.Option.{option_map}
 use Rattle.std.proofs.lemmas.Bool.{cond_both, ltb-false, false≢true}
@@ -10,7 +10,7 @@ use Rattle.blot_fields.specs.declared.head.Head.{Head}
 use Rattle.blot_fields.specs.declared.message.Body.{Body}
 use Rattle.blot_fields.specs.declared.message.Body.TheVariants as bodies
 use Rattle.blot_fields.specs.declared.message.Message.{Message}
-use Rattle.blot_fields.specs.Numbers.{head_in, HasNumber, BodyNamesNumber, IsNumbered}
+use Rattle.blot_fields.specs.Numbers.{head_in, BodyNamesNumber, IsNumbered}
 use Rattle.blot_types.specs.declared.command.Command.{Command}
 use Rattle.blot_session.specs.declared.action.Action.{Action}
 use Rattle.blot_session.specs.declared.outbound.Outbound.{Outbound}
@@ -30,11 +30,10 @@ use Rattle.blot_session.specs.declared.state.State.{State}
 use Rattle.blot_session.specs.declared.carrying.TheConstants.{LAST_NUMBER}
 use Rattle.blot_session.specs.Calls.{Outcome, sent, behind, behind_all, ending, is_spent, spent, carried_out, outcome_of, reply_row_by, row_of_reply}
 use Rattle.blot_session.specs.Outbound.{next_behind}
-use Rattle.blot_session.specs.Rows.{frame_row, asked_row, quiet_row, heartbeat_row, beat_row_by, beat_row, tick_row_by, tick_row, passed, patience, reply_row, taken_row}
-use Rattle.blot_session.specs.Runs.{Bears, is_reset_said}
+use Rattle.blot_session.specs.Rows.{frame_row, asked_row, quiet_row, heartbeat_row, beat_row_by, beat_row, tick_row_by, tick_row, passed, patience, reply_row}
 use Rattle.blot_session.specs.States.{closed, changed, awaited_by, awaited_of, IsIdle, IsAwaiting, IsState}
 use Rattle.blot_session.specs.Table.{Fits, acts, acts_by, messages_of}
-use Rattle.blot_session.proofs.RowLemmas.{Names, NamesBy, Steps, GoesOn, HandsOn, Moves, FrameMoves, is_delivery, frame-moves}
+use Rattle.blot_session.proofs.RowLemmas.{Names, NamesBy, Steps, Moves, is_delivery, frame-moves}
 
 -- ---- messages that are sent
 
@@ -80,8 +79,8 @@ sent-state (Two message more) end state now next fits small unspent =
     let second = behind-state (behind state message now) more now (next + 1) first.low first.high first.first first.number first.awaited in
     record { first = second.first; expected = second.number; awaited = second.awaited; low = second.low; next = omega (arith, second.high, last) }
 
-closed-state : (state : State) → IsState state → IsState (closed state)
-closed-state state is = record { first = is.first; expected = is.expected; awaited = λ a. absurd (false≢true a); low = is.low; next = is.next }
+pub closed_state : (state : State) → IsState state → IsState (closed state)
+closed_state state is = record { first = is.first; expected = is.expected; awaited = λ a. absurd (false≢true a); low = is.low; next = is.next }
 
 and-left : (a b : Bool) → (a && b) ≡ false → b ≡ true → a ≡ false
 and-left true b fails holds = absurd (false≢true (sym fails ∙ holds))
@@ -97,7 +96,7 @@ carried_state state row command now next actions is fits unspent carried =
     (sent-state row.sends row.end row.state now state.next fits is.next (unspent-last state row unspent))
 
 pub spent_state : (state next : State) (actions : List Action) → IsState state → record { state = next; actions = actions } ≡ spent state → IsState next
-spent_state state next actions is done = subst IsState (sym (ap (λ (outcome : Outcome). outcome.state) done)) (closed-state state is)
+spent_state state next actions is done = subst IsState (sym (ap (λ (outcome : Outcome). outcome.state) done)) (closed_state state is)
 
 pub same_outcome : (state : State) (row : Row) (a b : Option Command) (now : ℤ) → ending row.end a ≡ ending row.end b → outcome_of state row a now ≡ outcome_of state row b now
 same_outcome state row a b now same =

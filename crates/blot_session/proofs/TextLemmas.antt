@@ -1,18 +1,18 @@
 -- What a session writes is short and printable: no field is refused.
-use Rattle.std.proofs.Common.{◌≡◌, ℕ, ◌+◌, ◌^◌, ◌<◌, ◌≤◌, Bool, true, false, not, ◌&&◌, ltb, leb, List, [], ◌∷◌, ◌++◌, zero, suc, ◌/◌, ◌%◌, length, Option, Some, None, refl, sym, ap, subst, ◌∙◌, arith, append_assoc, length-append, inl, inr, lit<, rules, get_or}
-use Rattle.std.specs.Prelude.{if◌then◌else◌, nat_lt, codes, ℤ, fold}
+use Rattle.std.proofs.Common.{◌≡◌, ℕ, ◌+◌, ◌^◌, ◌<◌, ◌≤◌, true, false, not, ◌&&◌, leb, List, [], ◌∷◌, ◌++◌, zero, suc, ◌/◌, ◌%◌, length, None, refl, ap, subst, ◌∙◌, arith, append_assoc, length-append, inl, inr, lit<, rules, get_or}
+use Rattle.std.specs.Prelude.{nat_lt, codes, ℤ, fold}
 use Rattle.std.specs.Char.{is_ascii_digit}
 use Rattle.std.specs.Fmt.{decimal}
-use Rattle.std.specs.List.{list_any, list_all}
-use Rattle.std.proofs.lemmas.Bool.{cases_Bool, cond-false, ltb-true, leb-true, le-leb, and_parts, and_from, ne_eqb, ltb-false}
+use Rattle.std.specs.List.{list_all}
+use Rattle.std.proofs.lemmas.Bool.{cases_Bool, cond-false, ltb-true, leb-true, le-leb, and_parts, and_from, ne_eqb}
 use Rattle.std.proofs.lemmas.Fmt.{length-decimal-le, decimal_nonempty, digits_decimal}
 use Rattle.std.proofs.lemmas.List.{append-nil}
 use Rattle.std.proofs.lemmas.List.Concat.{flat_map-append}
 use Rattle.std.proofs.lemmas.List.Folds.{list_all-append, list_any_none}
 use Rattle.std.proofs.lemmas.List.Sums.{AllPass-from_list_all, list_all-from_AllPass}
 use Rattle.std.proofs.lemmas.Str.Parse.{IsNumeralModel, numerals_by_fold}
-use Rattle.blot_tag.specs.Bytes.{soh, is_soh, number_of, with_digit}
-use Rattle.blot_tag.specs.FieldText.{field_text, fields_text}
+use Rattle.blot_tag.specs.Bytes.{is_soh, number_of, with_digit}
+use Rattle.blot_tag.specs.FieldText.{field_text}
 use Rattle.blot_tag.specs.Fields.{TagValue}
 use Rattle.blot_tag.specs.Writing.{Written, IsWriteFault, begun, body_of, kind_field, with_field, refusal_of, is_data_tag, is_own_tag, has_soh}
 use Rattle.blot_tag.specs.declared.write_fault.WriteFault.{WriteFault}
@@ -23,7 +23,7 @@ use Rattle.blot_time.specs.Day.{day_text}
 use Rattle.blot_time.specs.Digits.{padded}
 use Rattle.blot_time.specs.Moment.{moment_text, utc_day, since_midnight}
 use Rattle.blot_types.specs.Text.{printable, is_text}
-use Rattle.blot_session.specs.Outbound.{field, is_plain_tag, with_fields}
+use Rattle.blot_session.specs.Outbound.{field, is_plain_tag}
 
 -- ---- a text has no SOH
 

@@ -17,7 +17,6 @@ use Rattle.blot_fields.specs.FaultText.{reason_number}
 use Rattle.blot_fields.specs.Numbers.{head_in}
 use Rattle.blot_types.specs.Keys.{same_text}
 use Rattle.blot_session.specs.declared.action.CloseReason.TheVariants as reasons
-use Rattle.blot_session.specs.declared.outbound.Outbound.{Outbound}
 use Rattle.blot_session.specs.declared.outbound.Outbound.TheVariants.{Logon, Heartbeat, TestRequest, ResendRequest, Reject, GapFill, Logout, Unsupported, AllocationAck}
 use Rattle.blot_session.specs.declared.replies.NotTaken.{NotTaken}
 use Rattle.blot_session.specs.declared.replies.SeenReply.{SeenReply}

@@ -1,5 +1,5 @@
 -- What a session remembers, and how that changes (FIX 4.4 volume 2, "Session protocol").
-use Rattle.std.specs.Prelude.{◌≡◌, ℕ, ◌+◌, ◌≤◌, ◌<◌, ◌^◌, Bool, true, false, ℤ, List, Option, Some, None, is_some}
+use Rattle.std.specs.Prelude.{◌≡◌, ℕ, ◌+◌, ◌≤◌, true, ℤ, List, Option, Some, None, is_some}
 use Rattle.blot_session.specs.declared.state.State.{State}
 use Rattle.blot_session.specs.declared.state.Link.{Link}
 use Rattle.blot_session.specs.declared.state.Link.TheVariants as links

@@ -15,9 +15,9 @@ use blot_time::Moment;
 use blot_types::Command;
 use std::alloc::{AllocError as NoMemory, Global};
 
-// The last number under which a call begins to send. A call sends two messages at most, so that a peer that counts in
-// nine digits follows. This project's rule.
-const LAST_NUMBER: u64 = 999_999_990;
+/// The last number under which a call begins to send. A call sends two messages at most, so that a peer that counts in
+/// nine digits follows. This project's rule.
+pub(crate) const LAST_NUMBER: u64 = 999_999_990;
 
 /// A session behind a call, and what is to be done.
 pub(crate) type Outcome = (State, Vec<Action>);

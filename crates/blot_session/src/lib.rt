@@ -10,6 +10,7 @@ mod inbound;
 mod logons;
 mod outbound;
 mod replies;
+mod reports;
 mod row;
 mod session;
 mod state;

@@ -13,6 +13,7 @@ ghost use Rattle.blot_session.specs.Table.{Fits};
 use crate::carrying::{Outcome, carry_out, is_spent, spent};
 use crate::inbound::frame_row;
 use crate::replies::reply_row;
+use crate::reports::{count, hand_on, is_report_in_turn, is_report_taken};
 use crate::row::{End, Row};
 use crate::state::{Link, Live, State};
 use crate::ticks::tick_row;
@@ -125,9 +126,7 @@ impl Session {
         // What is delivered is the last action, and its reply is awaited.
         ensures awaits { IfOk result (λ actions. Awaits self.new actions.items) }
     {
-        let closed = self.state.closed();
-        let outcome = take_frame(alloc, self.state, frame, now);
-        go_on(&mut self.state, outcome, closed)
+        take_frame(alloc, &mut self.state, frame, now)
     }
 
     /// A moment passes: a Heartbeat or a TestRequest may be due, or the peer given up. Out of memory, the session is
@@ -151,7 +150,7 @@ impl Session {
 
     /// The reply to the command that was delivered last. Out of memory, the session is closed; a command that was taken
     /// counts all the same.
-    #[tactic(auto, using(crate::proofs::StateLemmas::row_fits_reply, crate::proofs::StateLemmas::closed_row, crate::proofs::DeliveryLemmas::awaits_after_reply))]
+    #[tactic(auto, using(crate::proofs::DeliveryLemmas::awaits_after_reply))]
     pub fn on_reply(
         &mut self,
         alloc: Global,
@@ -167,10 +166,7 @@ impl Session {
         ensures awaits { IfOk result (λ actions. Awaits self.new actions.items) }
         ensures idle { IsIdle self.new }
     {
-        let row = row_of_reply(self.state, reply);
-        let closed = row.state.closed();
-        let outcome = take_row(alloc, self.state, row, None, now);
-        go_on(&mut self.state, outcome, closed)
+        take_reply(alloc, &mut self.state, reply, now)
     }
 
     /// The connection ended. Nothing is sent.
@@ -204,21 +200,68 @@ fn go_on(
 }
 
 // What a session does about a frame.
-fn take_frame(alloc: Global, state: State, frame: &Frame, now: Moment) -> Result<Outcome, NoMemory>
-    requires within { IsState state }
-    requires idle { IsIdle state }
-    ensures outcome { IfOk result (λ done. record { state = done.0; actions = done.1.items }
-        ≡ on_frame state (decoded (fields_of (text_of frame.now))) now) }
-    ensures state { IfOk result (λ done. IsState done.0) }
+fn take_frame(
+    alloc: Global,
+    state: &mut State,
+    frame: &Frame,
+    now: Moment,
+) -> Result<Vec<Action>, NoMemory>
+    requires within { IsState state.old }
+    requires idle { IsIdle state.old }
+    ensures ok { IfOk result (λ actions. record { state = state.new; actions = actions.items }
+        ≡ on_frame state.old (decoded (fields_of (text_of frame.now))) now) }
+    ensures err { OnErr result (state.new ≡ closed state.old) }
+    ensures state { IsState state.new }
 {
     let said = decode(alloc, frame);
     if is_out_of_memory(&said) {
+        *state = state.closed();
         return Err(NoMemory);
     }
-    take_message(alloc, state, &said, now)
+    take_said(alloc, state, &said, now)
 }
 
 // What a session does about what a frame says.
+fn take_said(
+    alloc: Global,
+    state: &mut State,
+    said: &Result<Message, FieldFault>,
+    now: Moment,
+) -> Result<Vec<Action>, NoMemory>
+    requires within { IsState state.old }
+    requires idle { IsIdle state.old }
+    requires numbers { IsNumbered said.now }
+    ensures ok { IfOk result (λ actions. record { state = state.new; actions = actions.items } ≡ on_frame state.old said.now now) }
+    ensures err { OnErr result (state.new ≡ closed state.old) }
+    ensures state { IsState state.new }
+{
+    match said {
+        Ok(message) if is_report_in_turn(state, message) => hand_on(alloc, state, message, now),
+        _ => take_by_row(alloc, state, said, now),
+    }
+}
+
+// What a session does about what a frame says, by a row of its table.
+#[tactic(auto, using(crate::proofs::StateLemmas::closed_state))]
+fn take_by_row(
+    alloc: Global,
+    state: &mut State,
+    said: &Result<Message, FieldFault>,
+    now: Moment,
+) -> Result<Vec<Action>, NoMemory>
+    requires within { IsState state.old }
+    requires idle { IsIdle state.old }
+    requires numbers { IsNumbered said.now }
+    ensures ok { IfOk result (λ actions. record { state = state.new; actions = actions.items } ≡ on_frame state.old said.now now) }
+    ensures err { OnErr result (state.new ≡ closed state.old) }
+    ensures state { IsState state.new }
+{
+    let closed = state.closed();
+    let outcome = take_message(alloc, *state, said, now);
+    go_on(state, outcome, closed)
+}
+
+// What the table says of what a frame says.
 #[tactic(auto, using(crate::proofs::StateLemmas::row_fits_frame, crate::proofs::StateLemmas::same_outcome))]
 fn take_message(
     alloc: Global,
@@ -260,6 +303,47 @@ fn command_delivered(
         (End::Delivers, Ok(message)) => command_of(alloc, message, state.peer),
         _ => Ok(None),
     }
+}
+
+// What a session does about a reply. One to an Execution Report only counts it.
+#[tactic(auto, using(crate::proofs::InTurnLemmas::report_counted, crate::proofs::InTurnLemmas::counted_state))]
+fn take_reply(
+    alloc: Global,
+    state: &mut State,
+    reply: Result<SeenReply, NotTaken>,
+    now: Moment,
+) -> Result<Vec<Action>, NoMemory>
+    requires within { IsState state.old }
+    requires awaiting { IsAwaiting state.old }
+    ensures ok { IfOk result (λ actions. record { state = state.new; actions = actions.items } ≡ on_reply state.old reply now) }
+    ensures err { OnErr result (state.new ≡ closed (row_of_reply state.old reply).state) }
+    ensures state { IsState state.new }
+{
+    if is_report_taken(state, &reply) {
+        count(state);
+        return Ok(Vec::new(alloc));
+    }
+    reply_by_row(alloc, state, reply, now)
+}
+
+// What a session does about a reply, by a row of its table.
+#[tactic(auto, using(crate::proofs::StateLemmas::row_fits_reply, crate::proofs::StateLemmas::closed_row))]
+fn reply_by_row(
+    alloc: Global,
+    state: &mut State,
+    reply: Result<SeenReply, NotTaken>,
+    now: Moment,
+) -> Result<Vec<Action>, NoMemory>
+    requires within { IsState state.old }
+    requires awaiting { IsAwaiting state.old }
+    ensures ok { IfOk result (λ actions. record { state = state.new; actions = actions.items } ≡ on_reply state.old reply now) }
+    ensures err { OnErr result (state.new ≡ closed (row_of_reply state.old reply).state) }
+    ensures state { IsState state.new }
+{
+    let row = row_of_reply(*state, reply);
+    let closed = row.state.closed();
+    let outcome = take_row(alloc, *state, row, None, now);
+    go_on(state, outcome, closed)
 }
 
 // What a session does about the reply to what it awaits.

@@ -1,0 +1,132 @@
+//! Execution Reports about fills in their turn, and the replies to them. Most of what comes is one of these, so the
+//! session changes in place for them, and no row of its table is made. What is done is what the table says.
+ghost use Rattle.std.specs.Prelude.{◌≡◌, ◌≤◌, true, None, Ok, IfOk, OnOk, OnErr};
+ghost use Rattle.blot_fields.specs.Commands.{command_of};
+ghost use Rattle.blot_fields.specs.declared.TheConstants.{SEQUENCE_MAX};
+ghost use Rattle.blot_session.specs.Calls.{ending, on_frame};
+ghost use Rattle.blot_session.specs.InTurn.{delivering, is_about_fill, is_of_report, is_on, is_report_in_turn, is_report_taken};
+ghost use Rattle.blot_session.specs.States.{answered, changed, closed, counted, IsState};
+ghost use Rattle.blot_session.specs.declared.row.End.TheVariants.{Delivers};
+
+use crate::carrying::LAST_NUMBER;
+use crate::state::{Awaited, Link, State};
+use crate::{Action, NotTaken, SeenReply};
+use blot_fields::{Body, Message, Report, command_of};
+use blot_time::Moment;
+use blot_types::Text64;
+use std::alloc::{AllocError as NoMemory, Global};
+
+/// Whether a message is the expected Execution Report about a fill, of the peer, at a session that is on and has numbers to
+/// send.
+pub(crate) fn is_report_in_turn(state: &State, message: &Message) -> bool
+    ensures { result ≡ is_report_in_turn state.now message.now }
+{
+    is_on(&state.link)
+        && state.next <= LAST_NUMBER
+        && is_about_fill(&message.body)
+        && message.head.number == state.expected
+        && state.is_from_peer(&message.head)
+}
+
+/// Hands such a report's command on. It takes no memory beyond the command and a list of one action. Out of memory, the
+/// session is closed, with its number expected as before.
+#[tactic(auto, using(crate::proofs::InTurnLemmas::report_in_turn, crate::proofs::InTurnLemmas::delivering_state, crate::proofs::StateLemmas::closed_state))]
+pub(crate) fn hand_on(
+    alloc: Global,
+    state: &mut State,
+    message: &Message,
+    now: Moment,
+) -> Result<Vec<Action>, NoMemory>
+    requires within { IsState state.old }
+    requires number { message.now.head.number ≤ SEQUENCE_MAX }
+    requires in_turn { is_report_in_turn state.old message.now ≡ true }
+    ensures ok { IfOk result (λ actions. record { state = state.new; actions = actions.items } ≡ on_frame state.old (Ok message.now) now) }
+    ensures err { OnErr result (state.new ≡ closed state.old) }
+    ensures state { IsState state.new }
+{
+    match delivery(alloc, message, state.peer) {
+        Ok(actions) => {
+            deliver_on(&mut state.link, now);
+            Ok(actions)
+        }
+        Err(fail) => {
+            state.link = Link::Closed;
+            Err(fail)
+        }
+    }
+}
+
+/// Whether a reply says what became of the command of an Execution Report.
+pub(crate) fn is_report_taken(state: &State, reply: &Result<SeenReply, NotTaken>) -> bool
+    ensures { result ≡ is_report_taken state.now reply.now }
+{
+    let Link::On(live) = &state.link else {
+        return false;
+    };
+    is_of_report(&live.awaited) && reply.is_ok()
+}
+
+/// Counts a report whose command was taken. Nothing is sent.
+pub(crate) fn count(state: &mut State)
+    requires { state.old.expected ≤ SEQUENCE_MAX }
+    ensures { state.new ≡ counted (answered state.old) }
+{
+    answer_on(&mut state.link);
+    state.expected += 1;
+}
+
+// Whether a connection is on.
+fn is_on(link: &Link) -> bool
+    ensures { result ≡ is_on link.now }
+{
+    matches!(link, Link::On(_))
+}
+
+// Whether a message is an Execution Report about a fill.
+fn is_about_fill(body: &Body) -> bool
+    ensures { result ≡ is_about_fill body.now }
+{
+    match body {
+        Body::Report(Report::Other) => false,
+        Body::Report(_) => true,
+        _ => false,
+    }
+}
+
+// Whether what awaits its reply is an Execution Report's command.
+fn is_of_report(awaited: &Option<Awaited>) -> bool
+    ensures { result ≡ is_of_report awaited.now }
+{
+    matches!(awaited, Some(Awaited::Report))
+}
+
+// The list with the delivery of a message's command, if it brings one.
+fn delivery(alloc: Global, message: &Message, peer: Text64) -> Result<Vec<Action>, NoMemory>
+    ensures { IfOk result (λ actions. actions.items ≡ ending Delivers (command_of message.now peer)) }
+{
+    let mut actions = Vec::with_capacity(alloc, 1)?;
+    if let Some(command) = command_of(alloc, message, peer)? {
+        actions.push(Action::Deliver(command))?;
+    }
+    Ok(actions)
+}
+
+// A frame came, whose command is delivered.
+fn deliver_on(link: &mut Link, now: Moment)
+    ensures { link.new ≡ delivering now link.old }
+{
+    if let Link::On(live) = link {
+        live.received = now;
+        live.asked = None;
+        live.awaited = Some(Awaited::Report);
+    }
+}
+
+// No command awaits its reply any more.
+fn answer_on(link: &mut Link)
+    ensures { link.new ≡ changed (λ live. record live { awaited = None }) link.old }
+{
+    if let Link::On(live) = link {
+        live.awaited = None;
+    }
+}
