@@ -1,9 +1,10 @@
 //! Carries out what a row of the session's table says.
-ghost use Rattle.std.specs.Prelude.{◌≡◌, ◌≤◌, ◌+◌, ◌++◌, ◌∷◌, [], IfOk, OnOk};
+ghost use Rattle.std.specs.Prelude.{◌≡◌, ◌≤◌, ◌+◌, ◌++◌, ◌∷◌, [], Ok, IfOk, OnOk, OnErr};
 ghost use Rattle.blot_fields.specs.declared.TheConstants.{SEQUENCE_MAX};
-ghost use Rattle.blot_session.specs.Calls.{behind, behind_all, sent, ending, carried_out, is_spent, spent};
+ghost use Rattle.blot_session.specs.Calls.{behind, behind_all, sent, ending, carried_out, is_spent, outcome_of, spent};
 ghost use Rattle.blot_session.specs.Outbound.{text_of};
-ghost use Rattle.blot_session.specs.Table.{messages_of};
+ghost use Rattle.blot_session.specs.States.{IsState};
+ghost use Rattle.blot_session.specs.Table.{Fits, messages_of};
 ghost use Rattle.blot_session.specs.declared.action.Action.TheVariants.{Send};
 
 use crate::outbound::Outbound;
@@ -21,6 +22,49 @@ pub(crate) const LAST_NUMBER: u64 = 999_999_990;
 
 /// A session behind a call, and what is to be done.
 pub(crate) type Outcome = (State, Vec<Action>);
+
+/// Does what a row says, unless the numbers to send are used up.
+#[tactic(auto, using(crate::proofs::StateLemmas::carried_state, crate::proofs::StateLemmas::spent_state))]
+pub(crate) fn take_row(
+    alloc: Global,
+    state: State,
+    row: Row,
+    command: Option<Command>,
+    now: Moment,
+) -> Result<Outcome, NoMemory>
+    requires within { IsState state }
+    requires fits { Fits state.next row }
+    ensures outcome { IfOk result (λ done. record { state = done.0; actions = done.1.items } ≡ outcome_of state row command now) }
+    ensures state { IfOk result (λ done. IsState done.0) }
+{
+    if is_spent(&state, &row) {
+        let (state, actions) = spent(alloc, state)?;
+        return Ok((state, actions));
+    }
+    let (state, actions) = carry_out(alloc, row, command, now)?;
+    Ok((state, actions))
+}
+
+/// Goes on with what a call gave, or closed, out of memory.
+pub(crate) fn go_on(
+    state: &mut State,
+    outcome: Result<Outcome, NoMemory>,
+    closed: State,
+) -> Result<Vec<Action>, NoMemory>
+    ensures ok { IfOk result (λ actions. outcome ≡ Ok (state.new, actions)) }
+    ensures err { OnErr result (state.new ≡ closed) }
+{
+    match outcome {
+        Ok((next, actions)) => {
+            *state = next;
+            Ok(actions)
+        }
+        Err(fail) => {
+            *state = closed;
+            Err(fail)
+        }
+    }
+}
 
 /// Whether the numbers to send are used up, and a row says that something is to be done.
 pub(crate) fn is_spent(state: &State, row: &Row) -> bool

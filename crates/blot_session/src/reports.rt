@@ -1,6 +1,6 @@
 //! Execution Reports about fills in their turn, and the replies to them. Most of what comes is one of these, so the
 //! session changes in place for them, and no row of its table is made. What is done is what the table says.
-ghost use Rattle.std.specs.Prelude.{◌≡◌, ◌≤◌, true, None, Ok, IfOk, OnOk, OnErr};
+ghost use Rattle.std.specs.Prelude.{◌≡◌, ◌≤◌, true, None, Ok, IfOk, OnErr};
 ghost use Rattle.blot_fields.specs.Commands.{command_of};
 ghost use Rattle.blot_fields.specs.declared.TheConstants.{SEQUENCE_MAX};
 ghost use Rattle.blot_session.specs.Calls.{ending, on_frame};

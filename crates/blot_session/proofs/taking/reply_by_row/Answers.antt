@@ -1,5 +1,5 @@
 use Rattle.blot_session.proofs.StateLemmas.{row_fits_reply}
-use Rattle.blot_session.proofs.session.reply_by_row.Goals as goal
+use Rattle.blot_session.proofs.taking.reply_by_row.Goals as goal
 
 pub take_row-outcome-requires-clause-fits : goal.take_row-outcome-requires-clause-fits
 take_row-outcome-requires-clause-fits c =

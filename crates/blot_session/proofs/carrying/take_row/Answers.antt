@@ -1,6 +1,6 @@
 use Rattle.std.proofs.Common.{sym, ◌∙◌}
 use Rattle.blot_session.proofs.StateLemmas.{carried_state}
-use Rattle.blot_session.proofs.session.take_row.Goals as goal
+use Rattle.blot_session.proofs.carrying.take_row.Goals as goal
 
 pub returns-clause-state : goal.returns-clause-state
 returns-clause-state c =
