@@ -6,7 +6,7 @@ use Rattle.blot_desk.specs.declared.event.Reply.{Reply}
 use Rattle.blot_desk.specs.declared.event.Reply.TheVariants.{Accepted, Undone, Redone}
 use Rattle.blot_desk.specs.declared.receipt.Receipt.{Receipt}
 
--- some receipts are others, and one more behind them: of this event and this reply, at some place
+-- the receipts after are those before with one more at their end: of this event and this reply, at some place
 pub record IsOneMore (before after : List Receipt) (event : Event) (reply : Reply) : Type 0 where
   pub place : ℕ
   pub more : after ≡ before ++ record { place = place; event = event; reply = reply } ∷ []

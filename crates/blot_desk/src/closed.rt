@@ -8,7 +8,7 @@ use crate::{DeskFault, Held, Seat};
 use std::alloc::Global;
 use std::sync::ledger::{Book, Ledger, Total};
 
-/// What a desk held at the end. There are as many receipts as events are recorded.
+/// What a desk held at the end. The ledger counts as many receipts as events are recorded.
 #[derive(Drop)]
 pub struct Closed<L: Ledger> {
     pub held: Held,

@@ -12,7 +12,8 @@ use std::sync::ledger::{Blank, Book, Ledger, Share};
 use std::sync::{Mutex, Wait};
 
 /// A desk for many callers at once, of which each has a seat. One event is one step under its lock, and no lock is held
-/// while anything else waits.
+/// while anything else waits. `L` ties the seats to their desk: a call at `Brand` of a function that holds the whole run
+/// picks it.
 #[derive(Drop)]
 pub struct Desk<L: Ledger> {
     alloc: Global,

@@ -85,7 +85,8 @@ impl<L: Ledger> Seat<L> {
         &self.receipts
     }
 
-    /// The greatest number that its receipts show as accepted and don't leave undone. No memory is taken.
+    /// The greatest number that its receipts show as accepted and don't leave undone. No memory is taken, so a seat whose last
+    /// commands are undone is looked through once for each of these.
     pub fn newest(&self) -> Option<u64>
         ensures { result ≡ newest_of self.now }
     {

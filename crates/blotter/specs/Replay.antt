@@ -30,10 +30,11 @@ seen_by (replies.Accepted number) = Ok seen.Accepted
 seen_by (replies.Refused refused) = Ok (seen.Refused (refused_number refused))
 seen_by reply = Err (record {})
 
--- a fault of a step, as a capture's: the desk is full, or memory ran out
+-- a fault of a step, as a capture's: the desk is full, or memory ran out. No step answers Unsettled
 abbrev pub fault_of : DeskFault → ReplayFault
 fault_of desk.Full = Full
-fault_of fault = NoMemory
+fault_of desk.NoMemory = NoMemory
+fault_of desk.Unsettled = NoMemory
 
 -- a desk was submitted a front of some commands, and then a fault came. Full is answered only where as many events are recorded
 -- as a day has, and a further command came

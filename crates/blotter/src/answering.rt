@@ -73,7 +73,7 @@ fn answer_ask(alloc: Global, held: &mut Held, ask: Ask) -> Result<Answer, NoMemo
 }
 
 // Takes an event: the reply to it, or that no more events are taken. An error is out of memory, and comes only where
-// there is room for the event.
+// there is room for the event. No step answers Unsettled.
 fn answer_event(held: &mut Held, event: Event) -> Result<Answer, NoMemory>
     ensures ok { IfOk result (λ answer. telling held.new answer ≡ told_event held.old event) }
     ensures tellable { IfOk result CanBeTold }
@@ -84,7 +84,7 @@ fn answer_event(held: &mut Held, event: Event) -> Result<Answer, NoMemory>
     match held.step(event) {
         Ok(reply) => Ok(with_key(&asked, &reply)),
         Err(DeskFault::Full) => Ok(Answer::Full),
-        Err(_) => Err(NoMemory),
+        Err(DeskFault::NoMemory | DeskFault::Unsettled) => Err(NoMemory),
     }
 }
 

@@ -135,13 +135,13 @@ fn tell(
     }
 }
 
-// A fault of a step, as a capture's: the desk is full, or memory ran out.
+// A fault of a step, as a capture's: the desk is full, or memory ran out. No step answers Unsettled.
 fn fault_of(fault: DeskFault) -> ReplayFault
     ensures { result ≡ fault_of fault }
 {
     match fault {
         DeskFault::Full => ReplayFault::Full,
-        _ => ReplayFault::NoMemory,
+        DeskFault::NoMemory | DeskFault::Unsettled => ReplayFault::NoMemory,
     }
 }
 

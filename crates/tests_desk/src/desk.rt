@@ -286,7 +286,7 @@ fn expect_full_record(held: &Held, unknown: &OrderKey) -> Result<(), Fail> {
 fn expect_full(held: &mut Held, event: Event) -> Result<(), Fail> {
     match held.step(event) {
         Err(DeskFault::Full) => Ok(()),
-        Err(_) => Err(Fail::new("another fault")),
+        Err(fault) => Err(Fail::new(format_args!("{fault:?}"))),
         Ok(reply) => Err(Fail::new(format_args!("{reply:?}"))),
     }
 }

@@ -2,7 +2,8 @@
 ghost use Rattle.std.specs.Prelude.{◌≡◌, ◌<◌};
 
 use crate::words::settle;
-use blot_desk::{Desk, Event, Held, Recorded, Reply, Seat};
+use blot_desk::{Desk, Event, Held, Recorded, Seat};
+use blot_types::Command;
 use std::alloc::{AllocError, Global};
 use std::marker::Brand;
 use std::sync::Wait;
@@ -59,7 +60,7 @@ fn drawn_command(alloc: Global, draws: &mut Draws, held: &Held) -> Result<Event,
     }
 }
 
-// Events of every kind, drawn from a desk that takes them alone.
+// Events of every kind, drawn from a desk that takes them alone; the last one is to be taken first.
 fn drawn_events(alloc: Global, seed: u32) -> Result<Vec<Event>, Fail> {
     let mut draws = Draws::new(seed);
     let mut held = Held::new(alloc);
@@ -72,6 +73,7 @@ fn drawn_events(alloc: Global, seed: u32) -> Result<Vec<Event>, Fail> {
         let _ = held.step(event.try_copy(alloc)?);
         put(&mut events, event)?;
     }
+    events.reverse();
     Ok(events)
 }
 
@@ -130,11 +132,11 @@ fn expect_replayed(alloc: Global, held: &Held) -> Result<(), Fail> {
     Ok(())
 }
 
-// Replies of each kind are among the records.
-fn expect_each_reply(history: &[Recorded]) -> Result<(), Fail> {
-    let mut counts = [0u32; 6];
+// Events of each kind, and commands of each kind, are among the records.
+fn expect_each_kind(history: &[Recorded]) -> Result<(), Fail> {
+    let mut counts = [0u32; 10];
     for recorded in history {
-        let kind = kind_of(&recorded.reply);
+        let kind = kind_of(&recorded.event);
         counts[kind] = counts[kind].saturating_add(1);
     }
     for count in &counts {
@@ -145,17 +147,21 @@ fn expect_each_reply(history: &[Recorded]) -> Result<(), Fail> {
     Ok(())
 }
 
-// The place of a kind of reply among all.
-fn kind_of(reply: &Reply) -> usize
-    ensures { result < 6 }
+// The place of a kind of event among all.
+fn kind_of(event: &Event) -> usize
+    ensures { result < 10 }
 {
-    match reply {
-        Reply::Accepted(_) => 0,
-        Reply::Refused(_) => 1,
-        Reply::Undone(_) => 2,
-        Reply::Redone(_) => 3,
-        Reply::Order(_) => 4,
-        Reply::Position(_) => 5,
+    match event {
+        Event::Submit(Command::Trade(_)) => 0,
+        Event::Submit(Command::Correct(_)) => 1,
+        Event::Submit(Command::Bust(_)) => 2,
+        Event::Submit(Command::AllocNew(_)) => 3,
+        Event::Submit(Command::AllocReplace(_)) => 4,
+        Event::Submit(Command::AllocCancel(_)) => 5,
+        Event::Undo { newest: _ } => 6,
+        Event::Redo => 7,
+        Event::AskOrder(_) => 8,
+        Event::AskPosition(..) => 9,
     }
 }
 
@@ -190,7 +196,7 @@ fn run_many<L: Ledger + Send + Sync, R: Threads + Wait + Sync>(
     );
     let seats = seats_of(alloc, callers)?;
     let settled = settle(desk.close(), seats, 4_000)?;
-    expect_each_reply(settled.held.history())?;
+    expect_each_kind(settled.held.history())?;
     expect_replayed(alloc, &settled.held)
 }
 

@@ -3,7 +3,7 @@ ghost use Rattle.std.specs.Prelude.{◌≡◌};
 
 use crate::words::{expect, settle, take};
 use blot_desk::{Desk, DeskFault, Event, Receipt, Reply, Seat};
-use blot_types::{Command, OrderKey, Refused};
+use blot_types::{Command, EVENTS_MAX, OrderKey, Refused};
 use std::alloc::Global;
 use std::marker::Brand;
 use std::sync::Wait;
@@ -109,7 +109,7 @@ fn fill_up<L: Ledger>(
     seat: &mut Seat<L>,
     unknown: &OrderKey,
 ) -> Result<(), Fail> {
-    for _ in 0..100_000u32 {
+    for _ in 0..EVENTS_MAX {
         let reply = take(rt, desk, seat, Event::AskOrder(*unknown))?;
         expect(&reply, &Reply::Order(None))?;
     }
@@ -124,7 +124,7 @@ fn expect_full<L: Ledger>(
     event: Event,
 ) -> Result<(), Fail> {
     match desk.submit(rt, seat, event) {
-        Err(DeskFault::Full) if seat.receipts().len() == 100_000 => Ok(()),
+        Err(DeskFault::Full) if seat.receipts().len() == EVENTS_MAX as usize => Ok(()),
         Err(fault) => Err(Fail::new(format_args!("{fault:?}"))),
         Ok(reply) => Err(Fail::new(format_args!("{reply:?}"))),
     }
@@ -159,7 +159,7 @@ fn run_full<L: Ledger>(rt: &impl Wait, alloc: Global, blank: Blank) -> Result<()
     let mut seat = seats.pop().ok_or("no seat")?;
     expect_filled(rt, &desk, &mut seat)?;
     seats.push(seat)?;
-    settle(desk.close(), seats, 100_000)?;
+    settle(desk.close(), seats, EVENTS_MAX as usize)?;
     Ok(())
 }
 

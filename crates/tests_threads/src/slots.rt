@@ -1,4 +1,6 @@
 //! The table of sessions under its lock.
+ghost use Rattle.std.specs.Prelude.{IfOk};
+ghost use Rattle.blot_session.specs.States.{IsIdle};
 
 use blot_session::{Phase, Session};
 use blot_slots::{SlotFault, Slots};
@@ -24,7 +26,9 @@ fn table_of(alloc: Global, peers: &[Text64]) -> Result<Slots, Fail> {
 }
 
 // The session of a peer, handed out.
-fn out(rt: &impl Wait, slots: &Slots, peer: &Text64) -> Result<Session, Fail> {
+fn out(rt: &impl Wait, slots: &Slots, peer: &Text64) -> Result<Session, Fail>
+    ensures { IfOk result IsIdle }
+{
     match slots.check_out(rt, peer) {
         Ok(session) => Ok(session),
         Err(fault) => Err(Fail::new(format_args!("{fault:?}"))),
@@ -55,7 +59,9 @@ fn expect_waiting(session: &Session, number: u64) -> Result<(), Fail> {
 }
 
 // The peer logs on.
-fn log_on(alloc: Global, session: &mut Session) -> Result<(), Fail> {
+fn log_on(alloc: Global, session: &mut Session) -> Result<(), Fail>
+    requires { IsIdle session.old }
+{
     let mut bytes = Vec::new(alloc);
     for byte in LOGON.as_bytes() {
         bytes.push(if *byte == b'|' { 1 } else { *byte })?;
