@@ -1,4 +1,6 @@
 //! Single bytes in a text.
+ghost use Rattle.std.specs.Prelude.{◌≡◌, ◌==◌};
+ghost use Rattle.std.specs.List.{position_or_len};
 ghost use Rattle.blot_tag.specs.Bytes.{IsFirstPlace};
 
 use memchr::memchr;
@@ -14,4 +16,13 @@ pub(crate) fn find_byte(byte: u8, text: &[u8]) -> Option<usize>
     ensures { IsFirstPlace byte text.now result }
 {
     memchr(byte, text)
+}
+
+/// The first place at which the byte stands in the text, or the text's length where it doesn't. Over a few bytes this plain
+/// loop is quicker than `find_byte`.
+#[inline(always)]
+pub(crate) fn place_near(byte: u8, text: &[u8]) -> usize
+    ensures { result ≡ position_or_len (λ other. other == byte) text.now }
+{
+    text.iter().take_while(|other| **other != byte).count()
 }

@@ -36,6 +36,7 @@ pub fn number_of(digits: &[u8]) -> usize
 }
 
 /// The tag that the bytes write: one to nine digits, the first not `0`.
+#[inline(always)]
 #[tactic(auto, unfolding(crate::specs::Bytes::tag_number))]
 pub(crate) fn tag_number(bytes: &[u8]) -> Option<u32>
     ensures { result ≡ tag_number bytes.now }

@@ -6,7 +6,7 @@ ghost use Rattle.blot_tag.specs.Bytes.{is_soh, is_equals};
 ghost use Rattle.blot_tag.specs.Fields.{no_tag, wrong_length, data_tag_of, length_before, first_tag, data_value, first_field};
 ghost use Rattle.blot_tag.specs.Views.{tag_value, split_of};
 
-use crate::bytes::{CHECK_SUM_LENGTH, SOH, find_byte};
+use crate::bytes::{CHECK_SUM_LENGTH, SOH, place_near};
 use crate::digits::{is_number, number_of, tag_number};
 use crate::field::{Field, SplitFault, SplitReason};
 
@@ -52,6 +52,7 @@ pub(crate) fn data_tag(length_tag: u32) -> Option<u32>
 }
 
 // The length of a data field, as the field right before it writes it; none for an ordinary field.
+#[inline(always)]
 fn length_before<'a>(before: Option<Field<'a>>, tag: u32) -> Option<&'a [u8]>
     ensures { option_copied result ≡ length_before (option_map tag_value before.entry) tag }
 {
@@ -64,24 +65,31 @@ fn length_before<'a>(before: Option<Field<'a>>, tag: u32) -> Option<&'a [u8]>
 }
 
 // The tag that begins a text, and the text behind its `=`.
+#[inline(always)]
 #[tactic(auto, unfolding(crate::specs::Bytes::tag_number))]
 fn split_tag(text: &[u8]) -> Option<(u32, &[u8])>
     ensures tag { option_map (λ split. split.0) result ≡ first_tag text.now }
     ensures rest { IfSome result (λ split. split.1.now ≡ after_first is_equals text.now) }
 {
-    let place = find_byte(b'=', text)?;
+    let place = place_near(b'=', text);
+    if place == text.len() {
+        return None;
+    }
     let tag = tag_number(&text[..place])?;
     Some((tag, &text[place + 1..]))
 }
 
 // The bytes up to the next SOH, and those behind it.
+#[inline(always)]
 fn split_at_soh(text: &[u8]) -> (&[u8], &[u8])
     ensures before { result.0.now ≡ before_first is_soh text.now }
     ensures after { result.1.now ≡ after_first is_soh text.now }
 {
-    match find_byte(SOH, text) {
-        Some(place) => (&text[..place], &text[place + 1..]),
-        None => (text, &[]),
+    let place = place_near(SOH, text);
+    if place < text.len() {
+        (&text[..place], &text[place + 1..])
+    } else {
+        (text, &[])
     }
 }
 
@@ -102,6 +110,7 @@ fn split_data<'a>(digits: &[u8], text: &'a [u8]) -> Option<(&'a [u8], &'a [u8])>
 }
 
 /// The field that begins a text, right behind the field `before`, and the text behind it.
+#[inline(always)]
 #[tactic(auto, unfolding(crate::specs::Fields::first_field))]
 pub(crate) fn first_field<'a>(
     before: Option<Field<'a>>,
