@@ -5,6 +5,7 @@ mod FieldTextLemmas
 mod MatchLemmas
 mod SizeLemmas
 mod StepLemmas
+mod TagLemmas
 mod OutcomeLemmas
 pub mod FrameLemmas
 pub mod WalkLemmas

@@ -64,10 +64,9 @@ fn length_before<'a>(before: Option<Field<'a>>, tag: u32) -> Option<&'a [u8]>
     }
 }
 
-// The tag that begins a text, and the text behind its `=`.
-#[inline(always)]
+// The tag that begins a text, and the text behind its `=`, however many digits it has.
 #[tactic(auto, unfolding(crate::specs::Bytes::tag_number))]
-fn split_tag(text: &[u8]) -> Option<(u32, &[u8])>
+fn split_any_tag(text: &[u8]) -> Option<(u32, &[u8])>
     ensures tag { option_map (λ split. split.0) result ≡ first_tag text.now }
     ensures rest { IfSome result (λ split. split.1.now ≡ after_first is_equals text.now) }
 {
@@ -77,6 +76,33 @@ fn split_tag(text: &[u8]) -> Option<(u32, &[u8])>
     }
     let tag = tag_number(&text[..place])?;
     Some((tag, &text[place + 1..]))
+}
+
+// The tag that begins a text, and the text behind its `=`. One to three digits are read at once.
+#[inline(always)]
+#[tactic(auto, using(crate::proofs::TagLemmas::tag_of_one, crate::proofs::TagLemmas::tag_of_two, crate::proofs::TagLemmas::tag_of_three))]
+fn split_tag(text: &[u8]) -> Option<(u32, &[u8])>
+    ensures tag { option_map (λ split. split.0) result ≡ first_tag text.now }
+    ensures rest { IfSome result (λ split. split.1.now ≡ after_first is_equals text.now) }
+{
+    if let [a @ b'1'..=b'9', b @ b'0'..=b'9', b'=', rest @ ..] = text {
+        return Some((u32::from(*a - b'0') * 10 + u32::from(*b - b'0'), rest));
+    }
+    if let [
+        a @ b'1'..=b'9',
+        b @ b'0'..=b'9',
+        c @ b'0'..=b'9',
+        b'=',
+        rest @ ..,
+    ] = text
+    {
+        let tens = u32::from(*a - b'0') * 10 + u32::from(*b - b'0');
+        return Some((tens * 10 + u32::from(*c - b'0'), rest));
+    }
+    if let [a @ b'1'..=b'9', b'=', rest @ ..] = text {
+        return Some((u32::from(*a - b'0'), rest));
+    }
+    split_any_tag(text)
 }
 
 // The bytes up to the next SOH, and those behind it.
