@@ -108,15 +108,23 @@ fn a_peer_listed_twice(rt: HostRuntime) -> Result<(), Fail> {
     }
 }
 
+// Why the session of a peer isn't handed out, if it isn't.
+fn refusal(rt: &impl Wait, slots: &Slots, peer: &Text64) -> Option<SlotFault> {
+    match slots.check_out(rt, peer) {
+        Ok(_) => None,
+        Err(fault) => Some(fault),
+    }
+}
+
 // Two threads ask for one session.
 fn ask_twice<R: Threads + Wait + Sync>(rt: &R, alloc: Global) -> Result<(), Fail> {
     let brka = text(b"BRKA")?;
     let slots = table_of(alloc, &[brka])?;
-    let lent = &slots;
+    let (lent, peer) = (&slots, &brka);
     let (a, b) = join(
         rt,
-        move || lent.check_out(rt, &brka).err(),
-        move || lent.check_out(rt, &brka).err(),
+        move || refusal(rt, lent, peer),
+        move || refusal(rt, lent, peer),
     );
     match (a, b) {
         (None, Some(SlotFault::AlreadyOn)) | (Some(SlotFault::AlreadyOn), None) => Ok(()),

@@ -2,6 +2,3 @@ use Rattle.tests_threads.proofs.single.one_seats_receipts.Given as goal
 
 abbrev pub ghosts-run_receipts : goal.ghosts-run_receipts
 ghosts-run_receipts g a = record { name = a.blank.name; parts = a.blank.parts }
-
-abbrev pub ghosts-run_receipts-2 : goal.ghosts-run_receipts-2
-ghosts-run_receipts-2 g a = record { name = a.blank.name; parts = a.blank.parts }
