@@ -1,0 +1,21 @@
+-- The numbers of endings, and the stops that are endings.
+use Rattle.std.specs.Prelude.{ℕ}
+use Rattle.blot_gateway.specs.declared.ended.Ended.{Ended}
+use Rattle.blot_gateway.specs.declared.ended.Ended.TheVariants as ended
+use Rattle.blot_gateway.specs.declared.ended.Stop.{Stop}
+use Rattle.blot_gateway.specs.declared.ended.Stop.TheVariants as stops
+
+-- the number of an ending
+abbrev pub ended_number : Ended → ℕ
+ended_number (ended.Closed reason) = 0
+ended_number ended.End = 1
+ended_number ended.ReadFault = 2
+ended_number ended.WriteFault = 3
+ended_number ended.TooLong = 4
+ended_number ended.NoMemory = 5
+
+-- the ending of a stop
+abbrev pub ended_by : Stop → Ended
+ended_by (stops.Closed reason) = ended.Closed reason
+ended_by stops.WriteFault = ended.WriteFault
+ended_by stops.NoMemory = ended.NoMemory

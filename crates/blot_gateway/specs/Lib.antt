@@ -1,0 +1,5 @@
+pub mod Endings
+pub mod Greeting
+pub mod Sending
+pub mod Serving
+pub mod Wires

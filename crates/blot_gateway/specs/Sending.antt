@@ -1,0 +1,51 @@
+-- What is written to a wire, and how one call of a session ends.
+use Rattle.std.specs.Prelude.{◌≡◌, ℕ, ℤ, Bool, true, false, List, [], ◌∷◌, Some, None}
+use Rattle.std.specs.List.{flat_map}
+use Rattle.blot_session.specs.declared.action.Action.{Action}
+use Rattle.blot_session.specs.declared.state.State.{State}
+use Rattle.blot_session.specs.Runs.{Call, outcome, bytes_of}
+use Rattle.blot_gateway.specs.declared.ended.Stop.{Stop}
+use Rattle.blot_gateway.specs.declared.ended.Stop.TheVariants as stops
+use Rattle.blot_gateway.specs.Wires.{Did, Steps, reads_of, written_of}
+use Rattle.blot_gateway.specs.Serving.{IsFront, close_in}
+
+-- a wire takes just these bytes
+pub record Writes {W : Type 0} (does : W → Did → W → Type 0) (before : W) (text : List ℕ) (after : W) : Type 0 where
+  pub dids : List Did
+  pub steps : Steps does before dids after
+  pub read : reads_of dids ≡ []
+  pub written : written_of dids ≡ text
+
+-- it takes a front of them, and not the whole
+pub record WritesFront {W : Type 0} (does : W → Did → W → Type 0) (before : W) (text : List ℕ) (after : W) : Type 0 where
+  pub front : List ℕ
+  pub writes : Writes does before front after
+  pub is_front : IsFront front text
+
+-- what is sent is written, or a front of it, and then this stops the session
+abbrev pub Halts : {W : Type 0} → (W → Did → W → Type 0) → Stop → W → List Action → W → Type 0
+Halts does (stops.Closed reason) before actions after = Writes does before (flat_map bytes_of actions) after × (close_in actions ≡ Some reason)
+Halts does stops.WriteFault before actions after = WritesFront does before (flat_map bytes_of actions) after
+Halts does stops.NoMemory before actions after = ⊥
+
+-- one call of a session, at the clock's moment: all that it sends is written, and it doesn't end the connection
+pub record Called {W C : Type 0} (does : W → Did → W → Type 0) (ticks : C → ℤ → C → Type 0) (call : ℤ → Bool → Call)
+    (wire : W) (clock : C) (state : State) (wire_after : W) (clock_after : C) (after : State) : Type 0 where
+  pub now : ℤ
+  pub ticked : ticks clock now clock_after
+  pub session : after ≡ (outcome state (call now true)).state
+  pub writes : Writes does wire (flat_map bytes_of (outcome state (call now true)).actions) wire_after
+  pub stays : close_in (outcome state (call now true)).actions ≡ None
+
+-- one that stops the session
+abbrev pub StopsAt : {W : Type 0} → (W → Did → W → Type 0) → Stop → W → List Action → Bool → W → Type 0
+StopsAt does stops.NoMemory before actions memory after = (memory ≡ false) × (after ≡ before)
+StopsAt does stop before actions memory after = (memory ≡ true) × Halts does stop before actions after
+
+pub record Halted {W C : Type 0} (does : W → Did → W → Type 0) (ticks : C → ℤ → C → Type 0) (stop : Stop) (call : ℤ → Bool → Call)
+    (wire : W) (clock : C) (state : State) (wire_after : W) (clock_after : C) (after : State) : Type 0 where
+  pub now : ℤ
+  pub memory : Bool
+  pub ticked : ticks clock now clock_after
+  pub session : after ≡ (outcome state (call now memory)).state
+  pub halts : StopsAt does stop wire (outcome state (call now memory)).actions memory wire_after

@@ -1,0 +1,225 @@
+-- One session, served over a wire: which calls it gets, in which order, and what comes of them.
+use Rattle.std.specs.Prelude.{◌≡◌, ℕ, ℤ, ◌<◌, ◌⊎◌, Bool, true, false, List, [], ◌∷◌, ◌++◌, length, map, Option, Some, None, Result, Ok, Err}
+use Rattle.std.specs.List.{flat_map, list_all}
+use Rattle.blot_tag.specs.Walking.{frames_of, rest_of}
+use Rattle.blot_types.specs.Told.{refused_number}
+use Rattle.blot_desk.specs.declared.event.Reply.{Reply as DeskReply}
+use Rattle.blot_desk.specs.declared.event.Reply.TheVariants as replies
+use Rattle.blot_desk.specs.declared.fault.DeskFault.{DeskFault}
+use Rattle.blot_session.specs.declared.action.Action.{Action}
+use Rattle.blot_session.specs.declared.action.Action.TheVariants.{Send, Deliver, Close}
+use Rattle.blot_session.specs.declared.action.CloseReason.{CloseReason}
+use Rattle.blot_session.specs.declared.replies.NotTaken.{NotTaken}
+use Rattle.blot_session.specs.declared.replies.SeenReply.{SeenReply}
+use Rattle.blot_session.specs.declared.replies.SeenReply.TheVariants as seen
+use Rattle.blot_session.specs.declared.state.State.{State}
+use Rattle.blot_session.specs.Runs.{Call, AreMet, actions_of, behind_calls, delivered_of, sent_of}
+use Rattle.blot_session.specs.Runs.Call.{Frame, Reply, Tick, Closing, WaitAgain}
+use Rattle.blot_session.specs.States.{closed}
+use Rattle.blot_gateway.specs.declared.ended.Ended.{Ended}
+use Rattle.blot_gateway.specs.declared.ended.Ended.TheVariants as ended
+use Rattle.blot_gateway.specs.declared.ended.TheConstants.{READS_MAX}
+use Rattle.blot_gateway.specs.Wires.{Read, Did, Answered, Steps, reads_of, written_of}
+use Rattle.blot_gateway.specs.Wires.Read.{Piece, Silence, AtEnd, Failed}
+
+-- ---- what is due to a session
+
+-- a frame with this text came, or a moment passed
+pub data Due : Type 0 where
+  Came : List ℕ → Due
+  Passed : Due
+
+-- by these reads, behind bytes that hold no frame: the frames of each piece, with the rest of the one before, and then a moment,
+-- which passes where nothing came too. Nothing is due behind the wire's end or its failure
+abbrev pub due_behind : List ℕ → List Read → List Due
+due_behind unread [] = []
+due_behind unread (Piece bytes ∷ reads) = map Came (frames_of (unread ++ bytes)) ++ (Passed ∷ due_behind (rest_of (unread ++ bytes)) reads)
+due_behind unread (Silence ∷ reads) = Passed ∷ due_behind unread reads
+due_behind unread (read ∷ reads) = []
+
+-- first the frames of what the reader holds
+abbrev pub due_of : List ℕ → List Read → List Due
+due_of unread reads = map Came (frames_of unread) ++ due_behind (rest_of unread) reads
+
+-- ---- the calls that are made
+
+-- the frames and moments among some calls
+abbrev pub due_by : Call → List Due
+due_by (Frame text now memory) = Came text ∷ []
+due_by (Tick now memory) = Passed ∷ []
+due_by call = []
+
+abbrev pub due_in : List Call → List Due
+due_in calls = flat_map due_by calls
+
+-- the moments at which they are made
+abbrev pub moment_by : Call → List ℤ
+moment_by (Frame text now memory) = now ∷ []
+moment_by (Reply reply now memory) = now ∷ []
+moment_by (Tick now memory) = now ∷ []
+moment_by call = []
+
+abbrev pub moments_of : List Call → List ℤ
+moments_of calls = flat_map moment_by calls
+
+-- the replies among them
+abbrev pub reply_by : Call → List (Result SeenReply NotTaken)
+reply_by (Reply reply now memory) = reply ∷ []
+reply_by call = []
+
+abbrev pub replies_of : List Call → List (Result SeenReply NotTaken)
+replies_of calls = flat_map reply_by calls
+
+-- what a session is told of a sink's answer
+abbrev pub seen_by : Result DeskReply DeskFault → Result SeenReply NotTaken
+seen_by (Ok (replies.Accepted number)) = Ok seen.Accepted
+seen_by (Ok (replies.Refused refused)) = Ok (seen.Refused (refused_number refused))
+seen_by answer = Err (record {})
+
+-- a frame, a reply or a moment, and no other call
+abbrev pub is_served : Call → Bool
+is_served (Frame text now memory) = true
+is_served (Reply reply now memory) = true
+is_served (Tick now memory) = true
+is_served call = false
+
+-- whether there was memory for a call
+abbrev pub has_memory : Call → Bool
+has_memory (Frame text now memory) = memory
+has_memory (Reply reply now memory) = memory
+has_memory (Tick now memory) = memory
+has_memory call = true
+
+-- the reason of the first Close among some actions
+abbrev pub close_in : List Action → Option CloseReason
+close_in [] = None
+close_in (Close reason ∷ actions) = Some reason
+close_in (action ∷ actions) = close_in actions
+
+-- why some calls end the connection, if they do
+abbrev pub closed_by : State → List Call → Option CloseReason
+closed_by state calls = close_in (actions_of state calls)
+
+-- the calls go on: none ends the connection, and there is memory for each
+pub record GoesOn (state : State) (calls : List Call) : Type 0 where
+  pub stays : closed_by state calls ≡ None
+  pub memory : list_all has_memory calls ≡ true
+
+-- ---- how they end
+
+-- the calls go on, up to the last
+pub record HasLast (state : State) (calls : List Call) : Type 0 where
+  pub earlier : List Call
+  pub last : Call
+  pub joined : calls ≡ earlier ++ (last ∷ [])
+  pub goes_on : GoesOn state earlier
+
+-- the last call ends the connection for this reason
+pub record ClosesLast (reason : CloseReason) (state : State) (calls : List Call) : Type 0 where
+  pub until : HasLast state calls
+  pub memory : has_memory until.last ≡ true
+  pub closes : closed_by (behind_calls state until.earlier) (until.last ∷ []) ≡ Some reason
+
+-- there is memory for the last call too
+pub record EndsAtLast (state : State) (calls : List Call) : Type 0 where
+  pub until : HasLast state calls
+  pub memory : has_memory until.last ≡ true
+
+-- there is none for the last call
+pub record RunsOutLast (state : State) (calls : List Call) : Type 0 where
+  pub until : HasLast state calls
+  pub memory : has_memory until.last ≡ false
+
+-- why no further call is made: the last one ended the connection; what it sends couldn't be written; memory ran out in it, or
+-- between two calls; or the wire ended, failed, or was read too often
+abbrev pub Stops : Ended → State → List Call → Type 0
+Stops (ended.Closed reason) state calls = ClosesLast reason state calls
+Stops ended.WriteFault state calls = EndsAtLast state calls
+Stops ended.NoMemory state calls = GoesOn state calls ⊎ RunsOutLast state calls
+Stops end state calls = GoesOn state calls
+
+-- the last of some reads
+pub record EndsWith (read : Read) (reads : List Read) : Type 0 where
+  pub earlier : List Read
+  pub joined : reads ≡ earlier ++ (read ∷ [])
+
+-- what the wire did then. All that was due is done, where it is the wire that ends the session
+abbrev pub Cause : Ended → List Read → List Due → Type 0
+Cause ended.End reads left = EndsWith AtEnd reads × (left ≡ [])
+Cause ended.ReadFault reads left = EndsWith Failed reads × (left ≡ [])
+Cause ended.TooLong reads left = (length reads ≡ READS_MAX) × (left ≡ [])
+Cause end reads left = Unit {0}
+
+-- a front of a text, and not the whole
+pub record IsFront (front text : List ℕ) : Type 0 where
+  pub back : List ℕ
+  pub joined : front ++ back ≡ text
+  pub short : 0 < length back
+
+-- what was written of what is sent: all, or where a write failed a front
+abbrev pub Wrote : Ended → List ℕ → List ℕ → Type 0
+Wrote ended.WriteFault written sent = IsFront written sent
+Wrote end written sent = written ≡ sent
+
+-- ---- the parties of a session
+
+-- the wire, the clock, the sink and the session, as they are
+pub record Parties (W C S : Type 0) : Type 0 where
+  pub wire : W
+  pub clock : C
+  pub sink : S
+  pub session : State
+
+-- what happens between them over some calls: each call at the clock's next moment; a reply behind each delivery, and only there; the
+-- sink is handed what the session delivers, in order, each once, and its answers are the replies
+pub record Happens {W C S : Type 0} (does : W → Did → W → Type 0) (ticks : C → ℤ → C → Type 0) (takes : S → Answered → S → Type 0)
+    (before : Parties W C S) (calls : List Call) (dids : List Did) (answers : List Answered) (after : Parties W C S) : Type 0 where
+  pub session : after.session ≡ behind_calls before.session calls
+  pub served : list_all is_served calls ≡ true
+  pub met : AreMet before.session calls
+  pub clock : Steps ticks before.clock (moments_of calls) after.clock
+  pub sink : Steps takes before.sink answers after.sink
+  pub handed : map (λ answered. answered.command) answers ≡ map (λ numbered. numbered.command) (delivered_of before.session calls)
+  pub told : map (λ answered. seen_by answered.answer) answers ≡ replies_of calls
+  pub wire : Steps does before.wire dids after.wire
+
+-- calls that go on: a front of what is due is done, this is left, the wire gave these reads, and all that is sent was written
+pub record Runs {W C S : Type 0} (does : W → Did → W → Type 0) (ticks : C → ℤ → C → Type 0) (takes : S → Answered → S → Type 0)
+    (before : Parties W C S) (due : List Due) (reads : List Read) (left : List Due) (after : Parties W C S) : Type 0 where
+  pub calls : List Call
+  pub dids : List Did
+  pub answers : List Answered
+  pub happens : Happens does ticks takes before calls dids answers after
+  pub done : due_in calls ++ left ≡ due
+  pub read : reads_of dids ≡ reads
+  pub written : written_of dids ≡ sent_of before.session calls
+  pub goes_on : GoesOn before.session calls
+
+-- calls that end so
+pub record Ends {W C S : Type 0} (does : W → Did → W → Type 0) (ticks : C → ℤ → C → Type 0) (takes : S → Answered → S → Type 0)
+    (end : Ended) (before : Parties W C S) (due : List Due) (reads : List Read) (after : Parties W C S) : Type 0 where
+  pub calls : List Call
+  pub dids : List Did
+  pub answers : List Answered
+  pub left : List Due
+  pub happens : Happens does ticks takes before calls dids answers after
+  pub done : due_in calls ++ left ≡ due
+  pub read : reads_of dids ≡ reads
+  pub written : Wrote end (written_of dids) (sent_of before.session calls)
+  pub stops : Stops end before.session calls
+  pub cause : Cause end reads left
+
+-- ---- one session
+
+-- a session is closed behind an end or a fault; one that ended the connection itself is
+abbrev pub left_by : Ended → State → State
+left_by (ended.Closed reason) state = state
+left_by end state = closed state
+
+-- the wire gave some reads, and behind what the reader held they came to calls that end so
+pub record Served {W C S : Type 0} (does : W → Did → W → Type 0) (ticks : C → ℤ → C → Type 0) (takes : S → Answered → S → Type 0)
+    (end : Ended) (before : Parties W C S) (unread : List ℕ) (after : Parties W C S) : Type 0 where
+  pub reads : List Read
+  pub last : State
+  pub ends : Ends does ticks takes end before (due_of unread reads) reads (record after { session = last })
+  pub closed : after.session ≡ left_by end last

@@ -1,0 +1,79 @@
+-- What a wire gives and takes, and what a sink answers.
+use Rattle.std.specs.Prelude.{◌≡◌, ℕ, ◌≤◌, ◌<◌, ◌++◌, Bool, true, false, List, [], ◌∷◌, length, take, Result}
+use Rattle.std.specs.List.{flat_map}
+use Rattle.blot_types.specs.declared.command.Command.{Command}
+use Rattle.blot_desk.specs.declared.event.Reply.{Reply}
+use Rattle.blot_desk.specs.declared.fault.DeskFault.{DeskFault}
+use Rattle.blot_gateway.specs.declared.wire.Reading.{Reading}
+use Rattle.blot_gateway.specs.declared.wire.Reading.TheVariants as reading
+use Rattle.blot_gateway.specs.declared.wire.Writing.{Writing}
+use Rattle.blot_gateway.specs.declared.wire.Writing.TheVariants as writing
+
+-- one read of a wire: these bytes came, nothing came in time, the wire is at its end, or it failed
+pub data Read : Type 0 where
+  Piece : List ℕ → Read
+  Silence : Read
+  AtEnd : Read
+  Failed : Read
+
+-- what a wire does: a read, a write that takes these bytes, a write that fails
+pub data Did : Type 0 where
+  Gave : Read → Did
+  Took : List ℕ → Did
+  Refused : Did
+
+-- a command that was handed to a sink, and its answer
+pub record Answered : Type 0 where
+  pub command : Command
+  pub answer : Result Reply DeskFault
+
+-- a read, by its answer and the buffer behind it
+abbrev pub read_by : Reading → List ℕ → Read
+read_by (reading.Got count) buffer = Piece (take count buffer)
+read_by reading.Quiet buffer = Silence
+read_by reading.End buffer = AtEnd
+read_by reading.Fault buffer = Failed
+
+-- a write, by its answer and the text
+abbrev pub written_by : Writing → List ℕ → Did
+written_by (writing.Wrote count) text = Took (take count text)
+written_by writing.Fault text = Refused
+
+-- a count of bytes is at least 1, and no more than there is room or text for
+abbrev pub ReadFits : Reading → ℕ → Type 0
+ReadFits (reading.Got count) room = (1 ≤ count) × (count ≤ room)
+ReadFits reading room = Unit {0}
+
+abbrev pub WriteFits : Writing → ℕ → Type 0
+WriteFits (writing.Wrote count) room = (1 ≤ count) × (count ≤ room)
+WriteFits writing.Fault room = Unit {0}
+
+-- a failure is counted, and nothing else is
+abbrev pub CountsRead : Reading → ℕ → ℕ → Type 0
+CountsRead reading.Fault before after = before < after
+CountsRead reading before after = after ≡ before
+
+abbrev pub CountsWrite : Writing → ℕ → ℕ → Type 0
+CountsWrite writing.Fault before after = before < after
+CountsWrite (writing.Wrote count) before after = after ≡ before
+
+-- step by step these things happen, one behind the other
+abbrev pub Steps : {S E : Type 0} → (S → E → S → Type 0) → S → List E → S → Type 0
+Steps does before [] after = after ≡ before
+Steps {S = S} does before (event ∷ events) after = (between : S) × does before event between × Steps does between events after
+
+-- the reads among what a wire did
+abbrev pub read_in : Did → List Read
+read_in (Gave read) = read ∷ []
+read_in did = []
+
+abbrev pub reads_of : List Did → List Read
+reads_of dids = flat_map read_in dids
+
+-- the bytes that it took
+abbrev pub taken_in : Did → List ℕ
+taken_in (Took bytes) = bytes
+taken_in did = []
+
+abbrev pub written_of : List Did → List ℕ
+written_of dids = flat_map taken_in dids

@@ -1,0 +1,77 @@
+//! What a session is served over: a wire, a clock and a sink.
+ghost use Rattle.std.specs.Prelude.{◌≡◌, ◌<◌, ℕ, ℤ, length};
+ghost use Rattle.blot_gateway.specs.Wires.{Did, Answered, read_by, written_by, ReadFits, WriteFits, CountsRead, CountsWrite};
+ghost use Rattle.blot_gateway.specs.Wires.Did.{Gave};
+
+use blot_desk::{DeskFault, Reply};
+use blot_time::Moment;
+use blot_types::Command;
+
+/// What a read of a wire gives.
+#[derive(Clone, Copy, Debug, PartialEq, Eq)]
+pub enum Reading {
+    /// So many bytes came, at least 1: they stand at the front of the buffer.
+    Got(usize),
+    /// Nothing came in time.
+    Quiet,
+    /// The wire is at its end.
+    End,
+    /// The read failed.
+    Fault,
+}
+
+/// What a write to a wire comes to.
+#[derive(Clone, Copy, Debug, PartialEq, Eq)]
+pub enum Writing {
+    /// So many bytes were taken, at least 1, from the front of the text.
+    Wrote(usize),
+    /// The write failed, and took nothing.
+    Fault,
+}
+
+/// A connection to a peer.
+pub trait Wire {
+    /// A wire, something that it does, and the wire behind that.
+    ghost does: { Self → Did → Self → Type 0 };
+
+    /// How many of its reads and writes failed so far.
+    ghost failures: { Self → ℕ };
+
+    /// Reads some bytes. The buffer isn't empty.
+    fn read_some(&mut self, buffer: &mut [u8]) -> Reading
+        requires { 0 < length buffer.old }
+        ensures gave { does self.old (Gave (read_by result buffer.new)) self.new }
+        ensures within { ReadFits result (length buffer.new) }
+        ensures counted { CountsRead result (failures self.old) (failures self.new) };
+
+    /// Writes some bytes of a text, which isn't empty.
+    fn write_some(&mut self, text: &[u8]) -> Writing
+        requires { 0 < length text.now }
+        ensures took { does self.old (written_by result text.now) self.new }
+        ensures within { WriteFits result (length text.now) }
+        ensures counted { CountsWrite result (failures self.old) (failures self.new) };
+
+    /// How many of its reads and writes failed so far.
+    fn faults(&self) -> u64
+        ensures { result ≡ failures self.now };
+}
+
+/// What tells the moments.
+pub trait Clock {
+    /// A clock, a moment that it tells, and the clock behind that.
+    ghost ticks: { Self → ℤ → Self → Type 0 };
+
+    /// The moment.
+    fn now(&mut self) -> Moment
+        ensures { ticks self.old result self.new };
+}
+
+/// What takes the commands that a session delivers.
+pub trait Sink {
+    /// A sink, a command with the answer to it, and the sink behind that.
+    ghost takes: { Self → Answered → Self → Type 0 };
+
+    /// Takes a command.
+    fn take(&mut self, command: Command) -> Result<Reply, DeskFault>
+        ensures { takes self.old (record { command = command; answer = result }) self.new };
+}
