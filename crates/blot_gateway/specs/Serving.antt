@@ -170,8 +170,8 @@ pub record Parties (W C S : Type 0) : Type 0 where
   pub sink : S
   pub session : State
 
--- what happens between them over some calls: each call at the clock's next moment; a reply behind each delivery, and only there; the
--- sink is handed what the session delivers, in order, each once, and its answers are the replies
+-- what happens between them over some calls: each call at the clock's next moment; a reply behind each delivery, and only there, which
+-- is the sink's answer
 pub record Happens {W C S : Type 0} (does : W → Did → W → Type 0) (ticks : C → ℤ → C → Type 0) (takes : S → Answered → S → Type 0)
     (before : Parties W C S) (calls : List Call) (dids : List Did) (answers : List Answered) (after : Parties W C S) : Type 0 where
   pub session : after.session ≡ behind_calls before.session calls
@@ -179,11 +179,11 @@ pub record Happens {W C S : Type 0} (does : W → Did → W → Type 0) (ticks :
   pub met : AreMet before.session calls
   pub clock : Steps ticks before.clock (moments_of calls) after.clock
   pub sink : Steps takes before.sink answers after.sink
-  pub handed : map (λ answered. answered.command) answers ≡ map (λ numbered. numbered.command) (delivered_of before.session calls)
   pub told : map (λ answered. seen_by answered.answer) answers ≡ replies_of calls
   pub wire : Steps does before.wire dids after.wire
 
--- calls that go on: a front of what is due is done, this is left, the wire gave these reads, and all that is sent was written
+-- calls that go on: a front of what is due is done, and this is left; the sink is handed what the session delivers, in order, each
+-- once; the wire gave these reads, and took all that is sent
 pub record Runs {W C S : Type 0} (does : W → Did → W → Type 0) (ticks : C → ℤ → C → Type 0) (takes : S → Answered → S → Type 0)
     (before : Parties W C S) (due : List Due) (reads : List Read) (left : List Due) (after : Parties W C S) : Type 0 where
   pub calls : List Call
@@ -191,6 +191,7 @@ pub record Runs {W C S : Type 0} (does : W → Did → W → Type 0) (ticks : C 
   pub answers : List Answered
   pub happens : Happens does ticks takes before calls dids answers after
   pub done : due_in calls ++ left ≡ due
+  pub handed : map (λ answered. answered.command) answers ≡ map (λ numbered. numbered.command) (delivered_of before.session calls)
   pub read : reads_of dids ≡ reads
   pub written : written_of dids ≡ sent_of before.session calls
   pub goes_on : GoesOn before.session calls
@@ -204,6 +205,7 @@ pub record Ends {W C S : Type 0} (does : W → Did → W → Type 0) (ticks : C 
   pub left : List Due
   pub happens : Happens does ticks takes before calls dids answers after
   pub done : due_in calls ++ left ≡ due
+  pub handed : map (λ answered. answered.command) answers ≡ map (λ numbered. numbered.command) (delivered_of before.session calls)
   pub read : reads_of dids ≡ reads
   pub written : Wrote end (written_of dids) (sent_of before.session calls)
   pub stops : Stops end before.session calls

@@ -1,0 +1,191 @@
+-- Calls, one behind the other.
+use Rattle.std.proofs.Common.{◌≡◌, ◌⊎◌, ℕ, ◌<◌, ◌+◌, Bool, true, false, ◌&&◌, List, [], ◌∷◌, ◌++◌, length, map, Option, Some, None, refl, sym, ap, subst, ◌∙◌, inl, inr, append_assoc}
+use Rattle.std.specs.Prelude.{ℤ}
+use Rattle.std.specs.List.{flat_map, list_all}
+use Rattle.std.proofs.lemmas.List.{append-nil, map-append}
+use Rattle.std.proofs.lemmas.List.Concat.{flat_map-append}
+use Rattle.std.proofs.lemmas.List.Folds.{list_all-append}
+use Rattle.blot_session.specs.declared.action.Action.{Action}
+use Rattle.blot_session.specs.declared.action.Action.TheVariants.{Send, Deliver, Close}
+use Rattle.blot_session.specs.declared.state.State.{State}
+use Rattle.blot_session.specs.Runs.{Call, Meets, AreMet, outcome, actions_of, behind_calls, bytes_of, delivered_by, delivered_of, sent_of}
+use Rattle.blot_gateway.specs.declared.ended.Ended.{Ended}
+use Rattle.blot_gateway.specs.declared.ended.Ended.TheVariants as ended
+use Rattle.blot_gateway.specs.Wires.{Read, Did, Answered, Steps, read_in, taken_in, reads_of, written_of}
+use Rattle.blot_gateway.specs.Serving.{Due, Parties, Happens, Runs, Ends, GoesOn, HasLast, ClosesLast, EndsAtLast, RunsOutLast, Stops, EndsWith, Cause, IsFront, Wrote, close_in, closed_by, due_by, due_in, moment_by, moments_of, reply_by, replies_of, is_served, has_memory, seen_by}
+use Rattle.blot_gateway.proofs.SendingLemmas.{steps-on}
+
+-- ---- two facts at once
+
+both : (a b : Bool) → a ≡ true → b ≡ true → (a && b) ≡ true
+both a b one two = rw (one, two) refl
+
+appended : {A : Type 0} {a b c d : List A} → a ≡ b → c ≡ d → a ++ c ≡ b ++ d
+appended one two = cc
+
+-- ---- what the session does
+
+pub behind-on : (first second : List Call) (state : State) → behind_calls state (first ++ second) ≡ behind_calls (behind_calls state first) second
+behind-on [] second state = refl
+behind-on (call ∷ first) second state = behind-on first second (outcome state call).state
+
+pub actions-on : (first second : List Call) (state : State) → actions_of state (first ++ second) ≡ actions_of state first ++ actions_of (behind_calls state first) second
+actions-on [] second state = refl
+actions-on (call ∷ first) second state =
+    let here = (outcome state call).actions in
+    ap (λ rest. here ++ rest) (actions-on first second (outcome state call).state) ∙ sym (append_assoc here _ _)
+
+pub sent-on : (first second : List Call) (state : State) → sent_of state (first ++ second) ≡ sent_of state first ++ sent_of (behind_calls state first) second
+sent-on first second state =
+    ap (flat_map bytes_of) (actions-on first second state) ∙ flat_map-append bytes_of (actions_of state first) (actions_of (behind_calls state first) second)
+
+pub delivered-on : (first second : List Call) (state : State) → delivered_of state (first ++ second) ≡ delivered_of state first ++ delivered_of (behind_calls state first) second
+delivered-on [] second state = refl
+delivered-on (call ∷ first) second state =
+    let here = delivered_by state.expected (outcome state call).actions in
+    ap (λ rest. here ++ rest) (delivered-on first second (outcome state call).state) ∙ sym (append_assoc here _ _)
+
+pub met-on : (first second : List Call) (state : State) → AreMet state first → AreMet (behind_calls state first) second → AreMet state (first ++ second)
+met-on [] second state one two = two
+met-on (call ∷ first) second state one two = (one.0, met-on first second (outcome state call).state one.1 two)
+
+-- ---- calls that go on
+
+pub close-on : (first second : List Action) → close_in first ≡ None → close_in (first ++ second) ≡ close_in second
+close-on [] second none = refl
+close-on (Send bytes ∷ first) second none = close-on first second none
+close-on (Deliver command ∷ first) second none = close-on first second none
+close-on (Close reason ∷ first) second none = absurd cc
+
+pub goes-on : (first second : List Call) (state : State) → GoesOn state first → GoesOn (behind_calls state first) second → GoesOn state (first ++ second)
+goes-on first second state one two =
+    record {
+      stays = ap close_in (actions-on first second state) ∙ close-on (actions_of state first) (actions_of (behind_calls state first) second) one.stays ∙ two.stays;
+      memory = list_all-append has_memory first second ∙ both (list_all has_memory first) (list_all has_memory second) one.memory two.memory;
+    }
+
+pub goes-nowhere : (state : State) → GoesOn state []
+goes-nowhere state = record { stays = refl; memory = refl }
+
+-- ---- calls that end
+
+abbrev last-behind : (first second : List Call) (state : State) → GoesOn state first → HasLast (behind_calls state first) second → HasLast state (first ++ second)
+last-behind first second state one two =
+    record {
+      earlier = first ++ two.earlier;
+      last = two.last;
+      joined = ap (λ rest. first ++ rest) two.joined ∙ sym (append_assoc first two.earlier (two.last ∷ []));
+      goes_on = goes-on first two.earlier state one two.goes_on;
+    }
+
+pub stops-behind : (end : Ended) (first second : List Call) (state : State) → GoesOn state first → Stops end (behind_calls state first) second → Stops end state (first ++ second)
+stops-behind (ended.Closed reason) first second state one two =
+    record {
+      until = last-behind first second state one two.until;
+      memory = two.memory;
+      closes = ap (λ (before : State). closed_by before (two.until.last ∷ [])) (behind-on first two.until.earlier state) ∙ two.closes;
+    }
+stops-behind ended.WriteFault first second state one two = record { until = last-behind first second state one two.until; memory = two.memory }
+stops-behind ended.NoMemory first second state one (inl two) = inl (goes-on first second state one two)
+stops-behind ended.NoMemory first second state one (inr two) = inr (record { until = last-behind first second state one two.until; memory = two.memory })
+stops-behind ended.End first second state one two = goes-on first second state one two
+stops-behind ended.ReadFault first second state one two = goes-on first second state one two
+stops-behind ended.TooLong first second state one two = goes-on first second state one two
+
+pub wrote-behind : (end : Ended) (first sent_first second sent_second : List ℕ) → first ≡ sent_first → Wrote end second sent_second → Wrote end (first ++ second) (sent_first ++ sent_second)
+wrote-behind ended.WriteFault first sent_first second sent_second one two =
+    record {
+      back = two.back;
+      joined = append_assoc first second two.back ∙ ap (λ rest. first ++ rest) two.joined ∙ ap (λ front. front ++ sent_second) one;
+      short = two.short;
+    }
+wrote-behind (ended.Closed reason) first sent_first second sent_second one two = appended one two
+wrote-behind ended.NoMemory first sent_first second sent_second one two = appended one two
+wrote-behind ended.End first sent_first second sent_second one two = appended one two
+wrote-behind ended.ReadFault first sent_first second sent_second one two = appended one two
+wrote-behind ended.TooLong first sent_first second sent_second one two = appended one two
+
+with-behind : (read : Read) (first second : List Read) → EndsWith read second → EndsWith read (first ++ second)
+with-behind read first second two =
+    record { earlier = first ++ two.earlier; joined = ap (λ rest. first ++ rest) two.joined ∙ sym (append_assoc first two.earlier (read ∷ [])) }
+
+pub cause-behind : (end : Ended) (first second : List Read) (left : List Due) → (end ≡ ended.TooLong → ⊥) → Cause end second left → Cause end (first ++ second) left
+cause-behind ended.End first second left other two = (with-behind _ first second two.0, two.1)
+cause-behind ended.ReadFault first second left other two = (with-behind _ first second two.0, two.1)
+cause-behind ended.TooLong first second left other two = absurd (other refl)
+cause-behind (ended.Closed reason) first second left other two = tt
+cause-behind ended.WriteFault first second left other two = tt
+cause-behind ended.NoMemory first second left other two = tt
+
+-- ---- what happens
+
+pub happens-on : {W C S : Type 0} (does : W → Did → W → Type 0) (ticks : C → ℤ → C → Type 0) (takes : S → Answered → S → Type 0)
+    (a b c : Parties W C S) (calls calls_b : List Call) (dids dids_b : List Did) (answers answers_b : List Answered)
+    → Happens does ticks takes a calls dids answers b → Happens does ticks takes b calls_b dids_b answers_b c
+    → Happens does ticks takes a (calls ++ calls_b) (dids ++ dids_b) (answers ++ answers_b) c
+happens-on does ticks takes a b c calls calls_b dids dids_b answers answers_b one two =
+    record {
+      session = two.session ∙ ap (λ (state : State). behind_calls state calls_b) one.session ∙ sym (behind-on calls calls_b a.session);
+      served = list_all-append is_served calls calls_b ∙ both (list_all is_served calls) (list_all is_served calls_b) one.served two.served;
+      met = met-on calls calls_b a.session one.met (subst (λ state. AreMet state calls_b) one.session two.met);
+      clock = subst (λ moments. Steps ticks a.clock moments c.clock) (sym (flat_map-append moment_by calls calls_b))
+          (steps-on ticks (moments_of calls) (moments_of calls_b) a.clock b.clock c.clock one.clock two.clock);
+      sink = steps-on takes answers answers_b a.sink b.sink c.sink one.sink two.sink;
+      told = map-append (λ answered. seen_by answered.answer) answers answers_b ∙ appended one.told two.told ∙ sym (flat_map-append reply_by calls calls_b);
+      wire = steps-on does dids dids_b a.wire b.wire c.wire one.wire two.wire;
+    }
+
+pub handed-on : (answers answers_b : List Answered) (calls calls_b : List Call) (state next : State) → next ≡ behind_calls state calls
+    → map (λ answered. answered.command) answers ≡ map (λ numbered. numbered.command) (delivered_of state calls)
+    → map (λ answered. answered.command) answers_b ≡ map (λ numbered. numbered.command) (delivered_of next calls_b)
+    → map (λ answered. answered.command) (answers ++ answers_b) ≡ map (λ numbered. numbered.command) (delivered_of state (calls ++ calls_b))
+handed-on answers answers_b calls calls_b state next led one two =
+    map-append (λ answered. answered.command) answers answers_b
+    ∙ appended one (two ∙ ap (λ (before : State). map (λ numbered. numbered.command) (delivered_of before calls_b)) led)
+    ∙ sym (map-append (λ numbered. numbered.command) (delivered_of state calls) (delivered_of (behind_calls state calls) calls_b))
+    ∙ ap (map (λ numbered. numbered.command)) (sym (delivered-on calls calls_b state))
+
+-- what is done and what is left
+done-on : (calls calls_b : List Call) (due left rest : List Due) → due_in calls ++ left ≡ due → due_in calls_b ++ rest ≡ left → due_in (calls ++ calls_b) ++ rest ≡ due
+done-on calls calls_b due left rest one two =
+    ap (λ front. front ++ rest) (flat_map-append due_by calls calls_b) ∙ append_assoc (due_in calls) (due_in calls_b) rest
+    ∙ ap (λ back. due_in calls ++ back) two ∙ one
+
+pub runs-on : {W C S : Type 0} (does : W → Did → W → Type 0) (ticks : C → ℤ → C → Type 0) (takes : S → Answered → S → Type 0)
+    (a b c : Parties W C S) (due left rest : List Due) (reads reads_b : List Read)
+    → Runs does ticks takes a due reads left b → Runs does ticks takes b left reads_b rest c → Runs does ticks takes a due (reads ++ reads_b) rest c
+runs-on does ticks takes a b c due left rest reads reads_b one two =
+    record {
+      calls = one.calls ++ two.calls;
+      dids = one.dids ++ two.dids;
+      answers = one.answers ++ two.answers;
+      happens = happens-on does ticks takes a b c one.calls two.calls one.dids two.dids one.answers two.answers one.happens two.happens;
+      done = done-on one.calls two.calls due left rest one.done two.done;
+      handed = handed-on one.answers two.answers one.calls two.calls a.session b.session one.happens.session one.handed two.handed;
+      read = flat_map-append read_in one.dids two.dids ∙ appended one.read two.read;
+      written = flat_map-append taken_in one.dids two.dids
+          ∙ appended one.written (two.written ∙ ap (λ (state : State). sent_of state two.calls) one.happens.session)
+          ∙ sym (sent-on one.calls two.calls a.session);
+      goes_on = goes-on one.calls two.calls a.session one.goes_on (subst (λ state. GoesOn state two.calls) one.happens.session two.goes_on);
+    }
+
+pub ends-behind : {W C S : Type 0} (does : W → Did → W → Type 0) (ticks : C → ℤ → C → Type 0) (takes : S → Answered → S → Type 0)
+    (end : Ended) (a b c : Parties W C S) (due left : List Due) (reads reads_b : List Read) → (end ≡ ended.TooLong → ⊥)
+    → Runs does ticks takes a due reads left b → Ends does ticks takes end b left reads_b c → Ends does ticks takes end a due (reads ++ reads_b) c
+ends-behind does ticks takes end a b c due left reads reads_b other one two =
+    record {
+      calls = one.calls ++ two.calls;
+      dids = one.dids ++ two.dids;
+      answers = one.answers ++ two.answers;
+      left = two.left;
+      happens = happens-on does ticks takes a b c one.calls two.calls one.dids two.dids one.answers two.answers one.happens two.happens;
+      done = done-on one.calls two.calls due left two.left one.done two.done;
+      handed = handed-on one.answers two.answers one.calls two.calls a.session b.session one.happens.session one.handed two.handed;
+      read = flat_map-append read_in one.dids two.dids ∙ appended one.read two.read;
+      written = subst (λ text. Wrote end text (sent_of a.session (one.calls ++ two.calls))) (sym (flat_map-append taken_in one.dids two.dids))
+          (subst (λ sent. Wrote end (written_of one.dids ++ written_of two.dids) sent) (sym (sent-on one.calls two.calls a.session))
+          (wrote-behind end (written_of one.dids) (sent_of a.session one.calls) (written_of two.dids) (sent_of (behind_calls a.session one.calls) two.calls) one.written
+          (subst (λ state. Wrote end (written_of two.dids) (sent_of state two.calls)) one.happens.session two.written)));
+      stops = stops-behind end one.calls two.calls a.session one.goes_on (subst (λ state. Stops end state two.calls) one.happens.session two.stops);
+      cause = cause-behind end reads reads_b two.left other two.cause;
+    }
