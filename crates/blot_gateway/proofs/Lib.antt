@@ -1,2 +1,3 @@
 mod CallLemmas
+mod DeliveredLemmas
 mod SendingLemmas

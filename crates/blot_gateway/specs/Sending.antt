@@ -1,13 +1,18 @@
 -- What is written to a wire, and how one call of a session ends.
-use Rattle.std.specs.Prelude.{◌≡◌, ℕ, ℤ, Bool, true, false, List, [], ◌∷◌, Some, None}
+use Rattle.std.specs.Prelude.{◌≡◌, ℕ, ℤ, Bool, true, false, List, [], ◌∷◌, map, Option, Some, None, Result, option_to_list}
 use Rattle.std.specs.List.{flat_map}
+use Rattle.blot_types.specs.declared.command.Command.{Command}
+use Rattle.blot_desk.specs.declared.event.Reply.{Reply as DeskReply}
+use Rattle.blot_desk.specs.declared.fault.DeskFault.{DeskFault}
 use Rattle.blot_session.specs.declared.action.Action.{Action}
+use Rattle.blot_session.specs.declared.action.Action.TheVariants.{Deliver}
 use Rattle.blot_session.specs.declared.state.State.{State}
-use Rattle.blot_session.specs.Runs.{Call, outcome, bytes_of}
+use Rattle.blot_session.specs.Runs.{Call, outcome, bytes_of, delivered_by}
+use Rattle.blot_session.specs.Runs.Call.{Reply}
 use Rattle.blot_gateway.specs.declared.ended.Stop.{Stop}
 use Rattle.blot_gateway.specs.declared.ended.Stop.TheVariants as stops
-use Rattle.blot_gateway.specs.Wires.{Did, Steps, reads_of, written_of}
-use Rattle.blot_gateway.specs.Serving.{IsFront, close_in}
+use Rattle.blot_gateway.specs.Wires.{Did, Answered, Steps, reads_of, written_of}
+use Rattle.blot_gateway.specs.Serving.{IsFront, close_in, seen_by}
 
 -- a wire takes just these bytes
 pub record Writes {W : Type 0} (does : W → Did → W → Type 0) (before : W) (text : List ℕ) (after : W) : Type 0 where
@@ -49,3 +54,30 @@ pub record Halted {W C : Type 0} (does : W → Did → W → Type 0) (ticks : C 
   pub ticked : ticks clock now clock_after
   pub session : after ≡ (outcome state (call now memory)).state
   pub halts : StopsAt does stop wire (outcome state (call now memory)).actions memory wire_after
+
+-- ---- what is delivered
+
+-- the command that an action delivers
+abbrev pub delivered : Action → Option Command
+delivered (Deliver command) = Some command
+delivered action = None
+
+-- one call, which delivers this command or none
+pub record Delivers {W C : Type 0} (does : W → Did → W → Type 0) (ticks : C → ℤ → C → Type 0) (command : Option Command) (call : ℤ → Bool → Call)
+    (wire : W) (clock : C) (state : State) (wire_after : W) (clock_after : C) (after : State) : Type 0 where
+  pub called : Called does ticks call wire clock state wire_after clock_after after
+  pub commands : (number : ℕ) → map (λ numbered. numbered.command) (delivered_by number (outcome state (call called.now true)).actions) ≡ option_to_list command
+
+-- a command is handed to the sink, and the session told the answer
+pub record Submitted {W C S : Type 0} (does : W → Did → W → Type 0) (ticks : C → ℤ → C → Type 0) (takes : S → Answered → S → Type 0) (command : Command)
+    (wire : W) (clock : C) (sink : S) (state : State) (wire_after : W) (clock_after : C) (sink_after : S) (after : State) : Type 0 where
+  pub answer : Result DeskReply DeskFault
+  pub taken : takes sink (record { command = command; answer = answer }) sink_after
+  pub called : Called does ticks (Reply (seen_by answer)) wire clock state wire_after clock_after after
+
+-- and that stops it
+pub record SubmittedLast {W C S : Type 0} (does : W → Did → W → Type 0) (ticks : C → ℤ → C → Type 0) (takes : S → Answered → S → Type 0) (stop : Stop) (command : Command)
+    (wire : W) (clock : C) (sink : S) (state : State) (wire_after : W) (clock_after : C) (sink_after : S) (after : State) : Type 0 where
+  pub answer : Result DeskReply DeskFault
+  pub taken : takes sink (record { command = command; answer = answer }) sink_after
+  pub halted : Halted does ticks stop (Reply (seen_by answer)) wire clock state wire_after clock_after after

@@ -170,6 +170,9 @@ pub record Parties (W C S : Type 0) : Type 0 where
   pub sink : S
   pub session : State
 
+abbrev pub parties : {W C S : Type 0} → W → C → S → State → Parties W C S
+parties wire clock sink session = record { wire = wire; clock = clock; sink = sink; session = session }
+
 -- what happens between them over some calls: each call at the clock's next moment; a reply behind each delivery, and only there, which
 -- is the sink's answer
 pub record Happens {W C S : Type 0} (does : W → Did → W → Type 0) (ticks : C → ℤ → C → Type 0) (takes : S → Answered → S → Type 0)

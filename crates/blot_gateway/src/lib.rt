@@ -2,6 +2,7 @@
 //! frame, what the session sends is written, what it delivers goes to a sink. Wire, clock and sink are the caller's.
 #![tactic(auto)]
 
+mod driving;
 mod ended;
 mod wire;
 mod writing;

@@ -15,7 +15,7 @@ use Rattle.blot_session.specs.declared.row.End.{End}
 use Rattle.blot_session.specs.declared.row.End.TheVariants.{Stays, Delivers, Closes}
 use Rattle.blot_session.specs.declared.row.Row.{Row}
 use Rattle.blot_session.specs.declared.state.State.{State}
-use Rattle.blot_session.specs.Calls.{Outcome, Awaits, DeliversLast, behind, sent, ending, carried_out, is_deliver, is_spent, outcome_of, behind_all, command_said, on_frame, on_tick, row_of_reply, on_reply}
+use Rattle.blot_session.specs.Calls.{Outcome, Awaits, DeliversLast, DeliversAlone, behind, sent, ending, carried_out, is_deliver, is_spent, spent, outcome_of, behind_all, command_said, on_frame, on_tick, row_of_reply, on_reply}
 use Rattle.blot_session.specs.Outbound.{text_of}
 use Rattle.blot_session.specs.Rows.{frame_row, tick_row}
 use Rattle.blot_session.specs.States.{awaited_of, IsIdle, IsAwaiting}
@@ -94,6 +94,39 @@ pub awaits_reply : (state next : State) (actions : List Action) (said : Result M
     → record { state = next; actions = actions } ≡ on_frame state said now → Awaits next actions
 awaits_reply state next actions said now idle is =
     subst (λ (outcome : Outcome). Awaits outcome.state outcome.actions) (sym is) (frame-awaits state said now idle)
+
+-- and it is the only action
+alone-none : (actions : List Action) → list_any is_deliver actions ≡ false → DeliversAlone actions
+alone-none [] none = refl
+alone-none (action ∷ []) none = tt
+alone-none (action ∷ next ∷ actions) none = none
+
+alone-ending : (end : End) (command : Option Command) → DeliversAlone (ending end command)
+alone-ending Stays command = refl
+alone-ending Delivers None = refl
+alone-ending Delivers (Some command) = tt
+alone-ending (Closes reason) command = tt
+
+alone-row : (peer : List ℕ) (next expected : ℕ) (said : Result Message FieldFault) (row : Row) (command : Option Command) (now : ℤ) → Moves peer next expected said row
+    → DeliversAlone (carried_out row command now).actions
+alone-row peer next expected said row command now (inl on) =
+    let messages = messages_of row.sends in
+    alone-none (sent row.state messages now ++ ending row.end command) (any-sent messages row.state now (ending row.end command) ∙ none-ending row.end command on.end)
+alone-row peer next expected said row command now (inr hands) =
+    subst (λ sends. DeliversAlone (sent row.state (messages_of sends) now ++ ending row.end command)) (sym hands.sends) (alone-ending row.end command)
+
+delivers-alone : (state next : State) (actions : List Action) (said : Result Message FieldFault) (now : ℤ) → IsIdle state
+    → record { state = next; actions = actions } ≡ on_frame state said now → DeliversAlone actions
+delivers-alone state next actions said now idle is =
+    let row = frame_row state said now in
+    let command = command_said said state.peer in
+    subst (λ (outcome : Outcome). DeliversAlone outcome.actions) (sym is)
+    (cond_both (is_spent state row) _ _ (λ (outcome : Outcome). DeliversAlone outcome.actions)
+    (λ y. tt)
+    (λ n. elim (frame-moves state said now idle) [
+      | inl moves ↦ alone-row state.peer state.next state.expected said row command now moves
+      | inr resets ↦ alone-row state.peer 1 1 said row command now resets.1
+    ]))
 
 -- ---- a moment and a reply deliver nothing
 
@@ -176,3 +209,9 @@ pub behind-taken : {V E : Type 0} (P : State → Type 0) (items : V → List Act
     → IfOk result (λ actions. record { state = next; actions = items actions } ≡ given) → OnErr result (next ≡ shut) → P given.state → P shut → P next
 behind-taken P items given (Ok actions) next shut ok err gives closed = subst (λ (outcome : Outcome). P outcome.state) (sym ok) gives
 behind-taken P items given (Err fault) next shut ok err gives closed = subst P (sym err) closed
+
+-- what a call delivers is the only action that it gives
+pub alone-taken : {V E : Type 0} (items : V → List Action) (state : State) (said : Result Message FieldFault) (now : ℤ) (result : Result V E) (next : State)
+    → IsIdle state → IfOk result (λ actions. record { state = next; actions = items actions } ≡ on_frame state said now) → IfOk result (λ actions. DeliversAlone (items actions))
+alone-taken items state said now (Ok actions) next idle ok = delivers-alone state next (items actions) said now idle ok
+alone-taken items state said now (Err fault) next idle ok = tt

@@ -102,6 +102,11 @@ DeliversLast [] = Unit {0}
 DeliversLast (action ∷ []) = Unit {0}
 DeliversLast (action ∷ next ∷ actions) = (is_deliver action ≡ false) × DeliversLast (next ∷ actions)
 
+-- an action that delivers a command is the only one
+abbrev pub DeliversAlone : List Action → Type 0
+DeliversAlone (action ∷ []) = Unit {0}
+DeliversAlone actions = list_any is_deliver actions ≡ false
+
 -- what a call delivers awaits its reply, and nothing else does
 pub record Awaits (state : State) (actions : List Action) : Type 0 where
   pub last : DeliversLast actions

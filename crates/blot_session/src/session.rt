@@ -4,7 +4,7 @@ ghost use Rattle.blot_tag.specs.Fields.{fields_of};
 ghost use Rattle.blot_tag.specs.Views.{text_of};
 ghost use Rattle.blot_fields.specs.Decoding.{decoded};
 ghost use Rattle.blot_fields.specs.declared.TheConstants.{SEQUENCE_MAX};
-ghost use Rattle.blot_session.specs.Calls.{Awaits, on_frame, on_tick, on_reply, row_of_reply};
+ghost use Rattle.blot_session.specs.Calls.{Awaits, DeliversAlone, on_frame, on_tick, on_reply, row_of_reply};
 ghost use Rattle.blot_session.specs.Runs.{Call, AreMet, HasNoReset, IsInOrder};
 ghost use Rattle.blot_session.specs.States.{awaited_of, fresh, waiting_again, closed, phase_of, IsIdle, IsAwaiting, IsState};
 
@@ -117,8 +117,9 @@ impl Session {
         // It is the same peer's.
         ensures peer { self.new.peer ≡ self.old.peer }
 
-        // What is delivered is the last action, and its reply is awaited.
+        // What is delivered is the last action, and the only one, and its reply is awaited.
         ensures awaits { IfOk result (λ actions. Awaits self.new actions.items) }
+        ensures alone { IfOk result (λ actions. DeliversAlone actions.items) }
     {
         take_frame(alloc, &mut self.state, frame, now)
     }

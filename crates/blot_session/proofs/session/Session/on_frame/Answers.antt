@@ -4,7 +4,7 @@ use Rattle.blot_tag.specs.Views.{text_of}
 use Rattle.blot_fields.specs.Decoding.{decoded}
 use Rattle.blot_session.specs.Calls.{on_frame}
 use Rattle.blot_session.specs.States.{closed, IsIdle}
-use Rattle.blot_session.proofs.DeliveryLemmas.{frame-peer, behind-taken}
+use Rattle.blot_session.proofs.DeliveryLemmas.{alone-taken, frame-peer, behind-taken}
 use Rattle.blot_session.proofs.session.Session.on_frame.Goals as goal
 
 pub returns-clause-peer : goal.returns-clause-peer
@@ -15,3 +15,9 @@ returns-clause-peer c =
     c.take_frame.new.state (closed state) c.take_frame.ensures.ok c.take_frame.ensures.err
     (frame-peer state said c.args.now (subst IsIdle (sym c.self.view_is) c.requires) ∙ ap (λ was. was.peer) c.self.view_is)
     (ap (λ was. was.peer) c.self.view_is)
+
+pub returns-clause-alone : goal.returns-clause-alone
+returns-clause-alone c =
+    let state = c.self.inside.state in
+    alone-taken (λ actions. actions.items) state (decoded (fields_of (text_of c.args.frame.now))) c.args.now c.take_frame.result c.take_frame.new.state
+    (subst IsIdle (sym c.self.view_is) c.requires) c.take_frame.ensures.ok
