@@ -20,7 +20,7 @@ use Rattle.blot_gateway.proofs.SendingLemmas.{steps-on}
 both : (a b : Bool) → a ≡ true → b ≡ true → (a && b) ≡ true
 both a b one two = rw (one, two) refl
 
-appended : {A : Type 0} {a b c d : List A} → a ≡ b → c ≡ d → a ++ c ≡ b ++ d
+pub appended : {A : Type 0} {a b c d : List A} → a ≡ b → c ≡ d → a ++ c ≡ b ++ d
 appended one two = cc
 
 -- ---- what the session does
@@ -109,10 +109,10 @@ with-behind : (read : Read) (first second : List Read) → EndsWith read second 
 with-behind read first second two =
     record { earlier = first ++ two.earlier; joined = ap (λ rest. first ++ rest) two.joined ∙ sym (append_assoc first two.earlier (read ∷ [])) }
 
-pub cause-behind : (end : Ended) (first second : List Read) (left : List Due) → (end ≡ ended.TooLong → ⊥) → Cause end second left → Cause end (first ++ second) left
+pub cause-behind : (end : Ended) (first second : List Read) (left : List Due) → (end ≡ ended.TooLong → first ≡ []) → Cause end second left → Cause end (first ++ second) left
 cause-behind ended.End first second left other two = (with-behind _ first second two.0, two.1)
 cause-behind ended.ReadFault first second left other two = (with-behind _ first second two.0, two.1)
-cause-behind ended.TooLong first second left other two = absurd (other refl)
+cause-behind ended.TooLong first second left other two = (ap (λ (front : List Read). length (front ++ second)) (other refl) ∙ two.0, two.1)
 cause-behind (ended.Closed reason) first second left other two = tt
 cause-behind ended.WriteFault first second left other two = tt
 cause-behind ended.NoMemory first second left other two = tt
@@ -146,7 +146,7 @@ handed-on answers answers_b calls calls_b state next led one two =
     ∙ ap (map (λ numbered. numbered.command)) (sym (delivered-on calls calls_b state))
 
 -- what is done and what is left
-done-on : (calls calls_b : List Call) (due left rest : List Due) → due_in calls ++ left ≡ due → due_in calls_b ++ rest ≡ left → due_in (calls ++ calls_b) ++ rest ≡ due
+pub done-on : (calls calls_b : List Call) (due left rest : List Due) → due_in calls ++ left ≡ due → due_in calls_b ++ rest ≡ left → due_in (calls ++ calls_b) ++ rest ≡ due
 done-on calls calls_b due left rest one two =
     ap (λ front. front ++ rest) (flat_map-append due_by calls calls_b) ∙ append_assoc (due_in calls) (due_in calls_b) rest
     ∙ ap (λ back. due_in calls ++ back) two ∙ one
@@ -170,7 +170,7 @@ runs-on does ticks takes a b c due left rest reads reads_b one two =
     }
 
 pub ends-behind : {W C S : Type 0} (does : W → Did → W → Type 0) (ticks : C → ℤ → C → Type 0) (takes : S → Answered → S → Type 0)
-    (end : Ended) (a b c : Parties W C S) (due left : List Due) (reads reads_b : List Read) → (end ≡ ended.TooLong → ⊥)
+    (end : Ended) (a b c : Parties W C S) (due left : List Due) (reads reads_b : List Read) → (end ≡ ended.TooLong → reads ≡ [])
     → Runs does ticks takes a due reads left b → Ends does ticks takes end b left reads_b c → Ends does ticks takes end a due (reads ++ reads_b) c
 ends-behind does ticks takes end a b c due left reads reads_b other one two =
     record {

@@ -70,7 +70,7 @@ pub popped : (actions front : List Action) (last : Option Action) → IsPopped a
     → ((number : ℕ) → commands number actions ≡ option_to_list (option_and_then delivered last)) × (list_any is_deliver actions ≡ is_some (option_and_then delivered last))
 popped [] front None pop alone = (λ number. refl, refl)
 popped [] front (Some last) pop alone = absurd (nothing-behind front last pop.is)
-popped (action ∷ actions) front None pop alone = absurd (pop.some (omega arith))
+popped (action ∷ actions) front None pop alone = absurd (false≢true (pop.some (omega arith)))
 popped (action ∷ []) front (Some last) pop alone =
     let same : action ≡ last = only front action last pop.is in (
       λ number. ap (λ (one : Action). commands number (one ∷ [])) same ∙ commands-one number last,

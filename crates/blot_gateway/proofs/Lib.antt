@@ -1,3 +1,5 @@
 mod CallLemmas
 mod DeliveredLemmas
+mod RunLemmas
 mod SendingLemmas
+mod StepLemmas

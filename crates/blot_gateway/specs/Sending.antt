@@ -33,20 +33,32 @@ Halts does (stops.Closed reason) before actions after = Writes does before (flat
 Halts does stops.WriteFault before actions after = WritesFront does before (flat_map bytes_of actions) after
 Halts does stops.NoMemory before actions after = ⊥
 
--- one call of a session, at the clock's moment: all that it sends is written, and it doesn't end the connection
-pub record Called {W C : Type 0} (does : W → Did → W → Type 0) (ticks : C → ℤ → C → Type 0) (call : ℤ → Bool → Call)
+-- the command that an action delivers
+abbrev pub delivered : Action → Option Command
+delivered (Deliver command) = Some command
+delivered action = None
+
+-- some actions deliver just this command, or none
+abbrev pub DeliversJust : Option Command → List Action → Type 0
+DeliversJust command actions = (number : ℕ) → map (λ numbered. numbered.command) (delivered_by number actions) ≡ option_to_list command
+
+-- one call of a session, at the clock's moment: all that it sends is written, it delivers this command or none, and it doesn't end
+-- the connection
+pub record Called {W C : Type 0} (does : W → Did → W → Type 0) (ticks : C → ℤ → C → Type 0) (command : Option Command) (call : ℤ → Bool → Call)
     (wire : W) (clock : C) (state : State) (wire_after : W) (clock_after : C) (after : State) : Type 0 where
   pub now : ℤ
   pub ticked : ticks clock now clock_after
   pub session : after ≡ (outcome state (call now true)).state
   pub writes : Writes does wire (flat_map bytes_of (outcome state (call now true)).actions) wire_after
+  pub delivers : DeliversJust command (outcome state (call now true)).actions
   pub stays : close_in (outcome state (call now true)).actions ≡ None
 
--- one that stops the session
+-- it stops the session: what it sends isn't written, or it ends the connection, or there is no memory for it
 abbrev pub StopsAt : {W : Type 0} → (W → Did → W → Type 0) → Stop → W → List Action → Bool → W → Type 0
 StopsAt does stops.NoMemory before actions memory after = (memory ≡ false) × (after ≡ before)
 StopsAt does stop before actions memory after = (memory ≡ true) × Halts does stop before actions after
 
+-- one call of a session that stops it; it delivers nothing
 pub record Halted {W C : Type 0} (does : W → Did → W → Type 0) (ticks : C → ℤ → C → Type 0) (stop : Stop) (call : ℤ → Bool → Call)
     (wire : W) (clock : C) (state : State) (wire_after : W) (clock_after : C) (after : State) : Type 0 where
   pub now : ℤ
@@ -54,26 +66,14 @@ pub record Halted {W C : Type 0} (does : W → Did → W → Type 0) (ticks : C 
   pub ticked : ticks clock now clock_after
   pub session : after ≡ (outcome state (call now memory)).state
   pub halts : StopsAt does stop wire (outcome state (call now memory)).actions memory wire_after
-
--- ---- what is delivered
-
--- the command that an action delivers
-abbrev pub delivered : Action → Option Command
-delivered (Deliver command) = Some command
-delivered action = None
-
--- one call, which delivers this command or none
-pub record Delivers {W C : Type 0} (does : W → Did → W → Type 0) (ticks : C → ℤ → C → Type 0) (command : Option Command) (call : ℤ → Bool → Call)
-    (wire : W) (clock : C) (state : State) (wire_after : W) (clock_after : C) (after : State) : Type 0 where
-  pub called : Called does ticks call wire clock state wire_after clock_after after
-  pub commands : (number : ℕ) → map (λ numbered. numbered.command) (delivered_by number (outcome state (call called.now true)).actions) ≡ option_to_list command
+  pub delivers : DeliversJust None (outcome state (call now memory)).actions
 
 -- a command is handed to the sink, and the session told the answer
 pub record Submitted {W C S : Type 0} (does : W → Did → W → Type 0) (ticks : C → ℤ → C → Type 0) (takes : S → Answered → S → Type 0) (command : Command)
     (wire : W) (clock : C) (sink : S) (state : State) (wire_after : W) (clock_after : C) (sink_after : S) (after : State) : Type 0 where
   pub answer : Result DeskReply DeskFault
   pub taken : takes sink (record { command = command; answer = answer }) sink_after
-  pub called : Called does ticks (Reply (seen_by answer)) wire clock state wire_after clock_after after
+  pub called : Called does ticks None (Reply (seen_by answer)) wire clock state wire_after clock_after after
 
 -- and that stops it
 pub record SubmittedLast {W C S : Type 0} (does : W → Did → W → Type 0) (ticks : C → ℤ → C → Type 0) (takes : S → Answered → S → Type 0) (stop : Stop) (command : Command)

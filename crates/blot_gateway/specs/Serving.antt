@@ -1,5 +1,5 @@
 -- One session, served over a wire: which calls it gets, in which order, and what comes of them.
-use Rattle.std.specs.Prelude.{◌≡◌, ℕ, ℤ, ◌<◌, ◌⊎◌, Bool, true, false, List, [], ◌∷◌, ◌++◌, length, map, Option, Some, None, Result, Ok, Err}
+use Rattle.std.specs.Prelude.{◌≡◌, ℕ, ℤ, ◌<◌, ◌≤◌, ◌⊎◌, Bool, true, false, List, [], ◌∷◌, ◌++◌, length, map, Option, Some, None, Result, Ok, Err}
 use Rattle.std.specs.List.{flat_map, list_all}
 use Rattle.blot_tag.specs.Walking.{frames_of, rest_of}
 use Rattle.blot_types.specs.Told.{refused_number}
@@ -160,6 +160,12 @@ pub record IsFront (front text : List ℕ) : Type 0 where
 abbrev pub Wrote : Ended → List ℕ → List ℕ → Type 0
 Wrote ended.WriteFault written sent = IsFront written sent
 Wrote end written sent = written ≡ sent
+
+-- a failure is counted, where the wire failed
+abbrev pub IsCounted : Ended → ℕ → ℕ → Type 0
+IsCounted ended.ReadFault before after = before < after
+IsCounted ended.WriteFault before after = before < after
+IsCounted end before after = before ≤ after
 
 -- ---- the parties of a session
 

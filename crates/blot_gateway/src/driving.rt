@@ -1,14 +1,14 @@
 //! What is due to a session: its call, and what that comes to at the wire and at the sink.
-ghost use Rattle.std.specs.Prelude.{◌≡◌, ◌<◌, ◌≤◌, [], ◌∷◌, ℕ, List, Ok, Err, Some, map, IfOk, IfErr, OnOk, OnErr, is_some, option_to_list};
+ghost use Rattle.std.specs.Prelude.{◌≡◌, ◌<◌, ◌≤◌, [], ◌∷◌, ℕ, List, Ok, Err, Some, None, map, IfOk, IfErr, OnOk, OnErr, is_some, option_to_list};
 ghost use Rattle.std.specs.List.{list_any};
 ghost use Rattle.std.specs.Option.{option_and_then};
 ghost use Rattle.blot_tag.specs.Views.{text_of};
 ghost use Rattle.blot_session.specs.Calls.{DeliversAlone, is_deliver};
 ghost use Rattle.blot_session.specs.Runs.{delivered_by};
-ghost use Rattle.blot_session.specs.Runs.Call as calls;
+ghost use Rattle.blot_session.specs.Runs.Call.{Frame as FrameCall, Reply as ReplyCall, Tick};
 ghost use Rattle.blot_session.specs.States.{awaited_of, IsIdle, IsAwaiting};
 ghost use Rattle.blot_gateway.specs.Endings.{ended_by};
-ghost use Rattle.blot_gateway.specs.Sending.{Called, Halted, Delivers, Submitted, SubmittedLast, delivered};
+ghost use Rattle.blot_gateway.specs.Sending.{Called, Halted, Submitted, SubmittedLast, delivered};
 ghost use Rattle.blot_gateway.specs.Serving.{Due, Runs, Ends, parties, seen_by};
 ghost use Rattle.blot_gateway.specs.Serving.Due.{Came, Passed};
 
@@ -54,8 +54,8 @@ pub(crate) fn pass_moment<W: Wire, C: Clock>(
     session: &mut Session,
 ) -> Result<(), Stop>
     requires { IsIdle session.old }
-    ensures ok { OnOk result (Called W.does C.ticks calls.Tick wire.old clock.old session.old wire.new clock.new session.new) }
-    ensures err { IfErr result (λ stop. Halted W.does C.ticks stop calls.Tick wire.old clock.old session.old wire.new clock.new session.new) }
+    ensures ok { OnOk result (Called W.does C.ticks None Tick wire.old clock.old session.old wire.new clock.new session.new) }
+    ensures err { IfErr result (λ stop. Halted W.does C.ticks stop Tick wire.old clock.old session.old wire.new clock.new session.new) }
     ensures idle { IsIdle session.new }
     ensures failures { W.failures wire.old ≤ W.failures wire.new }
     ensures failed { IfErr result (λ stop. stop ≡ Stop.WriteFault → W.failures wire.old < W.failures wire.new) }
@@ -76,9 +76,9 @@ fn give_frame<W: Wire, C: Clock>(
     frame: &Frame,
 ) -> Result<Option<Command>, Stop>
     requires { IsIdle session.old }
-    ensures ok { IfOk result (λ command. Delivers W.does C.ticks command (calls.Frame (text_of frame.now)) wire.old clock.old session.old wire.new clock.new session.new) }
+    ensures ok { IfOk result (λ command. Called W.does C.ticks command (FrameCall (text_of frame.now)) wire.old clock.old session.old wire.new clock.new session.new) }
     ensures awaits { IfOk result (λ command. is_some command ≡ is_some (awaited_of session.new)) }
-    ensures err { IfErr result (λ stop. Halted W.does C.ticks stop (calls.Frame (text_of frame.now)) wire.old clock.old session.old wire.new clock.new session.new) }
+    ensures err { IfErr result (λ stop. Halted W.does C.ticks stop (FrameCall (text_of frame.now)) wire.old clock.old session.old wire.new clock.new session.new) }
     ensures idle { OnErr result (IsIdle session.new) }
     ensures failures { W.failures wire.old ≤ W.failures wire.new }
     ensures failed { IfErr result (λ stop. stop ≡ Stop.WriteFault → W.failures wire.old < W.failures wire.new) }
@@ -142,8 +142,8 @@ fn tell<W: Wire, C: Clock>(
     seen: Result<SeenReply, NotTaken>,
 ) -> Result<(), Stop>
     requires { IsAwaiting session.old }
-    ensures ok { OnOk result (Called W.does C.ticks (calls.Reply seen) wire.old clock.old session.old wire.new clock.new session.new) }
-    ensures err { IfErr result (λ stop. Halted W.does C.ticks stop (calls.Reply seen) wire.old clock.old session.old wire.new clock.new session.new) }
+    ensures ok { OnOk result (Called W.does C.ticks None (ReplyCall seen) wire.old clock.old session.old wire.new clock.new session.new) }
+    ensures err { IfErr result (λ stop. Halted W.does C.ticks stop (ReplyCall seen) wire.old clock.old session.old wire.new clock.new session.new) }
     ensures idle { IsIdle session.new }
     ensures failures { W.failures wire.old ≤ W.failures wire.new }
     ensures failed { IfErr result (λ stop. stop ≡ Stop.WriteFault → W.failures wire.old < W.failures wire.new) }

@@ -3,6 +3,7 @@ ghost use Rattle.std.specs.Prelude.{◌≡◌};
 ghost use Rattle.blot_gateway.specs.Endings.{ended_by, ended_number};
 
 use blot_session::CloseReason;
+use std::alloc::AllocError;
 
 /// The most reads of one connection.
 pub const READS_MAX: u64 = 1 << 30;
@@ -61,5 +62,16 @@ impl Stop {
             Stop::WriteFault => Ended::WriteFault,
             Stop::NoMemory => Ended::NoMemory,
         }
+    }
+}
+
+impl From<AllocError> for Stop {
+    ghost use Rattle.std.specs.Prelude.{◌≡◌};
+    ghost use Rattle.blot_gateway.specs.declared.ended.Stop.TheVariants as stops;
+
+    ghost from_gives = { λ _ stop. stop ≡ stops.NoMemory };
+
+    fn from(_: AllocError) -> Stop {
+        Stop::NoMemory
     }
 }

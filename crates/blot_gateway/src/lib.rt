@@ -4,8 +4,10 @@
 
 mod driving;
 mod ended;
+mod serving;
 mod wire;
 mod writing;
 
 pub use ended::{Ended, READS_MAX};
+pub use serving::serve_session;
 pub use wire::{Clock, Reading, Sink, Wire, Writing};

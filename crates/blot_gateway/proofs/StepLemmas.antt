@@ -1,0 +1,87 @@
+-- One call of a session.
+use Rattle.std.proofs.Common.{◌≡◌, ℕ, Bool, true, false, List, [], ◌∷◌, ◌++◌, map, Option, Some, None, Result, Ok, Err, refl, sym, ap, subst, ◌∙◌}
+use Rattle.std.specs.Prelude.{ℤ, IfErr, OnOk, option_to_list}
+use Rattle.std.specs.List.{flat_map}
+use Rattle.blot_types.specs.declared.command.Command.{Command}
+use Rattle.blot_session.specs.declared.action.Action.{Action}
+use Rattle.blot_session.specs.declared.state.State.{State}
+use Rattle.blot_session.specs.Calls.{Outcome, Awaits}
+use Rattle.blot_session.specs.Runs.{Call, outcome, bytes_of, delivered_by}
+use Rattle.blot_session.specs.States.{IsIdle}
+use Rattle.blot_gateway.specs.declared.ended.Stop.{Stop}
+use Rattle.blot_gateway.specs.declared.ended.Stop.TheVariants as stops
+use Rattle.blot_gateway.specs.Wires.{Did}
+use Rattle.blot_gateway.specs.Serving.{close_in}
+use Rattle.blot_gateway.specs.Sending.{Writes, Halts, Called, StopsAt, Halted, DeliversJust}
+use Rattle.blot_gateway.proofs.DeliveredLemmas.{delivered-idle}
+
+-- ---- results
+
+pub on-ok : {T E P Q : Type 0} (result : Result T E) → OnOk result P → (P → Q) → OnOk result Q
+on-ok (Ok x) p more = more p
+on-ok (Err e) p more = tt
+
+pub on-ok-both : {T E P Q R : Type 0} (result : Result T E) → OnOk result P → OnOk result Q → (P → Q → R) → OnOk result R
+on-ok-both (Ok x) p q more = more p q
+on-ok-both (Err e) p q more = tt
+
+pub if-err : {T E : Type 0} (P Q : E → Type 0) (result : Result T E) → IfErr result P → ((e : E) → P e → Q e) → IfErr result Q
+if-err P Q (Ok x) p more = tt
+if-err P Q (Err e) p more = more e p
+
+-- ---- a call
+
+-- nothing is delivered where nothing is awaited
+pub idle-delivers : (state : State) (actions : List Action) → Awaits state actions → IsIdle state → DeliversJust None actions
+idle-delivers state actions awaits idle = λ number. ap (map (λ numbered. numbered.command)) (delivered-idle number state actions awaits idle)
+
+pub called : {W C : Type 0} (does : W → Did → W → Type 0) (ticks : C → ℤ → C → Type 0) (command : Option Command) (call : ℤ → Bool → Call)
+    (wire wire_after : W) (clock clock_after : C) (state after : State) (now : ℤ) (actions : List Action)
+    → record { state = after; actions = actions } ≡ outcome state (call now true) → ticks clock now clock_after
+    → Writes does wire (flat_map bytes_of actions) wire_after → close_in actions ≡ None → DeliversJust command actions
+    → Called does ticks command call wire clock state wire_after clock_after after
+called does ticks command call wire wire_after clock clock_after state after now actions is ticked writes stays delivers =
+    record {
+      now = now;
+      ticked = ticked;
+      session = ap (λ (gives : Outcome). gives.state) is;
+      writes = subst (λ (gives : Outcome). Writes does wire (flat_map bytes_of gives.actions) wire_after) is writes;
+      delivers = subst (λ (gives : Outcome). DeliversJust command gives.actions) is delivers;
+      stays = subst (λ (gives : Outcome). close_in gives.actions ≡ None) is stays;
+    }
+
+stops-at : {W : Type 0} (does : W → Did → W → Type 0) (stop : Stop) (before : W) (actions : List Action) (after : W) → Halts does stop before actions after
+    → StopsAt does stop before actions true after
+stops-at does (stops.Closed reason) before actions after halts = (refl, halts)
+stops-at does stops.WriteFault before actions after halts = (refl, halts)
+stops-at does stops.NoMemory before actions after halts = absurd halts
+
+pub halted : {W C : Type 0} (does : W → Did → W → Type 0) (ticks : C → ℤ → C → Type 0) (stop : Stop) (call : ℤ → Bool → Call)
+    (wire wire_after : W) (clock clock_after : C) (state after : State) (now : ℤ) (slice actions : List Action) → slice ≡ actions
+    → record { state = after; actions = actions } ≡ outcome state (call now true) → ticks clock now clock_after
+    → Halts does stop wire slice wire_after → DeliversJust None actions
+    → Halted does ticks stop call wire clock state wire_after clock_after after
+halted does ticks stop call wire wire_after clock clock_after state after now slice actions same is ticked halts delivers =
+    record {
+      now = now;
+      memory = true;
+      ticked = ticked;
+      session = ap (λ (gives : Outcome). gives.state) is;
+      halts = subst (λ (gives : Outcome). StopsAt does stop wire gives.actions true wire_after) is (stops-at does stop wire actions wire_after
+          (subst (λ list. Halts does stop wire list wire_after) same halts));
+      delivers = subst (λ (gives : Outcome). DeliversJust None gives.actions) is delivers;
+    }
+
+pub out-of-memory : {W C : Type 0} (does : W → Did → W → Type 0) (ticks : C → ℤ → C → Type 0) (call : ℤ → Bool → Call)
+    (wire : W) (clock clock_after : C) (state after : State) (now : ℤ)
+    → after ≡ (outcome state (call now false)).state → (outcome state (call now false)).actions ≡ [] → ticks clock now clock_after
+    → Halted does ticks stops.NoMemory call wire clock state wire clock_after after
+out-of-memory does ticks call wire clock clock_after state after now is none ticked =
+    record {
+      now = now;
+      memory = false;
+      ticked = ticked;
+      session = is;
+      halts = (refl, refl);
+      delivers = λ number. ap (λ actions. map (λ numbered. numbered.command) (delivered_by number actions)) none;
+    }

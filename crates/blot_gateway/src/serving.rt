@@ -1,0 +1,181 @@
+//! A session, served over a wire.
+ghost use Rattle.std.specs.Prelude.{◌≡◌, ◌≢◌, ◌<◌, ◌≤◌, List, [], ◌∷◌, ◌++◌, length, map, Err, IfErr, IfOk, OnOk, vec_len};
+ghost use Rattle.blot_tag.specs.Walking.{frames_of, rest_of};
+ghost use Rattle.blot_session.specs.States.{IsIdle};
+ghost use Rattle.blot_gateway.specs.Endings.{ended_by};
+ghost use Rattle.blot_gateway.specs.Wires.{Read};
+ghost use Rattle.blot_gateway.specs.Wires.Read.{Piece};
+ghost use Rattle.blot_gateway.specs.Serving.{Due, Runs, Ends, Served, IsCounted, due_behind, left_by, parties};
+ghost use Rattle.blot_gateway.specs.Serving.Due.{Came};
+
+use crate::driving::{pass_moment, take_frame};
+use crate::ended::Stop;
+use crate::{Clock, Ended, READS_MAX, Reading, Sink, Wire};
+use blot_session::Session;
+use blot_tag::Reader;
+use std::alloc::{AllocError as NoMemory, Global};
+
+// The bytes of one read.
+const PIECE: usize = 65_536;
+
+/// Serves a session over a wire, until one of them ends. The frames of the reader, and then of what the wire gives, come to the session in
+/// their order, and a moment passes behind each read. What the session sends is written; what it delivers goes to the sink,
+/// whose answer the session is told.
+///
+/// Closed: the session ended the connection, for this reason. End: the wire is at its end. ReadFault, WriteFault: it failed,
+/// and counted that. TooLong: 2^30 reads were made. NoMemory: memory ran out. The session is closed then.
+pub fn serve_session<W: Wire, C: Clock, S: Sink>(
+    alloc: Global,
+    wire: &mut W,
+    clock: &mut C,
+    sink: &mut S,
+    reader: &mut Reader,
+    session: &mut Session,
+) -> Ended
+    requires { IsIdle session.old }
+    ensures served { Served W.does C.ticks S.takes result (parties wire.old clock.old sink.old session.old) reader.old.unread
+        (parties wire.new clock.new sink.new session.new) }
+    ensures counted { IsCounted result (W.failures wire.old) (W.failures wire.new) }
+{
+    let ended = match take_frames(alloc, wire, clock, sink, reader, session) {
+        Ok(()) => serve_reads(alloc, wire, clock, sink, reader, session),
+        Err(stop) => stop.ended(),
+    };
+    leave(session, ended);
+    ended
+}
+
+// Closes a session, unless it ended the connection itself.
+fn leave(session: &mut Session, ended: Ended)
+    requires { IsIdle session.old }
+    ensures { session.new ≡ left_by ended session.old }
+{
+    match ended {
+        Ended::Closed(_) => {}
+        _ => session.on_close(),
+    }
+}
+
+// Serves a session by what the wire gives.
+fn serve_reads<W: Wire, C: Clock, S: Sink>(
+    alloc: Global,
+    wire: &mut W,
+    clock: &mut C,
+    sink: &mut S,
+    reader: &mut Reader,
+    session: &mut Session,
+) -> Ended
+    requires { IsIdle session.old }
+    ensures ends { (reads : List Read) × Ends W.does C.ticks S.takes result (parties wire.old clock.old sink.old session.old)
+        (due_behind reader.old.unread reads) reads (parties wire.new clock.new sink.new session.new) }
+    ensures idle { IsIdle session.new }
+    ensures counted { IsCounted result (W.failures wire.old) (W.failures wire.new) }
+{
+    let Ok(mut buffer) = empty_piece(alloc) else {
+        return Ended::NoMemory;
+    };
+    for _ in 0..READS_MAX {
+        if let Err(ended) = serve_read(alloc, wire, clock, sink, reader, session, &mut buffer) {
+            return ended;
+        }
+    }
+    Ended::TooLong
+}
+
+// Serves a session by one read.
+fn serve_read<W: Wire, C: Clock, S: Sink>(
+    alloc: Global,
+    wire: &mut W,
+    clock: &mut C,
+    sink: &mut S,
+    reader: &mut Reader,
+    session: &mut Session,
+    buffer: &mut [u8],
+) -> Result<(), Ended>
+    requires idle { IsIdle session.old }
+    requires room { 0 < length buffer.old }
+    ensures ok { OnOk result ((read : Read) × ((more : List Read) → Runs W.does C.ticks S.takes (parties wire.old clock.old sink.old session.old)
+        (due_behind reader.old.unread (read ∷ more)) (read ∷ []) (due_behind reader.new.unread more) (parties wire.new clock.new sink.new session.new))) }
+    ensures err { IfErr result (λ end. (read : Read) × ((more : List Read) → Ends W.does C.ticks S.takes end (parties wire.old clock.old sink.old session.old)
+        (due_behind reader.old.unread (read ∷ more)) (read ∷ []) (parties wire.new clock.new sink.new session.new))) }
+    ensures not_long { result ≢ Err Ended.TooLong }
+    ensures idle { IsIdle session.new }
+    ensures failures { W.failures wire.old ≤ W.failures wire.new }
+    ensures counted { IfErr result (λ end. IsCounted end (W.failures wire.old) (W.failures wire.new)) }
+{
+    let served = match wire.read_some(buffer) {
+        Reading::Got(count) => {
+            take_piece(alloc, wire, clock, sink, reader, session, &buffer[..count])
+        }
+        Reading::Quiet => pass_moment(alloc, wire, clock, session),
+        Reading::End => return Err(Ended::End),
+        Reading::Fault => return Err(Ended::ReadFault),
+    };
+    match served {
+        Ok(()) => Ok(()),
+        Err(stop) => Err(stop.ended()),
+    }
+}
+
+// Takes the frames of a piece, with what the reader holds of the pieces before, and then a moment passes.
+fn take_piece<W: Wire, C: Clock, S: Sink>(
+    alloc: Global,
+    wire: &mut W,
+    clock: &mut C,
+    sink: &mut S,
+    reader: &mut Reader,
+    session: &mut Session,
+    piece: &[u8],
+) -> Result<(), Stop>
+    requires { IsIdle session.old }
+    ensures ok { OnOk result ((more : List Read) → Runs W.does C.ticks S.takes (parties wire.old clock.old sink.old session.old)
+        (due_behind reader.old.unread (Piece piece.now ∷ more)) [] (due_behind reader.new.unread more) (parties wire.new clock.new sink.new session.new)) }
+    ensures err { IfErr result (λ stop. (more : List Read) → Ends W.does C.ticks S.takes (ended_by stop) (parties wire.old clock.old sink.old session.old)
+        (due_behind reader.old.unread (Piece piece.now ∷ more)) [] (parties wire.new clock.new sink.new session.new)) }
+    ensures idle { IsIdle session.new }
+    ensures failures { W.failures wire.old ≤ W.failures wire.new }
+    ensures failed { IfErr result (λ stop. stop ≡ Stop.WriteFault → W.failures wire.old < W.failures wire.new) }
+{
+    if reader.feed(piece).is_err() {
+        return Err(Stop::NoMemory);
+    }
+    match take_frames(alloc, wire, clock, sink, reader, session) {
+        Ok(()) => pass_moment(alloc, wire, clock, session),
+        Err(stop) => Err(stop),
+    }
+}
+
+// Takes the frames that stand in the reader, in their order.
+fn take_frames<W: Wire, C: Clock, S: Sink>(
+    alloc: Global,
+    wire: &mut W,
+    clock: &mut C,
+    sink: &mut S,
+    reader: &mut Reader,
+    session: &mut Session,
+) -> Result<(), Stop>
+    requires { IsIdle session.old }
+    ensures ok { OnOk result ((more : List Due) → Runs W.does C.ticks S.takes (parties wire.old clock.old sink.old session.old)
+        (map Came (frames_of reader.old.unread) ++ more) [] more (parties wire.new clock.new sink.new session.new)) }
+    ensures rest { OnOk result (reader.new.unread ≡ rest_of reader.old.unread) }
+    ensures err { IfErr result (λ stop. (more : List Due) → Ends W.does C.ticks S.takes (ended_by stop) (parties wire.old clock.old sink.old session.old)
+        (map Came (frames_of reader.old.unread) ++ more) [] (parties wire.new clock.new sink.new session.new)) }
+    ensures idle { IsIdle session.new }
+    ensures failures { W.failures wire.old ≤ W.failures wire.new }
+    ensures failed { IfErr result (λ stop. stop ≡ Stop.WriteFault → W.failures wire.old < W.failures wire.new) }
+{
+    while let Some(frame) = reader.next()? {
+        match take_frame(alloc, wire, clock, sink, session, &frame) {
+            Ok(()) => {}
+            Err(stop) => return Err(stop),
+        }
+    }
+    Ok(())
+}
+
+// Room for one read.
+fn empty_piece(alloc: Global) -> Result<Vec<u8>, NoMemory>
+    ensures { IfOk result (λ buffer. vec_len buffer ≡ PIECE) }
+{
+    vec![in alloc; 0; PIECE]
+}
