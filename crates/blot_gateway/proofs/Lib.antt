@@ -2,4 +2,5 @@ mod CallLemmas
 mod DeliveredLemmas
 mod RunLemmas
 mod SendingLemmas
+mod ServingLemmas
 mod StepLemmas

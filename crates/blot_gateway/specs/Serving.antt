@@ -37,6 +37,10 @@ due_behind unread (Piece bytes ∷ reads) = map Came (frames_of (unread ++ bytes
 due_behind unread (Silence ∷ reads) = Passed ∷ due_behind unread reads
 due_behind unread (read ∷ reads) = []
 
+-- behind a piece, which stands with the rest of the one before
+abbrev pub due_fed : List ℕ → List Read → List Due
+due_fed unread reads = map Came (frames_of unread) ++ (Passed ∷ due_behind (rest_of unread) reads)
+
 -- first the frames of what the reader holds
 abbrev pub due_of : List ℕ → List Read → List Due
 due_of unread reads = map Came (frames_of unread) ++ due_behind (rest_of unread) reads

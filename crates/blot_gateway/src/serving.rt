@@ -5,7 +5,7 @@ ghost use Rattle.blot_session.specs.States.{IsIdle};
 ghost use Rattle.blot_gateway.specs.Endings.{ended_by};
 ghost use Rattle.blot_gateway.specs.Wires.{Read};
 ghost use Rattle.blot_gateway.specs.Wires.Read.{Piece};
-ghost use Rattle.blot_gateway.specs.Serving.{Due, Runs, Ends, Served, IsCounted, due_behind, left_by, parties};
+ghost use Rattle.blot_gateway.specs.Serving.{Due, Runs, Ends, Served, IsCounted, due_behind, due_fed, left_by, parties};
 ghost use Rattle.blot_gateway.specs.Serving.Due.{Came};
 
 use crate::driving::{pass_moment, take_frame};
@@ -136,9 +136,30 @@ fn take_piece<W: Wire, C: Clock, S: Sink>(
     ensures failures { W.failures wire.old ≤ W.failures wire.new }
     ensures failed { IfErr result (λ stop. stop ≡ Stop.WriteFault → W.failures wire.old < W.failures wire.new) }
 {
-    if reader.feed(piece).is_err() {
-        return Err(Stop::NoMemory);
+    match reader.feed(piece) {
+        Ok(()) => take_fed(alloc, wire, clock, sink, reader, session),
+        Err(_) => Err(Stop::NoMemory),
     }
+}
+
+// Takes the frames that stand in the reader, and then a moment passes.
+fn take_fed<W: Wire, C: Clock, S: Sink>(
+    alloc: Global,
+    wire: &mut W,
+    clock: &mut C,
+    sink: &mut S,
+    reader: &mut Reader,
+    session: &mut Session,
+) -> Result<(), Stop>
+    requires { IsIdle session.old }
+    ensures ok { OnOk result ((more : List Read) → Runs W.does C.ticks S.takes (parties wire.old clock.old sink.old session.old)
+        (due_fed reader.old.unread more) [] (due_behind reader.new.unread more) (parties wire.new clock.new sink.new session.new)) }
+    ensures err { IfErr result (λ stop. (more : List Read) → Ends W.does C.ticks S.takes (ended_by stop) (parties wire.old clock.old sink.old session.old)
+        (due_fed reader.old.unread more) [] (parties wire.new clock.new sink.new session.new)) }
+    ensures idle { IsIdle session.new }
+    ensures failures { W.failures wire.old ≤ W.failures wire.new }
+    ensures failed { IfErr result (λ stop. stop ≡ Stop.WriteFault → W.failures wire.old < W.failures wire.new) }
+{
     match take_frames(alloc, wire, clock, sink, reader, session) {
         Ok(()) => pass_moment(alloc, wire, clock, session),
         Err(stop) => Err(stop),
