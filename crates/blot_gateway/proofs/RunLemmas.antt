@@ -330,16 +330,43 @@ pub ends-by-wire : {W C S : Type 0} (does : W → Did → W → Type 0) (ticks :
     (end : Ended) (a b : Parties W C S) (due : List Due) (reads : List Read) → ByWire end reads → Runs does ticks takes a due reads [] b → Ends does ticks takes end a due reads b
 ends-by-wire does ticks takes end a b due reads (at_end given with_end) run =
     record {
-      calls = run.calls; dids = run.dids; answers = run.answers; left = []; happens = run.happens; done = run.done; handed = run.handed; read = run.read; written = run.written;
-      stops = run.goes_on; cause = (with_end, refl);
+      calls = run.calls;
+      dids = run.dids;
+      answers = run.answers;
+      left = [];
+      happens = run.happens;
+      done = run.done;
+      handed = run.handed;
+      read = run.read;
+      written = run.written;
+      stops = run.goes_on;
+      cause = (with_end, refl);
     }
 ends-by-wire does ticks takes end a b due reads (failed given with_end) run =
     record {
-      calls = run.calls; dids = run.dids; answers = run.answers; left = []; happens = run.happens; done = run.done; handed = run.handed; read = run.read; written = run.written;
-      stops = run.goes_on; cause = (with_end, refl);
+      calls = run.calls;
+      dids = run.dids;
+      answers = run.answers;
+      left = [];
+      happens = run.happens;
+      done = run.done;
+      handed = run.handed;
+      read = run.read;
+      written = run.written;
+      stops = run.goes_on;
+      cause = (with_end, refl);
     }
 ends-by-wire does ticks takes end a b due reads (too_long given long) run =
     record {
-      calls = run.calls; dids = run.dids; answers = run.answers; left = []; happens = run.happens; done = run.done; handed = run.handed; read = run.read; written = run.written;
-      stops = run.goes_on; cause = (long, refl);
+      calls = run.calls;
+      dids = run.dids;
+      answers = run.answers;
+      left = [];
+      happens = run.happens;
+      done = run.done;
+      handed = run.handed;
+      read = run.read;
+      written = run.written;
+      stops = run.goes_on;
+      cause = (long, refl);
     }

@@ -165,17 +165,19 @@ EndsBy does ticks takes end a unread b = (reads : List Read) × Ends does ticks 
 pub serves-end : {W C S : Type 0} (does : W → Did → W → Type 0) (ticks : C → ℤ → C → Type 0) (takes : S → Answered → S → Type 0)
     (end : Ended) (a b c : Parties W C S) (unread rest : List ℕ) (count : ℕ) (read : Read) → end ≢ ended.TooLong → Serves does ticks takes a unread count b rest
     → ((more : List Read) → Ends does ticks takes end b (due_behind rest (read ∷ more)) (read ∷ []) c) → EndsBy does ticks takes end a unread c
-serves-end does ticks takes end a b c unread rest count read short one two =
-    (one.reads ++ read ∷ [],
-    ends-behind does ticks takes end a b c (due_behind unread (one.reads ++ read ∷ [])) (due_behind rest (read ∷ [])) one.reads (read ∷ []) (λ is. absurd (short is))
-    (one.runs (read ∷ [])) (two []))
+serves-end does ticks takes end a b c unread rest count read short one two = (
+  one.reads ++ read ∷ [],
+  ends-behind does ticks takes end a b c (due_behind unread (one.reads ++ read ∷ [])) (due_behind rest (read ∷ [])) one.reads (read ∷ []) (λ is. absurd (short is))
+      (one.runs (read ∷ [])) (two []),
+)
 
 pub serves-long : {W C S : Type 0} (does : W → Did → W → Type 0) (ticks : C → ℤ → C → Type 0) (takes : S → Answered → S → Type 0)
     (a b : Parties W C S) (unread rest : List ℕ) → Serves does ticks takes a unread READS_MAX b rest → EndsBy does ticks takes ended.TooLong a unread b
-serves-long does ticks takes a b unread rest one =
-    (one.reads,
-    ends-by-wire does ticks takes ended.TooLong a b (due_behind unread one.reads) one.reads (too_long one.reads one.many)
-    (subst (λ reads. Runs does ticks takes a (due_behind unread reads) one.reads [] b) (append-nil one.reads) (one.runs [])))
+serves-long does ticks takes a b unread rest one = (
+  one.reads,
+  ends-by-wire does ticks takes ended.TooLong a b (due_behind unread one.reads) one.reads (too_long one.reads one.many)
+      (subst (λ reads. Runs does ticks takes a (due_behind unread reads) one.reads [] b) (append-nil one.reads) (one.runs [])),
+)
 
 pub ends-no-memory : {W C S : Type 0} (does : W → Did → W → Type 0) (ticks : C → ℤ → C → Type 0) (takes : S → Answered → S → Type 0)
     (a : Parties W C S) (unread : List ℕ) → EndsBy does ticks takes ended.NoMemory a unread a

@@ -1,6 +1,7 @@
 -- One call of a session.
 use Rattle.std.proofs.Common.{◌≡◌, ℕ, Bool, true, false, List, [], ◌∷◌, ◌++◌, map, Option, Some, None, Result, Ok, Err, refl, sym, ap, subst, ◌∙◌}
-use Rattle.std.specs.Prelude.{ℤ, IfErr, OnOk, option_to_list}
+use Rattle.std.specs.Prelude.{ℤ, IfErr, IsOk, OnOk, option_to_list}
+use Rattle.std.proofs.lemmas.Bool.{false≢true}
 use Rattle.std.specs.List.{flat_map}
 use Rattle.blot_types.specs.declared.command.Command.{Command}
 use Rattle.blot_session.specs.declared.action.Action.{Action}
@@ -8,8 +9,10 @@ use Rattle.blot_session.specs.declared.state.State.{State}
 use Rattle.blot_session.specs.Calls.{Outcome, Awaits}
 use Rattle.blot_session.specs.Runs.{Call, outcome, bytes_of, delivered_by}
 use Rattle.blot_session.specs.States.{IsIdle}
+use Rattle.blot_gateway.specs.declared.ended.Ended.{Ended}
 use Rattle.blot_gateway.specs.declared.ended.Stop.{Stop}
 use Rattle.blot_gateway.specs.declared.ended.Stop.TheVariants as stops
+use Rattle.blot_gateway.specs.Endings.{ended_by}
 use Rattle.blot_gateway.specs.Wires.{Did}
 use Rattle.blot_gateway.specs.Serving.{close_in}
 use Rattle.blot_gateway.specs.Sending.{Writes, Halts, Called, StopsAt, Halted, DeliversJust}
@@ -28,6 +31,17 @@ on-ok-both (Err e) p q more = tt
 pub if-err : {T E : Type 0} (P Q : E → Type 0) (result : Result T E) → IfErr result P → ((e : E) → P e → Q e) → IfErr result Q
 if-err P Q (Ok x) p more = tt
 if-err P Q (Err e) p more = more e p
+
+-- a result that says how another ended
+pub ok-through : {T U E F P Q : Type 0} (result : Result T E) (served : Result U F) → OnOk result (IsOk served) → OnOk served P → (P → Q) → OnOk result Q
+ok-through (Err e) served ok p more = tt
+ok-through (Ok x) (Ok y) ok p more = more p
+ok-through (Ok x) (Err f) ok p more = absurd (false≢true ok)
+
+pub err-through : {T : Type 0} (P : Stop → Type 0) (Q : Ended → Type 0) (result : Result T Ended) (served : Result T Stop)
+    → IfErr result (λ end. (stop : Stop) × (served ≡ Err stop) × (end ≡ ended_by stop)) → IfErr served P → ((stop : Stop) → P stop → Q (ended_by stop)) → IfErr result Q
+err-through P Q (Ok x) served err p more = tt
+err-through P Q (Err end) served err p more = subst Q (sym err.2) (more err.0 (subst (λ found. IfErr found P) err.1 p))
 
 -- ---- a call
 

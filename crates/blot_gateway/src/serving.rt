@@ -1,11 +1,12 @@
 //! A session, served over a wire.
-ghost use Rattle.std.specs.Prelude.{◌≡◌, ◌≢◌, ◌<◌, ◌≤◌, List, [], ◌∷◌, ◌++◌, length, map, Err, IfErr, IfOk, OnOk, vec_len};
+ghost use Rattle.std.specs.Prelude.{◌≡◌, ◌≢◌, ◌<◌, ◌≤◌, List, [], ◌∷◌, ◌++◌, length, map, Err, IfErr, IfOk, IsOk, OnOk, vec_len};
 ghost use Rattle.blot_tag.specs.Walking.{frames_of, rest_of};
 ghost use Rattle.blot_session.specs.States.{IsIdle};
+ghost use Rattle.blot_gateway.specs.declared.ended.Stop.{Stop};
 ghost use Rattle.blot_gateway.specs.Endings.{ended_by};
 ghost use Rattle.blot_gateway.specs.Wires.{Read};
 ghost use Rattle.blot_gateway.specs.Wires.Read.{Piece};
-ghost use Rattle.blot_gateway.specs.Serving.{Due, Runs, Ends, Served, IsCounted, due_behind, due_fed, left_by, parties};
+ghost use Rattle.blot_gateway.specs.Serving.{Due, Runs, Ends, Served, IsCounted, due_behind, due_fed, due_of, left_by, parties};
 ghost use Rattle.blot_gateway.specs.Serving.Due.{Came};
 
 use crate::driving::{pass_moment, take_frame};
@@ -37,12 +38,30 @@ pub fn serve_session<W: Wire, C: Clock, S: Sink>(
         (parties wire.new clock.new sink.new session.new) }
     ensures counted { IsCounted result (W.failures wire.old) (W.failures wire.new) }
 {
-    let ended = match take_frames(alloc, wire, clock, sink, reader, session) {
-        Ok(()) => serve_reads(alloc, wire, clock, sink, reader, session),
-        Err(stop) => stop.ended(),
-    };
+    let ended = serve_all(alloc, wire, clock, sink, reader, session);
     leave(session, ended);
     ended
+}
+
+// Serves a session by what the reader holds, and then by what the wire gives.
+fn serve_all<W: Wire, C: Clock, S: Sink>(
+    alloc: Global,
+    wire: &mut W,
+    clock: &mut C,
+    sink: &mut S,
+    reader: &mut Reader,
+    session: &mut Session,
+) -> Ended
+    requires { IsIdle session.old }
+    ensures ends { (reads : List Read) × Ends W.does C.ticks S.takes result (parties wire.old clock.old sink.old session.old)
+        (due_of reader.old.unread reads) reads (parties wire.new clock.new sink.new session.new) }
+    ensures idle { IsIdle session.new }
+    ensures counted { IsCounted result (W.failures wire.old) (W.failures wire.new) }
+{
+    match take_frames(alloc, wire, clock, sink, reader, session) {
+        Ok(()) => serve_reads(alloc, wire, clock, sink, reader, session),
+        Err(stop) => stop.ended(),
+    }
 }
 
 // Closes a session, unless it ended the connection itself.
@@ -75,8 +94,9 @@ fn serve_reads<W: Wire, C: Clock, S: Sink>(
         return Ended::NoMemory;
     };
     for _ in 0..READS_MAX {
-        if let Err(ended) = serve_read(alloc, wire, clock, sink, reader, session, &mut buffer) {
-            return ended;
+        match serve_read(alloc, wire, clock, sink, reader, session, &mut buffer) {
+            Ok(()) => {}
+            Err(ended) => return ended,
         }
     }
     Ended::TooLong
@@ -98,19 +118,27 @@ fn serve_read<W: Wire, C: Clock, S: Sink>(
         (due_behind reader.old.unread (read ∷ more)) (read ∷ []) (due_behind reader.new.unread more) (parties wire.new clock.new sink.new session.new))) }
     ensures err { IfErr result (λ end. (read : Read) × ((more : List Read) → Ends W.does C.ticks S.takes end (parties wire.old clock.old sink.old session.old)
         (due_behind reader.old.unread (read ∷ more)) (read ∷ []) (parties wire.new clock.new sink.new session.new))) }
-    ensures not_long { result ≢ Err Ended.TooLong }
+    ensures not_long { IfErr result (λ end. end ≢ Ended.TooLong) }
     ensures idle { IsIdle session.new }
     ensures failures { W.failures wire.old ≤ W.failures wire.new }
     ensures counted { IfErr result (λ end. IsCounted end (W.failures wire.old) (W.failures wire.new)) }
 {
-    let served = match wire.read_some(buffer) {
+    match wire.read_some(buffer) {
         Reading::Got(count) => {
-            take_piece(alloc, wire, clock, sink, reader, session, &buffer[..count])
+            let piece = &buffer[..count];
+            end_of(take_piece(alloc, wire, clock, sink, reader, session, piece))
         }
-        Reading::Quiet => pass_moment(alloc, wire, clock, session),
-        Reading::End => return Err(Ended::End),
-        Reading::Fault => return Err(Ended::ReadFault),
-    };
+        Reading::Quiet => end_of(pass_moment(alloc, wire, clock, session)),
+        Reading::End => Err(Ended::End),
+        Reading::Fault => Err(Ended::ReadFault),
+    }
+}
+
+// The ending of what was stopped, if it was.
+fn end_of(served: Result<(), Stop>) -> Result<(), Ended>
+    ensures ok { OnOk result (IsOk served) }
+    ensures err { IfErr result (λ end. (stop : Stop) × (served ≡ Err stop) × (end ≡ ended_by stop)) }
+{
     match served {
         Ok(()) => Ok(()),
         Err(stop) => Err(stop.ended()),

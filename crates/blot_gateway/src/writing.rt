@@ -5,8 +5,8 @@ ghost use Rattle.blot_session.specs.Runs.{bytes_of};
 ghost use Rattle.blot_gateway.specs.Serving.{close_in};
 ghost use Rattle.blot_gateway.specs.Sending.{Writes, WritesFront, Halts};
 
-use crate::{Wire, Writing};
 use crate::ended::Stop;
+use crate::{Wire, Writing};
 use blot_session::{Action, CloseReason};
 
 /// A write failed.

@@ -6,7 +6,7 @@ use Rattle.blot_gateway.proofs.serving.serve_reads.Given as goal
 
 abbrev pub invariant-loop : goal.invariant-loop
 invariant-loop g l =
-    Serves g.W.Wire.does g.C.Clock.ticks g.S.Sink.takes (parties l.initial.wire l.initial.clock l.initial.sink l.initial.session) l.initial.reader.unread ?
+    Serves g.W.Wire.does g.C.Clock.ticks g.S.Sink.takes (parties l.initial.wire l.initial.clock l.initial.sink l.initial.session) l.initial.reader.unread l.counter
     (parties l.wire l.clock l.sink l.session) l.reader.unread
     × IsIdle l.session
     × (g.W.Wire.failures l.initial.wire ≤ g.W.Wire.failures l.wire)

@@ -1,0 +1,25 @@
+use Rattle.std.proofs.Common.{◌≡◌, [], ◌++◌, List, ap, subst}
+use Rattle.blot_gateway.specs.Endings.{ended_by}
+use Rattle.blot_gateway.specs.Wires.{Read}
+use Rattle.blot_gateway.specs.Serving.{Ends, due_fed, parties}
+use Rattle.blot_gateway.proofs.StepLemmas.{if-err}
+use Rattle.blot_gateway.proofs.RunLemmas.{runs-nowhere, ends-there}
+use Rattle.blot_gateway.proofs.serving.take_piece.Goals as goal
+
+pub returns-in-Ok-clause-err : goal.returns-in-Ok-clause-err
+returns-in-Ok-clause-err g c =
+    let a = parties c.args.wire.now c.args.clock.now c.args.sink.now c.args.session.now in
+    let b = parties c.take_fed.new.wire c.take_fed.new.clock c.take_fed.new.sink c.take_fed.new.session in
+    let fed = ap (λ reading. reading.unread) c.in-Ok.ensures.ok in
+    if-err
+    (λ stop. (more : List Read) → Ends g.W.Wire.does g.C.Clock.ticks g.S.Sink.takes (ended_by stop) a (due_fed c.feed.new.self.unread more) [] b)
+    (λ stop. (more : List Read) → Ends g.W.Wire.does g.C.Clock.ticks g.S.Sink.takes (ended_by stop) a (due_fed (c.args.reader.now.unread ++ c.args.piece.now) more) [] b)
+    c.take_fed.result c.take_fed.ensures.err
+    (λ stop ends more. subst (λ unread. Ends g.W.Wire.does g.C.Clock.ticks g.S.Sink.takes (ended_by stop) a (due_fed unread more) [] b) fed (ends more))
+
+pub returns-in-Err-clause-err : goal.returns-in-Err-clause-err
+returns-in-Err-clause-err g c =
+    let a = parties c.args.wire.now c.args.clock.now c.args.sink.now c.args.session.now in
+    λ more.
+    let due = due_fed (c.args.reader.now.unread ++ c.args.piece.now) more in
+    ends-there g.W.Wire.does g.C.Clock.ticks g.S.Sink.takes a a due due [] (runs-nowhere g.W.Wire.does g.C.Clock.ticks g.S.Sink.takes a due)
