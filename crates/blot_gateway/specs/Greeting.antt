@@ -1,5 +1,5 @@
 -- The first message of a connection.
-use Rattle.std.specs.Prelude.{◌≡◌, ℕ, List, [], ◌∷◌, ◌++◌, Bool, true, false, Result, Ok, Err, if◌then◌else◌}
+use Rattle.std.specs.Prelude.{◌≡◌, ◌⊎◌, ℕ, List, [], ◌∷◌, ◌++◌, length, map, slice_get, Bool, true, false, Option, Some, None, Result, Ok, Err, if◌then◌else◌}
 use Rattle.blot_tag.specs.Walking.{frames_of}
 use Rattle.blot_types.specs.Keys.{same_text}
 use Rattle.blot_fields.specs.declared.admin.Admin.{Admin}
@@ -10,7 +10,13 @@ use Rattle.blot_fields.specs.declared.message.Body.TheVariants as bodies
 use Rattle.blot_fields.specs.declared.message.Message.{Message}
 use Rattle.blot_session.specs.declared.action.CloseReason.{CloseReason}
 use Rattle.blot_session.specs.declared.action.CloseReason.TheVariants as reasons
-use Rattle.blot_gateway.specs.Wires.{Read}
+use Rattle.blot_session.specs.Runs.{said_by}
+use Rattle.blot_gateway.specs.declared.ended.Ended.{Ended}
+use Rattle.blot_gateway.specs.declared.ended.Ended.TheVariants as ended
+use Rattle.blot_gateway.specs.declared.ended.TheConstants.{READS_MAX}
+use Rattle.blot_gateway.specs.Serving.{EndsWith}
+use Rattle.blot_gateway.specs.Wires.{Read, Did, Steps}
+use Rattle.blot_gateway.specs.Wires.Did.{Gave}
 use Rattle.blot_gateway.specs.Wires.Read.{Piece, Silence, AtEnd, Failed}
 
 -- whether a message is a Logon
@@ -41,3 +47,56 @@ fed unread (read ∷ reads) = fed (unread ++ bytes_in read) reads
 abbrev pub AwaitsFrame : List ℕ → List Read → Type 0
 AwaitsFrame unread [] = Unit {0}
 AwaitsFrame unread (read ∷ reads) = (frames_of unread ≡ []) × AwaitsFrame (unread ++ bytes_in read) reads
+
+-- ---- the reads up to the first message
+
+-- what the first frame there says of who speaks
+pub record Speaks (own unread : List ℕ) (answer : Result (List ℕ) CloseReason) : Type 0 where
+  pub text : List ℕ
+  pub first : slice_get (frames_of unread) 0 ≡ Some text
+  pub greets : greeted_by own (said_by text) ≡ answer
+
+-- a look at the first frame, if one stands there
+abbrev pub PeeksBy : List ℕ → List ℕ → Result (Option (List ℕ)) Ended → Type 0
+PeeksBy own unread (Ok None) = frames_of unread ≡ []
+PeeksBy own unread (Ok (Some sender)) = Speaks own unread (Ok sender)
+PeeksBy own unread (Err (ended.Closed reason)) = Speaks own unread (Err reason)
+PeeksBy own unread (Err end) = end ≡ ended.NoMemory
+
+-- one read, whose bytes stand behind the unread ones then
+pub record Feeds {W : Type 0} (does : W → Did → W → Type 0) (before : W) (unread : List ℕ) (after : W) (left : List ℕ) : Type 0 where
+  pub read : Read
+  pub gave : does before (Gave read) after
+  pub holds : left ≡ unread ++ bytes_in read
+
+-- one read that ends the greeting: the wire's end, its failure, or no memory for the bytes
+abbrev pub ReadEnds : Ended → Read → Type 0
+ReadEnds ended.End read = read ≡ AtEnd
+ReadEnds ended.ReadFault read = read ≡ Failed
+ReadEnds ended.NoMemory read = Unit {0}
+ReadEnds end read = ⊥
+
+pub record FeedsLast {W : Type 0} (does : W → Did → W → Type 0) (end : Ended) (before : W) (unread : List ℕ) (after : W) (left : List ℕ) : Type 0 where
+  pub read : Read
+  pub gave : does before (Gave read) after
+  pub ends : ReadEnds end read
+  pub holds : left ≡ unread
+
+-- why a greeting is answered so, behind these reads, with these bytes in the reader
+abbrev pub GreetsBy : List ℕ → Result (List ℕ) Ended → List Read → List ℕ → Type 0
+GreetsBy own (Ok sender) reads left = Speaks own left (Ok sender)
+GreetsBy own (Err (ended.Closed reason)) reads left = Speaks own left (Err reason)
+GreetsBy own (Err ended.End) reads left = EndsWith AtEnd reads
+GreetsBy own (Err ended.ReadFault) reads left = EndsWith Failed reads
+GreetsBy own (Err ended.TooLong) reads left = (length reads ≡ READS_MAX) × (frames_of left ≡ [])
+GreetsBy own (Err ended.NoMemory) reads left = Unit {0}
+GreetsBy own (Err ended.WriteFault) reads left = ⊥
+
+-- the wire gave some reads, and nothing was written; no frame stood in the reader before any of them; and the reader holds what they
+-- gave, but for the last where there was no memory for it
+pub record Greeted {W : Type 0} (does : W → Did → W → Type 0) (own : List ℕ) (answer : Result (List ℕ) Ended) (before : W) (unread : List ℕ) (after : W) (left : List ℕ) : Type 0 where
+  pub reads : List Read
+  pub steps : Steps does before (map Gave reads) after
+  pub awaits : AwaitsFrame unread reads
+  pub holds : (left ≡ fed unread reads) ⊎ (answer ≡ Err ended.NoMemory)
+  pub greets : GreetsBy own answer reads left

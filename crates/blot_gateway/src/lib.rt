@@ -4,10 +4,12 @@
 
 mod driving;
 mod ended;
+mod greeting;
 mod serving;
 mod wire;
 mod writing;
 
 pub use ended::{Ended, READS_MAX};
+pub use greeting::greet;
 pub use serving::serve_session;
 pub use wire::{Clock, Reading, Sink, Wire, Writing};

@@ -222,8 +222,8 @@ fn take_frames<W: Wire, C: Clock, S: Sink>(
     Ok(())
 }
 
-// Room for one read.
-fn empty_piece(alloc: Global) -> Result<Vec<u8>, NoMemory>
+/// Room for one read.
+pub(crate) fn empty_piece(alloc: Global) -> Result<Vec<u8>, NoMemory>
     ensures { IfOk result (λ buffer. vec_len buffer ≡ PIECE) }
 {
     vec![in alloc; 0; PIECE]

@@ -1,0 +1,137 @@
+-- The reads up to the first message.
+use Rattle.std.proofs.Common.{◌≡◌, ◌⊎◌, ℕ, ◌+◌, ◌≤◌, List, [], ◌∷◌, ◌++◌, length, map, Option, Some, None, Result, Ok, Err, refl, sym, ap, subst, ◌∙◌, inl, inr, length-append}
+use Rattle.std.specs.Prelude.{slice_get}
+use Rattle.std.proofs.lemmas.List.{append-nil, map-append}
+use Rattle.blot_tag.specs.Walking.{frames_of}
+use Rattle.blot_session.specs.declared.action.CloseReason.{CloseReason}
+use Rattle.blot_gateway.specs.declared.ended.Ended.{Ended}
+use Rattle.blot_gateway.specs.declared.ended.Ended.TheVariants as ended
+use Rattle.blot_gateway.specs.declared.ended.TheConstants.{READS_MAX}
+use Rattle.blot_gateway.specs.Wires.{Read, Did, Steps}
+use Rattle.blot_gateway.specs.Wires.Did.{Gave}
+use Rattle.blot_gateway.specs.Wires.Read.{AtEnd, Failed}
+use Rattle.blot_gateway.specs.Serving.{EndsWith, IsCounted}
+use Rattle.blot_gateway.specs.Greeting.{AwaitsFrame, Feeds, FeedsLast, Greeted, GreetsBy, PeeksBy, bytes_in, fed}
+use Rattle.blot_gateway.proofs.SendingLemmas.{steps-on, steps-one}
+
+fed-on : (unread : List ℕ) (reads : List Read) (read : Read) → fed unread (reads ++ read ∷ []) ≡ fed unread reads ++ bytes_in read
+fed-on unread [] read = refl
+fed-on unread (first ∷ reads) read = fed-on (unread ++ bytes_in first) reads read
+
+awaits-on : (unread : List ℕ) (reads : List Read) (read : Read) → AwaitsFrame unread reads → frames_of (fed unread reads) ≡ [] → AwaitsFrame unread (reads ++ read ∷ [])
+awaits-on unread [] read awaits none = (none, tt)
+awaits-on unread (first ∷ reads) read awaits none = (awaits.0, awaits-on (unread ++ bytes_in first) reads read awaits.1 none)
+
+-- so many reads, before each of which no frame stood there
+pub record Reads {W : Type 0} (does : W → Did → W → Type 0) (before : W) (unread : List ℕ) (count : ℕ) (after : W) (left : List ℕ) : Type 0 where
+  pub reads : List Read
+  pub many : length reads ≡ count
+  pub steps : Steps does before (map Gave reads) after
+  pub awaits : AwaitsFrame unread reads
+  pub holds : left ≡ fed unread reads
+
+pub reads-none : {W : Type 0} (does : W → Did → W → Type 0) (before : W) (unread : List ℕ) → Reads does before unread 0 before unread
+reads-none does before unread = record { reads = []; many = refl; steps = refl; awaits = tt; holds = refl }
+
+steps-more : {W : Type 0} (does : W → Did → W → Type 0) (a b c : W) (reads : List Read) (read : Read) → Steps does a (map Gave reads) b → does b (Gave read) c
+    → Steps does a (map Gave (reads ++ read ∷ [])) c
+steps-more does a b c reads read steps gave =
+    subst (λ dids. Steps does a dids c) (sym (map-append Gave reads (read ∷ []))) (steps-on does (map Gave reads) (Gave read ∷ []) a b c steps (steps-one does (Gave read) b c gave))
+
+pub reads-more : {W : Type 0} (does : W → Did → W → Type 0) (a b c : W) (unread left middle next : List ℕ) (count : ℕ) → middle ≡ left
+    → Reads does a unread count b left → frames_of left ≡ [] → Feeds does b middle c next → Reads does a unread (count + 1) c next
+reads-more does a b c unread left middle next count same one none feeds =
+    record {
+      reads = one.reads ++ feeds.read ∷ [];
+      many = length-append one.reads (feeds.read ∷ []) ∙ ap (λ k. k + 1) one.many;
+      steps = steps-more does a b c one.reads feeds.read one.steps feeds.gave;
+      awaits = awaits-on unread one.reads feeds.read one.awaits (ap frames_of (sym one.holds) ∙ none);
+      holds = feeds.holds ∙ ap (λ text. text ++ bytes_in feeds.read) (same ∙ one.holds) ∙ sym (fed-on unread one.reads feeds.read);
+    }
+
+-- ---- the answers
+
+pub greets-sender : {W : Type 0} (does : W → Did → W → Type 0) (own sender : List ℕ) (a b : W) (unread left next : List ℕ) (count : ℕ) → next ≡ left
+    → Reads does a unread count b left → PeeksBy own left (Ok (Some sender)) → Greeted does own (Ok sender) a unread b next
+greets-sender does own sender a b unread left next count same one peeks =
+    subst (λ held. Greeted does own (Ok sender) a unread b held) (sym same)
+    (record { reads = one.reads; steps = one.steps; awaits = one.awaits; holds = inl one.holds; greets = peeks })
+
+greets-there : {W : Type 0} (does : W → Did → W → Type 0) (own : List ℕ) (end : Ended) (a b : W) (unread left : List ℕ) (count : ℕ)
+    → Reads does a unread count b left → PeeksBy own left (Err end) → Greeted does own (Err end) a unread b left
+greets-there does own (ended.Closed reason) a b unread left count one peeks =
+    record { reads = one.reads; steps = one.steps; awaits = one.awaits; holds = inl one.holds; greets = peeks }
+greets-there does own ended.NoMemory a b unread left count one peeks =
+    record { reads = one.reads; steps = one.steps; awaits = one.awaits; holds = inl one.holds; greets = tt }
+greets-there does own ended.End a b unread left count one peeks = absurd cc
+greets-there does own ended.ReadFault a b unread left count one peeks = absurd cc
+greets-there does own ended.WriteFault a b unread left count one peeks = absurd cc
+greets-there does own ended.TooLong a b unread left count one peeks = absurd cc
+
+pub greets-end : {W : Type 0} (does : W → Did → W → Type 0) (own : List ℕ) (end : Ended) (a b : W) (unread left next : List ℕ) (count : ℕ) → next ≡ left
+    → Reads does a unread count b left → PeeksBy own left (Err end) → Greeted does own (Err end) a unread b next
+greets-end does own end a b unread left next count same one peeks =
+    subst (λ held. Greeted does own (Err end) a unread b held) (sym same) (greets-there does own end a b unread left count one peeks)
+
+pub greets-long : {W : Type 0} (does : W → Did → W → Type 0) (own : List ℕ) (a b : W) (unread left next : List ℕ) → next ≡ left
+    → Reads does a unread READS_MAX b left → frames_of left ≡ [] → Greeted does own (Err ended.TooLong) a unread b next
+greets-long does own a b unread left next same one none =
+    subst (λ held. Greeted does own (Err ended.TooLong) a unread b held) (sym same)
+    (record { reads = one.reads; steps = one.steps; awaits = one.awaits; holds = inl one.holds; greets = (one.many, none) })
+
+with-last : (last read : Read) (reads : List Read) → read ≡ last → EndsWith last (reads ++ read ∷ [])
+with-last last read reads is = record { earlier = reads; joined = ap (λ (found : Read). reads ++ found ∷ []) is }
+
+nothing-more : (unread : List ℕ) (reads : List Read) (read last : Read) → read ≡ last → bytes_in last ≡ [] → fed unread (reads ++ read ∷ []) ≡ fed unread reads
+nothing-more unread reads read last is none =
+    fed-on unread reads read ∙ ap (λ bytes. fed unread reads ++ bytes) (ap bytes_in is ∙ none) ∙ append-nil (fed unread reads)
+
+pub greets-last : {W : Type 0} (does : W → Did → W → Type 0) (own : List ℕ) (end : Ended) (a b c : W) (unread left middle next : List ℕ) (count : ℕ) → middle ≡ left
+    → Reads does a unread count b left → frames_of left ≡ [] → FeedsLast does end b middle c next → Greeted does own (Err end) a unread c next
+greets-last does own ended.End a b c unread left middle next count same one none feeds =
+    record {
+      reads = one.reads ++ feeds.read ∷ [];
+      steps = steps-more does a b c one.reads feeds.read one.steps feeds.gave;
+      awaits = awaits-on unread one.reads feeds.read one.awaits (ap frames_of (sym one.holds) ∙ none);
+      holds = inl (feeds.holds ∙ same ∙ one.holds ∙ sym (nothing-more unread one.reads feeds.read AtEnd feeds.ends refl));
+      greets = with-last AtEnd feeds.read one.reads feeds.ends;
+    }
+greets-last does own ended.ReadFault a b c unread left middle next count same one none feeds =
+    record {
+      reads = one.reads ++ feeds.read ∷ [];
+      steps = steps-more does a b c one.reads feeds.read one.steps feeds.gave;
+      awaits = awaits-on unread one.reads feeds.read one.awaits (ap frames_of (sym one.holds) ∙ none);
+      holds = inl (feeds.holds ∙ same ∙ one.holds ∙ sym (nothing-more unread one.reads feeds.read Failed feeds.ends refl));
+      greets = with-last Failed feeds.read one.reads feeds.ends;
+    }
+greets-last does own ended.NoMemory a b c unread left middle next count same one none feeds =
+    record {
+      reads = one.reads ++ feeds.read ∷ [];
+      steps = steps-more does a b c one.reads feeds.read one.steps feeds.gave;
+      awaits = awaits-on unread one.reads feeds.read one.awaits (ap frames_of (sym one.holds) ∙ none);
+      holds = inr refl;
+      greets = tt;
+    }
+greets-last does own (ended.Closed reason) a b c unread left middle next count same one none feeds = absurd feeds.ends
+greets-last does own ended.WriteFault a b c unread left middle next count same one none feeds = absurd feeds.ends
+greets-last does own ended.TooLong a b c unread left middle next count same one none feeds = absurd feeds.ends
+
+pub greets-no-memory : {W : Type 0} (does : W → Did → W → Type 0) (own : List ℕ) (a : W) (unread : List ℕ) → Greeted does own (Err ended.NoMemory) a unread a unread
+greets-no-memory does own a unread = record { reads = []; steps = refl; awaits = tt; holds = inr refl; greets = tt }
+
+pub peeks-counted : (own unread : List ℕ) (end : Ended) (before after : ℕ) → PeeksBy own unread (Err end) → before ≤ after → IsCounted end before after
+peeks-counted own unread (ended.Closed reason) before after peeks some = some
+peeks-counted own unread ended.NoMemory before after peeks some = some
+peeks-counted own unread ended.End before after peeks some = some
+peeks-counted own unread ended.ReadFault before after peeks some = absurd cc
+peeks-counted own unread ended.WriteFault before after peeks some = absurd cc
+peeks-counted own unread ended.TooLong before after peeks some = some
+
+-- ---- no first frame
+
+pub nothing-first : (texts : List (List ℕ)) (first : Option (List ℕ)) → first ≡ slice_get texts 0 → first ≡ None → texts ≡ []
+nothing-first [] first is none = refl
+nothing-first (text ∷ texts) first is none = absurd (some-none (sym is ∙ none))
+  where
+    some-none : Some text ≡ None → ⊥
+    some-none found = cc

@@ -1,0 +1,115 @@
+//! The first message of a connection.
+ghost use Rattle.std.specs.Prelude.{◌≡◌, ◌<◌, ◌≤◌, length, IfErr, IfOk, OnErr, OnOk};
+ghost use Rattle.blot_fields.specs.Decoding.{is_out_of_memory};
+ghost use Rattle.blot_tag.specs.Walking.{frames_of};
+ghost use Rattle.blot_gateway.specs.Greeting.{Feeds, FeedsLast, Greeted, PeeksBy, greeted_by};
+ghost use Rattle.blot_gateway.specs.Serving.{IsCounted};
+
+use crate::serving::empty_piece;
+use crate::{Ended, READS_MAX, Reading, Wire};
+use blot_fields::{Admin, Body, FieldFault, FieldReason, Message, decode};
+use blot_session::CloseReason;
+use blot_tag::Reader;
+use blot_types::Text64;
+use std::alloc::Global;
+
+/// Reads until the first frame stands in the reader, and says who sent it, by its SenderCompID. The frame stays there, and
+/// nothing is written.
+///
+/// Closed with NoLogon: the first message is no Logon, or at fault; with CompId: its TargetCompID is another. End: the
+/// wire ended before a frame. ReadFault: a read failed, and that is counted. TooLong: 2^30 reads were made. NoMemory: memory ran out.
+pub fn greet<W: Wire>(
+    alloc: Global,
+    wire: &mut W,
+    reader: &mut Reader,
+    own: Text64,
+) -> Result<Text64, Ended>
+    ensures greeted { Greeted W.does own result wire.old reader.old.unread wire.new reader.new.unread }
+    ensures counted { IfErr result (λ end. IsCounted end (W.failures wire.old) (W.failures wire.new)) }
+{
+    let Ok(mut buffer) = empty_piece(alloc) else {
+        return Err(Ended::NoMemory);
+    };
+    for _ in 0..READS_MAX {
+        match peek_sender(alloc, reader, own) {
+            Ok(None) => {}
+            Ok(Some(sender)) => return Ok(sender),
+            Err(ended) => return Err(ended),
+        }
+        match feed_once(wire, reader, &mut buffer) {
+            Ok(()) => {}
+            Err(ended) => return Err(ended),
+        }
+    }
+    match peek_sender(alloc, reader, own) {
+        Ok(None) => Err(Ended::TooLong),
+        Ok(Some(sender)) => Ok(sender),
+        Err(ended) => Err(ended),
+    }
+}
+
+// Who sent the first frame of the reader, if one stands there.
+fn peek_sender(alloc: Global, reader: &mut Reader, own: Text64) -> Result<Option<Text64>, Ended>
+    ensures peeks { PeeksBy own reader.old.unread result }
+    ensures kept { reader.new ≡ reader.old }
+{
+    let Ok(found) = reader.peek() else {
+        return Err(Ended::NoMemory);
+    };
+    let Some(frame) = found else {
+        return Ok(None);
+    };
+    let said = decode(alloc, &frame);
+    if is_out_of_memory(&said) {
+        return Err(Ended::NoMemory);
+    }
+    match sender_by(&said, own) {
+        Ok(sender) => Ok(Some(sender)),
+        Err(reason) => Err(Ended::Closed(reason)),
+    }
+}
+
+// Whether there was no memory for a message.
+fn is_out_of_memory(said: &Result<Message, FieldFault>) -> bool
+    ensures { result ≡ is_out_of_memory said.now }
+{
+    match said {
+        Ok(_) => false,
+        Err(fault) => fault.reason == FieldReason::NoMemory,
+    }
+}
+
+// Who speaks, by what the first message says.
+fn sender_by(said: &Result<Message, FieldFault>, own: Text64) -> Result<Text64, CloseReason>
+    ensures { result ≡ greeted_by own said.now }
+{
+    let Ok(message) = said else {
+        return Err(CloseReason::NoLogon);
+    };
+    if !matches!(message.body, Body::Admin(Admin::Logon { .. })) {
+        return Err(CloseReason::NoLogon);
+    }
+    if message.head.target != own {
+        return Err(CloseReason::CompId);
+    }
+    Ok(message.head.sender)
+}
+
+// Reads once, and feeds the reader what came.
+fn feed_once<W: Wire>(wire: &mut W, reader: &mut Reader, buffer: &mut [u8]) -> Result<(), Ended>
+    requires { 0 < length buffer.old }
+    ensures ok { OnOk result (Feeds W.does wire.old reader.old.unread wire.new reader.new.unread) }
+    ensures err { IfErr result (λ end. FeedsLast W.does end wire.old reader.old.unread wire.new reader.new.unread) }
+    ensures failures { W.failures wire.old ≤ W.failures wire.new }
+    ensures counted { IfErr result (λ end. IsCounted end (W.failures wire.old) (W.failures wire.new)) }
+{
+    match wire.read_some(buffer) {
+        Reading::Got(count) => match reader.feed(&buffer[..count]) {
+            Ok(()) => Ok(()),
+            Err(_) => Err(Ended::NoMemory),
+        },
+        Reading::Quiet => Ok(()),
+        Reading::End => Err(Ended::End),
+        Reading::Fault => Err(Ended::ReadFault),
+    }
+}
