@@ -1,18 +1,18 @@
 -- Calls, one behind the other.
-use Rattle.std.proofs.Common.{◌≡◌, ◌⊎◌, ℕ, ◌<◌, ◌+◌, Bool, true, false, ◌&&◌, List, [], ◌∷◌, ◌++◌, length, map, Option, Some, None, refl, sym, ap, subst, ◌∙◌, inl, inr, append_assoc}
+use Rattle.std.proofs.Common.{◌≡◌, ℕ, Bool, true, ◌&&◌, List, [], ◌∷◌, ◌++◌, length, map, None, refl, sym, ap, subst, ◌∙◌, inl, inr, append_assoc}
 use Rattle.std.specs.Prelude.{ℤ}
 use Rattle.std.specs.List.{flat_map, list_all}
-use Rattle.std.proofs.lemmas.List.{append-nil, map-append}
+use Rattle.std.proofs.lemmas.List.{map-append}
 use Rattle.std.proofs.lemmas.List.Concat.{flat_map-append}
 use Rattle.std.proofs.lemmas.List.Folds.{list_all-append}
 use Rattle.blot_session.specs.declared.action.Action.{Action}
 use Rattle.blot_session.specs.declared.action.Action.TheVariants.{Send, Deliver, Close}
 use Rattle.blot_session.specs.declared.state.State.{State}
-use Rattle.blot_session.specs.Runs.{Call, Meets, AreMet, outcome, actions_of, behind_calls, bytes_of, delivered_by, delivered_of, sent_of}
+use Rattle.blot_session.specs.Runs.{Call, AreMet, outcome, actions_of, behind_calls, bytes_of, delivered_by, delivered_of, sent_of}
 use Rattle.blot_gateway.specs.declared.ended.Ended.{Ended}
 use Rattle.blot_gateway.specs.declared.ended.Ended.TheVariants as ended
-use Rattle.blot_gateway.specs.Wires.{Read, Did, Answered, Steps, read_in, taken_in, reads_of, written_of}
-use Rattle.blot_gateway.specs.Serving.{Due, Parties, Happens, Runs, Ends, GoesOn, HasLast, ClosesLast, EndsAtLast, RunsOutLast, Stops, EndsWith, Cause, IsFront, Wrote, close_in, closed_by, due_by, due_in, moment_by, moments_of, reply_by, replies_of, is_served, has_memory, seen_by}
+use Rattle.blot_gateway.specs.Wires.{Read, Did, Answered, Steps, read_in, taken_in, written_of}
+use Rattle.blot_gateway.specs.Serving.{Due, Parties, Happens, Runs, Ends, GoesOn, HasLast, Stops, EndsWith, Cause, Wrote, close_in, closed_by, due_by, due_in, moment_by, moments_of, reply_by, is_served, has_memory, seen_by}
 use Rattle.blot_gateway.proofs.SendingLemmas.{steps-on}
 
 -- ---- two facts at once

@@ -1,9 +1,8 @@
 -- The reads up to the first message.
-use Rattle.std.proofs.Common.{◌≡◌, ◌⊎◌, ℕ, ◌+◌, ◌≤◌, List, [], ◌∷◌, ◌++◌, length, map, Option, Some, None, Result, Ok, Err, refl, sym, ap, subst, ◌∙◌, inl, inr, length-append}
+use Rattle.std.proofs.Common.{◌≡◌, ℕ, ◌+◌, ◌≤◌, List, [], ◌∷◌, ◌++◌, length, map, Option, Some, None, Ok, Err, refl, sym, ap, subst, ◌∙◌, inl, inr, length-append}
 use Rattle.std.specs.Prelude.{slice_get}
 use Rattle.std.proofs.lemmas.List.{append-nil, map-append}
 use Rattle.blot_tag.specs.Walking.{frames_of}
-use Rattle.blot_session.specs.declared.action.CloseReason.{CloseReason}
 use Rattle.blot_gateway.specs.declared.ended.Ended.{Ended}
 use Rattle.blot_gateway.specs.declared.ended.Ended.TheVariants as ended
 use Rattle.blot_gateway.specs.declared.ended.TheConstants.{READS_MAX}
@@ -11,7 +10,7 @@ use Rattle.blot_gateway.specs.Wires.{Read, Did, Steps}
 use Rattle.blot_gateway.specs.Wires.Did.{Gave}
 use Rattle.blot_gateway.specs.Wires.Read.{AtEnd, Failed}
 use Rattle.blot_gateway.specs.Serving.{EndsWith, IsCounted}
-use Rattle.blot_gateway.specs.Greeting.{AwaitsFrame, Feeds, FeedsLast, Greeted, GreetsBy, PeeksBy, bytes_in, fed}
+use Rattle.blot_gateway.specs.Greeting.{AwaitsFrame, Feeds, FeedsLast, Greeted, PeeksBy, bytes_in, fed}
 use Rattle.blot_gateway.proofs.SendingLemmas.{steps-on, steps-one}
 
 fed-on : (unread : List ℕ) (reads : List Read) (read : Read) → fed unread (reads ++ read ∷ []) ≡ fed unread reads ++ bytes_in read

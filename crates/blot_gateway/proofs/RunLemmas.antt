@@ -1,15 +1,14 @@
 -- A call, and what it comes to.
-use Rattle.std.proofs.Common.{◌≡◌, ◌⊎◌, ℕ, Bool, true, false, ◌&&◌, List, [], ◌∷◌, ◌++◌, length, map, Option, Some, None, Result, Ok, Err, refl, sym, ap, subst, ◌∙◌, inl, inr, append_assoc}
+use Rattle.std.proofs.Common.{◌≡◌, ℕ, Bool, true, false, List, [], ◌∷◌, ◌++◌, length, map, Option, Some, None, Result, refl, sym, ap, subst, ◌∙◌, inl, inr}
 use Rattle.std.specs.Prelude.{ℤ, option_to_list}
-use Rattle.std.specs.List.{flat_map, list_all}
+use Rattle.std.specs.List.{flat_map}
 use Rattle.std.proofs.lemmas.List.{append-nil, map-append}
 use Rattle.std.proofs.lemmas.List.Concat.{flat_map-append}
 use Rattle.blot_types.specs.declared.command.Command.{Command}
-use Rattle.blot_session.specs.declared.action.Action.{Action}
 use Rattle.blot_session.specs.declared.replies.NotTaken.{NotTaken}
 use Rattle.blot_session.specs.declared.replies.SeenReply.{SeenReply}
 use Rattle.blot_session.specs.declared.state.State.{State}
-use Rattle.blot_session.specs.Runs.{Call, Meets, outcome, actions_of, behind_calls, bytes_of, delivered_by, delivered_of, sent_of}
+use Rattle.blot_session.specs.Runs.{Call, Meets, outcome, bytes_of, delivered_by, delivered_of, sent_of}
 use Rattle.blot_session.specs.Runs.Call.{Frame, Reply, Tick}
 use Rattle.blot_session.specs.States.{IsIdle, IsAwaiting}
 use Rattle.blot_gateway.specs.declared.ended.Ended.{Ended}
@@ -21,11 +20,11 @@ use Rattle.blot_gateway.specs.Endings.{ended_by}
 use Rattle.blot_gateway.specs.Wires.{Read, Did, Answered, Steps, read_in, taken_in, reads_of, written_of}
 use Rattle.blot_gateway.specs.Wires.Did.{Gave}
 use Rattle.blot_gateway.specs.Wires.Read.{AtEnd, Failed}
-use Rattle.blot_gateway.specs.Serving.{Due, EndsWith, Parties, parties, Happens, Runs, Ends, GoesOn, HasLast, Stops, Cause, IsFront, Wrote, close_in, closed_by, due_by, due_in, moment_by, moments_of, reply_by, replies_of, is_served, has_memory, seen_by}
+use Rattle.blot_gateway.specs.Serving.{Due, EndsWith, Parties, parties, Happens, Runs, Ends, GoesOn, HasLast, Stops, Cause, IsFront, Wrote, close_in, due_by, due_in, moment_by, reply_by, is_served, has_memory, seen_by}
 use Rattle.blot_gateway.specs.Serving.Due.{Came, Passed}
-use Rattle.blot_gateway.specs.Sending.{Writes, WritesFront, Halts, Called, StopsAt, Halted, Submitted, SubmittedLast, DeliversJust}
+use Rattle.blot_gateway.specs.Sending.{Called, StopsAt, Halted, Submitted, SubmittedLast, DeliversJust}
 use Rattle.blot_gateway.proofs.SendingLemmas.{steps-one}
-use Rattle.blot_gateway.proofs.CallLemmas.{behind-on, sent-on, goes-on, goes-nowhere, happens-on, handed-on, done-on, appended, stops-behind, wrote-behind}
+use Rattle.blot_gateway.proofs.CallLemmas.{sent-on, goes-on, goes-nowhere, happens-on, done-on, appended, stops-behind, wrote-behind}
 
 -- ---- a single call
 

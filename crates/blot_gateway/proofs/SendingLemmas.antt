@@ -1,5 +1,5 @@
 -- What is written, piece by piece.
-use Rattle.std.proofs.Common.{◌≡◌, ℕ, ◌+◌, Result, Ok, Err, get_or, ◌<◌, ◌≤◌, List, [], ◌∷◌, ◌++◌, length, take, drop, refl, sym, ap, subst, ◌∙◌, arith, length-append, append_assoc}
+use Rattle.std.proofs.Common.{◌≡◌, ℕ, ◌+◌, Result, Ok, Err, get_or, ◌<◌, List, [], ◌∷◌, ◌++◌, length, take, drop, refl, sym, ap, subst, ◌∙◌, arith, length-append, append_assoc}
 use Rattle.std.specs.Prelude.{OnErr}
 use Rattle.std.specs.List.{flat_map}
 use Rattle.std.proofs.Math.Seq.{take-add}
@@ -8,8 +8,7 @@ use Rattle.std.proofs.lemmas.List.Concat.{flat_map-append}
 use Rattle.blot_session.specs.declared.action.Action.{Action}
 use Rattle.blot_session.specs.Runs.{bytes_of}
 use Rattle.blot_gateway.specs.Wires.{Did, Steps, read_in, taken_in, reads_of, written_of}
-use Rattle.blot_gateway.specs.Wires.Did.{Gave, Took, Refused}
-use Rattle.blot_gateway.specs.Serving.{IsFront}
+use Rattle.blot_gateway.specs.Wires.Did.{Took, Refused}
 use Rattle.blot_gateway.specs.Sending.{Writes, WritesFront}
 
 -- ---- steps

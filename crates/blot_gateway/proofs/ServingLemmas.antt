@@ -1,5 +1,5 @@
 -- What is due by the reads of a wire, done read by read.
-use Rattle.std.proofs.Common.{◌≡◌, ℕ, ◌+◌, ◌<◌, ◌≤◌, Bool, true, false, List, [], ◌∷◌, ◌++◌, length, map, Option, Some, None, Result, Ok, Err, refl, sym, ap, subst, ◌∙◌, append_assoc, length-append, arith}
+use Rattle.std.proofs.Common.{◌≡◌, ℕ, ◌+◌, ◌<◌, ◌≤◌, List, [], ◌∷◌, ◌++◌, length, map, None, refl, sym, ap, subst, ◌∙◌, append_assoc, length-append, arith}
 use Rattle.std.specs.Prelude.{ℤ, ◌≢◌}
 use Rattle.std.proofs.lemmas.List.{append-nil}
 use Rattle.blot_tag.specs.Reading.{Reading, TakesFirst, FindsNone}
@@ -14,13 +14,13 @@ use Rattle.blot_gateway.specs.declared.ended.Stop.TheVariants as stops
 use Rattle.blot_gateway.specs.declared.ended.TheConstants.{READS_MAX}
 use Rattle.blot_gateway.specs.Endings.{ended_by}
 use Rattle.blot_gateway.specs.Wires.{Read, Did, Answered}
-use Rattle.blot_gateway.specs.Wires.Read.{Piece, Silence, AtEnd, Failed}
+use Rattle.blot_gateway.specs.Wires.Read.{AtEnd, Failed}
 use Rattle.blot_gateway.specs.Wires.Did.{Gave}
-use Rattle.blot_gateway.specs.Serving.{Due, EndsWith, Parties, parties, Runs, Ends, Served, IsCounted, due_behind, due_fed, due_of}
+use Rattle.blot_gateway.specs.Serving.{Due, Parties, parties, Runs, Ends, IsCounted, due_behind, due_fed, due_of}
 use Rattle.blot_gateway.specs.Serving.Due.{Came, Passed}
 use Rattle.blot_gateway.specs.Sending.{Called, Halted}
 use Rattle.blot_gateway.proofs.CallLemmas.{runs-on, ends-behind}
-use Rattle.blot_gateway.proofs.RunLemmas.{tick-call, runs-one, ends-one, runs-read, runs-nowhere, ends-there, ends-by-wire, ByWire}
+use Rattle.blot_gateway.proofs.RunLemmas.{tick-call, runs-one, ends-one, runs-read, runs-nowhere, ends-there, ends-by-wire}
 use Rattle.blot_gateway.proofs.RunLemmas.ByWire.{at_end, failed, too_long}
 
 -- ---- frames

@@ -1,6 +1,6 @@
 -- One call of a session.
-use Rattle.std.proofs.Common.{◌≡◌, ℕ, Bool, true, false, List, [], ◌∷◌, ◌++◌, map, Option, Some, None, Result, Ok, Err, refl, sym, ap, subst, ◌∙◌}
-use Rattle.std.specs.Prelude.{ℤ, IfErr, IsOk, OnOk, option_to_list}
+use Rattle.std.proofs.Common.{◌≡◌, Bool, true, false, List, [], map, Option, None, Result, Ok, Err, refl, sym, ap, subst}
+use Rattle.std.specs.Prelude.{ℤ, IfErr, IsOk, OnOk}
 use Rattle.std.proofs.lemmas.Bool.{false≢true}
 use Rattle.std.specs.List.{flat_map}
 use Rattle.blot_types.specs.declared.command.Command.{Command}

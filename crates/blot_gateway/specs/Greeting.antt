@@ -2,7 +2,6 @@
 use Rattle.std.specs.Prelude.{◌≡◌, ◌⊎◌, ℕ, List, [], ◌∷◌, ◌++◌, length, map, slice_get, Bool, true, false, Option, Some, None, Result, Ok, Err, if◌then◌else◌}
 use Rattle.blot_tag.specs.Walking.{frames_of}
 use Rattle.blot_types.specs.Keys.{same_text}
-use Rattle.blot_fields.specs.declared.admin.Admin.{Admin}
 use Rattle.blot_fields.specs.declared.admin.Admin.TheVariants as admin
 use Rattle.blot_fields.specs.declared.fault.FieldFault.{FieldFault}
 use Rattle.blot_fields.specs.declared.message.Body.{Body}
@@ -17,7 +16,7 @@ use Rattle.blot_gateway.specs.declared.ended.TheConstants.{READS_MAX}
 use Rattle.blot_gateway.specs.Serving.{EndsWith}
 use Rattle.blot_gateway.specs.Wires.{Read, Did, Steps}
 use Rattle.blot_gateway.specs.Wires.Did.{Gave}
-use Rattle.blot_gateway.specs.Wires.Read.{Piece, Silence, AtEnd, Failed}
+use Rattle.blot_gateway.specs.Wires.Read.{Piece, AtEnd, Failed}
 
 -- whether a message is a Logon
 abbrev pub is_logon : Body → Bool

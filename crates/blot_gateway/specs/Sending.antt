@@ -1,5 +1,5 @@
 -- What is written to a wire, and how one call of a session ends.
-use Rattle.std.specs.Prelude.{◌≡◌, ℕ, ℤ, Bool, true, false, List, [], ◌∷◌, map, Option, Some, None, Result, option_to_list}
+use Rattle.std.specs.Prelude.{◌≡◌, ℕ, ℤ, Bool, true, false, List, [], map, Option, Some, None, Result, option_to_list}
 use Rattle.std.specs.List.{flat_map}
 use Rattle.blot_types.specs.declared.command.Command.{Command}
 use Rattle.blot_desk.specs.declared.event.Reply.{Reply as DeskReply}

@@ -7,14 +7,14 @@ use Rattle.blot_desk.specs.declared.event.Reply.{Reply as DeskReply}
 use Rattle.blot_desk.specs.declared.event.Reply.TheVariants as replies
 use Rattle.blot_desk.specs.declared.fault.DeskFault.{DeskFault}
 use Rattle.blot_session.specs.declared.action.Action.{Action}
-use Rattle.blot_session.specs.declared.action.Action.TheVariants.{Send, Deliver, Close}
+use Rattle.blot_session.specs.declared.action.Action.TheVariants.{Close}
 use Rattle.blot_session.specs.declared.action.CloseReason.{CloseReason}
 use Rattle.blot_session.specs.declared.replies.NotTaken.{NotTaken}
 use Rattle.blot_session.specs.declared.replies.SeenReply.{SeenReply}
 use Rattle.blot_session.specs.declared.replies.SeenReply.TheVariants as seen
 use Rattle.blot_session.specs.declared.state.State.{State}
 use Rattle.blot_session.specs.Runs.{Call, AreMet, actions_of, behind_calls, delivered_of, sent_of}
-use Rattle.blot_session.specs.Runs.Call.{Frame, Reply, Tick, Closing, WaitAgain}
+use Rattle.blot_session.specs.Runs.Call.{Frame, Reply, Tick}
 use Rattle.blot_session.specs.States.{closed}
 use Rattle.blot_gateway.specs.declared.ended.Ended.{Ended}
 use Rattle.blot_gateway.specs.declared.ended.Ended.TheVariants as ended

@@ -1,5 +1,5 @@
 -- What a wire gives and takes, and what a sink answers.
-use Rattle.std.specs.Prelude.{◌≡◌, ℕ, ◌≤◌, ◌<◌, ◌++◌, Bool, true, false, List, [], ◌∷◌, length, take, Result}
+use Rattle.std.specs.Prelude.{◌≡◌, ℕ, ◌≤◌, ◌<◌, List, [], ◌∷◌, take, Result}
 use Rattle.std.specs.List.{flat_map}
 use Rattle.blot_types.specs.declared.command.Command.{Command}
 use Rattle.blot_desk.specs.declared.event.Reply.{Reply}

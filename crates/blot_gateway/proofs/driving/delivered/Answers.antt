@@ -1,4 +1,4 @@
-use Rattle.std.proofs.Common.{◌≡◌, ◌<◌, length, vec_len, ap, sym, subst, ◌∙◌}
+use Rattle.std.proofs.Common.{◌<◌, ap, sym, subst, ◌∙◌}
 use Rattle.std.specs.Prelude.{IsSome, is_some, option_to_list}
 use Rattle.blot_gateway.proofs.DeliveredLemmas.{popped}
 use Rattle.blot_gateway.proofs.driving.delivered.Goals as goal

@@ -1,11 +1,10 @@
-use Rattle.std.proofs.Common.{Some, None, Ok, [], ◌∷◌, List, subst, ap, sym, ◌∙◌}
-use Rattle.std.specs.Prelude.{is_some}
+use Rattle.std.proofs.Common.{[], ◌∷◌, List, sym}
 use Rattle.blot_tag.specs.Views.{text_of}
 use Rattle.blot_session.specs.Runs.Call.{Frame}
 use Rattle.blot_gateway.specs.Endings.{ended_by}
 use Rattle.blot_gateway.specs.Serving.{Due, Ends, parties}
 use Rattle.blot_gateway.specs.Serving.Due.{Came}
-use Rattle.blot_gateway.specs.Sending.{Called, SubmittedLast}
+use Rattle.blot_gateway.specs.Sending.{SubmittedLast}
 use Rattle.blot_gateway.proofs.StepLemmas.{on-ok, if-err}
 use Rattle.blot_gateway.proofs.RunLemmas.{frame-call, runs-one, ends-one, runs-pair, ends-pair}
 use Rattle.blot_gateway.proofs.driving.take_frame.Goals as goal

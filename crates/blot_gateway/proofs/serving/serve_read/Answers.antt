@@ -1,9 +1,7 @@
-use Rattle.std.proofs.Common.{◌≡◌, ◌-◌, [], ◌∷◌, List, Ok, take, ap, sym, subst, arith}
+use Rattle.std.proofs.Common.{[], ◌∷◌, List, take}
 use Rattle.blot_session.specs.Runs.Call.{Tick}
 use Rattle.blot_gateway.specs.Endings.{ended_by}
-use Rattle.blot_gateway.specs.declared.ended.Ended.{Ended}
-use Rattle.blot_gateway.specs.Wires.{Read, read_by}
-use Rattle.blot_gateway.specs.Wires.Did.{Gave}
+use Rattle.blot_gateway.specs.Wires.{Read}
 use Rattle.blot_gateway.specs.Wires.Read.{Piece, Silence, AtEnd, Failed}
 use Rattle.blot_gateway.specs.Serving.{Ends, due_behind, parties}
 use Rattle.blot_gateway.specs.Serving.Due.{Passed}

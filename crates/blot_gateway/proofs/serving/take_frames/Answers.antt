@@ -1,10 +1,8 @@
-use Rattle.std.proofs.Common.{◌≤◌, [], ◌++◌, Ok, map, refl, sym, ap, subst, ◌∙◌, arith}
-use Rattle.blot_tag.specs.Reading.{Leaves, TakesFirst, FindsNone}
+use Rattle.std.proofs.Common.{Ok, refl, sym, ap, subst, ◌∙◌, arith}
+use Rattle.blot_tag.specs.Reading.{Leaves, TakesFirst}
 use Rattle.blot_tag.specs.Views.{text_of}
-use Rattle.blot_tag.specs.Walking.{frames_of}
 use Rattle.blot_gateway.specs.Endings.{ended_by}
 use Rattle.blot_gateway.specs.Serving.{parties}
-use Rattle.blot_gateway.specs.Serving.Due.{Came}
 use Rattle.blot_gateway.proofs.RunLemmas.{runs-nowhere}
 use Rattle.blot_gateway.proofs.ServingLemmas.{left_in, rest-first, runs-frame, ends-frame}
 use Rattle.blot_gateway.proofs.serving.take_frames.Goals as goal

@@ -1,4 +1,4 @@
-use Rattle.std.proofs.Common.{◌≡◌, [], ◌++◌, List, ap, subst}
+use Rattle.std.proofs.Common.{[], ◌++◌, List, ap, subst}
 use Rattle.blot_gateway.specs.Endings.{ended_by}
 use Rattle.blot_gateway.specs.Wires.{Read}
 use Rattle.blot_gateway.specs.Serving.{Ends, due_fed, parties}

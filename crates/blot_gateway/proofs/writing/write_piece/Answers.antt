@@ -1,5 +1,4 @@
-use Rattle.std.proofs.Common.{take, subst}
-use Rattle.blot_gateway.specs.Wires.{written_by}
+use Rattle.std.proofs.Common.{take}
 use Rattle.blot_gateway.proofs.SendingLemmas.{writes-took, writes-refused}
 use Rattle.blot_gateway.proofs.writing.write_piece.Goals as goal
 
