@@ -1,14 +1,13 @@
 //! A desk under its lock, for many callers at once.
-ghost use Rattle.std.specs.Prelude.{◌≡◌, ◌≢◌, ◌↔◌, ◌<◌, ◌∷◌, ◌++◌, [], All, Err, IfOk, OnErr, length};
-ghost use Rattle.blot_types.specs.declared.TheConstants.{EVENTS_MAX};
-ghost use Rattle.blot_desk.specs.Desk.{empty_journal, recorded_of, step_of};
+ghost use Rattle.std.specs.Prelude.{◌≡◌, ◌≢◌, ◌<◌, [], All, Err, IfOk, IsTrue, OnErr, length};
+ghost use Rattle.blot_types.specs.Legal.{is_book};
+ghost use Rattle.blot_desk.specs.Desk.{IsReply};
 ghost use Rattle.blot_desk.specs.Receipts.{IsOneMore};
 
+use crate::counted::Counted;
 use crate::{Closed, DeskFault, Event, Held, Reply, Seat, Snapshot};
-use blot_types::EVENTS_MAX;
 use std::alloc::{AllocError as NoMemory, Global};
-use std::marker::Model;
-use std::sync::ledger::{Blank, Book, Ledger, Share};
+use std::sync::ledger::{Blank, Ledger, Share};
 use std::sync::{Mutex, Wait};
 
 /// A desk for many callers at once, of which each has a seat. One event is one step under its lock, and no lock is held
@@ -47,15 +46,18 @@ impl<L: Ledger> Desk<L> {
         seat: &mut Seat<L>,
         event: Event,
     ) -> Result<Reply, DeskFault>
+        ensures reply { IfOk result (λ reply. IsReply event reply) }
         ensures receipt { IfOk result (λ reply. IsOneMore seat.old seat.new event reply) }
         ensures err { OnErr result (seat.new ≡ seat.old) }
         ensures faults { result ≢ Err DeskFault.Unsettled }
     {
-        self.counted.lock(rt).take(self.alloc, seat, event)
+        seat.take(self.alloc, &mut self.counted.lock(rt), event)
     }
 
     /// The live list as it is now, which is legal.
-    pub fn snapshot(&self, rt: &impl Wait) -> Result<Snapshot, NoMemory> {
+    pub fn snapshot(&self, rt: &impl Wait) -> Result<Snapshot, NoMemory>
+        ensures { IfOk result (λ snapshot. IsTrue (is_book snapshot)) }
+    {
         self.counted.lock(rt).held.snapshot()
     }
 
@@ -64,40 +66,6 @@ impl<L: Ledger> Desk<L> {
         let Desk { alloc, counted } = self;
         let Counted { held, book } = counted.into_inner();
         Closed::of(alloc, held, book)
-    }
-}
-
-/// What is under the lock of a desk: the book with its history, and the count of all receipts. A contract sees the book and the
-/// history. There are as many receipts as events are recorded.
-#[derive(Drop)]
-struct Counted<L: Ledger> {
-    held: Held,
-    book: Book<L>,
-}
-
-impl<L: Ledger> Model for Counted<L> {
-    ghost use Rattle.std.specs.Prelude.{◌≡◌, length};
-    ghost use Rattle.blot_desk.specs.Desk.{Journal};
-
-    ghost Value = { Journal };
-
-    ghost view = { λ counted. counted.held };
-
-    ghost invariant = { λ counted. length counted.held.history ≡ counted.book.total };
-}
-
-impl<L: Ledger> Counted<L> {
-    // Takes an event, and keeps a receipt of it at the seat.
-    fn take(&mut self, alloc: Global, seat: &mut Seat<L>, event: Event) -> Result<Reply, DeskFault>
-        ensures reply { IfOk result (λ reply. reply ≡ (step_of self.old.book event).reply) }
-        ensures taken { IfOk result (λ reply. self.new ≡ recorded_of self.old event) }
-        ensures receipt { IfOk result (λ reply. seat.new ≡ seat.old ++ record { place = length self.old.history; event = event; reply = reply } ∷ []) }
-        ensures full { (result ≡ Err DeskFault.Full) ↔ (length self.old.history ≡ EVENTS_MAX) }
-        ensures err { OnErr result ((self.new ≡ self.old) × (seat.new ≡ seat.old)) }
-        ensures faults { result ≢ Err DeskFault.Unsettled }
-    {
-        let Counted { held, book } = self;
-        seat.take(alloc, held, book, event)
     }
 }
 

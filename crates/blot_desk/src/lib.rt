@@ -5,6 +5,7 @@
 #![tactic(auto)]
 
 mod closed;
+mod counted;
 mod desk;
 mod event;
 mod fault;

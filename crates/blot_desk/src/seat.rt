@@ -1,14 +1,15 @@
 //! A seat at a desk, which keeps its receipts.
-ghost use Rattle.std.specs.Prelude.{◌≡◌, ◌≢◌, ◌↔◌, ◌+◌, ◌<◌, ◌++◌, ◌∷◌, [], length, vec_capacity, Err, IfOk, OnOk, OnErr};
+ghost use Rattle.std.specs.Prelude.{◌≡◌, ◌≢◌, ◌↔◌, ◌<◌, ◌++◌, ◌∷◌, [], length, vec_capacity, Err, IfOk, OnErr};
 ghost use Rattle.blot_types.specs.declared.TheConstants.{EVENTS_MAX};
-ghost use Rattle.blot_desk.specs.Desk.{recorded_of, step_of};
+ghost use Rattle.blot_desk.specs.Desk.{IsReply, recorded_of, step_of};
 ghost use Rattle.blot_desk.specs.Receipts.{greater, is_undone, newest_of, standing, undone_by};
 
-use crate::{DeskFault, Event, Held, Receipt, Reply};
+use crate::counted::Counted;
+use crate::{DeskFault, Event, Receipt, Reply};
 use blot_types::EVENTS_MAX;
 use std::alloc::Global;
 use std::marker::Model;
-use std::sync::ledger::{Book, Ledger, Share};
+use std::sync::ledger::{Ledger, Share};
 
 /// A seat at the desk of a ledger: whoever submits events has one. A contract sees it as its receipts, in the order in which
 /// it got them.
@@ -47,18 +48,18 @@ impl<L: Ledger> Seat<L> {
     pub(crate) fn take(
         &mut self,
         alloc: Global,
-        held: &mut Held,
-        book: &mut Book<L>,
+        counted: &mut Counted<L>,
         event: Event,
     ) -> Result<Reply, DeskFault>
-        ensures reply { IfOk result (λ reply. reply ≡ (step_of held.old.book event).reply) }
-        ensures taken { IfOk result (λ reply. held.new ≡ recorded_of held.old event) }
-        ensures counted { OnOk result (book.new.total ≡ book.old.total + 1) }
-        ensures receipt { IfOk result (λ reply. self.new ≡ self.old ++ record { place = length held.old.history; event = event; reply = reply } ∷ []) }
-        ensures full { (result ≡ Err DeskFault.Full) ↔ (length held.old.history ≡ EVENTS_MAX) }
-        ensures err { OnErr result ((held.new ≡ held.old) × (book.new.total ≡ book.old.total) × (self.new ≡ self.old)) }
+        ensures reply { IfOk result (λ reply. reply ≡ (step_of counted.old.book event).reply) }
+        ensures behind_a_run { IfOk result (λ reply. IsReply event reply) }
+        ensures taken { IfOk result (λ reply. counted.new ≡ recorded_of counted.old event) }
+        ensures receipt { IfOk result (λ reply. self.new ≡ self.old ++ record { place = length counted.old.history; event = event; reply = reply } ∷ []) }
+        ensures full { (result ≡ Err DeskFault.Full) ↔ (length counted.old.history ≡ EVENTS_MAX) }
+        ensures err { OnErr result ((counted.new ≡ counted.old) × (self.new ≡ self.old)) }
         ensures faults { result ≢ Err DeskFault.Unsettled }
     {
+        let Counted { held, book } = counted;
         let place = held.history().len() as u64;
         if place == EVENTS_MAX {
             return Err(DeskFault::Full);

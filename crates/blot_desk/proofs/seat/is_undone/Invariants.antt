@@ -1,4 +1,4 @@
-use Rattle.std.proofs.Common.{◌≡◌, drop, fold, false}
+use Rattle.std.proofs.Common.{◌≡◌, drop, fold}
 use Rattle.blot_desk.specs.Receipts.{is_undone, undone_by}
 use Rattle.blot_desk.specs.declared.receipt.Receipt.{Receipt}
 use Rattle.blot_desk.proofs.seat.is_undone.Given as goal

@@ -1,4 +1,4 @@
-use Rattle.std.proofs.Common.{◌≡◌, ◌+◌, subst, drop, ◌∷◌, refl, ap, ◌∙◌, sym, arith, length}
+use Rattle.std.proofs.Common.{◌+◌, subst, drop, refl, arith}
 use Rattle.std.proofs.Math.ListN.{drop_of_length-le}
 use Rattle.blot_desk.proofs.MarkLemmas.{IsMarking, begun, marked_all, marked_more, next_of, not_rising, not_standing, twice}
 use Rattle.blot_desk.proofs.settling.mark_receipts.Goals as goal

@@ -1,6 +1,5 @@
-use Rattle.std.proofs.Common.{◌≡◌, ◌+◌, subst, drop, ◌∷◌, refl, ap, ◌∙◌, sym, arith, length}
-use Rattle.std.proofs.Math.ListN.{drop_of_length-le}
-use Rattle.blot_desk.proofs.MarkLemmas.{IsSeating, seats_begun, seat_other, seated_all, seated_more, next_of}
+use Rattle.std.proofs.Common.{◌+◌, subst, drop}
+use Rattle.blot_desk.proofs.MarkLemmas.{IsSeating, seats_begun, seat_other, seated_more, next_of}
 use Rattle.blot_desk.proofs.settling.mark_seats.Goals as goal
 
 pub loop-seat-init : goal.loop-seat-init
