@@ -1,8 +1,10 @@
 -- The reads up to the first message.
-use Rattle.std.proofs.Common.{◌≡◌, ℕ, ◌+◌, ◌≤◌, List, [], ◌∷◌, ◌++◌, length, map, Option, Some, None, Ok, Err, refl, sym, ap, subst, ◌∙◌, inl, inr, length-append}
+use Rattle.std.proofs.Common.{◌≡◌, ℕ, ◌+◌, ◌≤◌, List, [], ◌∷◌, ◌++◌, length, map, Option, Some, None, Result, Ok, Err, refl, sym, ap, subst, ◌∙◌, inl, inr, length-append}
 use Rattle.std.specs.Prelude.{slice_get}
 use Rattle.std.proofs.lemmas.List.{append-nil, map-append}
-use Rattle.blot_tag.specs.Walking.{frames_of}
+use Rattle.blot_tag.specs.Walking.{frames_of, rest_of}
+use Rattle.blot_tag.proofs.WalkLemmas.{walk_of-append}
+use Rattle.blot_session.specs.declared.action.CloseReason.{CloseReason}
 use Rattle.blot_gateway.specs.declared.ended.Ended.{Ended}
 use Rattle.blot_gateway.specs.declared.ended.Ended.TheVariants as ended
 use Rattle.blot_gateway.specs.declared.ended.TheConstants.{READS_MAX}
@@ -10,16 +12,45 @@ use Rattle.blot_gateway.specs.Wires.{Read, Did, Steps}
 use Rattle.blot_gateway.specs.Wires.Did.{Gave}
 use Rattle.blot_gateway.specs.Wires.Read.{AtEnd, Failed}
 use Rattle.blot_gateway.specs.Serving.{EndsWith, IsCounted}
-use Rattle.blot_gateway.specs.Greeting.{AwaitsFrame, Feeds, FeedsLast, Greeted, PeeksBy, bytes_in, fed}
+use Rattle.blot_gateway.specs.Greeting.{AwaitsFrame, Feeds, FeedsLast, Greeted, Holds, PeeksBy, Speaks, bytes_in, fed, held}
 use Rattle.blot_gateway.proofs.SendingLemmas.{steps-on, steps-one}
 
 fed-on : (unread : List ℕ) (reads : List Read) (read : Read) → fed unread (reads ++ read ∷ []) ≡ fed unread reads ++ bytes_in read
 fed-on unread [] read = refl
 fed-on unread (first ∷ reads) read = fed-on (unread ++ bytes_in first) reads read
 
+held-on : (unread : List ℕ) (reads : List Read) (read : Read) → held unread (reads ++ read ∷ []) ≡ rest_of (held unread reads) ++ bytes_in read
+held-on unread [] read = refl
+held-on unread (first ∷ reads) read = held-on (rest_of unread ++ bytes_in first) reads read
+
 awaits-on : (unread : List ℕ) (reads : List Read) (read : Read) → AwaitsFrame unread reads → frames_of (fed unread reads) ≡ [] → AwaitsFrame unread (reads ++ read ∷ [])
 awaits-on unread [] read awaits none = (none, tt)
 awaits-on unread (first ∷ reads) read awaits none = (awaits.0, awaits-on (unread ++ bytes_in first) reads read awaits.1 none)
+
+-- ---- what was passed over makes no frame
+
+frames-behind : (text piece : List ℕ) → frames_of text ≡ [] → frames_of (text ++ piece) ≡ frames_of (rest_of text ++ piece)
+frames-behind text piece none = ap (λ walk. walk.frames) (walk_of-append text piece) ∙ ap (λ front. front ++ frames_of (rest_of text ++ piece)) none
+
+rest-behind : (text piece : List ℕ) → rest_of (text ++ piece) ≡ rest_of (rest_of text ++ piece)
+rest-behind text piece = ap (λ walk. walk.rest) (walk_of-append text piece)
+
+held-frames : (some all : List ℕ) (reads : List Read) → frames_of some ≡ frames_of all → rest_of some ≡ rest_of all → AwaitsFrame all reads
+    → frames_of (held some reads) ≡ frames_of (fed all reads)
+held-frames some all [] frames rest awaits = frames
+held-frames some all (read ∷ reads) frames rest awaits =
+    let bytes = bytes_in read in
+    held-frames (rest_of some ++ bytes) (all ++ bytes) reads
+    (ap (λ text. frames_of (text ++ bytes)) rest ∙ sym (frames-behind all bytes awaits.0))
+    (ap (λ text. rest_of (text ++ bytes)) rest ∙ sym (rest-behind all bytes))
+    awaits.1
+
+holds-by : (unread left : List ℕ) (reads : List Read) → AwaitsFrame unread reads → left ≡ held unread reads → Holds unread reads left
+holds-by unread left reads awaits is = record { bytes = is; frames = ap frames_of is ∙ held-frames unread unread reads refl refl awaits }
+
+speaks-of : (own left all : List ℕ) (answer : Result (List ℕ) CloseReason) → frames_of left ≡ frames_of all → Speaks own left answer → Speaks own all answer
+speaks-of own left all answer same speaks =
+    record { text = speaks.text; first = ap (λ texts. slice_get texts 0) (sym same) ∙ speaks.first; greets = speaks.greets }
 
 -- so many reads, before each of which no frame stood there
 pub record Reads {W : Type 0} (does : W → Did → W → Type 0) (before : W) (unread : List ℕ) (count : ℕ) (after : W) (left : List ℕ) : Type 0 where
@@ -27,25 +58,33 @@ pub record Reads {W : Type 0} (does : W → Did → W → Type 0) (before : W) (
   pub many : length reads ≡ count
   pub steps : Steps does before (map Gave reads) after
   pub awaits : AwaitsFrame unread reads
-  pub holds : left ≡ fed unread reads
+  pub holds : Holds unread reads left
 
 pub reads-none : {W : Type 0} (does : W → Did → W → Type 0) (before : W) (unread : List ℕ) → Reads does before unread 0 before unread
-reads-none does before unread = record { reads = []; many = refl; steps = refl; awaits = tt; holds = refl }
+reads-none does before unread = record { reads = []; many = refl; steps = refl; awaits = tt; holds = record { bytes = refl; frames = refl } }
 
 steps-more : {W : Type 0} (does : W → Did → W → Type 0) (a b c : W) (reads : List Read) (read : Read) → Steps does a (map Gave reads) b → does b (Gave read) c
     → Steps does a (map Gave (reads ++ read ∷ [])) c
 steps-more does a b c reads read steps gave =
     subst (λ dids. Steps does a dids c) (sym (map-append Gave reads (read ∷ []))) (steps-on does (map Gave reads) (Gave read ∷ []) a b c steps (steps-one does (Gave read) b c gave))
 
-pub reads-more : {W : Type 0} (does : W → Did → W → Type 0) (a b c : W) (unread left middle next : List ℕ) (count : ℕ) → middle ≡ left
+-- and no frame stands there now
+awaits-more : {W : Type 0} (does : W → Did → W → Type 0) (a b : W) (unread left : List ℕ) (count : ℕ) (read : Read) (one : Reads does a unread count b left)
+    → frames_of left ≡ [] → AwaitsFrame unread (one.reads ++ read ∷ [])
+awaits-more does a b unread left count read one none = awaits-on unread one.reads read one.awaits (sym one.holds.frames ∙ none)
+
+pub reads-more : {W : Type 0} (does : W → Did → W → Type 0) (a b c : W) (unread left middle next : List ℕ) (count : ℕ) → middle ≡ rest_of left
     → Reads does a unread count b left → frames_of left ≡ [] → Feeds does b middle c next → Reads does a unread (count + 1) c next
 reads-more does a b c unread left middle next count same one none feeds =
+    let reads = one.reads ++ feeds.read ∷ [] in
+    let awaits = awaits-more does a b unread left count feeds.read one none in
     record {
-      reads = one.reads ++ feeds.read ∷ [];
+      reads = reads;
       many = length-append one.reads (feeds.read ∷ []) ∙ ap (λ k. k + 1) one.many;
       steps = steps-more does a b c one.reads feeds.read one.steps feeds.gave;
-      awaits = awaits-on unread one.reads feeds.read one.awaits (ap frames_of (sym one.holds) ∙ none);
-      holds = feeds.holds ∙ ap (λ text. text ++ bytes_in feeds.read) (same ∙ one.holds) ∙ sym (fed-on unread one.reads feeds.read);
+      awaits = awaits;
+      holds = holds-by unread next reads awaits
+          (feeds.holds ∙ ap (λ text. text ++ bytes_in feeds.read) (same ∙ ap rest_of one.holds.bytes) ∙ sym (held-on unread one.reads feeds.read));
     }
 
 -- ---- the answers
@@ -54,12 +93,12 @@ pub greets-sender : {W : Type 0} (does : W → Did → W → Type 0) (own sender
     → Reads does a unread count b left → PeeksBy own left (Ok (Some sender)) → Greeted does own (Ok sender) a unread b next
 greets-sender does own sender a b unread left next count same one peeks =
     subst (λ held. Greeted does own (Ok sender) a unread b held) (sym same)
-    (record { reads = one.reads; steps = one.steps; awaits = one.awaits; holds = inl one.holds; greets = peeks })
+    (record { reads = one.reads; steps = one.steps; awaits = one.awaits; holds = inl one.holds; greets = speaks-of own left (fed unread one.reads) (Ok sender) one.holds.frames peeks })
 
 greets-there : {W : Type 0} (does : W → Did → W → Type 0) (own : List ℕ) (end : Ended) (a b : W) (unread left : List ℕ) (count : ℕ)
     → Reads does a unread count b left → PeeksBy own left (Err end) → Greeted does own (Err end) a unread b left
 greets-there does own (ended.Closed reason) a b unread left count one peeks =
-    record { reads = one.reads; steps = one.steps; awaits = one.awaits; holds = inl one.holds; greets = peeks }
+    record { reads = one.reads; steps = one.steps; awaits = one.awaits; holds = inl one.holds; greets = speaks-of own left (fed unread one.reads) (Err reason) one.holds.frames peeks }
 greets-there does own ended.NoMemory a b unread left count one peeks =
     record { reads = one.reads; steps = one.steps; awaits = one.awaits; holds = inl one.holds; greets = tt }
 greets-there does own ended.End a b unread left count one peeks = absurd cc
@@ -76,38 +115,50 @@ pub greets-long : {W : Type 0} (does : W → Did → W → Type 0) (own : List �
     → Reads does a unread READS_MAX b left → frames_of left ≡ [] → Greeted does own (Err ended.TooLong) a unread b next
 greets-long does own a b unread left next same one none =
     subst (λ held. Greeted does own (Err ended.TooLong) a unread b held) (sym same)
-    (record { reads = one.reads; steps = one.steps; awaits = one.awaits; holds = inl one.holds; greets = (one.many, none) })
+    (record { reads = one.reads; steps = one.steps; awaits = one.awaits; holds = inl one.holds; greets = (one.many, sym one.holds.frames ∙ none) })
+
+-- no memory behind some reads
+pub greets-out : {W : Type 0} (does : W → Did → W → Type 0) (own : List ℕ) (a b : W) (unread left next : List ℕ) (count : ℕ)
+    → Reads does a unread count b left → Greeted does own (Err ended.NoMemory) a unread b next
+greets-out does own a b unread left next count one =
+    record { reads = one.reads; steps = one.steps; awaits = one.awaits; holds = inr refl; greets = tt }
 
 with-last : (last read : Read) (reads : List Read) → read ≡ last → EndsWith last (reads ++ read ∷ [])
 with-last last read reads is = record { earlier = reads; joined = ap (λ (found : Read). reads ++ found ∷ []) is }
 
-nothing-more : (unread : List ℕ) (reads : List Read) (read last : Read) → read ≡ last → bytes_in last ≡ [] → fed unread (reads ++ read ∷ []) ≡ fed unread reads
+nothing-more : (unread : List ℕ) (reads : List Read) (read last : Read) → read ≡ last → bytes_in last ≡ [] → held unread (reads ++ read ∷ []) ≡ rest_of (held unread reads)
 nothing-more unread reads read last is none =
-    fed-on unread reads read ∙ ap (λ bytes. fed unread reads ++ bytes) (ap bytes_in is ∙ none) ∙ append-nil (fed unread reads)
+    held-on unread reads read ∙ ap (λ bytes. rest_of (held unread reads) ++ bytes) (ap bytes_in is ∙ none) ∙ append-nil (rest_of (held unread reads))
 
-pub greets-last : {W : Type 0} (does : W → Did → W → Type 0) (own : List ℕ) (end : Ended) (a b c : W) (unread left middle next : List ℕ) (count : ℕ) → middle ≡ left
+pub greets-last : {W : Type 0} (does : W → Did → W → Type 0) (own : List ℕ) (end : Ended) (a b c : W) (unread left middle next : List ℕ) (count : ℕ) → middle ≡ rest_of left
     → Reads does a unread count b left → frames_of left ≡ [] → FeedsLast does end b middle c next → Greeted does own (Err end) a unread c next
 greets-last does own ended.End a b c unread left middle next count same one none feeds =
+    let reads = one.reads ++ feeds.read ∷ [] in
+    let awaits = awaits-more does a b unread left count feeds.read one none in
     record {
-      reads = one.reads ++ feeds.read ∷ [];
+      reads = reads;
       steps = steps-more does a b c one.reads feeds.read one.steps feeds.gave;
-      awaits = awaits-on unread one.reads feeds.read one.awaits (ap frames_of (sym one.holds) ∙ none);
-      holds = inl (feeds.holds ∙ same ∙ one.holds ∙ sym (nothing-more unread one.reads feeds.read AtEnd feeds.ends refl));
+      awaits = awaits;
+      holds = inl (holds-by unread next reads awaits
+          (feeds.holds ∙ same ∙ ap rest_of one.holds.bytes ∙ sym (nothing-more unread one.reads feeds.read AtEnd feeds.ends refl)));
       greets = with-last AtEnd feeds.read one.reads feeds.ends;
     }
 greets-last does own ended.ReadFault a b c unread left middle next count same one none feeds =
+    let reads = one.reads ++ feeds.read ∷ [] in
+    let awaits = awaits-more does a b unread left count feeds.read one none in
     record {
-      reads = one.reads ++ feeds.read ∷ [];
+      reads = reads;
       steps = steps-more does a b c one.reads feeds.read one.steps feeds.gave;
-      awaits = awaits-on unread one.reads feeds.read one.awaits (ap frames_of (sym one.holds) ∙ none);
-      holds = inl (feeds.holds ∙ same ∙ one.holds ∙ sym (nothing-more unread one.reads feeds.read Failed feeds.ends refl));
+      awaits = awaits;
+      holds = inl (holds-by unread next reads awaits
+          (feeds.holds ∙ same ∙ ap rest_of one.holds.bytes ∙ sym (nothing-more unread one.reads feeds.read Failed feeds.ends refl)));
       greets = with-last Failed feeds.read one.reads feeds.ends;
     }
 greets-last does own ended.NoMemory a b c unread left middle next count same one none feeds =
     record {
       reads = one.reads ++ feeds.read ∷ [];
       steps = steps-more does a b c one.reads feeds.read one.steps feeds.gave;
-      awaits = awaits-on unread one.reads feeds.read one.awaits (ap frames_of (sym one.holds) ∙ none);
+      awaits = awaits-more does a b unread left count feeds.read one none;
       holds = inr refl;
       greets = tt;
     }

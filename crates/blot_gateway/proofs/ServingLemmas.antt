@@ -1,5 +1,5 @@
 -- What is due by the reads of a wire, done read by read.
-use Rattle.std.proofs.Common.{◌≡◌, ℕ, ◌+◌, ◌<◌, ◌≤◌, List, [], ◌∷◌, ◌++◌, length, map, None, refl, sym, ap, subst, ◌∙◌, append_assoc, length-append, arith}
+use Rattle.std.proofs.Common.{◌≡◌, ℕ, ◌+◌, ◌-◌, ◌^◌, ◌<◌, ◌≤◌, ◌⊎◌, inl, inr, List, [], ◌∷◌, ◌++◌, length, map, None, refl, sym, ap, subst, ◌∙◌, append_assoc, length-append, arith}
 use Rattle.std.specs.Prelude.{ℤ, ◌≢◌}
 use Rattle.std.proofs.lemmas.List.{append-nil}
 use Rattle.blot_tag.specs.Reading.{Reading, TakesFirst, FindsNone}
@@ -13,7 +13,7 @@ use Rattle.blot_gateway.specs.declared.ended.Stop.{Stop}
 use Rattle.blot_gateway.specs.declared.ended.Stop.TheVariants as stops
 use Rattle.blot_gateway.specs.declared.ended.TheConstants.{READS_MAX}
 use Rattle.blot_gateway.specs.Endings.{ended_by}
-use Rattle.blot_gateway.specs.Wires.{Read, Did, Answered}
+use Rattle.blot_gateway.specs.Wires.{Read, Did, Answered, Counts}
 use Rattle.blot_gateway.specs.Wires.Read.{AtEnd, Failed}
 use Rattle.blot_gateway.specs.Wires.Did.{Gave}
 use Rattle.blot_gateway.specs.Serving.{Due, Parties, parties, Runs, Ends, IsCounted, due_behind, due_fed, due_of}
@@ -92,16 +92,26 @@ ended-short (stops.Closed reason) is = absurd cc
 ended-short stops.WriteFault is = absurd cc
 ended-short stops.NoMemory is = absurd cc
 
-pub ended-counted : (stop : Stop) (before after : ℕ) → before ≤ after → (stop ≡ stops.WriteFault → before < after) → IsCounted (ended_by stop) before after
+pub ended-counted : (stop : Stop) (before after : ℕ) → before ≤ after → (stop ≡ stops.WriteFault → Counts before after) → IsCounted (ended_by stop) before after
 ended-counted (stops.Closed reason) before after some rose = some
 ended-counted stops.WriteFault before after some rose = rose refl
 ended-counted stops.NoMemory before after some rose = some
 
+pub counts-behind : (before mid after : ℕ) → before ≤ mid → Counts mid after → Counts before after
+counts-behind before mid after one two = record {
+  kept = (let kept = two.kept in omega (arith, one, kept));
+  more = more two.more;
+}
+  where
+    more : (mid < after) ⊎ (2 ^ 64 - 1 ≤ after) → (before < after) ⊎ (2 ^ 64 - 1 ≤ after)
+    more (inl rises) = inl (omega (arith, one, rises))
+    more (inr full) = inr full
+
 pub counted-behind : (end : Ended) (before mid after : ℕ) → before ≤ mid → IsCounted end mid after → IsCounted end before after
 counted-behind (ended.Closed reason) before mid after one two = omega (arith, one, two)
 counted-behind ended.End before mid after one two = omega (arith, one, two)
-counted-behind ended.ReadFault before mid after one two = omega (arith, one, two)
-counted-behind ended.WriteFault before mid after one two = omega (arith, one, two)
+counted-behind ended.ReadFault before mid after one two = counts-behind before mid after one two
+counted-behind ended.WriteFault before mid after one two = counts-behind before mid after one two
 counted-behind ended.TooLong before mid after one two = omega (arith, one, two)
 counted-behind ended.NoMemory before mid after one two = omega (arith, one, two)
 

@@ -1,6 +1,6 @@
 -- The first message of a connection.
 use Rattle.std.specs.Prelude.{◌≡◌, ◌⊎◌, ℕ, List, [], ◌∷◌, ◌++◌, length, map, slice_get, Bool, true, false, Option, Some, None, Result, Ok, Err, if◌then◌else◌}
-use Rattle.blot_tag.specs.Walking.{frames_of}
+use Rattle.blot_tag.specs.Walking.{frames_of, rest_of}
 use Rattle.blot_types.specs.Keys.{same_text}
 use Rattle.blot_fields.specs.declared.admin.Admin.TheVariants as admin
 use Rattle.blot_fields.specs.declared.fault.FieldFault.{FieldFault}
@@ -37,12 +37,22 @@ abbrev pub bytes_in : Read → List ℕ
 bytes_in (Piece bytes) = bytes
 bytes_in read = []
 
--- the bytes behind some reads
+-- all the bytes behind some reads: those that were there at first, and those that came
 abbrev pub fed : List ℕ → List Read → List ℕ
 fed unread [] = unread
 fed unread (read ∷ reads) = fed (unread ++ bytes_in read) reads
 
--- no frame stands there before any of the reads
+-- what a reader holds of them: before each read it passes over what can't become a frame
+abbrev pub held : List ℕ → List Read → List ℕ
+held unread [] = unread
+held unread (read ∷ reads) = held (rest_of unread ++ bytes_in read) reads
+
+-- a reader holds that, and so the same frames as stand in all the bytes
+pub record Holds (unread : List ℕ) (reads : List Read) (left : List ℕ) : Type 0 where
+  pub bytes : left ≡ held unread reads
+  pub frames : frames_of left ≡ frames_of (fed unread reads)
+
+-- no frame stands in all the bytes before any of the reads
 abbrev pub AwaitsFrame : List ℕ → List Read → Type 0
 AwaitsFrame unread [] = Unit {0}
 AwaitsFrame unread (read ∷ reads) = (frames_of unread ≡ []) × AwaitsFrame (unread ++ bytes_in read) reads
@@ -81,21 +91,21 @@ pub record FeedsLast {W : Type 0} (does : W → Did → W → Type 0) (end : End
   pub ends : ReadEnds end read
   pub holds : left ≡ unread
 
--- why a greeting is answered so, behind these reads, with these bytes in the reader
+-- why a greeting is answered so, behind these reads, by all the bytes
 abbrev pub GreetsBy : List ℕ → Result (List ℕ) Ended → List Read → List ℕ → Type 0
-GreetsBy own (Ok sender) reads left = Speaks own left (Ok sender)
-GreetsBy own (Err (ended.Closed reason)) reads left = Speaks own left (Err reason)
-GreetsBy own (Err ended.End) reads left = EndsWith AtEnd reads
-GreetsBy own (Err ended.ReadFault) reads left = EndsWith Failed reads
-GreetsBy own (Err ended.TooLong) reads left = (length reads ≡ READS_MAX) × (frames_of left ≡ [])
-GreetsBy own (Err ended.NoMemory) reads left = Unit {0}
-GreetsBy own (Err ended.WriteFault) reads left = ⊥
+GreetsBy own (Ok sender) reads bytes = Speaks own bytes (Ok sender)
+GreetsBy own (Err (ended.Closed reason)) reads bytes = Speaks own bytes (Err reason)
+GreetsBy own (Err ended.End) reads bytes = EndsWith AtEnd reads
+GreetsBy own (Err ended.ReadFault) reads bytes = EndsWith Failed reads
+GreetsBy own (Err ended.TooLong) reads bytes = (length reads ≡ READS_MAX) × (frames_of bytes ≡ [])
+GreetsBy own (Err ended.NoMemory) reads bytes = Unit {0}
+GreetsBy own (Err ended.WriteFault) reads bytes = ⊥
 
--- the wire gave some reads, and nothing was written; no frame stood in the reader before any of them; and the reader holds what they
--- gave, but for the last where there was no memory for it
+-- the wire gave some reads, and nothing was written; no frame stood in all the bytes before any of them; and the reader holds the frames
+-- that stand there then, with what came behind them, unless memory ran out
 pub record Greeted {W : Type 0} (does : W → Did → W → Type 0) (own : List ℕ) (answer : Result (List ℕ) Ended) (before : W) (unread : List ℕ) (after : W) (left : List ℕ) : Type 0 where
   pub reads : List Read
   pub steps : Steps does before (map Gave reads) after
   pub awaits : AwaitsFrame unread reads
-  pub holds : (left ≡ fed unread reads) ⊎ (answer ≡ Err ended.NoMemory)
-  pub greets : GreetsBy own answer reads left
+  pub holds : Holds unread reads left ⊎ (answer ≡ Err ended.NoMemory)
+  pub greets : GreetsBy own answer reads (fed unread reads)

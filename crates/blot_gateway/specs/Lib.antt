@@ -1,5 +1,7 @@
+pub mod AtOnce
 pub mod Endings
 pub mod Greeting
+pub mod Memory
 pub mod Sending
 pub mod Serving
 pub mod Wires

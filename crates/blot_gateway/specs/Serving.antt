@@ -19,7 +19,7 @@ use Rattle.blot_session.specs.States.{closed}
 use Rattle.blot_gateway.specs.declared.ended.Ended.{Ended}
 use Rattle.blot_gateway.specs.declared.ended.Ended.TheVariants as ended
 use Rattle.blot_gateway.specs.declared.ended.TheConstants.{READS_MAX}
-use Rattle.blot_gateway.specs.Wires.{Read, Did, Answered, Steps, reads_of, written_of}
+use Rattle.blot_gateway.specs.Wires.{Read, Did, Answered, Counts, Steps, reads_of, written_of}
 use Rattle.blot_gateway.specs.Wires.Read.{Piece, Silence, AtEnd, Failed}
 
 -- ---- what is due to a session
@@ -167,8 +167,8 @@ Wrote end written sent = written ≡ sent
 
 -- a failure is counted, where the wire failed
 abbrev pub IsCounted : Ended → ℕ → ℕ → Type 0
-IsCounted ended.ReadFault before after = before < after
-IsCounted ended.WriteFault before after = before < after
+IsCounted ended.ReadFault before after = Counts before after
+IsCounted ended.WriteFault before after = Counts before after
 IsCounted end before after = before ≤ after
 
 -- ---- the parties of a session

@@ -1,5 +1,5 @@
 -- What a wire gives and takes, and what a sink answers.
-use Rattle.std.specs.Prelude.{◌≡◌, ℕ, ◌≤◌, ◌<◌, List, [], ◌∷◌, take, Result}
+use Rattle.std.specs.Prelude.{◌≡◌, ℕ, ◌≤◌, ◌<◌, ◌-◌, ◌^◌, ◌⊎◌, List, [], ◌∷◌, take, Result}
 use Rattle.std.specs.List.{flat_map}
 use Rattle.blot_types.specs.declared.command.Command.{Command}
 use Rattle.blot_desk.specs.declared.event.Reply.{Reply}
@@ -48,13 +48,18 @@ abbrev pub WriteFits : Writing → ℕ → Type 0
 WriteFits (writing.Wrote count) room = (1 ≤ count) × (count ≤ room)
 WriteFits writing.Fault room = Unit {0}
 
+-- a failure is counted, or the count is at its end
+pub record Counts (before after : ℕ) : Type 0 where
+  pub kept : before ≤ after
+  pub more : (before < after) ⊎ (2 ^ 64 - 1 ≤ after)
+
 -- a failure is counted, and nothing else is
 abbrev pub CountsRead : Reading → ℕ → ℕ → Type 0
-CountsRead reading.Fault before after = before < after
+CountsRead reading.Fault before after = Counts before after
 CountsRead reading before after = after ≡ before
 
 abbrev pub CountsWrite : Writing → ℕ → ℕ → Type 0
-CountsWrite writing.Fault before after = before < after
+CountsWrite writing.Fault before after = Counts before after
 CountsWrite (writing.Wrote count) before after = after ≡ before
 
 -- step by step these things happen, one behind the other

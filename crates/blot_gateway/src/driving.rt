@@ -1,5 +1,5 @@
 //! What is due to a session: its call, and what that comes to at the wire and at the sink.
-ghost use Rattle.std.specs.Prelude.{◌≡◌, ◌<◌, ◌≤◌, [], ◌∷◌, ℕ, List, Ok, Err, Some, None, map, IfOk, IfErr, OnOk, OnErr, is_some, option_to_list};
+ghost use Rattle.std.specs.Prelude.{◌≡◌, ◌≤◌, [], ◌∷◌, ℕ, List, Ok, Err, Some, None, map, IfOk, IfErr, OnOk, OnErr, is_some, option_to_list};
 ghost use Rattle.std.specs.List.{list_any};
 ghost use Rattle.std.specs.Option.{option_and_then};
 ghost use Rattle.blot_tag.specs.Views.{text_of};
@@ -8,6 +8,7 @@ ghost use Rattle.blot_session.specs.Runs.{delivered_by};
 ghost use Rattle.blot_session.specs.Runs.Call.{Frame as FrameCall, Reply as ReplyCall, Tick};
 ghost use Rattle.blot_session.specs.States.{awaited_of, IsIdle, IsAwaiting};
 ghost use Rattle.blot_gateway.specs.Endings.{ended_by};
+ghost use Rattle.blot_gateway.specs.Wires.{Counts};
 ghost use Rattle.blot_gateway.specs.Sending.{Called, Halted, Submitted, SubmittedLast, delivered};
 ghost use Rattle.blot_gateway.specs.Serving.{Due, Runs, Ends, parties, seen_by};
 ghost use Rattle.blot_gateway.specs.Serving.Due.{Came, Passed};
@@ -37,7 +38,7 @@ pub(crate) fn take_frame<W: Wire, C: Clock, S: Sink>(
         (Came (text_of frame.now) ∷ more) [] (parties wire.new clock.new sink.new session.new)) }
     ensures idle { IsIdle session.new }
     ensures failures { W.failures wire.old ≤ W.failures wire.new }
-    ensures failed { IfErr result (λ stop. stop ≡ Stop.WriteFault → W.failures wire.old < W.failures wire.new) }
+    ensures failed { IfErr result (λ stop. stop ≡ Stop.WriteFault → Counts (W.failures wire.old) (W.failures wire.new)) }
 {
     match give_frame(alloc, wire, clock, session, frame) {
         Ok(Some(command)) => submit(alloc, wire, clock, sink, session, command),
@@ -58,7 +59,7 @@ pub(crate) fn pass_moment<W: Wire, C: Clock>(
     ensures err { IfErr result (λ stop. Halted W.does C.ticks stop Tick wire.old clock.old session.old wire.new clock.new session.new) }
     ensures idle { IsIdle session.new }
     ensures failures { W.failures wire.old ≤ W.failures wire.new }
-    ensures failed { IfErr result (λ stop. stop ≡ Stop.WriteFault → W.failures wire.old < W.failures wire.new) }
+    ensures failed { IfErr result (λ stop. stop ≡ Stop.WriteFault → Counts (W.failures wire.old) (W.failures wire.new)) }
 {
     let now = clock.now();
     match session.on_tick(alloc, now) {
@@ -81,7 +82,7 @@ fn give_frame<W: Wire, C: Clock>(
     ensures err { IfErr result (λ stop. Halted W.does C.ticks stop (FrameCall (text_of frame.now)) wire.old clock.old session.old wire.new clock.new session.new) }
     ensures idle { OnErr result (IsIdle session.new) }
     ensures failures { W.failures wire.old ≤ W.failures wire.new }
-    ensures failed { IfErr result (λ stop. stop ≡ Stop.WriteFault → W.failures wire.old < W.failures wire.new) }
+    ensures failed { IfErr result (λ stop. stop ≡ Stop.WriteFault → Counts (W.failures wire.old) (W.failures wire.new)) }
 {
     let now = clock.now();
     let Ok(actions) = session.on_frame(alloc, frame, now) else {
@@ -127,7 +128,7 @@ fn submit<W: Wire, C: Clock, S: Sink>(
     ensures err { IfErr result (λ stop. SubmittedLast W.does C.ticks S.takes stop command wire.old clock.old sink.old session.old wire.new clock.new sink.new session.new) }
     ensures idle { IsIdle session.new }
     ensures failures { W.failures wire.old ≤ W.failures wire.new }
-    ensures failed { IfErr result (λ stop. stop ≡ Stop.WriteFault → W.failures wire.old < W.failures wire.new) }
+    ensures failed { IfErr result (λ stop. stop ≡ Stop.WriteFault → Counts (W.failures wire.old) (W.failures wire.new)) }
 {
     let answer = sink.take(command);
     tell(alloc, wire, clock, session, seen_by(answer))
@@ -146,7 +147,7 @@ fn tell<W: Wire, C: Clock>(
     ensures err { IfErr result (λ stop. Halted W.does C.ticks stop (ReplyCall seen) wire.old clock.old session.old wire.new clock.new session.new) }
     ensures idle { IsIdle session.new }
     ensures failures { W.failures wire.old ≤ W.failures wire.new }
-    ensures failed { IfErr result (λ stop. stop ≡ Stop.WriteFault → W.failures wire.old < W.failures wire.new) }
+    ensures failed { IfErr result (λ stop. stop ≡ Stop.WriteFault → Counts (W.failures wire.old) (W.failures wire.new)) }
 {
     let now = clock.now();
     match session.on_reply(alloc, seen, now) {

@@ -1,7 +1,7 @@
 //! The first message of a connection.
-ghost use Rattle.std.specs.Prelude.{◌≡◌, ◌<◌, ◌≤◌, length, IfErr, IfOk, OnErr, OnOk};
+ghost use Rattle.std.specs.Prelude.{◌≡◌, ◌<◌, ◌≤◌, [], length, IfErr, IfOk, OnErr, OnOk};
 ghost use Rattle.blot_fields.specs.Decoding.{is_out_of_memory};
-ghost use Rattle.blot_tag.specs.Walking.{frames_of};
+ghost use Rattle.blot_tag.specs.Walking.{frames_of, rest_of};
 ghost use Rattle.blot_gateway.specs.Greeting.{Feeds, FeedsLast, Greeted, PeeksBy, greeted_by};
 ghost use Rattle.blot_gateway.specs.Serving.{IsCounted};
 
@@ -11,10 +11,10 @@ use blot_fields::{Admin, Body, FieldFault, FieldReason, Message, decode};
 use blot_session::CloseReason;
 use blot_tag::Reader;
 use blot_types::Text64;
-use std::alloc::Global;
+use std::alloc::{AllocError as NoMemory, Global};
 
-/// Reads until the first frame stands in the reader, and says who sent it, by its SenderCompID. The frame stays there, and
-/// nothing is written.
+/// Reads until the first frame stands in the reader, and says who sent it, by its SenderCompID. The frame stays there, what can't become
+/// one is passed over before the next read, and nothing is written.
 ///
 /// Closed with NoLogon: the first message is no Logon, or at fault; with CompId: its TargetCompID is another. End: the
 /// wire ended before a frame. ReadFault: a read failed, and that is counted. TooLong: 2^30 reads were made. NoMemory: memory ran out.
@@ -26,6 +26,7 @@ pub fn greet<W: Wire>(
 ) -> Result<Text64, Ended>
     ensures greeted { Greeted W.does own result wire.old reader.old.unread wire.new reader.new.unread }
     ensures counted { IfErr result (λ end. IsCounted end (W.failures wire.old) (W.failures wire.new)) }
+    ensures failures { W.failures wire.old ≤ W.failures wire.new }
 {
     let Ok(mut buffer) = empty_piece(alloc) else {
         return Err(Ended::NoMemory);
@@ -36,6 +37,9 @@ pub fn greet<W: Wire>(
             Ok(Some(sender)) => return Ok(sender),
             Err(ended) => return Err(ended),
         }
+        let Ok(()) = pass_over(reader) else {
+            return Err(Ended::NoMemory);
+        };
         match feed_once(wire, reader, &mut buffer) {
             Ok(()) => {}
             Err(ended) => return Err(ended),
@@ -67,6 +71,15 @@ fn peek_sender(alloc: Global, reader: &mut Reader, own: Text64) -> Result<Option
         Ok(sender) => Ok(Some(sender)),
         Err(reason) => Err(Ended::Closed(reason)),
     }
+}
+
+// Passes over what can't become a frame.
+fn pass_over(reader: &mut Reader) -> Result<(), NoMemory>
+    requires { frames_of reader.old.unread ≡ [] }
+    ensures { OnOk result (reader.new.unread ≡ rest_of reader.old.unread) }
+{
+    reader.next()?;
+    Ok(())
 }
 
 // Whether there was no memory for a message.

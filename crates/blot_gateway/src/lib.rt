@@ -1,15 +1,29 @@
 //! Live connections. A wire is greeted, and then one session is served over it: what the wire gives comes to the session frame by
-//! frame, what the session sends is written, what it delivers goes to a sink. Wire, clock and sink are the caller's.
+//! frame, what the session sends is written, what it delivers goes to a sink. Wire, clock and sink are the caller's. Wires of a
+//! desk are served at once, each with a seat. `MemoryWire`, `ListClock` and `ListSink` serve tests.
 #![tactic(auto)]
 
+mod at_once;
+mod connection;
 mod driving;
 mod ended;
+mod gate;
 mod greeting;
+mod list_clock;
+mod list_sink;
+mod memory_wire;
+mod seat_sink;
 mod serving;
 mod wire;
 mod writing;
 
+pub use at_once::serve;
 pub use ended::{Ended, READS_MAX};
+pub use gate::{Gate, OpenGate};
 pub use greeting::greet;
+pub use list_clock::ListClock;
+pub use list_sink::ListSink;
+pub use memory_wire::MemoryWire;
+pub use seat_sink::SeatSink;
 pub use serving::serve_session;
 pub use wire::{Clock, Reading, Sink, Wire, Writing};

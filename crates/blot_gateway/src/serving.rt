@@ -4,7 +4,7 @@ ghost use Rattle.blot_tag.specs.Walking.{frames_of, rest_of};
 ghost use Rattle.blot_session.specs.States.{IsIdle};
 ghost use Rattle.blot_gateway.specs.declared.ended.Stop.{Stop};
 ghost use Rattle.blot_gateway.specs.Endings.{ended_by};
-ghost use Rattle.blot_gateway.specs.Wires.{Read};
+ghost use Rattle.blot_gateway.specs.Wires.{Counts, Read};
 ghost use Rattle.blot_gateway.specs.Wires.Read.{Piece};
 ghost use Rattle.blot_gateway.specs.Serving.{Due, Runs, Ends, Served, IsCounted, due_behind, due_fed, due_of, left_by, parties};
 ghost use Rattle.blot_gateway.specs.Serving.Due.{Came};
@@ -162,7 +162,7 @@ fn take_piece<W: Wire, C: Clock, S: Sink>(
         (due_behind reader.old.unread (Piece piece.now ∷ more)) [] (parties wire.new clock.new sink.new session.new)) }
     ensures idle { IsIdle session.new }
     ensures failures { W.failures wire.old ≤ W.failures wire.new }
-    ensures failed { IfErr result (λ stop. stop ≡ Stop.WriteFault → W.failures wire.old < W.failures wire.new) }
+    ensures failed { IfErr result (λ stop. stop ≡ Stop.WriteFault → Counts (W.failures wire.old) (W.failures wire.new)) }
 {
     match reader.feed(piece) {
         Ok(()) => take_fed(alloc, wire, clock, sink, reader, session),
@@ -186,7 +186,7 @@ fn take_fed<W: Wire, C: Clock, S: Sink>(
         (due_fed reader.old.unread more) [] (parties wire.new clock.new sink.new session.new)) }
     ensures idle { IsIdle session.new }
     ensures failures { W.failures wire.old ≤ W.failures wire.new }
-    ensures failed { IfErr result (λ stop. stop ≡ Stop.WriteFault → W.failures wire.old < W.failures wire.new) }
+    ensures failed { IfErr result (λ stop. stop ≡ Stop.WriteFault → Counts (W.failures wire.old) (W.failures wire.new)) }
 {
     match take_frames(alloc, wire, clock, sink, reader, session) {
         Ok(()) => pass_moment(alloc, wire, clock, session),
@@ -211,7 +211,7 @@ fn take_frames<W: Wire, C: Clock, S: Sink>(
         (map Came (frames_of reader.old.unread) ++ more) [] (parties wire.new clock.new sink.new session.new)) }
     ensures idle { IsIdle session.new }
     ensures failures { W.failures wire.old ≤ W.failures wire.new }
-    ensures failed { IfErr result (λ stop. stop ≡ Stop.WriteFault → W.failures wire.old < W.failures wire.new) }
+    ensures failed { IfErr result (λ stop. stop ≡ Stop.WriteFault → Counts (W.failures wire.old) (W.failures wire.new)) }
 {
     while let Some(frame) = reader.next()? {
         match take_frame(alloc, wire, clock, sink, session, &frame) {

@@ -51,7 +51,7 @@ pub trait Wire {
         ensures within { WriteFits result (length text.now) }
         ensures counted { CountsWrite result (failures self.old) (failures self.new) };
 
-    /// How many of its reads and writes failed so far.
+    /// How many of its reads and writes failed so far, as far as 2^64 - 1.
     fn faults(&self) -> u64
         ensures { result ≡ failures self.now };
 }

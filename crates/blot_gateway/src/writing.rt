@@ -2,6 +2,7 @@
 ghost use Rattle.std.specs.Prelude.{◌≡◌, ◌<◌, ◌≤◌, [], length, take, IfErr, IfOk, None, OnErr, OnOk};
 ghost use Rattle.std.specs.List.{flat_map};
 ghost use Rattle.blot_session.specs.Runs.{bytes_of};
+ghost use Rattle.blot_gateway.specs.Wires.{Counts};
 ghost use Rattle.blot_gateway.specs.Serving.{close_in};
 ghost use Rattle.blot_gateway.specs.Sending.{Writes, WritesFront, Halts};
 
@@ -19,7 +20,7 @@ pub(crate) fn carry_out<W: Wire>(wire: &mut W, actions: &[Action]) -> Result<(),
     ensures stays { OnOk result (close_in actions.now ≡ None) }
     ensures err { IfErr result (λ stop. Halts W.does stop wire.old actions.now wire.new) }
     ensures failures { W.failures wire.old ≤ W.failures wire.new }
-    ensures failed { IfErr result (λ stop. stop ≡ Stop.WriteFault → W.failures wire.old < W.failures wire.new) }
+    ensures failed { IfErr result (λ stop. stop ≡ Stop.WriteFault → Counts (W.failures wire.old) (W.failures wire.new)) }
 {
     if let Err(WriteFault) = send_all(wire, actions) {
         return Err(Stop::WriteFault);
@@ -47,7 +48,7 @@ fn send_all<W: Wire>(wire: &mut W, actions: &[Action]) -> Result<(), WriteFault>
     ensures ok { OnOk result (Writes W.does wire.old (flat_map bytes_of actions.now) wire.new) }
     ensures err { OnErr result (WritesFront W.does wire.old (flat_map bytes_of actions.now) wire.new) }
     ensures failures { W.failures wire.old ≤ W.failures wire.new }
-    ensures failed { OnErr result (W.failures wire.old < W.failures wire.new) }
+    ensures failed { OnErr result (Counts (W.failures wire.old) (W.failures wire.new)) }
 {
     for action in actions {
         send(wire, action)?;
@@ -60,7 +61,7 @@ fn send<W: Wire>(wire: &mut W, action: &Action) -> Result<(), WriteFault>
     ensures ok { OnOk result (Writes W.does wire.old (bytes_of action.now) wire.new) }
     ensures err { OnErr result (WritesFront W.does wire.old (bytes_of action.now) wire.new) }
     ensures failures { W.failures wire.old ≤ W.failures wire.new }
-    ensures failed { OnErr result (W.failures wire.old < W.failures wire.new) }
+    ensures failed { OnErr result (Counts (W.failures wire.old) (W.failures wire.new)) }
 {
     match action {
         Action::Send(bytes) => write_text(wire, bytes.as_slice()),
@@ -73,7 +74,7 @@ fn write_text<W: Wire>(wire: &mut W, text: &[u8]) -> Result<(), WriteFault>
     ensures ok { OnOk result (Writes W.does wire.old text.now wire.new) }
     ensures err { OnErr result (WritesFront W.does wire.old text.now wire.new) }
     ensures failures { W.failures wire.old ≤ W.failures wire.new }
-    ensures failed { OnErr result (W.failures wire.old < W.failures wire.new) }
+    ensures failed { OnErr result (Counts (W.failures wire.old) (W.failures wire.new)) }
 {
     let mut written = 0;
     while written < text.len() {
@@ -89,7 +90,7 @@ fn write_piece<W: Wire>(wire: &mut W, text: &[u8]) -> Result<usize, WriteFault>
     ensures ok { IfOk result (λ count. Writes W.does wire.old (take count text.now) wire.new) }
     ensures err { OnErr result (Writes W.does wire.old [] wire.new) }
     ensures failures { W.failures wire.old ≤ W.failures wire.new }
-    ensures failed { OnErr result (W.failures wire.old < W.failures wire.new) }
+    ensures failed { OnErr result (Counts (W.failures wire.old) (W.failures wire.new)) }
 {
     match wire.write_some(text) {
         Writing::Wrote(count) => Ok(count),

@@ -1,0 +1,10 @@
+-- The bytes that a wire in memory has left.
+use Rattle.std.proofs.Common.{◌≡◌, ℕ, ◌+◌, List, ◌++◌, take, drop, sym, ◌∙◌, ap}
+use Rattle.std.proofs.lemmas.List.{take-append-drop, drop-drop}
+
+-- behind a piece that was given, the rest is left
+pub left_given : (count given : ℕ) (bytes buffer : List ℕ) → take count buffer ≡ take count (drop given bytes)
+    → drop given bytes ≡ take count buffer ++ drop (given + count) bytes
+left_given count given bytes buffer copied =
+    sym (take-append-drop count (drop given bytes)) ∙ ap (λ front. front ++ drop count (drop given bytes)) (sym copied)
+    ∙ ap (λ rest. take count buffer ++ rest) (drop-drop count given bytes)

@@ -1,0 +1,102 @@
+//! Streams from the bodies of their messages, and moments and answers in words.
+
+use blot_decimal::QtySum;
+use blot_desk::{DeskFault, Reply};
+use blot_time::Moment;
+use blot_types::Refused;
+use std::alloc::{AllocError as NoMemory, Global};
+use std::test::Fail;
+
+/// A stream: each line of the text is a message from MsgType on, with `|` for SOH, and becomes a frame; a line that begins
+/// with `!` stands as it is.
+pub fn stream(alloc: Global, text: &str) -> Result<Vec<u8>, NoMemory> {
+    let mut bytes = Vec::new(alloc);
+    for line in text.lines() {
+        match line.strip_prefix('!') {
+            Some(raw) => bytes.extend_from_slice(soh(alloc, raw)?.as_slice())?,
+            None => bytes.extend_from_slice(frame(alloc, line)?.as_slice())?,
+        }
+    }
+    Ok(bytes)
+}
+
+/// A frame with this body: BodyLength and CheckSum are filled in.
+pub fn frame(alloc: Global, body: &str) -> Result<Vec<u8>, NoMemory> {
+    let body = soh(alloc, body)?;
+    let length = body.len();
+    let head = format!(in alloc; "8=FIX.4.4\u{1}9={length}\u{1}")?;
+    let mut bytes = Vec::new(alloc);
+    bytes.extend_from_slice(head.as_bytes())?;
+    bytes.extend_from_slice(body.as_slice())?;
+    let mut sum = 0u8;
+    for byte in &bytes {
+        sum = sum.wrapping_add(*byte);
+    }
+    let trailer = format!(in alloc; "10={sum:03}\u{1}")?;
+    bytes.extend_from_slice(trailer.as_bytes())?;
+    Ok(bytes)
+}
+
+/// The text with SOH for `|`.
+pub fn soh(alloc: Global, text: &str) -> Result<Vec<u8>, NoMemory> {
+    let mut bytes = Vec::new(alloc);
+    for byte in text.as_bytes() {
+        bytes.push(if *byte == b'|' { 1 } else { *byte })?;
+    }
+    Ok(bytes)
+}
+
+/// The bytes as text, with `|` for SOH.
+pub fn shown(alloc: Global, bytes: &[u8]) -> Result<String, NoMemory> {
+    let mut text = String::new(alloc);
+    for byte in bytes {
+        text.push(if *byte == 1 { '|' } else { char::from(*byte) })?;
+    }
+    Ok(text)
+}
+
+/// The moments of a text, which are parted by spaces.
+pub fn moments(alloc: Global, text: &str) -> Result<Vec<Moment>, Fail> {
+    let mut moments = Vec::new(alloc);
+    for word in text.split(' ') {
+        moments.push(Moment::read(word.as_bytes())?)?;
+    }
+    Ok(moments)
+}
+
+/// Three answers, each the one that a word stands for.
+pub fn answers(alloc: Global, word: &str) -> Result<Vec<Result<Reply, DeskFault>>, Fail> {
+    match answer(word) {
+        Ok(answer) => three_of(alloc, answer),
+        Err(fail) => Err(fail),
+    }
+}
+
+// An answer, three times.
+fn three_of(
+    alloc: Global,
+    answer: Result<Reply, DeskFault>,
+) -> Result<Vec<Result<Reply, DeskFault>>, Fail> {
+    match [answer; 3].to_vec(alloc) {
+        Ok(answers) => Ok(answers),
+        Err(_) => Err(Fail::new("no memory")),
+    }
+}
+
+// The answer that a word stands for.
+fn answer(word: &str) -> Result<Result<Reply, DeskFault>, Fail> {
+    match word {
+        "accepted" => Ok(Ok(Reply::Accepted(1))),
+        "duplicate" => Ok(Ok(Reply::Refused(Refused::DuplicateExec(1)))),
+        "busted" => Ok(Ok(Reply::Refused(Refused::BustedExec(4)))),
+        "dead" => Ok(Ok(Reply::Refused(Refused::DeadAlloc(3)))),
+        "quantity" => Ok(Ok(Reply::Refused(Refused::Quantity(
+            QtySum::from_units(50_000_000),
+            QtySum::from_units(49_000_000),
+        )))),
+        "undone" => Ok(Ok(Reply::Undone(1))),
+        "full" => Ok(Err(DeskFault::Full)),
+        "no-memory" => Ok(Err(DeskFault::NoMemory)),
+        _ => Err(Fail::new(format_args!("no answer: {word}"))),
+    }
+}
