@@ -1,4 +1,5 @@
 mod DeskLemmas
+mod DialogueLemmas
 mod LineLemmas
 mod LookupLemmas
 mod OperatingLemmas

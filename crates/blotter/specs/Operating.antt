@@ -1,7 +1,7 @@
--- What an operator is told: each line is answered for itself, and its answer is told before the next line is taken.
--- Source: this project's rule.
-use Rattle.std.specs.Prelude.{◌≡◌, ℕ, ◌==◌, List, [], ◌++◌, length, fold, Option, option_to_list, Result, Ok, Err, ◌⊎◌, if◌then◌else◌}
-use Rattle.std.specs.Io.KnownBytes.{Appends, Keeps}
+-- What an operator is told at a desk of one's own: each line is answered for itself, and its answer is told before the next line
+-- is taken. Source: this project's rule.
+use Rattle.std.specs.Prelude.{◌≡◌, ℕ, ◌==◌, List, [], ◌++◌, length, fold, Option, option_to_list, Result, Ok, Err, if◌then◌else◌}
+use Rattle.std.specs.Io.KnownBytes.{Appends}
 use Rattle.blot_types.specs.declared.TheConstants.{EVENTS_MAX}
 use Rattle.blot_desk.specs.declared.event.Event.{Event}
 use Rattle.blot_desk.specs.declared.event.Event.TheVariants.{AskOrder, AskPosition}
@@ -18,7 +18,6 @@ use Rattle.blot_console.specs.Answers.{answer_text}
 use Rattle.blot_console.specs.Parsing.{parsed}
 use Rattle.blotter.specs.declared.answering.Asked.{Asked}
 use Rattle.blotter.specs.declared.answering.Asked.TheVariants as asked
-use Rattle.blotter.specs.Lines.{split_of, kept}
 
 -- what a desk holds, and what its operator was told
 pub record Told : Type 0 where
@@ -77,15 +76,3 @@ pub record StoppedIn (start : Journal) (lines : List (List ℕ)) (held : Journal
   pub back : List ℕ
   pub written : Appends before after ((told_over start answered).text ++ front)
   pub told : ((told_over start answered).text ++ front) ++ back ≡ (told_over start (answered ++ option_to_list taken)).text
-
--- a desk that stopped at a line: the line isn't taken and nothing is written, or it is, and a front of its answer is
-abbrev pub StopsAt : Journal → Told → Journal → Option (List ℕ) → Option (List ℕ) → Type 0
-StopsAt old told new before after =
-    ((new ≡ old) × Keeps before after)
-    ⊎ ((new ≡ told.journal) × ((front : List ℕ) × ((back : List ℕ) × (front ++ back ≡ told.text) × Appends before after front)))
-
--- the bytes of an input that came: each line that they end is answered, and what they begin is kept
-pub record HasAnswered (start : Journal) (bytes line : List ℕ) (held : Journal) (before after : Option (List ℕ)) : Type 0 where
-  pub journal : held ≡ (told_over start (split_of bytes).ended).journal
-  pub written : Appends before after (told_over start (split_of bytes).ended).text
-  pub line_is : line ≡ kept (split_of bytes).begun

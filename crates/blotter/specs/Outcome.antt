@@ -4,6 +4,8 @@ use Rattle.blotter.specs.declared.outcome.Outcome.{Outcome}
 use Rattle.blotter.specs.declared.outcome.Outcome.TheVariants.{Done, InputFault, BadWords, NoMemory as OutOfMemory}
 use Rattle.blotter.specs.declared.outcome.ReplayFault.{ReplayFault}
 use Rattle.blotter.specs.declared.outcome.ReplayFault.TheVariants.{Read, Write, Full, NoMemory, TooLong}
+use Rattle.blotter.specs.declared.outcome.ServeFault.{ServeFault}
+use Rattle.blotter.specs.declared.outcome.ServeFault.TheVariants as served
 
 -- out of memory is told apart; every other fault is the input's
 abbrev pub outcome_of : Result (Unit {0}) ReplayFault → Outcome
@@ -13,6 +15,14 @@ outcome_of (Err Write) = InputFault
 outcome_of (Err Full) = InputFault
 outcome_of (Err NoMemory) = OutOfMemory
 outcome_of (Err TooLong) = InputFault
+
+-- and so is it where a day is served
+abbrev pub served_outcome : Result (Unit {0}) ServeFault → Outcome
+served_outcome (Ok done) = Done
+served_outcome (Err served.Connection) = InputFault
+served_outcome (Err (served.Lines fault)) = outcome_of (Err fault)
+served_outcome (Err served.Unsettled) = InputFault
+served_outcome (Err served.NoMemory) = OutOfMemory
 
 abbrev pub status_of : Outcome → ℕ
 status_of Done = 0

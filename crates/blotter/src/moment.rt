@@ -35,8 +35,8 @@ fn moment_in(bytes: &[u8]) -> Moment
     }
 }
 
-// 19700101-00:00:00.
-fn first_moment() -> Moment
+/// 19700101-00:00:00.
+pub(crate) fn first_moment() -> Moment
     ensures { result ≡ pos 0 }
 {
     match Moment::from_millis(0) {

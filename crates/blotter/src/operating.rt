@@ -1,15 +1,19 @@
-//! `desk_lines`.
+//! `desk_lines` and `seat_lines`.
 ghost use Rattle.std.specs.Prelude.{◌≡◌, ◌≢◌, Err, IfSome, OnOk, OnErr};
 ghost use Rattle.std.specs.Io.KnownBytes.{Appends, IsAtEnd};
+ghost use Rattle.blotter.specs.Dialogue.{seat_ways, TellsLines, StopsAmong};
 ghost use Rattle.blotter.specs.Lines.{lines_of};
 ghost use Rattle.blotter.specs.Operating.{told_over, StoppedIn};
 
 use crate::ReplayFault;
 use crate::lines::{answer_last, answer_piece};
+use crate::operated::{Operated, Own, Shared};
 use crate::transfer::{READS_MAX, empty_piece, read_piece};
-use blot_desk::Held;
+use blot_desk::{Desk, Held, Seat};
 use std::alloc::Global;
 use std::io::{Read, Write};
+use std::sync::Wait;
+use std::sync::ledger::Ledger;
 
 /// Answers an operator's lines to the end of the input. Each line's answer is written and flushed before the next line
 /// is taken. A line that asks nothing is answered by its fault, and an event that the desk has no room for by `full`;
@@ -31,13 +35,54 @@ pub fn desk_lines<R: Read, W: Write>(
         StoppedIn held.old (lines_of bytes) held.new (W.contents output.old) (W.contents output.new))) }
     ensures never_full { result ≢ Err ReplayFault.Full }
 {
+    answer_lines(alloc, input, output, &Own, held)
+}
+
+/// The same for a seat at a desk of many. Each event of the lines is submitted once, and the seat gets the receipt of its
+/// reply, by which the line is answered; an event that is answered by `full` has none, and no other line has one. A report
+/// shows the desk as it is when its line is taken.
+pub fn seat_lines<R: Read, W: Write, L: Ledger>(
+    rt: &impl Wait,
+    alloc: Global,
+    input: &mut R,
+    output: &mut W,
+    desk: &Desk<L>,
+    seat: &mut Seat<L>,
+) -> Result<(), ReplayFault>
+    ensures told { OnOk result (IfSome (R.remaining input.old) (λ bytes.
+        TellsLines seat_ways seat.old (lines_of bytes) seat.new (W.contents output.old) (W.contents output.new))) }
+    ensures read_to_the_end { OnOk result (IsAtEnd (R.remaining input.new)) }
+
+    // After a fault the lines of a front were taken, and of the last answer a front was written.
+    ensures fault { OnErr result (IfSome (R.remaining input.old) (λ bytes.
+        StopsAmong seat_ways seat.old (lines_of bytes) seat.new (W.contents output.old) (W.contents output.new))) }
+    ensures never_full { result ≢ Err ReplayFault.Full }
+{
+    answer_lines(alloc, input, output, &Shared { rt, desk }, seat)
+}
+
+// Answers the lines of an input to its end.
+fn answer_lines<R: Read, W: Write, D: Operated>(
+    alloc: Global,
+    input: &mut R,
+    output: &mut W,
+    desk: &D,
+    state: &mut D::State,
+) -> Result<(), ReplayFault>
+    ensures told { OnOk result (IfSome (R.remaining input.old) (λ bytes.
+        TellsLines D.ways state.old (lines_of bytes) state.new (W.contents output.old) (W.contents output.new))) }
+    ensures read_to_the_end { OnOk result (IsAtEnd (R.remaining input.new)) }
+    ensures fault { OnErr result (IfSome (R.remaining input.old) (λ bytes.
+        StopsAmong D.ways state.old (lines_of bytes) state.new (W.contents output.old) (W.contents output.new))) }
+    ensures never_full { result ≢ Err ReplayFault.Full }
+{
     let mut line = Vec::new(alloc);
     let mut buffer = empty_piece(alloc)?;
     for _ in 0..READS_MAX {
         let Some(count) = read_piece(input, &mut buffer)? else {
-            return answer_last(alloc, held, output, &line);
+            return answer_last(alloc, desk, state, output, &line);
         };
-        answer_piece(alloc, held, output, &mut line, &buffer[..count])?;
+        answer_piece(alloc, desk, state, output, &mut line, &buffer[..count])?;
     }
     Err(ReplayFault::TooLong)
 }

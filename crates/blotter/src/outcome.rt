@@ -1,8 +1,8 @@
 //! How a run ends.
 ghost use Rattle.std.specs.Prelude.{◌≡◌, option_map};
-ghost use Rattle.blotter.specs.Outcome.{outcome_of, status_of, last_line_of};
+ghost use Rattle.blotter.specs.Outcome.{outcome_of, served_outcome, status_of, last_line_of};
 
-use std::alloc::AllocError as NoMemory;
+use std::alloc::{AllocError as NoMemory, AllocFailed};
 use thiserror::Error;
 
 /// Why a replay, a capture or an operator's lines stopped before their end.
@@ -14,8 +14,8 @@ pub enum ReplayFault {
     /// The output couldn't be written.
     #[error("the output can't be written")]
     Write = 2,
-    /// As many events are recorded as a day has, and a further command came.
-    #[error("the capture has too many commands")]
+    /// As many events are recorded as a day has, and the capture brought a further command.
+    #[error("the desk has no room for the commands of the capture")]
     Full = 3,
     /// Memory ran out.
     #[error("no memory")]
@@ -33,6 +33,45 @@ impl From<NoMemory> for ReplayFault {
 
     fn from(_fault: NoMemory) -> ReplayFault {
         ReplayFault::NoMemory
+    }
+}
+
+/// Why a day that is served ends without its report.
+#[derive(Clone, Copy, Debug, PartialEq, Eq, Error)]
+pub enum ServeFault {
+    /// No connection can be accepted.
+    #[error("a connection can't be accepted")]
+    Connection,
+    /// The operator's lines stopped, or the report couldn't be written.
+    #[error("{0}")]
+    Lines(ReplayFault),
+    /// The receipts aren't those of the history.
+    #[error("the receipts don't agree with the history")]
+    Unsettled,
+    /// Memory ran out.
+    #[error("no memory")]
+    NoMemory,
+}
+
+impl From<NoMemory> for ServeFault {
+    ghost use Rattle.std.specs.Prelude.{◌≡◌};
+    ghost use Rattle.blotter.specs.declared.outcome.ServeFault.TheVariants.{NoMemory};
+
+    ghost from_gives = { λ _ fault. fault ≡ NoMemory };
+
+    fn from(_fault: NoMemory) -> ServeFault {
+        ServeFault::NoMemory
+    }
+}
+
+impl<T: Drop> From<AllocFailed<T>> for ServeFault {
+    ghost use Rattle.std.specs.Prelude.{◌≡◌};
+    ghost use Rattle.blotter.specs.declared.outcome.ServeFault.TheVariants.{NoMemory};
+
+    ghost from_gives = { λ _ fault. fault ≡ NoMemory };
+
+    fn from(_fault: AllocFailed<T>) -> ServeFault {
+        ServeFault::NoMemory
     }
 }
 
@@ -55,6 +94,17 @@ impl Outcome {
         match replayed {
             Ok(()) => Outcome::Done,
             Err(ReplayFault::NoMemory) => Outcome::NoMemory,
+            Err(_) => Outcome::InputFault,
+        }
+    }
+
+    /// How a run ends that served a day.
+    pub fn of_served(served: Result<(), ServeFault>) -> Outcome
+        ensures { result ≡ served_outcome served }
+    {
+        match served {
+            Ok(()) => Outcome::Done,
+            Err(ServeFault::NoMemory | ServeFault::Lines(ReplayFault::NoMemory)) => Outcome::NoMemory,
             Err(_) => Outcome::InputFault,
         }
     }

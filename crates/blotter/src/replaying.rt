@@ -75,8 +75,8 @@ fn captured_report<R: Read>(
     }
 }
 
-// The report of a day of a desk.
-fn day_report(alloc: Global, held: &Held, day: Day) -> Result<Vec<u8>, NoMemory>
+/// The report of a day of a desk.
+pub(crate) fn day_report(alloc: Global, held: &Held, day: Day) -> Result<Vec<u8>, NoMemory>
     ensures text { IfOk result (λ text. text.items ≡ report_of (run_of (events_of held.now.history)).book.list day) }
     ensures few { length held.now.history ≤ EVENTS_MAX }
 {

@@ -1,7 +1,6 @@
 //! The sessions of a capture's peers.
-ghost use Rattle.std.specs.Prelude.{◌≡◌, ◌≢◌, ◌++◌, ◌∷◌, [], All, Err, IfOk, IfErr, OnOk, MatchOption, None, find, length};
+ghost use Rattle.std.specs.Prelude.{◌≡◌, ◌≢◌, All, Err, IfOk, IfErr, OnOk, MatchOption, None, find};
 ghost use Rattle.std.specs.List.{IsDistinct};
-ghost use Rattle.blot_tag.specs.Fields.{fields_of};
 ghost use Rattle.blot_tag.specs.Views.{text_of};
 ghost use Rattle.blot_types.specs.Keys.{same_text};
 ghost use Rattle.blot_session.specs.States.{IsIdle};

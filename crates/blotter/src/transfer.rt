@@ -1,5 +1,5 @@
 //! Bytes in and out, a piece at a time.
-ghost use Rattle.std.specs.Prelude.{◌≡◌, ◌<◌, ◌≤◌, List, ℕ, ◌++◌, length, take, MatchOption, vec_len, OnOk, OnErr, IfOk, IfErr};
+ghost use Rattle.std.specs.Prelude.{◌≡◌, ◌<◌, ◌≤◌, List, ℕ, ◌++◌, length, take, MatchOption, vec_len, Ok, IfNone, OnOk, OnErr, IfOk, IfErr, IfSome};
 ghost use Rattle.std.specs.Io.KnownBytes.{Appends, Keeps, Consumes, IsAtEnd};
 
 use crate::ReplayFault;
@@ -56,6 +56,23 @@ pub(crate) fn write_text<W: Write>(output: &mut W, text: &[u8]) -> Result<(), Re
     Err(ReplayFault::Write)
 }
 
+/// Writes some of a text, again where that was interrupted: how many bytes, at least 1, or none where the write failed.
+pub(crate) fn write_retrying<W: Write>(output: &mut W, text: &[u8]) -> Option<usize>
+    requires { 0 < length text.now }
+    ensures within { IfSome result (λ count. (1 ≤ count) × (count ≤ length text.now)) }
+    ensures some { IfSome result (λ count. Appends (W.contents output.old) (W.contents output.new) (take count text.now)) }
+    ensures none { IfNone result (Keeps (W.contents output.old) (W.contents output.new)) }
+{
+    for _ in 0..u64::MAX {
+        match write_piece(output, text) {
+            Ok(0) => {}
+            Ok(count) => return Some(count),
+            Err(_) => return None,
+        }
+    }
+    None
+}
+
 /// Flushes an output.
 pub(crate) fn flush<W: Write>(output: &mut W) -> Result<(), ReplayFault>
     ensures fault { IfErr result (λ fault. fault ≡ ReplayFault.Write) }
@@ -91,6 +108,7 @@ fn write_piece<W: Write>(output: &mut W, text: &[u8]) -> Result<usize, ReplayFau
     requires { 0 < length text.now }
     ensures within { IfOk result (λ count. count ≤ length text.now) }
     ensures ok { IfOk result (λ count. Appends (W.contents output.old) (W.contents output.new) (take count text.now)) }
+    ensures none { result ≡ Ok 0 → Keeps (W.contents output.old) (W.contents output.new) }
     ensures err { OnErr result (Keeps (W.contents output.old) (W.contents output.new)) }
 {
     match output.write(text) {

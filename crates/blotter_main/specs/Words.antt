@@ -1,6 +1,6 @@
 -- What the words of the command line ask for.
-use Rattle.std.specs.Prelude.{◌≡◌, ℕ, ◌<◌, ℤ, Bool, true, false, List, length, Option, Some, None, IfSome, IsSome, IsSomeAnd, IsTrue}
-use Rattle.std.specs.Io.KnownBytes.{Appends}
+use Rattle.std.specs.Prelude.{◌≡◌, ℕ, ◌<◌, ◌≤◌, ℤ, Bool, true, false, List, length, Option, Some, None, IfSome, IsSome, IsSomeAnd, IsTrue}
+use Rattle.std.specs.Io.KnownBytes.{Appends, IsAtEnd}
 use Rattle.std.specs.List.{IsDistinct, list_all}
 use Rattle.blot_time.specs.Day.{IsDayText}
 use Rattle.blot_types.specs.Keys.{same_text}
@@ -9,8 +9,9 @@ use Rattle.blot_desk.specs.Desk.{Journal}
 use Rattle.blotter.specs.Lines.{lines_of}
 use Rattle.blotter.specs.Operating.{told_over}
 use Rattle.blotter.specs.Replay.{list_of, report_of}
+use Rattle.blotter.specs.Serving.{DayServed}
 use Rattle.blotter_main.specs.declared.words.Words.{Words}
-use Rattle.blotter_main.specs.declared.words.Words.TheVariants.{Replay, Desk}
+use Rattle.blotter_main.specs.declared.words.Words.TheVariants.{Replay, Desk, Serve}
 
 -- the peers of a replay: one or more texts, and no two the same
 pub record IsPeerList (peers : List (List ℕ)) : Type 0 where
@@ -34,27 +35,39 @@ pub record IsDesk (own capture : Option (List ℕ)) (peers : Option (List (List 
 abbrev pub own_of : Words → List ℕ
 own_of (Replay own day peers) = own
 own_of (Desk own capture peers) = own
+own_of (Serve own day port rounds peers) = own
 
 abbrev pub day_named : Words → Option ℤ
 day_named (Replay own day peers) = Some day
 day_named (Desk own capture peers) = None
+day_named (Serve own day port rounds peers) = Some day
 
 abbrev pub capture_named : Words → Option (List ℕ)
 capture_named (Replay own day peers) = None
 capture_named (Desk own capture peers) = Some capture.bytes.items
+capture_named (Serve own day port rounds peers) = None
 
 abbrev pub peers_of : Words → List (List ℕ)
 peers_of (Replay own day peers) = peers.items
 peers_of (Desk own capture peers) = peers.items
+peers_of (Serve own day port rounds peers) = peers.items
 
--- what the words ask for was done: the report of the day stands behind what was written, or the answers to the lines, of a desk
--- as the capture left it
-abbrev pub Did : Words → Option (List ℕ) → Option (List ℕ) → Option (List ℕ) → Type 0
-Did (Replay own day peers) input before after = IfSome input (λ bytes. Appends before after (report_of (list_of own peers.items bytes) day))
-Did (Desk own capture peers) input before after =
-    (journal : Journal) × IfSome input (λ bytes. Appends before after (told_over journal (lines_of bytes)).text)
+-- a round has at most 1,000 connections
+abbrev pub AreFew : Words → Type 0
+AreFew (Serve own day port rounds peers) = rounds.sessions ≤ 1000
+AreFew words = Unit {0}
 
--- whether the words ask for a desk
-abbrev pub is_desk : Words → Bool
-is_desk (Replay own day peers) = false
-is_desk (Desk own capture peers) = true
+-- what the words ask for was done. Of a replay, the input is read to its end, and the report of the day stands behind what was
+-- written; of a desk, the input is read to its end, and there stand the answers to its lines, of a desk as the capture left it; of a
+-- server, the last that is written is the report of a settled history
+abbrev pub Did : Words → Option (List ℕ) → Option (List ℕ) → Option (List ℕ) → Option (List ℕ) → Type 0
+Did (Replay own day peers) input left before after =
+    IsAtEnd left × IfSome input (λ bytes. Appends before after (report_of (list_of own peers.items bytes) day))
+Did (Desk own capture peers) input left before after =
+    IsAtEnd left × ((journal : Journal) × IfSome input (λ bytes. Appends before after (told_over journal (lines_of bytes)).text))
+Did (Serve own day port rounds peers) input left before after = DayServed day after
+
+-- whether the words ask for a replay
+abbrev pub is_replay : Words → Bool
+is_replay (Replay own day peers) = true
+is_replay words = false

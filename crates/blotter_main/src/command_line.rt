@@ -8,12 +8,20 @@ use std::alloc::{AllocError, Global};
 pub const REPLAY: &str = "replay";
 /// The subcommand that keeps a desk for its operator.
 pub const DESK: &str = "desk";
+/// The subcommand that serves brokers as they connect.
+pub const SERVE: &str = "serve";
 /// The option with one's own CompID.
 pub const OWN: &str = "own";
 /// The option with the trading day.
 pub const DAY: &str = "day";
 /// The option with the file that holds a capture.
 pub const CAPTURE: &str = "capture";
+/// The option with the TCP port.
+pub const PORT: &str = "port";
+/// The option with the number of connections of a round.
+pub const SESSIONS: &str = "sessions";
+/// The option with the number of rounds.
+pub const ROUNDS: &str = "rounds";
 /// The peers, behind the options.
 pub const PEER: &str = "peer";
 
@@ -27,7 +35,8 @@ pub fn command<'a>(alloc: Global) -> Result<Command<'a>, AllocError> {
         .subcommand_required(true)
         .arg_required_else_help(true)
         .subcommand(replay_command(alloc)?)?
-        .subcommand(desk_command(alloc)?)
+        .subcommand(desk_command(alloc)?)?
+        .subcommand(serve_command(alloc)?)
 }
 
 // The subcommand that replays a capture, with its options and its help.
@@ -54,6 +63,52 @@ fn desk_command<'a>(alloc: Global) -> Result<Command<'a>, AllocError> {
         .arg(own_option(alloc))?
         .arg(capture_option(alloc))?
         .arg(peer_words(alloc))
+}
+
+// The subcommand that serves brokers as they connect, with its options and its help.
+fn serve_command<'a>(alloc: Global) -> Result<Command<'a>, AllocError> {
+    Command::new(alloc, SERVE)
+        .about("Serves the brokers that connect over TCP, answers an operator's lines, and prints the day's report")
+        .long_about(ABOUT_SERVE)
+        .after_help(SERVE_EXAMPLE)
+        .after_long_help(AFTER_SERVE)
+        .arg_required_else_help(true)
+        .arg(own_option(alloc))?
+        .arg(day_option(alloc))?
+        .arg(port_option(alloc))?
+        .arg(sessions_option(alloc))?
+        .arg(rounds_option(alloc))?
+        .arg(peer_words(alloc))
+}
+
+// The option with the TCP port.
+fn port_option<'a>(alloc: Global) -> Arg<'a> {
+    Arg::new(alloc, PORT)
+        .long(PORT)
+        .value_name("PORT")
+        .required(true)
+        .value_parser(ValueParser::unsigned(1, 65_535))
+        .help("The TCP port on 127.0.0.1 that brokers connect to, 1 to 65535")
+}
+
+// The option with the number of connections of a round.
+fn sessions_option<'a>(alloc: Global) -> Arg<'a> {
+    Arg::new(alloc, SESSIONS)
+        .long(SESSIONS)
+        .value_name("SESSIONS")
+        .required(true)
+        .value_parser(ValueParser::unsigned(1, 1_000))
+        .help("How many connections a round waits for and serves at once, 1 to 1000")
+}
+
+// The option with the number of rounds.
+fn rounds_option<'a>(alloc: Global) -> Arg<'a> {
+    Arg::new(alloc, ROUNDS)
+        .long(ROUNDS)
+        .value_name("ROUNDS")
+        .default_value("1")
+        .value_parser(ValueParser::unsigned(1, 1_000))
+        .help("How many rounds there are, 1 to 1000")
 }
 
 // The option with the file that holds a capture.
@@ -184,5 +239,46 @@ Example:
 Exit status:
   0  done
   1  the input, the output or the capture is at fault, or the file can't be opened
+  2  the words of the command line are refused, or help was asked for
+  3  no memory is left";
+
+// What `serve --help` begins with.
+const ABOUT_SERVE: &str = "\
+Waits for brokers to connect over TCP on 127.0.0.1, takes the drop copies that they send, acknowledges
+their allocations, and answers the lines that an operator types meanwhile. A round waits for as many
+connections as --sessions says and serves them at once, and is over when each has ended. After the last
+round and the end of standard input the day's report is printed.";
+
+// What `serve -h` ends with.
+const SERVE_EXAMPLE: &str = "\
+Example:
+  blotter serve --own MO --day 20240105 --port 9878 --sessions 1 BRKA";
+
+// What `serve --help` ends with.
+const AFTER_SERVE: &str = "\
+What a broker's engine needs: it connects (as initiator) to 127.0.0.1 and PORT, speaks FIX.4.4 with its own
+CompID as SenderCompID(49) and yours as TargetCompID(56), and logs on first. At the start of the day its
+numbers begin at 1, as with ResetSeqNumFlag(141)=Y; when it connects again they go on where they stopped, so
+that what was lost is asked for. A heartbeat interval of 1 to 86400 seconds is kept. A broker is answered
+once as many connections as --sessions says have come.
+
+The operator's lines are those of `blotter desk`, and the report's lines those of `blotter replay` (see their
+help).
+
+After a round a line of standard error tells how each connection ended, in the order in which they came:
+  wire 0 ended 1
+The last number:
+  0  the session was closed: a logout, a number below the expected one, another CompID, silence ..
+  1  the broker ended the connection
+  2  a read failed, 3  a write failed
+  4  more reads than a connection may have
+  5  no memory is left
+
+Example:
+  blotter serve --own MO --day 20240105 --port 9878 --sessions 2 --rounds 3 BRKA BRKB
+
+Exit status:
+  0  done
+  1  the port can't be used, no connection can be accepted, or the input or the output is at fault
   2  the words of the command line are refused, or help was asked for
   3  no memory is left";

@@ -1,5 +1,5 @@
 //! One run of the program, over any words, files and streams.
-ghost use Rattle.std.specs.Prelude.{◌≡◌, ◌≢◌, ◌⊎◌, true, ℕ, List, IfOk, IfSome};
+ghost use Rattle.std.specs.Prelude.{◌≡◌, ◌≢◌, ◌≤◌, ◌⊎◌, false, ℕ, List, IfOk, IfSome};
 ghost use Rattle.std.specs.Io.KnownBytes.{Appends, IsAtEnd, Keeps};
 ghost use Rattle.std.specs.List.{IsDistinct};
 ghost use Rattle.blot_types.specs.Keys.{same_text};
@@ -8,36 +8,50 @@ ghost use Rattle.blotter.specs.Capture.{commands_of};
 ghost use Rattle.blotter.specs.Lines.{lines_of};
 ghost use Rattle.blotter.specs.Operating.{told_over};
 ghost use Rattle.blotter.specs.Replay.{submitted};
+ghost use Rattle.blotter.specs.Serving.{DayServed};
 ghost use Rattle.blotter.specs.declared.outcome.Outcome.TheVariants.{BadWords, Done, NoMemory};
-ghost use Rattle.blotter_main.specs.Words.{IsPeerList, Did, is_desk, peers_of};
+ghost use Rattle.blotter_main.specs.Words.{IsPeerList, Did, is_replay, AreFew, peers_of};
 
 use crate::refusal::Refusal;
 use crate::words::{Words, given, parse};
 use blot_desk::Held;
+use blot_slots::Slots;
+use blot_time::Day;
 use blot_types::Text64;
-use blotter::{Outcome, capture, desk_lines, replay};
+use blotter::{Outcome, Rounds, capture, desk_lines, replay, serve_day};
+use log::Log;
 use std::alloc::Global;
 use std::env::Env;
 use std::fs::{File, Files};
 use std::io::{ErrorKind, Read, Write};
+use std::marker::Brand;
+use std::net::{Ipv4Addr, Net, SocketAddrV4, TcpListener};
+use std::sync::Wait;
+use std::sync::ledger::Blank;
+use std::thread::Threads;
+use std::time::Clock;
 
 /// Does what the command line asks for, and says how it ended. What the user has to know goes to `errors`;
 /// a fault in writing that is let go.
-pub fn run<S: Env + AllocGlobal, F: Files, R: Read, W: Write, E: Write>(
+pub fn run<S: Env + AllocGlobal, F: Files, T, R: Read, W: Write, E: Write>(
     system: &S,
     files: &F,
+    rt: &T,
     input: &mut R,
     output: &mut W,
     errors: &mut E,
 ) -> Outcome
-    ensures did { result ≡ Done → (words : Words) × IsPeerList (peers_of words) × Did words (R.remaining input.old) (W.contents output.old) (W.contents output.new) }
-    ensures read_to_the_end { result ≡ Done → IsAtEnd (R.remaining input.new) }
+where
+    T: Threads + Wait + Net + Clock + Log + Sync,
+    T::Listener: Sync,
+    T::Stream: Send,
+    ensures did { result ≡ Done → (words : Words) × IsPeerList (peers_of words) × Did words (R.remaining input.old) (R.remaining input.new) (W.contents output.old) (W.contents output.new) }
     ensures unread { result ≡ BadWords → input.new ≡ input.old }
     ensures unwritten { result ≡ BadWords → output.new ≡ output.old }
 {
     match words_of(system) {
         Ok(words) => {
-            let outcome = perform(system.alloc(), files, words, input, output);
+            let outcome = perform(system.alloc(), files, rt, words, input, output);
             tell(errors, outcome.last_line());
             outcome
         }
@@ -51,23 +65,29 @@ pub fn run<S: Env + AllocGlobal, F: Files, R: Read, W: Write, E: Write>(
 // What the command line asks for.
 fn words_of<S: Env + AllocGlobal>(system: &S) -> Result<Words, Refusal>
     ensures peers { IfOk result (λ words. IsPeerList (peers_of words)) }
+    ensures few { IfOk result AreFew }
 {
     let words = given(system)?;
     parse(system.alloc(), words.as_slice())
 }
 
 // Does what the words ask for. Out of memory, a replay has written nothing.
-fn perform<F: Files, R: Read, W: Write>(
+fn perform<F: Files, T, R: Read, W: Write>(
     alloc: Global,
     files: &F,
+    rt: &T,
     words: Words,
     input: &mut R,
     output: &mut W,
 ) -> Outcome
-    requires { IsPeerList (peers_of words) }
-    ensures did { result ≡ Done → Did words (R.remaining input.old) (W.contents output.old) (W.contents output.new) }
-    ensures read_to_the_end { result ≡ Done → IsAtEnd (R.remaining input.new) }
-    ensures no_memory { result ≡ NoMemory → (is_desk words ≡ true) ⊎ Keeps (W.contents output.old) (W.contents output.new) }
+where
+    T: Threads + Wait + Net + Clock + Log + Sync,
+    T::Listener: Sync,
+    T::Stream: Send,
+    requires peers { IsPeerList (peers_of words) }
+    requires few { AreFew words }
+    ensures did { result ≡ Done → Did words (R.remaining input.old) (R.remaining input.new) (W.contents output.old) (W.contents output.new) }
+    ensures no_memory { result ≡ NoMemory → (is_replay words ≡ false) ⊎ Keeps (W.contents output.old) (W.contents output.new) }
     ensures words { result ≢ BadWords }
 {
     match words {
@@ -87,7 +107,48 @@ fn perform<F: Files, R: Read, W: Write>(
             input,
             output,
         ),
+        Words::Serve {
+            own,
+            day,
+            port,
+            rounds,
+            peers,
+        } => match Slots::new(alloc, own, peers.as_slice()) {
+            Ok(slots) => serve_port(rt, alloc, &slots, day, port, rounds, input, output),
+            Err(_) => Outcome::NoMemory,
+        },
     }
+}
+
+// Serves a day over a port of 127.0.0.1. A port that can't be used is an input fault.
+fn serve_port<T, R: Read, W: Write>(
+    rt: &T,
+    alloc: Global,
+    slots: &Slots,
+    day: Day,
+    port: u16,
+    rounds: Rounds,
+    input: &mut R,
+    output: &mut W,
+) -> Outcome
+where
+    T: Threads + Wait + Net + Clock + Log + Sync,
+    T::Listener: Sync,
+    T::Stream: Send,
+    requires { rounds.sessions ≤ 1000 }
+    ensures served { result ≡ Done → DayServed day (W.contents output.new) }
+    ensures words { result ≢ BadWords }
+{
+    let address = SocketAddrV4::new(Ipv4Addr::LOCALHOST, port);
+    let listener = match TcpListener::bind(rt, address) {
+        Ok(listener) => listener,
+        Err(error) if error.kind() == ErrorKind::OutOfMemory => return Outcome::NoMemory,
+        Err(_) => return Outcome::InputFault,
+    };
+    let blank = Blank::new(u64::from(rounds.sessions) + 1);
+    Outcome::of_served(serve_day::<Brand, _, _, _, _>(
+        rt, alloc, blank, &listener, rounds, slots, day, input, output,
+    ))
 }
 
 // Takes the capture in a file, and then answers the lines of the input. A file that can't be opened is an input fault.

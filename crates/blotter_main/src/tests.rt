@@ -4,7 +4,7 @@ use crate::refusal::Refusal;
 use crate::running::run;
 use crate::words::{Words, parse};
 use blot_types::Text64;
-use blotter::{Outcome, ReplayFault};
+use blotter::{Outcome, ReplayFault, ServeFault};
 use std::alloc::{AllocError, Global};
 use std::env::{Env, FillError};
 use std::fs;
@@ -127,6 +127,78 @@ fn words_of_a_desk_are_read(rt: HostRuntime) -> Result<(), Fail> {
         assert_eq!(rt; capture.as_str(), want_file, "{line}");
         let peers = spelled(rt.alloc(), peers.as_slice())?;
         assert_eq!(rt; peers.as_slice(), want_peers, "{line}");
+    }
+    Ok(())
+}
+
+#[test]
+fn words_of_a_server_are_read(rt: HostRuntime) -> Result<(), Fail> {
+    let rows: [(&str, u16, u32, u32); 3] = [
+        (
+            "blotter serve --own MO --day 20240105 --port 9878 --sessions 2 --rounds 3 BRKB BRKA",
+            9878,
+            2,
+            3,
+        ),
+        (
+            "blotter serve --own MO --day 20240105 --port 1 --sessions 1000 BRKB BRKA",
+            1,
+            1000,
+            1,
+        ),
+        (
+            "blotter serve BRKB BRKA --rounds=1000 --sessions=1 --port=65535 --day=20240105 --own=MO",
+            65_535,
+            1,
+            1000,
+        ),
+    ];
+    for (line, want_port, sessions, want_rounds) in rows {
+        let Words::Serve {
+            own,
+            day,
+            port,
+            rounds,
+            peers,
+        } = parse_line(rt.alloc(), line)?
+        else {
+            return Err(Fail::from(line));
+        };
+        assert_eq!(rt; own.bytes(), b"MO".as_slice(), "{line}");
+        assert_eq!(rt; day.write().as_slice(), b"20240105".as_slice(), "{line}");
+        assert_eq!(rt; port, want_port, "{line}");
+        assert_eq!(rt; rounds.sessions, sessions, "{line}");
+        assert_eq!(rt; rounds.rounds, want_rounds, "{line}");
+        let peers = spelled(rt.alloc(), peers.as_slice())?;
+        assert_eq!(rt; peers.as_slice(), b" BRKB BRKA".as_slice(), "{line}");
+    }
+    Ok(())
+}
+
+#[test]
+fn words_of_a_server_are_refused(rt: HostRuntime) -> Result<(), Fail> {
+    let rows = [
+        "--port 0 --sessions 1 --day 20240105 A",
+        "--port 65536 --sessions 1 --day 20240105 A",
+        "--port 9878 --sessions 0 --day 20240105 A",
+        "--port 9878 --sessions 1001 --day 20240105 A",
+        "--port 9878 --sessions 1 --rounds 0 --day 20240105 A",
+        "--port 9878 --sessions 1 --rounds 1001 --day 20240105 A",
+        "--port 9878 --sessions one --day 20240105 A",
+        "--port 9878 --sessions 1 --day 20240230 A",
+        "--port 9878 --sessions 1 --day 20240105",
+        "--port 9878 --sessions 1 --day 20240105 A A",
+        "--port 9878 --day 20240105 A",
+        "--sessions 1 --day 20240105 A",
+        "--port 9878 --sessions 1 A",
+    ];
+    for row in rows {
+        let line = format!(in rt.alloc(); "blotter serve --own MO {row}")?;
+        let words: Vec<&str> = line.as_str().split(' ').collect(rt.alloc())?;
+        let Err(refusal) = parse(rt.alloc(), words.as_slice()) else {
+            return Err(Fail::from(row));
+        };
+        assert_eq!(rt; refusal.outcome().status(), 2, "{row}");
     }
     Ok(())
 }
@@ -262,6 +334,32 @@ fn outcomes_have_a_status_and_a_last_line(rt: HostRuntime) {
             3,
             Some("blotter: no memory"),
         ),
+        (Outcome::of_served(Ok(())), 0, None),
+        (
+            Outcome::of_served(Err(ServeFault::Connection)),
+            1,
+            Some("blotter: input fault"),
+        ),
+        (
+            Outcome::of_served(Err(ServeFault::Lines(ReplayFault::Write))),
+            1,
+            Some("blotter: input fault"),
+        ),
+        (
+            Outcome::of_served(Err(ServeFault::Unsettled)),
+            1,
+            Some("blotter: input fault"),
+        ),
+        (
+            Outcome::of_served(Err(ServeFault::Lines(ReplayFault::NoMemory))),
+            3,
+            Some("blotter: no memory"),
+        ),
+        (
+            Outcome::of_served(Err(ServeFault::NoMemory)),
+            3,
+            Some("blotter: no memory"),
+        ),
         (Refusal::BadWords.outcome(), 2, Some("blotter: bad words")),
         (Refusal::NoMemory.outcome(), 3, Some("blotter: no memory")),
     ];
@@ -308,6 +406,7 @@ fn runs_end_and_tell(rt: HostRuntime) {
         let outcome = run(
             &(Typed(line), rt.alloc()),
             &rt,
+            &rt,
             &mut input,
             &mut output,
             &mut errors,
@@ -326,31 +425,24 @@ fn runs_end_and_tell(rt: HostRuntime) {
 const FIRST_TRADE: &[u8] =
     b"8=FIX.4.4\x019=57\x0135=A\x0149=BRKA\x0156=MO\x0134=1\x0152=20240105-09:59:59\x0198=0\x01108=30\x0110=003\x018=FIX.4.4\x019=164\x0135=8\x0149=BRKA\x0156=MO\x0134=2\x0152=20240105-10:00:00\x0137=O1\x0117=E1\x01150=F\x0139=1\x011=A1\x0155=XYZ\x0154=1\x0138=300\x0132=100\x0131=10.50\x01151=200\x0114=100\x016=10.50\x0160=20240105-10:00:00\x0175=20240105\x0110=199\x01";
 
-// What a desk with the capture in a file answers these lines, and the status of its end.
-fn answers(rt: &HostRuntime, line: &'static [u8], asked: &[u8]) -> (Vec<u8>, u8) {
-    let mut lines = asked;
-    let mut output = Vec::new(rt.alloc());
-    let mut errors = Vec::new(rt.alloc());
-    let outcome = run(
-        &(Typed(line), rt.alloc()),
-        rt,
-        &mut lines,
-        &mut output,
-        &mut errors,
-    );
-    (output, outcome.status())
-}
-
 #[test]
 fn a_desk_answers_by_the_capture_in_its_file(rt: HostRuntime) -> Result<(), Fail> {
     let path = "/tmp/blotter_main_first_trade.fix";
     fs::write(&rt, path, FIRST_TRADE)?;
-    let (told, status) = answers(
+    let mut lines: &[u8] = b"order\tBRKA\tO1\nundo\t1\norder\tBRKA\tO1\n";
+    let mut told = Vec::new(rt.alloc());
+    let mut errors = Vec::new(rt.alloc());
+    let words = Typed(b"blotter desk --own MO --capture /tmp/blotter_main_first_trade.fix BRKA");
+    let outcome = run(
+        &(words, rt.alloc()),
         &rt,
-        b"blotter desk --own MO --capture /tmp/blotter_main_first_trade.fix BRKA",
-        b"order\tBRKA\tO1\nundo\t1\norder\tBRKA\tO1\n",
+        &rt,
+        &mut lines,
+        &mut told,
+        &mut errors,
     );
     fs::remove_file(&rt, path)?;
+    assert_eq!(rt; outcome.status(), 0);
     assert_eq!(rt;
         told.as_slice(),
         b"order\tBRKA\tO1\tXYZ\tB\t100\t200\t1050\nundone\t1\nnone\n".as_slice()

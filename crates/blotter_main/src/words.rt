@@ -1,15 +1,18 @@
 //! The words of the command line: what they ask for.
-ghost use Rattle.std.specs.Prelude.{◌≡◌, ◌≢◌, ◌↔◌, Ok, Some, IfErr, IfOk, IfSome, IsSome, IsSomeAnd, IsTrue, codes, option_map};
+ghost use Rattle.std.specs.Prelude.{◌≡◌, ◌≢◌, ◌↔◌, ◌≤◌, Ok, Some, IfErr, IfOk, IfSome, IsSome, IsSomeAnd, IsTrue, codes, option_map};
 ghost use Rattle.clap.specs.Matches.{first_value, found_of, matched_of, raw_values};
 ghost use Rattle.blot_time.specs.Day.{day_of, IsDayText};
 ghost use Rattle.blot_types.specs.Text.{is_text};
-ghost use Rattle.blotter_main.specs.Words.{IsPeerList, IsReplay, IsDesk, own_of, day_named, capture_named, peers_of};
+ghost use Rattle.blotter_main.specs.Words.{AreFew, IsPeerList, IsReplay, IsDesk, own_of, day_named, capture_named, peers_of};
 
-use crate::command_line::{CAPTURE, DAY, DESK, OWN, PEER, REPLAY, command};
+use crate::command_line::{
+    CAPTURE, DAY, DESK, OWN, PEER, PORT, REPLAY, ROUNDS, SERVE, SESSIONS, command,
+};
 use crate::peers::read_peers;
 use crate::refusal::{Refusal, refusal_of};
 use blot_time::Day;
 use blot_types::Text64;
+use blotter::Rounds;
 use clap::ArgMatches;
 use std::alloc::Global;
 use std::convert::AsStr;
@@ -31,6 +34,14 @@ pub enum Words {
         capture: String,
         peers: Vec<Text64>,
     },
+    /// The brokers that connect, the answers to the lines on standard input, and the report of a day.
+    Serve {
+        own: Text64,
+        day: Day,
+        port: u16,
+        rounds: Rounds,
+        peers: Vec<Text64>,
+    },
 }
 
 /// The words that the system gives, the program's name first.
@@ -45,6 +56,7 @@ pub fn given<S: Env + AllocGlobal>(system: &S) -> Result<Vec<String>, Refusal> {
 /// What these words ask for, the first of which is the program's name.
 pub fn parse<S: AsStr>(alloc: Global, words: &[S]) -> Result<Words, Refusal>
     ensures peers { IfOk result (λ words. IsPeerList (peers_of words)) }
+    ensures few { IfOk result AreFew }
 {
     let matches = match command(alloc)?.try_get_matches_from(words) {
         Ok(matches) => matches,
@@ -53,8 +65,11 @@ pub fn parse<S: AsStr>(alloc: Global, words: &[S]) -> Result<Words, Refusal>
     if let Some(matches) = matches.subcommand_matches(REPLAY) {
         return read_replay(alloc, matches);
     }
-    match matches.subcommand_matches(DESK) {
-        Some(matches) => read_desk(alloc, matches),
+    if let Some(matches) = matches.subcommand_matches(DESK) {
+        return read_desk(alloc, matches);
+    }
+    match matches.subcommand_matches(SERVE) {
+        Some(matches) => read_serve(alloc, matches),
         None => Err(Refusal::BadWords),
     }
 }
@@ -65,6 +80,7 @@ fn read_replay(alloc: Global, matches: &ArgMatches<'_>) -> Result<Words, Refusal
     ensures day { IfOk result (λ words. IfSome (first_value (found_of matches.now) (codes "day")) (λ word. option_map Ok (day_named words) ≡ Some (day_of word))) }
     ensures named { IfOk result (λ words. option_map raw_values (matched_of (found_of matches.now) (codes "peer")) ≡ Some (peers_of words)) }
     ensures peers { IfOk result (λ words. IsPeerList (peers_of words)) }
+    ensures few { IfOk result AreFew }
     ensures refused { IfErr result (λ refusal. refusal ≢ Refusal.NoMemory
         → IsReplay (first_value (found_of matches.now) (codes "own")) (first_value (found_of matches.now) (codes "day"))
         (option_map raw_values (matched_of (found_of matches.now) (codes "peer"))) → ⊥) }
@@ -88,6 +104,7 @@ fn read_desk(alloc: Global, matches: &ArgMatches<'_>) -> Result<Words, Refusal>
     ensures capture { IfOk result (λ words. first_value (found_of matches.now) (codes "capture") ≡ capture_named words) }
     ensures named { IfOk result (λ words. option_map raw_values (matched_of (found_of matches.now) (codes "peer")) ≡ Some (peers_of words)) }
     ensures peers { IfOk result (λ words. IsPeerList (peers_of words)) }
+    ensures few { IfOk result AreFew }
     ensures refused { IfErr result (λ refusal. refusal ≢ Refusal.NoMemory
         → IsDesk (first_value (found_of matches.now) (codes "own")) (first_value (found_of matches.now) (codes "capture"))
         (option_map raw_values (matched_of (found_of matches.now) (codes "peer"))) → ⊥) }
@@ -108,6 +125,65 @@ fn read_desk(alloc: Global, matches: &ArgMatches<'_>) -> Result<Words, Refusal>
         capture,
         peers,
     })
+}
+
+// The words of a server, as `clap` found them.
+fn read_serve(alloc: Global, matches: &ArgMatches<'_>) -> Result<Words, Refusal>
+    ensures own { IfOk result (λ words. first_value (found_of matches.now) (codes "own") ≡ Some (own_of words)) }
+    ensures day { IfOk result (λ words. IfSome (first_value (found_of matches.now) (codes "day")) (λ word. option_map Ok (day_named words) ≡ Some (day_of word))) }
+    ensures named { IfOk result (λ words. option_map raw_values (matched_of (found_of matches.now) (codes "peer")) ≡ Some (peers_of words)) }
+    ensures peers { IfOk result (λ words. IsPeerList (peers_of words)) }
+    ensures few { IfOk result AreFew }
+{
+    let Some(own) = read_text(matches.get_str(OWN)) else {
+        return Err(Refusal::BadWords);
+    };
+    let Some(day) = read_day(matches.get_str(DAY)) else {
+        return Err(Refusal::BadWords);
+    };
+    let Some(port) = read_port(matches.get_one(PORT)) else {
+        return Err(Refusal::BadWords);
+    };
+    let Some(rounds) = read_rounds(matches) else {
+        return Err(Refusal::BadWords);
+    };
+    let Some(named) = matches.get_strs(PEER) else {
+        return Err(Refusal::BadWords);
+    };
+    let peers = read_peers(alloc, named)?;
+    Ok(Words::Serve {
+        own,
+        day,
+        port,
+        rounds,
+        peers,
+    })
+}
+
+// A port, which isn't 0.
+fn read_port(port: Option<u16>) -> Option<u16>
+    ensures { IfSome result (λ number. (port ≡ Some number) × (1 ≤ number)) }
+{
+    port.filter(|port| *port != 0)
+}
+
+// The rounds of a server, as `clap` found them: 1 to 1,000 of them, each of 1 to 1,000 connections.
+fn read_rounds(matches: &ArgMatches<'_>) -> Option<Rounds>
+    ensures { IfSome result (λ rounds. (1 ≤ rounds.rounds) × (rounds.rounds ≤ 1000) × (1 ≤ rounds.sessions) × (rounds.sessions ≤ 1000)) }
+{
+    let sessions = read_count(matches.get_one(SESSIONS)?)?;
+    let rounds = read_count(matches.get_one(ROUNDS)?)?;
+    Some(Rounds { sessions, rounds })
+}
+
+// A count from 1 to 1,000.
+fn read_count(count: u32) -> Option<u32>
+    ensures { IfSome result (λ number. (number ≡ count) × (1 ≤ number) × (number ≤ 1000)) }
+{
+    if count < 1 || 1_000 < count {
+        return None;
+    }
+    Some(count)
 }
 
 // The text of a word, if it is one.

@@ -13,8 +13,8 @@ use std::alloc::{AllocError, Global};
 use std::process::Abort;
 use std::test::Fail;
 
-// A text.
-fn text(name: &str) -> Result<Text64, Fail> {
+/// A text.
+pub fn text(name: &str) -> Result<Text64, Fail> {
     Ok(Text64::read(name.as_bytes()).ok_or("no text")?)
 }
 

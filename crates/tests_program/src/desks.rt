@@ -1,9 +1,10 @@
 //! `desk_lines` over terminals in memory.
 
-use crate::calls::{check_taken, push_words, taken};
+use crate::calls::{check_taken, push_words};
 use crate::capture_rows::{LOGON, TRADE};
-use crate::captures::{capture, frame};
+use crate::captures::frame;
 use crate::desk_rows::{AT_LIMITS, FULL, MORNING, OTHER_TRADE, REPORT, Script, scripts};
+use crate::dialogues::{Dialogue, answers_to, captured, desk, spell};
 use crate::memory::{
     AT_ONCE, BY_BYTES, BY_LINES, INTERRUPTED, Manner, cut_at, failing, reader, writer,
 };
@@ -13,29 +14,6 @@ use blotter::{ReplayFault, desk_lines};
 use std::alloc::{AllocError, Global};
 use std::process::Abort;
 use std::test::Fail;
-
-// A script as bytes: what is typed, and what is answered.
-#[derive(Drop)]
-struct Dialogue {
-    typed: Vec<u8>,
-    answers: Vec<u8>,
-}
-
-// A desk that took a capture.
-fn desk(alloc: Global, bytes: &[u8]) -> Result<Held, Fail> {
-    let mut held = Held::new(alloc);
-    match taken(alloc, &mut reader(bytes, AT_ONCE), &mut held)? {
-        Ok(()) => Ok(held),
-        Err(fault) => Err(Fail::new(format_args!("{fault}"))),
-    }
-}
-
-// The capture of BRKA's Logon and some messages.
-fn captured(alloc: Global, messages: &str) -> Result<Vec<u8>, AllocError> {
-    let mut bytes = frame(alloc, LOGON)?;
-    bytes.extend_from_slice(capture(alloc, messages)?.as_slice())?;
-    Ok(bytes)
-}
 
 // The capture of 200 trades of BRKA, E1 to E200, of 1 at 10.50 each.
 fn captured_200(alloc: Global) -> Result<Vec<u8>, AllocError> {
@@ -48,20 +26,6 @@ fn captured_200(alloc: Global) -> Result<Vec<u8>, AllocError> {
         bytes.extend_from_slice(frame(alloc, message.as_str())?.as_slice())?;
     }
     Ok(bytes)
-}
-
-// The bytes of some rows.
-fn spell(alloc: Global, rows: &str) -> Result<Dialogue, Fail> {
-    let mut typed = Vec::new(alloc);
-    let mut answers = Vec::new(alloc);
-    for row in rows.lines() {
-        let (line, answer) = row.split_once(" => ").ok_or("a row without an answer")?;
-        push_words(&mut typed, line)?;
-        typed.push(b'\n')?;
-        push_words(&mut answers, answer)?;
-        answers.push(b'\n')?;
-    }
-    Ok(Dialogue { typed, answers })
 }
 
 // What is typed comes to its answers.
@@ -104,22 +68,6 @@ fn scripts_come_to_their_answers(rt: HostRuntime) -> Result<(), Fail> {
         }
     }
     Ok(())
-}
-
-// The answers to so many lines, of which each is a line.
-fn answers_to(answers: &[u8], count: u64) -> &[u8] {
-    let mut left = count;
-    let mut length: usize = 0;
-    for byte in answers {
-        if left == 0 {
-            break;
-        }
-        length = length.saturating_add(1);
-        if *byte == b'\n' {
-            left = left.saturating_sub(1);
-        }
-    }
-    answers.get(..length).unwrap_or(answers)
 }
 
 // Where a read or a call of the screen fails, so many lines of the operator's morning are answered, and so many answers

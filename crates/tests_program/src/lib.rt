@@ -1,5 +1,5 @@
 //! Tests of the program's calls over readers and writers in memory: captures whole, cut, damaged and
-//! failing, and operators' scripts.
+//! failing, and operators' scripts, at a desk of one's own and at a seat.
 #![tactic(auto)]
 
 #[cfg(test)]
@@ -9,12 +9,18 @@ mod capture_rows;
 #[cfg(test)]
 mod captures;
 #[cfg(test)]
+mod connections;
+#[cfg(test)]
 mod correction_rows;
 #[cfg(test)]
 mod desk_rows;
 #[cfg(test)]
 mod desks;
 #[cfg(test)]
+mod dialogues;
+#[cfg(test)]
 mod memory;
 #[cfg(test)]
 mod replays;
+#[cfg(test)]
+mod seats;

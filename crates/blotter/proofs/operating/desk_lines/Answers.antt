@@ -1,61 +1,20 @@
-use Rattle.std.proofs.Common.{◌≡◌, [], ◌++◌, length, take, drop, arith, ap, ◌∙◌}
-use Rattle.std.proofs.KnownBytes.{Consumes-nil, Consumes-trans}
-use Rattle.blotter.specs.Lines.{lines_of}
-use Rattle.blotter.specs.Operating.{StoppedIn}
-use Rattle.blotter.proofs.OperatingLemmas.{OnErr-always, HasAnswered-init, StoppedIn-between}
-use Rattle.blotter.proofs.PieceLemmas.{front_of_buffer, IfSome-front}
+use Rattle.std.proofs.lemmas.Result.{on_err_weaker}
+use Rattle.blotter.proofs.OperatingLemmas.{own-told, own-stopped}
+use Rattle.blotter.proofs.ResultLemmas.{on-ok, if-some}
 use Rattle.blotter.proofs.operating.desk_lines.Goals as goal
 
-pub loop-init : goal.loop-init
-loop-init g c = (
-  [],
-  Consumes-nil (g.R.Read.remaining c.args.input.now),
-  HasAnswered-init c.args.held.now c.new-line.result.items (g.W.Write.contents c.args.output.now) c.new-line.ensures.items,
-  omega (arith, c.in_ok-buffer.ensures),
-)
+pub returns-clause-journal : goal.returns-clause-journal
+returns-clause-journal g c =
+    on-ok c.answer_lines.result c.answer_lines.ensures.told
+    (λ told. if-some _ _ (g.R.Read.remaining c.args.input.now) told (λ bytes told. (own-told _ _ _ _ _ told).0))
 
-pub loop-preserved : goal.loop-preserved
-loop-preserved g c =
-    let consumed = (rw c.in-Some.is at c.in_ok-count.ensures.piece) in
-    let behind = drop (length c.read_piece.new.buffer) c.loop.buffer.items in
-    let piece : take c.in-Some.count c.deref-in-loop.result.now ≡ take c.in-Some.count c.read_piece.new.buffer =
-    ap (take c.in-Some.count) c.deref-in-loop.ensures.value
-    ∙ front_of_buffer c.in-Some.count c.loop.buffer.len c.read_piece.new.buffer behind consumed.1 (omega (arith, consumed.1)) in
-    let bytes = c.loop.invariant.0 in (
-      bytes ++ take c.in-Some.count c.deref-in-loop.result.now,
-      Consumes-trans _ _ _ bytes _ c.loop.invariant.1 (rw piece consumed.0),
-      c.in_ok-answer_piece.ensures.ok c.args.held.now bytes (g.W.Write.contents c.args.output.now) c.loop.invariant.2,
-      c.loop.invariant.3,
-    )
-
-pub returns-in_err-buffer-clause-fault : goal.returns-in_err-buffer-clause-fault
-returns-in_err-buffer-clause-fault g c =
-    let contents = g.W.Write.contents c.args.output.now in
-    OnErr-always c.from_residual.result
-    (IfSome-front (g.R.Read.remaining c.args.input.now) (g.R.Read.remaining c.args.input.now) [] (λ bytes. StoppedIn c.args.held.now (lines_of bytes) c.args.held.now contents contents)
-    (Consumes-nil (g.R.Read.remaining c.args.input.now))
-    (λ more. StoppedIn-between c.args.held.now [] more _ _ contents contents (HasAnswered-init c.args.held.now c.new-line.result.items contents c.new-line.ensures.items)))
-
-pub returns-in_err-count-clause-fault : goal.returns-in_err-count-clause-fault
-returns-in_err-count-clause-fault g c =
-    OnErr-always c.from_residual-in_err-count.result
-    (IfSome-front (g.R.Read.remaining c.args.input.now) (g.R.Read.remaining c.loop.input) c.loop.invariant.0 _ c.loop.invariant.1
-    (λ more. StoppedIn-between c.args.held.now c.loop.invariant.0 more _ _ _ _ c.loop.invariant.2))
-
-pub returns-in_err-answer_piece-clause-fault : goal.returns-in_err-answer_piece-clause-fault
-returns-in_err-answer_piece-clause-fault g c =
-    let consumed = (rw c.in-Some.is at c.in_ok-count.ensures.piece) in
-    let behind = drop (length c.read_piece.new.buffer) c.loop.buffer.items in
-    let piece : take c.in-Some.count c.deref-in-loop.result.now ≡ take c.in-Some.count c.read_piece.new.buffer =
-    ap (take c.in-Some.count) c.deref-in-loop.ensures.value
-    ∙ front_of_buffer c.in-Some.count c.loop.buffer.len c.read_piece.new.buffer behind consumed.1 (omega (arith, consumed.1)) in
-    let bytes = c.loop.invariant.0 in
-    OnErr-always c.from_residual-in_err-answer_piece.result
-    (IfSome-front (g.R.Read.remaining c.args.input.now) (g.R.Read.remaining c.read_piece.new.input) (bytes ++ take c.in-Some.count c.deref-in-loop.result.now) _
-    (Consumes-trans _ _ _ bytes _ c.loop.invariant.1 (rw piece consumed.0))
-    (λ more. c.in_err-answer_piece.ensures.err c.args.held.now bytes more (g.W.Write.contents c.args.output.now) c.loop.invariant.2))
+pub returns-clause-wrote : goal.returns-clause-wrote
+returns-clause-wrote g c =
+    on-ok c.answer_lines.result c.answer_lines.ensures.told
+    (λ told. if-some _ _ (g.R.Read.remaining c.args.input.now) told (λ bytes told. (own-told _ _ _ _ _ told).1))
 
 pub returns-clause-fault : goal.returns-clause-fault
 returns-clause-fault g c =
-    IfSome-front (g.R.Read.remaining c.args.input.now) (g.R.Read.remaining c.loop.input) c.loop.invariant.0 _ c.loop.invariant.1
-    (λ more. StoppedIn-between c.args.held.now c.loop.invariant.0 more _ _ _ _ c.loop.invariant.2)
+    on_err_weaker c.answer_lines.result
+    (λ stopped. if-some _ _ (g.R.Read.remaining c.args.input.now) stopped (λ bytes stopped. own-stopped _ _ _ _ _ stopped))
+    c.answer_lines.ensures.fault

@@ -1,0 +1,154 @@
+//! Rounds of connections, each served at once.
+ghost use Rattle.std.specs.Prelude.{◌≡◌, IfOk, map, vec_len};
+
+use crate::{ServeFault, Socket, SystemClock};
+use blot_desk::{Desk, Seat};
+use blot_gateway::{Ended, OpenGate, serve};
+use blot_slots::Slots;
+use log::{Log, info};
+use std::alloc::{AllocError as NoMemory, Global};
+use std::io::{ErrorKind, Read, Write};
+use std::mem;
+use std::net::{OpenListener, OpenStream};
+use std::sync::Wait;
+use std::sync::ledger::Ledger;
+use std::thread::Threads;
+use std::time::Clock;
+
+/// How many rounds a day has, and how many connections a round.
+#[derive(Clone, Copy, Debug, PartialEq, Eq)]
+pub struct Rounds {
+    pub rounds: u32,
+    pub sessions: u32,
+}
+
+/// Logs how each wire of a round ended, in their order: `wire 0 ended 1`, by the number of its ending.
+pub fn log_endings<G: Log, L: Ledger>(log: &G, endings: &[(Ended, Seat<L>)]) {
+    for (place, (ended, _)) in endings.iter().enumerate() {
+        info!(log; "wire {place} ended {}", ended.number());
+    }
+}
+
+/// Takes rounds of connections: each has one for each seat, which are served at once, and then their endings are logged.
+pub(crate) fn serve_rounds<R, N, L>(
+    rt: &R,
+    alloc: Global,
+    listener: &N,
+    rounds: u32,
+    slots: &Slots,
+    desk: &Desk<L>,
+    seats: &mut Vec<Seat<L>>,
+) -> Result<(), ServeFault>
+where
+    R: Threads + Wait + Clock + Log + Sync,
+    N: OpenListener,
+    N::Stream: Read + Write + OpenStream + Send,
+    L: Ledger + Send + Sync,
+{
+    for _ in 0..rounds {
+        serve_round(rt, alloc, listener, slots, desk, seats)?;
+    }
+    Ok(())
+}
+
+// Takes a connection for each seat, and serves them at once.
+fn serve_round<R, N, L>(
+    rt: &R,
+    alloc: Global,
+    listener: &N,
+    slots: &Slots,
+    desk: &Desk<L>,
+    seats: &mut Vec<Seat<L>>,
+) -> Result<(), ServeFault>
+where
+    R: Threads + Wait + Clock + Log + Sync,
+    N: OpenListener,
+    N::Stream: Read + Write + OpenStream + Send,
+    L: Ledger + Send + Sync,
+{
+    let wires = accept_all(alloc, listener, seats.len())?;
+    let clocks = clocks_of(rt, alloc, seats.len())?;
+    let waiting = mem::replace(seats, Vec::new(alloc));
+    match serve(rt, alloc, wires, clocks, slots, desk, waiting, &OpenGate) {
+        Ok(endings) => {
+            log_endings(rt, &endings);
+            *seats = seats_of(alloc, endings)?;
+            Ok(())
+        }
+        Err((_, waiting)) => {
+            *seats = waiting;
+            Err(ServeFault::NoMemory)
+        }
+    }
+}
+
+// So many connections, as they come.
+fn accept_all<N>(
+    alloc: Global,
+    listener: &N,
+    count: usize,
+) -> Result<Vec<Socket<N::Stream>>, ServeFault>
+where
+    N: OpenListener,
+    N::Stream: OpenStream,
+    ensures { IfOk result (λ wires. vec_len wires ≡ count) }
+{
+    let mut wires = Vec::new(alloc);
+    for _ in 0..count {
+        let wire = accept(listener)?;
+        wires.push(wire)?;
+    }
+    Ok(wires)
+}
+
+// The next connection. One that is gone already is passed over.
+fn accept<N>(listener: &N) -> Result<Socket<N::Stream>, ServeFault>
+where
+    N: OpenListener,
+    N::Stream: OpenStream,
+{
+    for _ in 0..u64::MAX {
+        match listener.accept() {
+            Ok((stream, _)) => {
+                if let Ok(socket) = Socket::new(stream) {
+                    return Ok(socket);
+                }
+            }
+            Err(error) => match error.kind() {
+                ErrorKind::Interrupted | ErrorKind::ConnectionAborted => {}
+                ErrorKind::OutOfMemory => return Err(ServeFault::NoMemory),
+                _ => return Err(ServeFault::Connection),
+            },
+        }
+    }
+    Err(ServeFault::Connection)
+}
+
+// So many clocks of a system.
+fn clocks_of<'a, R: Clock>(
+    system: &'a R,
+    alloc: Global,
+    count: usize,
+) -> Result<Vec<SystemClock<'a, R>>, NoMemory>
+    ensures { IfOk result (λ clocks. vec_len clocks ≡ count) }
+{
+    let mut clocks = Vec::with_capacity(alloc, count)?;
+    for _ in 0..count {
+        clocks.push_reserved(SystemClock::new(system));
+    }
+    Ok(clocks)
+}
+
+// The seats behind a round, in their order.
+fn seats_of<L: Ledger>(
+    alloc: Global,
+    endings: Vec<(Ended, Seat<L>)>,
+) -> Result<Vec<Seat<L>>, NoMemory>
+    ensures { IfOk result (λ seats. seats.items ≡ map (λ ending. ending.1) endings.items) }
+{
+    let mut seats = Vec::with_capacity(alloc, endings.len())?;
+    for (_, seat) in endings {
+        seats.push_reserved(seat);
+    }
+    Ok(seats)
+}

@@ -1,0 +1,46 @@
+//! The moments of the system's clock.
+ghost use Rattle.std.specs.Prelude.{◌≡◌, pos};
+
+use crate::moment::first_moment;
+use blot_gateway::Clock;
+use blot_time::Moment;
+use std::time::{self, SystemTime};
+
+/// The system's clock. Where it can't be read, or shows no moment, it tells its last moment again, at first 19700101-00:00:00.
+#[derive(Drop)]
+pub struct SystemClock<'a, R> {
+    system: &'a R,
+    last: Moment,
+}
+
+impl<'a, R: time::Clock> SystemClock<'a, R> {
+    /// The clock of a system, which has told no moment yet.
+    pub fn new(system: &'a R) -> SystemClock<'a, R>
+        ensures { result.last ≡ pos 0 }
+    {
+        SystemClock {
+            system,
+            last: first_moment(),
+        }
+    }
+}
+
+impl<'a, R: time::Clock> Clock for SystemClock<'a, R> {
+    ghost use Rattle.std.specs.Prelude.{◌≡◌};
+
+    ghost ticks = { λ before moment after. after.last ≡ moment };
+
+    fn now(&mut self) -> Moment {
+        if let Some(moment) = shown_by(self.system) {
+            self.last = moment;
+        }
+        self.last
+    }
+}
+
+// The moment that a system's clock shows, to the millisecond.
+fn shown_by<R: time::Clock>(system: &R) -> Option<Moment> {
+    let shown = SystemTime::now(system).ok()?;
+    let since_1970 = shown.duration_since(SystemTime::UNIX_EPOCH).ok()?;
+    Moment::from_millis(i64::try_from(since_1970.as_millis()).ok()?)
+}
