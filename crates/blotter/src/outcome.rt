@@ -104,7 +104,8 @@ impl Outcome {
     {
         match served {
             Ok(()) => Outcome::Done,
-            Err(ServeFault::NoMemory | ServeFault::Lines(ReplayFault::NoMemory)) => Outcome::NoMemory,
+            Err(ServeFault::NoMemory | ServeFault::Lines(ReplayFault::NoMemory)) =>
+                Outcome::NoMemory,
             Err(_) => Outcome::InputFault,
         }
     }

@@ -68,10 +68,7 @@ where
 }
 
 // What two runs at once come to: out of memory in one of them is told before another fault.
-fn both(
-    served: Result<(), ServeFault>,
-    answered: Result<(), ReplayFault>,
-) -> Result<(), ServeFault>
+fn both(served: Result<(), ServeFault>, answered: Result<(), ReplayFault>) -> Result<(), ServeFault>
     ensures ok { OnOk result (IsOk served × IsOk answered) }
     ensures memory { (served ≡ Err ServeFault.NoMemory) ⊎ (answered ≡ Err ReplayFault.NoMemory) → result ≡ Err ServeFault.NoMemory }
 {

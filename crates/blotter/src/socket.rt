@@ -30,10 +30,7 @@ impl<S: OpenStream + Drop> Socket<S> {
         stream.set_read_timeout(Some(Duration::from_secs(READ_WAIT)))?;
         stream.set_write_timeout(Some(Duration::from_secs(WRITE_WAIT)))?;
         stream.set_nodelay(true)?;
-        Ok(Socket {
-            stream,
-            faults: 0,
-        })
+        Ok(Socket { stream, faults: 0 })
     }
 }
 

@@ -68,7 +68,9 @@ fn desk_command<'a>(alloc: Global) -> Result<Command<'a>, AllocError> {
 // The subcommand that serves brokers as they connect, with its options and its help.
 fn serve_command<'a>(alloc: Global) -> Result<Command<'a>, AllocError> {
     Command::new(alloc, SERVE)
-        .about("Serves the brokers that connect over TCP, answers an operator's lines, and prints the day's report")
+        .about(
+            "Serves the brokers that connect over TCP, answers an operator's lines, and prints the day's report",
+        )
         .long_about(ABOUT_SERVE)
         .after_help(SERVE_EXAMPLE)
         .after_long_help(AFTER_SERVE)

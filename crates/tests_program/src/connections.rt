@@ -13,7 +13,10 @@ use log::sink::{Lines, Memory};
 use std::alloc::Global;
 use std::io::{self, Read, Write};
 use std::marker::Brand;
-use std::net::{Ipv4Addr, Net, OpenListener, OpenStream, Shutdown, SocketAddr, SocketAddrV4, TcpListener, TcpStream};
+use std::net::{
+    Ipv4Addr, Net, OpenListener, OpenStream, Shutdown, SocketAddr, SocketAddrV4, TcpListener,
+    TcpStream,
+};
 use std::sync::Wait;
 use std::sync::ledger::{Blank, Ledger};
 use std::test::Fail;
@@ -39,6 +42,7 @@ const LOST: &str = "\
 35=A|49=BRKA|56=MO|34=1|52=20240105-09:59:59|98=0|108=30|
 35=8|49=BRKA|56=MO|34=2|52=20240105-10:00:00|37=O1|17=E1|150=F|39=1|1=A1|55=XYZ|54=1|38=300|32=100|31=10.50|151=200|14=100|6=10.50|60=20240105-10:00:00|75=20240105|
 ";
+
 const BACK: &str = "\
 35=A|49=BRKA|56=MO|34=3|52=20240105-10:00:02|98=0|108=30|
 35=8|49=BRKA|56=MO|34=4|52=20240105-10:00:03|37=O1|17=E2|150=F|39=1|1=A1|55=XYZ|54=1|38=300|32=50|31=11|151=150|14=150|6=10.6667|60=20240105-10:00:03|75=20240105|
@@ -46,7 +50,12 @@ const BACK: &str = "\
 ";
 
 // A peer that connects, and sends these messages and no more.
-fn spoken<R: Net>(net: &R, alloc: Global, address: SocketAddr, text: &str) -> io::Result<R::Stream> {
+fn spoken<R: Net>(
+    net: &R,
+    alloc: Global,
+    address: SocketAddr,
+    text: &str,
+) -> io::Result<R::Stream> {
     let bytes = capture(alloc, text)?;
     let mut stream = TcpStream::connect(net, address)?;
     stream.write_all(&bytes)?;
@@ -135,7 +144,8 @@ fn two_peers_at_once(rt: HostRuntime) -> Result<(), Fail> {
         sessions: 2,
     };
     let told = served::<Brand, _>(&rt, rt.alloc(), Blank::new(3), rounds, [FIRST, SECOND])?;
-    let want = b"none\nreport\t20240105\norder\tBRKA\tO1\tXYZ\tB\t100\t200\t1050\norder\tBRKB\tO2\tXYZ\tB\t50\t200\t550\nposition\tA1\tXYZ\t100\t1050\nposition\tB1\tXYZ\t50\t550\nend\t4\n";
+    let want =
+        b"none\nreport\t20240105\norder\tBRKA\tO1\tXYZ\tB\t100\t200\t1050\norder\tBRKB\tO2\tXYZ\tB\t50\t200\t550\nposition\tA1\tXYZ\t100\t1050\nposition\tB1\tXYZ\t50\t550\nend\t4\n";
     assert_eq!(rt; told.as_slice(), want.as_slice());
     Ok(())
 }
@@ -147,7 +157,8 @@ fn a_peer_that_comes_back_with_its_numbers(rt: HostRuntime) -> Result<(), Fail> 
         sessions: 1,
     };
     let told = served::<Brand, _>(&rt, rt.alloc(), Blank::new(2), rounds, [LOST, BACK])?;
-    let want = b"none\nreport\t20240105\norder\tBRKA\tO1\tXYZ\tB\t150\t150\t1600\nposition\tA1\tXYZ\t150\t1600\nend\t2\n";
+    let want =
+        b"none\nreport\t20240105\norder\tBRKA\tO1\tXYZ\tB\t150\t150\t1600\nposition\tA1\tXYZ\t150\t1600\nend\t2\n";
     assert_eq!(rt; told.as_slice(), want.as_slice());
     Ok(())
 }
@@ -165,8 +176,14 @@ fn logged<L: Ledger + Send + Sync, R: Threads + Wait + Sync>(
     let (desk, seats) = Desk::<L>::new(alloc, blank, 2)?;
     let peers = [text("BRKA")?, text("BRKB")?];
     let slots = Slots::new(alloc, text("MO")?, &peers)?;
-    let wires = vec![in alloc; MemoryWire::new(alloc, capture(alloc, LOST)?), MemoryWire::new(alloc, capture(alloc, SECOND)?)]?;
-    let clocks = vec![in alloc; ListClock::new(Vec::new(alloc)), ListClock::new(Vec::new(alloc))]?;
+    let wires = vec![in alloc;
+        MemoryWire::new(alloc, capture(alloc, LOST)?),
+        MemoryWire::new(alloc, capture(alloc, SECOND)?),
+    ]?;
+    let clocks = vec![in alloc;
+        ListClock::new(Vec::new(alloc)),
+        ListClock::new(Vec::new(alloc)),
+    ]?;
     match serve(rt, alloc, wires, clocks, &slots, &desk, seats, &OpenGate) {
         Ok(endings) => {
             let log = Memory::new(alloc);
