@@ -16,7 +16,7 @@ use Rattle.blot_gateway.specs.AtOnce.{AddsSubmits, EachAdds, EachServed, Follows
 
 -- ---- the receipts of a seat
 
-adds-none : (before after : List Receipt) → after ≡ before → AddsSubmits before after
+pub adds-none : (before after : List Receipt) → after ≡ before → AddsSubmits before after
 adds-none before after same = record { more = []; joined = same ∙ sym (append-nil before); submits = refl }
 
 adds-one : (before after : List Receipt) (command : Command) (answer : Result Reply DeskFault) → Keeps before command answer after → AddsSubmits before after
@@ -24,7 +24,7 @@ adds-one before after command (Ok reply) keeps =
     record { more = record { place = keeps.place; event = Submit command; reply = reply } ∷ []; joined = keeps.more; submits = refl }
 adds-one before after command (Err fault) same = adds-none before after same
 
-adds-on : (a b c : List Receipt) → AddsSubmits a b → AddsSubmits b c → AddsSubmits a c
+pub adds-on : (a b c : List Receipt) → AddsSubmits a b → AddsSubmits b c → AddsSubmits a c
 adds-on a b c one two =
     record {
       more = one.more ++ two.more;
@@ -56,7 +56,7 @@ adds-served does ticks failures own wire clock before end after served =
 
 pub each-adds : {W C : Type 0} (does : W → Did → W → Type 0) (ticks : C → ℤ → C → Type 0) (failures : W → ℕ) (own : List ℕ)
     (wires : List W) (clocks : List C) (seats : List (List Receipt)) (endings : List (Ended × List Receipt))
-    → EachServed does ticks failures own wires clocks seats endings → EachAdds seats endings
+    → EachServed does ticks failures own wires clocks seats endings → EachAdds seats (map (λ ending. ending.1) endings)
 each-adds does ticks failures own [] [] [] [] each = tt
 each-adds does ticks failures own (wire ∷ wires) (clock ∷ clocks) (receipts ∷ seats) (ending ∷ endings) each =
     (adds-served does ticks failures own wire clock receipts ending.0 ending.1 each.0, each-adds does ticks failures own wires clocks seats endings each.1)

@@ -1,4 +1,4 @@
-mod AtOnceLemmas
+pub mod AtOnceLemmas
 mod CallLemmas
 mod DeliveredLemmas
 mod RunLemmas

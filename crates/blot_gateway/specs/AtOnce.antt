@@ -106,8 +106,8 @@ EachServed does ticks failures own (wire ∷ wires) (clock ∷ clocks) (receipts
     IsServed does ticks failures own wire clock receipts ending.0 ending.1 × EachServed does ticks failures own wires clocks seats endings
 EachServed does ticks failures own wires clocks seats endings = ⊥
 
--- each seat got some receipts of submits
-abbrev pub EachAdds : List (List Receipt) → List (Ended × List Receipt) → Type 0
+-- each of these seats got some receipts of submits
+abbrev pub EachAdds : List (List Receipt) → List (List Receipt) → Type 0
 EachAdds [] [] = Unit {0}
-EachAdds (receipts ∷ seats) (ending ∷ endings) = AddsSubmits receipts ending.1 × EachAdds seats endings
-EachAdds seats endings = ⊥
+EachAdds (before ∷ earlier) (after ∷ later) = AddsSubmits before after × EachAdds earlier later
+EachAdds earlier later = ⊥

@@ -37,7 +37,7 @@ pub fn serve<
     requires clocks { vec_len clocks ≡ vec_len wires }
     requires seats { vec_len seats ≡ vec_len wires }
     ensures served { IfOk result (λ endings. EachServed W.does C.ticks W.failures slots.now wires.items clocks.items seats.items endings.items) }
-    ensures submits { IfOk result (λ endings. EachAdds seats.items endings.items) }
+    ensures submits { IfOk result (λ endings. EachAdds seats.items (map (λ ending. ending.1) endings.items)) }
     ensures err { IfErr result (λ refused. refused.1.items ≡ seats.items) }
 {
     let Ok(mut endings) = Vec::with_capacity(alloc, seats.len()) else {

@@ -6,5 +6,6 @@ mod OperatingLemmas
 mod PeerLemmas
 mod PieceLemmas
 mod ResultLemmas
+mod ServingLemmas
 mod SessionLemmas
 mod StreamLemmas

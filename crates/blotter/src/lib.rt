@@ -8,6 +8,7 @@ mod capturing;
 mod driving;
 mod intake;
 mod lines;
+mod meanwhile;
 mod moment;
 mod operated;
 mod operating;

@@ -36,10 +36,10 @@ impl From<NoMemory> for ReplayFault {
     }
 }
 
-/// Why a day that is served ends without its report.
+/// What a day that is served met. At Connection, and where the operator's lines stopped, the report is written all the same.
 #[derive(Clone, Copy, Debug, PartialEq, Eq, Error)]
 pub enum ServeFault {
-    /// No connection can be accepted.
+    /// No connection can be accepted, so no further round began.
     #[error("a connection can't be accepted")]
     Connection,
     /// The operator's lines stopped, or the report couldn't be written.

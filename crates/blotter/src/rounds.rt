@@ -1,5 +1,6 @@
 //! Rounds of connections, each served at once.
-ghost use Rattle.std.specs.Prelude.{◌≡◌, IfOk, map, vec_len};
+ghost use Rattle.std.specs.Prelude.{◌≡◌, ◌≢◌, Err, IfOk, map, vec_len};
+ghost use Rattle.blot_gateway.specs.AtOnce.{EachAdds};
 
 use crate::{ServeFault, Socket, SystemClock};
 use blot_desk::{Desk, Seat};
@@ -44,6 +45,7 @@ where
     N: OpenListener,
     N::Stream: Read + Write + OpenStream + Send,
     L: Ledger + Send + Sync,
+    ensures { result ≢ Err ServeFault.NoMemory → EachAdds seats.old.items seats.new.items }
 {
     for _ in 0..rounds {
         serve_round(rt, alloc, listener, slots, desk, seats)?;
@@ -65,6 +67,7 @@ where
     N: OpenListener,
     N::Stream: Read + Write + OpenStream + Send,
     L: Ledger + Send + Sync,
+    ensures { result ≢ Err ServeFault.NoMemory → EachAdds seats.old.items seats.new.items }
 {
     let wires = accept_all(alloc, listener, seats.len())?;
     let clocks = clocks_of(rt, alloc, seats.len())?;

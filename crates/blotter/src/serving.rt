@@ -1,9 +1,11 @@
 //! `serve_day`.
-ghost use Rattle.std.specs.Io.KnownBytes.{Appends};
-ghost use Rattle.std.specs.Prelude.{◌≡◌, ◌+◌, ◌≤◌, ◌⊎◌, Err, IsOk, OnOk};
-ghost use Rattle.blotter.specs.Serving.{DayServed, Reported};
+ghost use Rattle.std.specs.List.{All};
+ghost use Rattle.std.specs.Io.KnownBytes.{Appends, IsAtEnd};
+ghost use Rattle.std.specs.Prelude.{◌≡◌, ◌≢◌, ◌+◌, ◌≤◌, ◌⊎◌, [], ◌∷◌, ◌++◌, length, Err, IfOk, IsOk, OnOk};
+ghost use Rattle.blot_gateway.specs.AtOnce.{EachAdds};
+ghost use Rattle.blotter.specs.Serving.{DayServed, Reported, TellsAll, TellsSome};
 
-use crate::operating::seat_lines;
+use crate::meanwhile::{Lines, Task, take_back};
 use crate::replaying::day_report;
 use crate::rounds::serve_rounds;
 use crate::transfer::{flush, write_text};
@@ -12,7 +14,7 @@ use blot_desk::{Desk, DeskFault, Seat};
 use blot_slots::Slots;
 use blot_time::Day;
 use log::Log;
-use std::alloc::Global;
+use std::alloc::{AllocError as NoMemory, Global};
 use std::io::{Read, Write};
 use std::net::{OpenListener, OpenStream};
 use std::sync::Wait;
@@ -24,8 +26,8 @@ use std::time::Clock;
 /// their own. After the last round and the last line the seats are settled with the desk, and the report of the day is written.
 /// How each connection of a round ended is logged after that round. A round has at most 1,000 connections.
 ///
-/// Connection: none can be accepted, and no further round begins. Lines: as `seat_lines` says, or the report can't be written. Both are
-/// told after the report. Unsettled: the receipts aren't those of the history, which no run comes to. NoMemory: memory ran out.
+/// Connection: none can be accepted, and no further round begins; lines and report are told nevertheless. Lines: as `seat_lines` says,
+/// or the report can't be written. Unsettled: the receipts aren't those of the history, which no run comes to. NoMemory: memory ran out.
 pub fn serve_day<L, R, N, I, O>(
     rt: &R,
     alloc: Global,
@@ -48,28 +50,97 @@ where
     requires parts { blank.parts ≡ L.parts }
     requires seats { blank.parts ≡ rounds.sessions + 1 }
     requires sessions { rounds.sessions ≤ 1000 }
-    ensures served { OnOk result (DayServed day (O.contents output.new)) }
+    ensures served { OnOk result (DayServed (TellsAll (I.remaining input.old)) rounds.sessions day (O.contents output.old) (O.contents output.new)) }
+    ensures read_to_the_end { OnOk result (IsAtEnd (I.remaining input.new)) }
+    ensures no_connection { result ≡ Err ServeFault.Connection
+        → DayServed (TellsSome (I.remaining input.old)) rounds.sessions day (O.contents output.old) (O.contents output.new) }
 {
-    let (desk, seats) = Desk::<L>::new(alloc, blank, rounds.sessions + 1)?;
-    let mut seats = seats;
-    let mut operator = seats.pop().unwrap();
-    let (served, answered) = join(
+    let (desk, seats, operator) = open_day::<L>(alloc, blank, rounds.sessions)?;
+    let lines = Lines {
         rt,
-        || serve_rounds(rt, alloc, listener, rounds.rounds, slots, &desk, &mut seats),
-        || seat_lines(rt, alloc, input, output, &desk, &mut operator),
+        alloc,
+        input,
+        output,
+        desk: &desk,
+        seat: operator,
+    };
+    let ((served, seats), (answered, operator, input, output)) = serve_beside(
+        rt,
+        alloc,
+        listener,
+        rounds.rounds,
+        slots,
+        &desk,
+        seats,
+        lines,
     );
+    take_back(input);
     let ended = both(served, answered);
     if let Err(ServeFault::NoMemory) = ended {
         return Err(ServeFault::NoMemory);
     }
-    seats.push(operator)?;
-    report(alloc, desk, seats, day, output)?;
+    report(alloc, desk, seats, operator, day, output)?;
     ended
+}
+
+// An empty desk, with so many seats for brokers and one for the operator.
+fn open_day<L: Ledger>(
+    alloc: Global,
+    blank: Blank,
+    sessions: u32,
+) -> Result<(Desk<L>, Vec<Seat<L>>, Seat<L>), NoMemory>
+    requires name { blank.name ≡ L.name }
+    requires parts { blank.parts ≡ L.parts }
+    requires seats { blank.parts ≡ sessions + 1 }
+    requires few { sessions ≤ 1000 }
+    ensures brokers { IfOk result (λ opened. (length opened.1.items ≡ sessions) × All (λ receipts. receipts ≡ []) opened.1.items) }
+    ensures operator { IfOk result (λ opened. opened.2 ≡ []) }
+{
+    let (desk, seats) = Desk::<L>::new(alloc, blank, sessions + 1)?;
+    let mut seats = seats;
+    let operator = seats.pop().unwrap();
+    Ok((desk, seats, operator))
+}
+
+// Serves rounds of connections, and does a task meanwhile: how the rounds ended, their seats, and what came of the task.
+fn serve_beside<L, R, N, T, A>(
+    rt: &R,
+    alloc: Global,
+    listener: &N,
+    rounds: u32,
+    slots: &Slots,
+    desk: &Desk<L>,
+    seats: Vec<Seat<L>>,
+    task: T,
+) -> ((Result<(), ServeFault>, Vec<Seat<L>>), A)
+where
+    L: Ledger + Send + Sync,
+    R: Threads + Wait + Clock + Log + Sync,
+    N: OpenListener + Sync,
+    N::Stream: Read + Write + OpenStream + Send,
+    T: Task<Output = A> + Drop,
+    ensures adds { result.0.0 ≢ Err ServeFault.NoMemory → EachAdds seats.items result.0.1.items }
+    ensures gives { T.gives task result.1 }
+{
+    join(
+        rt,
+        move || -> (Result<(), ServeFault>, Vec<Seat<L>>)
+            ensures { result.0 ≢ Err ServeFault.NoMemory → EachAdds seats.items result.1.items }
+        {
+            let mut seats = seats;
+            let served = serve_rounds(rt, alloc, listener, rounds, slots, desk, &mut seats);
+            (served, seats)
+        },
+        move || -> A
+            ensures { T.gives task result }
+        { task.run() },
+    )
 }
 
 // What two runs at once come to: out of memory in one of them is told before another fault.
 fn both(served: Result<(), ServeFault>, answered: Result<(), ReplayFault>) -> Result<(), ServeFault>
     ensures ok { OnOk result (IsOk served × IsOk answered) }
+    ensures connection { result ≡ Err ServeFault.Connection → served ≡ Err ServeFault.Connection }
     ensures memory { (served ≡ Err ServeFault.NoMemory) ⊎ (answered ≡ Err ReplayFault.NoMemory) → result ≡ Err ServeFault.NoMemory }
 {
     match (served, answered) {
@@ -86,12 +157,16 @@ fn both(served: Result<(), ServeFault>, answered: Result<(), ReplayFault>) -> Re
 fn report<L: Ledger, O: Write>(
     alloc: Global,
     desk: Desk<L>,
-    seats: Vec<Seat<L>>,
+    brokers: Vec<Seat<L>>,
+    operator: Seat<L>,
     day: Day,
     output: &mut O,
 ) -> Result<(), ServeFault>
-    ensures reported { OnOk result (Reported day seats.items (O.contents output.old) (O.contents output.new)) }
+    ensures reported { OnOk result (Reported day (brokers.items ++ (operator ∷ [])) (O.contents output.old) (O.contents output.new)) }
+    ensures connected { result ≢ Err ServeFault.Connection }
 {
+    let mut seats = brokers;
+    seats.push(operator)?;
     let settled = match desk.close().settle(seats) {
         Ok(settled) => settled,
         Err((DeskFault::Unsettled, _, _)) => return Err(ServeFault::Unsettled),

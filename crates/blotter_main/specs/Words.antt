@@ -1,7 +1,8 @@
 -- What the words of the command line ask for.
-use Rattle.std.specs.Prelude.{◌≡◌, ℕ, ◌<◌, ◌≤◌, ℤ, Bool, true, false, List, length, Option, Some, None, IfSome, IsSome, IsSomeAnd, IsTrue}
+use Rattle.std.specs.Prelude.{◌≡◌, ℕ, ◌<◌, ◌≤◌, ℤ, Bool, true, false, List, [], ◌∷◌, length, Option, Some, None, IfSome, IsSome, IsSomeAnd, IsTrue}
 use Rattle.std.specs.Io.KnownBytes.{Appends, IsAtEnd}
 use Rattle.std.specs.List.{IsDistinct, list_all}
+use Rattle.std.specs.Str.Parse.{IsNumeral, digits_value, without_leading_plus}
 use Rattle.blot_time.specs.Day.{IsDayText}
 use Rattle.blot_types.specs.Keys.{same_text}
 use Rattle.blot_types.specs.Text.{is_text}
@@ -9,7 +10,7 @@ use Rattle.blot_desk.specs.Desk.{Journal}
 use Rattle.blotter.specs.Lines.{lines_of}
 use Rattle.blotter.specs.Operating.{told_over}
 use Rattle.blotter.specs.Replay.{list_of, report_of}
-use Rattle.blotter.specs.Serving.{DayServed}
+use Rattle.blotter.specs.Serving.{DayServed, TellsAll}
 use Rattle.blotter_main.specs.declared.words.Words.{Words}
 use Rattle.blotter_main.specs.declared.words.Words.TheVariants.{Replay, Desk, Serve}
 
@@ -29,6 +30,26 @@ pub record IsReplay (own day : Option (List ℕ)) (peers : Option (List (List �
 pub record IsDesk (own capture : Option (List ℕ)) (peers : Option (List (List ℕ))) : Type 0 where
   pub own_text : IsSomeAnd own (λ text. IsTrue (is_text text))
   pub file : IsSome capture
+  pub peer_list : IsSomeAnd peers IsPeerList
+
+-- the number that the digits of a word write, a plus before them passed over
+abbrev pub count_of : List ℕ → ℕ
+count_of word = digits_value 10 (without_leading_plus word)
+
+-- a word is digits, with a plus before them or none, of a number from 1 to the most
+pub record IsCount (most : ℕ) (word : List ℕ) : Type 0 where
+  pub digits : IsNumeral 10 (without_leading_plus word)
+  pub some : 1 ≤ count_of word
+  pub few : count_of word ≤ most
+
+-- the words of a server: one's own CompID, the day and the peers are as of a replay, and the port and the numbers of connections and
+-- rounds are counts
+pub record IsServe (own day port sessions rounds : Option (List ℕ)) (peers : Option (List (List ℕ))) : Type 0 where
+  pub own_text : IsSomeAnd own (λ text. IsTrue (is_text text))
+  pub day_text : IsSomeAnd day IsDayText
+  pub port_count : IsSomeAnd port (IsCount 65535)
+  pub sessions_count : IsSomeAnd sessions (IsCount 1000)
+  pub rounds_count : IsSomeAnd rounds (IsCount 1000)
   pub peer_list : IsSomeAnd peers IsPeerList
 
 -- one's own CompID, the day, the file with the capture, and the peers that the words name
@@ -52,6 +73,11 @@ peers_of (Replay own day peers) = peers.items
 peers_of (Desk own capture peers) = peers.items
 peers_of (Serve own day port rounds peers) = peers.items
 
+-- the port, and how many connections and rounds
+abbrev pub counts_named : Words → List (Option ℕ)
+counts_named (Serve own day port rounds peers) = Some port ∷ Some rounds.sessions ∷ Some rounds.rounds ∷ []
+counts_named words = []
+
 -- a round has at most 1,000 connections
 abbrev pub AreFew : Words → Type 0
 AreFew (Serve own day port rounds peers) = rounds.sessions ≤ 1000
@@ -59,13 +85,13 @@ AreFew words = Unit {0}
 
 -- what the words ask for was done. Of a replay, the input is read to its end, and the report of the day stands behind what was
 -- written; of a desk, the input is read to its end, and there stand the answers to its lines, of a desk as the capture left it; of a
--- server, the last that is written is the report of a settled history
+-- server, the input is read to its end, there stand the answers to its lines, and behind them the report of a settled history
 abbrev pub Did : Words → Option (List ℕ) → Option (List ℕ) → Option (List ℕ) → Option (List ℕ) → Type 0
 Did (Replay own day peers) input left before after =
     IsAtEnd left × IfSome input (λ bytes. Appends before after (report_of (list_of own peers.items bytes) day))
 Did (Desk own capture peers) input left before after =
     IsAtEnd left × ((journal : Journal) × IfSome input (λ bytes. Appends before after (told_over journal (lines_of bytes)).text))
-Did (Serve own day port rounds peers) input left before after = DayServed day after
+Did (Serve own day port rounds peers) input left before after = IsAtEnd left × DayServed (TellsAll input) rounds.sessions day before after
 
 -- whether the words ask for a replay
 abbrev pub is_replay : Words → Bool

@@ -8,7 +8,7 @@ ghost use Rattle.blotter.specs.Capture.{commands_of};
 ghost use Rattle.blotter.specs.Lines.{lines_of};
 ghost use Rattle.blotter.specs.Operating.{told_over};
 ghost use Rattle.blotter.specs.Replay.{submitted};
-ghost use Rattle.blotter.specs.Serving.{DayServed};
+ghost use Rattle.blotter.specs.Serving.{DayServed, TellsAll};
 ghost use Rattle.blotter.specs.declared.outcome.Outcome.TheVariants.{BadWords, Done, NoMemory};
 ghost use Rattle.blotter_main.specs.Words.{IsPeerList, Did, is_replay, AreFew, peers_of};
 
@@ -136,7 +136,8 @@ where
     T::Listener: Sync,
     T::Stream: Send,
     requires { rounds.sessions ≤ 1000 }
-    ensures served { result ≡ Done → DayServed day (W.contents output.new) }
+    ensures served { result ≡ Done → DayServed (TellsAll (R.remaining input.old)) rounds.sessions day (W.contents output.old) (W.contents output.new) }
+    ensures read_to_the_end { result ≡ Done → IsAtEnd (R.remaining input.new) }
     ensures words { result ≢ BadWords }
 {
     let address = SocketAddrV4::new(Ipv4Addr::LOCALHOST, port);

@@ -1,9 +1,9 @@
 //! The words of the command line: what they ask for.
-ghost use Rattle.std.specs.Prelude.{◌≡◌, ◌≢◌, ◌↔◌, ◌≤◌, Ok, Some, IfErr, IfOk, IfSome, IsSome, IsSomeAnd, IsTrue, codes, option_map};
-ghost use Rattle.clap.specs.Matches.{first_value, found_of, matched_of, raw_values};
+ghost use Rattle.std.specs.Prelude.{◌≡◌, ◌≢◌, ◌↔◌, ◌≤◌, [], ◌∷◌, Ok, Some, IfErr, IfOk, IfSome, IsSome, IsSomeAnd, IsTrue, codes, option_map};
+ghost use Rattle.clap.specs.Matches.{first_value, found_of, matched_of, one_text, raw_values};
 ghost use Rattle.blot_time.specs.Day.{day_of, IsDayText};
 ghost use Rattle.blot_types.specs.Text.{is_text};
-ghost use Rattle.blotter_main.specs.Words.{AreFew, IsPeerList, IsReplay, IsDesk, own_of, day_named, capture_named, peers_of};
+ghost use Rattle.blotter_main.specs.Words.{AreFew, IsCount, IsPeerList, IsReplay, IsDesk, IsServe, own_of, count_of, counts_named, day_named, capture_named, peers_of};
 
 use crate::command_line::{
     CAPTURE, DAY, DESK, OWN, PEER, PORT, REPLAY, ROUNDS, SERVE, SESSIONS, command,
@@ -131,9 +131,15 @@ fn read_desk(alloc: Global, matches: &ArgMatches<'_>) -> Result<Words, Refusal>
 fn read_serve(alloc: Global, matches: &ArgMatches<'_>) -> Result<Words, Refusal>
     ensures own { IfOk result (λ words. first_value (found_of matches.now) (codes "own") ≡ Some (own_of words)) }
     ensures day { IfOk result (λ words. IfSome (first_value (found_of matches.now) (codes "day")) (λ word. option_map Ok (day_named words) ≡ Some (day_of word))) }
+    ensures counts { IfOk result (λ words. counts_named words ≡ option_map count_of (one_text (found_of matches.now) (codes "port"))
+        ∷ option_map count_of (one_text (found_of matches.now) (codes "sessions")) ∷ option_map count_of (one_text (found_of matches.now) (codes "rounds")) ∷ []) }
     ensures named { IfOk result (λ words. option_map raw_values (matched_of (found_of matches.now) (codes "peer")) ≡ Some (peers_of words)) }
     ensures peers { IfOk result (λ words. IsPeerList (peers_of words)) }
     ensures few { IfOk result AreFew }
+    ensures refused { IfErr result (λ refusal. refusal ≢ Refusal.NoMemory
+        → IsServe (first_value (found_of matches.now) (codes "own")) (first_value (found_of matches.now) (codes "day"))
+        (one_text (found_of matches.now) (codes "port")) (one_text (found_of matches.now) (codes "sessions")) (one_text (found_of matches.now) (codes "rounds"))
+        (option_map raw_values (matched_of (found_of matches.now) (codes "peer"))) → ⊥) }
 {
     let Some(own) = read_text(matches.get_str(OWN)) else {
         return Err(Refusal::BadWords);
@@ -141,10 +147,13 @@ fn read_serve(alloc: Global, matches: &ArgMatches<'_>) -> Result<Words, Refusal>
     let Some(day) = read_day(matches.get_str(DAY)) else {
         return Err(Refusal::BadWords);
     };
-    let Some(port) = read_port(matches.get_one(PORT)) else {
+    let Some(port) = read_count(matches, PORT, u16::MAX) else {
         return Err(Refusal::BadWords);
     };
-    let Some(rounds) = read_rounds(matches) else {
+    let Some(sessions) = read_count(matches, SESSIONS, 1_000) else {
+        return Err(Refusal::BadWords);
+    };
+    let Some(rounds) = read_count(matches, ROUNDS, 1_000) else {
         return Err(Refusal::BadWords);
     };
     let Some(named) = matches.get_strs(PEER) else {
@@ -155,32 +164,22 @@ fn read_serve(alloc: Global, matches: &ArgMatches<'_>) -> Result<Words, Refusal>
         own,
         day,
         port,
-        rounds,
+        rounds: Rounds {
+            rounds: u32::from(rounds),
+            sessions: u32::from(sessions),
+        },
         peers,
     })
 }
 
-// A port, which isn't 0.
-fn read_port(port: Option<u16>) -> Option<u16>
-    ensures { IfSome result (λ number. (port ≡ Some number) × (1 ≤ number)) }
+// The count that an option's word is, if it is one from 1 to the most.
+fn read_count(matches: &ArgMatches<'_>, id: &str, most: u16) -> Option<u16>
+    ensures some { IsSome result ↔ IsSomeAnd (one_text (found_of matches.now) id.now) (IsCount most) }
+    ensures value { IfSome result (λ count. option_map count_of (one_text (found_of matches.now) id.now) ≡ Some count) }
+    ensures few { IfSome result (λ count. count ≤ most) }
 {
-    port.filter(|port| *port != 0)
-}
-
-// The rounds of a server, as `clap` found them: 1 to 1,000 of them, each of 1 to 1,000 connections.
-fn read_rounds(matches: &ArgMatches<'_>) -> Option<Rounds>
-    ensures { IfSome result (λ rounds. (1 ≤ rounds.rounds) × (rounds.rounds ≤ 1000) × (1 ≤ rounds.sessions) × (rounds.sessions ≤ 1000)) }
-{
-    let sessions = read_count(matches.get_one(SESSIONS)?)?;
-    let rounds = read_count(matches.get_one(ROUNDS)?)?;
-    Some(Rounds { sessions, rounds })
-}
-
-// A count from 1 to 1,000.
-fn read_count(count: u32) -> Option<u32>
-    ensures { IfSome result (λ number. (number ≡ count) × (1 ≤ number) × (number ≤ 1000)) }
-{
-    if count < 1 || 1_000 < count {
+    let count = matches.get_one::<u16>(id)?;
+    if count < 1 || most < count {
         return None;
     }
     Some(count)
