@@ -94,8 +94,8 @@ fn give_frame<W: Wire, C: Clock>(
     }
 }
 
-// What these actions deliver: one that delivers a command is the only one.
-fn delivered(actions: Vec<Action>) -> Option<Command>
+/// The command that the actions of one call deliver: one that delivers a command is the only one.
+pub fn delivered(actions: Vec<Action>) -> Option<Command>
     requires { DeliversAlone actions.items }
     ensures command { (number : ℕ) → map (λ numbered. numbered.command) (delivered_by number actions.items) ≡ option_to_list result }
     ensures some { list_any is_deliver actions.items ≡ is_some result }
@@ -156,8 +156,8 @@ fn tell<W: Wire, C: Clock>(
     }
 }
 
-// What a session is told of a sink's answer.
-fn seen_by(answer: Result<Reply, DeskFault>) -> Result<SeenReply, NotTaken>
+/// What a session is told of the answer to a command that it delivered.
+pub fn seen_by(answer: Result<Reply, DeskFault>) -> Result<SeenReply, NotTaken>
     ensures { result ≡ seen_by answer }
 {
     match answer {

@@ -1,8 +1,7 @@
 -- What a frame comes to at its session.
-use Rattle.std.proofs.Common.{◌≡◌, ℕ, ◌<◌, length, Bool, true, false, List, [], ◌∷◌, ◌++◌, map, Option, Some, None, Result, Ok, refl, sym, ap, subst, ◌∙◌, inl, inr, arith}
-use Rattle.std.specs.Prelude.{ℤ, IsSome, is_some, option_to_list, if◌then◌else◌}
+use Rattle.std.proofs.Common.{◌≡◌, ℕ, Bool, true, false, List, [], ◌∷◌, ◌++◌, map, Option, Some, None, Result, Ok, refl, sym, ap, subst, ◌∙◌, inl, inr}
+use Rattle.std.specs.Prelude.{ℤ, is_some, option_to_list, if◌then◌else◌}
 use Rattle.std.specs.List.{list_any}
-use Rattle.std.specs.Option.{option_and_then}
 use Rattle.std.proofs.lemmas.Bool.{cond_both, cases_Bool, false≢true}
 use Rattle.std.proofs.lemmas.List.{append-nil}
 use Rattle.blot_types.specs.declared.command.Command.{Command}
@@ -20,62 +19,23 @@ use Rattle.blot_session.specs.declared.replies.SeenReply.TheVariants.{Accepted, 
 use Rattle.blot_session.specs.declared.state.Awaited.{Awaited}
 use Rattle.blot_session.specs.declared.state.Awaited.TheVariants as awaits
 use Rattle.blot_session.specs.declared.state.State.{State}
-use Rattle.blot_session.specs.Calls.{Outcome, Awaits, DeliversLast, is_deliver, is_spent, outcome_of, reply_row_by, on_frame, on_reply}
+use Rattle.blot_session.specs.Calls.{Outcome, Awaits, is_deliver, is_spent, outcome_of, reply_row_by, on_frame, on_reply}
 use Rattle.blot_session.specs.Rows.{reply_row}
 use Rattle.blot_session.specs.Runs.{Numbered, outcome, said_by, delivered_by, taken_behind}
 use Rattle.blot_session.specs.States.{awaited_of, phase_of}
-use Rattle.blotter.specs.Replay.{seen_by}
-use Rattle.blotter.specs.Capture.{delivered, frame_call, reply_calls, waiting_calls, behind_frame, behind_reply, taken_by, moment_at, is_closed_phase}
+use Rattle.blot_gateway.specs.Serving.{seen_by}
+use Rattle.blotter.specs.Capture.{frame_call, reply_calls, waiting_calls, behind_frame, behind_reply, taken_by, moment_at, is_closed_phase}
 
 -- ---- what is delivered
 
 abbrev pub commands : ℕ → List Action → List Command
 commands number actions = map (λ numbered. numbered.command) (delivered_by number actions)
 
-delivered-skip : (number : ℕ) (action : Action) (actions : List Action) → is_deliver action ≡ false → delivered_by number (action ∷ actions) ≡ delivered_by number actions
-delivered-skip number (Send bytes) actions is = refl
-delivered-skip number (Deliver command) actions is = absurd (false≢true (sym is))
-delivered-skip number (Close reason) actions is = refl
-
--- only the last may deliver
-delivered-last : (number : ℕ) (front : List Action) (last : Action) → DeliversLast (front ++ last ∷ [])
-    → delivered_by number (front ++ last ∷ []) ≡ delivered_by number (last ∷ [])
-delivered-last number [] last is = refl
-delivered-last number (action ∷ []) last is = delivered-skip number action (last ∷ []) is.0
-delivered-last number (action ∷ next ∷ front) last is =
-    delivered-skip number action (next ∷ front ++ last ∷ []) is.0 ∙ delivered-last number (next ∷ front) last is.1
-
 delivered-none : (number : ℕ) (actions : List Action) → list_any is_deliver actions ≡ false → delivered_by number actions ≡ []
 delivered-none number [] is = refl
 delivered-none number (Send bytes ∷ actions) is = delivered-none number actions is
 delivered-none number (Deliver command ∷ actions) is = absurd (false≢true (sym is))
 delivered-none number (Close reason ∷ actions) is = delivered-none number actions is
-
-commands-one : (number : ℕ) (action : Action) → commands number (action ∷ []) ≡ option_to_list (delivered action)
-commands-one number (Send bytes) = refl
-commands-one number (Deliver command) = refl
-commands-one number (Close reason) = refl
-
-pub commands-popped : (actions front : List Action) (last : Option Action) (number count : ℕ) → actions ≡ front ++ option_to_list last → length actions ≡ count
-    → (0 < count → IsSome last) → DeliversLast actions → commands number actions ≡ option_to_list (option_and_then delivered last)
-commands-popped actions front (Some last) number count is long some delivers =
-    ap (commands number) is ∙ ap (map (λ numbered. numbered.command)) (delivered-last number front last (subst DeliversLast is delivers)) ∙ commands-one number last
-commands-popped [] front None number count is long some delivers = refl
-commands-popped (action ∷ actions) front None number count is long some delivers = absurd (false≢true (some (omega (arith, long))))
-
--- and one delivers just where the last does
-any-last : (front : List Action) (last : Action) → DeliversLast (front ++ last ∷ []) → list_any is_deliver (front ++ last ∷ []) ≡ is_some (delivered last)
-any-last [] (Send bytes) is = refl
-any-last [] (Deliver command) is = refl
-any-last [] (Close reason) is = refl
-any-last (action ∷ []) last is = rw is.0 (any-last [] last tt)
-any-last (action ∷ next ∷ front) last is = rw is.0 (any-last (next ∷ front) last is.1)
-
-pub any-popped : (actions front : List Action) (last : Option Action) (count : ℕ) → actions ≡ front ++ option_to_list last → length actions ≡ count
-    → (0 < count → IsSome last) → DeliversLast actions → list_any is_deliver actions ≡ is_some (option_and_then delivered last)
-any-popped actions front (Some last) count is long some delivers = ap (list_any is_deliver) is ∙ any-last front last (subst DeliversLast is delivers)
-any-popped [] front None count is long some delivers = refl
-any-popped (action ∷ actions) front None count is long some delivers = absurd (false≢true (some (omega (arith, long))))
 
 -- ---- the reply
 
@@ -89,15 +49,15 @@ seen-by state (Some (awaits.Allocation id)) seen now =
 seen-by state None seen now = refl
 
 submit-seen : (book : DeskBook) (command : Command) (refused : Option Refusal) (state : State) (now : ℤ)
-    → (on_reply state (seen_by (submit_by book command refused).reply) now).state ≡ (on_reply state (Ok Accepted) now).state
+    → (on_reply state (seen_by (Ok (submit_by book command refused).reply)) now).state ≡ (on_reply state (Ok Accepted) now).state
 submit-seen book command None state now = refl
 submit-seen book command (Some reason) state now = seen-by state (awaited_of state) (Refused (refused_number reason)) now
 
 -- the session behind the desk's reply is the one behind an acceptance
 pub replied : (book : DeskBook) (command : Command) (reply : DeskReply) (seen : Result SeenReply NotTaken) (state : State) (now : ℤ)
-    → reply ≡ (step_of book (Submit command)).reply → seen ≡ seen_by reply → (on_reply state seen now).state ≡ (on_reply state (Ok Accepted) now).state
+    → reply ≡ (step_of book (Submit command)).reply → seen ≡ seen_by (Ok reply) → (on_reply state seen now).state ≡ (on_reply state (Ok Accepted) now).state
 replied book command reply seen state now given told =
-    ap (λ said. (on_reply state said now).state) (told ∙ ap seen_by given)
+    ap (λ said. (on_reply state said now).state) (told ∙ ap (λ answer. seen_by (Ok answer)) given)
     ∙ submit-seen book command (refusal_of book.list command) state now
 
 -- ---- the calls of a frame

@@ -10,8 +10,6 @@ use Rattle.blot_tag.specs.Walking.{frames_of}
 use Rattle.blot_types.specs.declared.command.Command.{Command}
 use Rattle.blot_types.specs.Keys.{same_text}
 use Rattle.blot_fields.specs.Sender.{sender_of}
-use Rattle.blot_session.specs.declared.action.Action.{Action}
-use Rattle.blot_session.specs.declared.action.Action.TheVariants.{Deliver}
 use Rattle.blot_session.specs.declared.replies.SeenReply.TheVariants.{Accepted}
 use Rattle.blot_session.specs.declared.state.Phase.{Phase}
 use Rattle.blot_session.specs.declared.state.Phase.TheVariants.{Closed}
@@ -21,11 +19,6 @@ use Rattle.blot_session.specs.Runs.Call.{Frame, Reply, WaitAgain}
 use Rattle.blot_session.specs.States.{fresh, phase_of, awaited_of}
 
 -- ---- a frame at its session
-
--- the command that an action delivers
-abbrev pub delivered : Action → Option Command
-delivered (Deliver command) = Some command
-delivered action = None
 
 -- the moment of some fields: its first field SendingTime(52), or the first moment of 1970 where that isn't there or can't be read
 abbrev pub sending_of : List Item → ℤ

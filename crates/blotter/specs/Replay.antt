@@ -1,18 +1,12 @@
 -- What a desk comes to by a capture, and the report of a day.
-use Rattle.std.specs.Prelude.{◌≡◌, ℕ, ℤ, ◌<◌, ⊤, List, ◌++◌, length, map, fold, Option, Some, None, Result, Ok, Err}
+use Rattle.std.specs.Prelude.{◌≡◌, ℕ, ℤ, ◌<◌, ⊤, List, ◌++◌, length, map, fold, Option, Some, None}
 use Rattle.blot_types.specs.declared.command.Command.{Command}
 use Rattle.blot_types.specs.declared.command.Entry.{Entry}
 use Rattle.blot_types.specs.declared.TheConstants.{EVENTS_MAX}
 use Rattle.blot_tag.specs.Walking.{frames_of}
-use Rattle.blot_types.specs.Told.{refused_number}
-use Rattle.blot_session.specs.declared.replies.NotTaken.{NotTaken}
-use Rattle.blot_session.specs.declared.replies.SeenReply.{SeenReply}
-use Rattle.blot_session.specs.declared.replies.SeenReply.TheVariants as seen
 use Rattle.blot_desk.specs.declared.event.Event.TheVariants.{Submit}
 use Rattle.blot_desk.specs.declared.fault.DeskFault.{DeskFault}
 use Rattle.blot_desk.specs.declared.fault.DeskFault.TheVariants as desk
-use Rattle.blot_desk.specs.declared.event.Reply.{Reply}
-use Rattle.blot_desk.specs.declared.event.Reply.TheVariants as replies
 use Rattle.blot_desk.specs.Desk.{Journal, recorded_of, run_of}
 use Rattle.blot_report.specs.Lines.{day_lines_of}
 use Rattle.blot_report.specs.Text.{report_text}
@@ -23,12 +17,6 @@ use Rattle.blotter.specs.declared.outcome.ReplayFault.TheVariants.{Full, NoMemor
 -- what a desk holds when some commands were submitted, in their order
 abbrev pub submitted : Journal → List Command → Journal
 submitted journal commands = fold (λ before command. recorded_of before (Submit command)) journal commands
-
--- what a session is told of the desk's reply to a command that it delivered
-abbrev pub seen_by : Reply → Result SeenReply NotTaken
-seen_by (replies.Accepted number) = Ok seen.Accepted
-seen_by (replies.Refused refused) = Ok (seen.Refused (refused_number refused))
-seen_by reply = Err (record {})
 
 -- a fault of a step, as a capture's: the desk is full, or memory ran out. No step answers Unsettled
 abbrev pub fault_of : DeskFault → ReplayFault

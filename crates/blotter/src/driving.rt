@@ -1,22 +1,21 @@
 //! A frame at the session of its sender, and what that delivers at the desk.
-ghost use Rattle.std.specs.Prelude.{◌≡◌, ◌≢◌, ◌≤◌, ℕ, [], ◌∷◌, length, map, Ok, Err, OnOk, IfErr, is_some, option_to_list};
-ghost use Rattle.std.specs.List.{list_any};
-ghost use Rattle.std.specs.Option.{option_and_then};
+ghost use Rattle.std.specs.Prelude.{◌≡◌, ◌≢◌, [], ◌∷◌, Ok, Err, OnOk, IfErr, is_some, option_to_list};
 ghost use Rattle.blot_tag.specs.Views.{text_of};
 ghost use Rattle.blot_types.specs.declared.TheConstants.{EVENTS_MAX};
-ghost use Rattle.blot_session.specs.Calls.{DeliversLast, is_deliver, on_reply};
+ghost use Rattle.blot_session.specs.Calls.{on_reply};
 ghost use Rattle.blot_session.specs.declared.replies.SeenReply.TheVariants.{Accepted};
-ghost use Rattle.blot_session.specs.Runs.{behind_calls, delivered_by};
+ghost use Rattle.blot_session.specs.Runs.{behind_calls};
 ghost use Rattle.blot_session.specs.States.{awaited_of, IsIdle, IsAwaiting};
 ghost use Rattle.blot_desk.specs.declared.event.Event.TheVariants.{Submit};
 ghost use Rattle.blot_desk.specs.Desk.{recorded_of};
-ghost use Rattle.blotter.specs.Capture.{calls_of, delivered, reply_calls, waiting_calls, taken_by};
-ghost use Rattle.blotter.specs.Replay.{submitted, Stopped, seen_by, fault_of};
+ghost use Rattle.blotter.specs.Capture.{calls_of, reply_calls, waiting_calls, taken_by};
+ghost use Rattle.blotter.specs.Replay.{submitted, Stopped, fault_of};
 
 use crate::ReplayFault;
 use crate::moment::sending_of;
-use blot_desk::{DeskFault, Event, Held, Reply};
-use blot_session::{Action, NotTaken, Phase, SeenReply, Session};
+use blot_desk::{DeskFault, Event, Held};
+use blot_gateway::{delivered, seen_by};
+use blot_session::{NotTaken, Phase, SeenReply, Session};
 use blot_tag::Frame;
 use blot_time::Moment;
 use blot_types::Command;
@@ -47,26 +46,6 @@ pub(crate) fn take_frame(
     }
     wait_where_closed(session);
     Ok(())
-}
-
-// What these actions deliver: only the last may.
-fn delivered(actions: Vec<Action>) -> Option<Command>
-    requires { DeliversLast actions.items }
-    ensures command { (number : ℕ) → map (λ numbered. numbered.command) (delivered_by number actions.items) ≡ option_to_list result }
-    ensures some { list_any is_deliver actions.items ≡ is_some result }
-{
-    let mut actions = actions;
-    command_of(actions.pop())
-}
-
-// The command that an action delivers, if it is one that does.
-fn command_of(action: Option<Action>) -> Option<Command>
-    ensures { result ≡ option_and_then delivered action }
-{
-    match action {
-        Some(Action::Deliver(command)) => Some(command),
-        _ => None,
-    }
 }
 
 // Takes what was delivered, if a command was.
@@ -108,7 +87,7 @@ fn submit(
     ensures no_write { result ≢ Err ReplayFault.Write }
 {
     match held.step(Event::Submit(command)) {
-        Ok(reply) => tell(alloc, session, seen_by(reply), now),
+        Ok(reply) => tell(alloc, session, seen_by(Ok(reply)), now),
         Err(fault) => {
             let _ = tell(alloc, session, Err(NotTaken), now);
             Err(fault_of(fault))
@@ -142,17 +121,6 @@ fn fault_of(fault: DeskFault) -> ReplayFault
     match fault {
         DeskFault::Full => ReplayFault::Full,
         DeskFault::NoMemory | DeskFault::Unsettled => ReplayFault::NoMemory,
-    }
-}
-
-// What a session is told of the desk's reply to a command.
-fn seen_by(reply: Reply) -> Result<SeenReply, NotTaken>
-    ensures { result ≡ seen_by reply }
-{
-    match reply {
-        Reply::Accepted(_) => Ok(SeenReply::Accepted),
-        Reply::Refused(refused) => Ok(SeenReply::Refused(refused.number())),
-        _ => Err(NotTaken),
     }
 }
 
