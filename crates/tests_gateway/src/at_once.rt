@@ -275,12 +275,9 @@ fn run_twice<L: Ledger + Send + Sync, R: Threads + Wait + Sync>(
     let (desk, seats) = Desk::<L>::new(alloc, blank, 2)?;
     let (slots, gone) = (table(alloc)?, AtomicU64::new(0));
     let wires = watched(alloc, &[FIRST, FIRST], &gone)?;
-    let gate = Crowded {
-        gone: &gone,
-        wires: 1,
-        free: None,
-    };
+    let gate = Crowded::new(&gone, 1, None);
     let endings = serve_all(rt, alloc, wires, &slots, &desk, seats, &gate)?;
+    gate.expect_in_time()?;
     expect_one_of_two(&endings)?;
     expect_in(rt, &slots, b"BRKA", 3)?;
     settle(desk, seats_of(alloc, endings)?, 1)
@@ -313,12 +310,9 @@ fn run_between<L: Ledger + Send + Sync, R: Threads + Wait + Sync>(
     let (desk, seats) = Desk::<L>::new(alloc, blank, 3)?;
     let (slots, gone) = (table(alloc)?, AtomicU64::new(0));
     let wires = watched(alloc, &[FIRST, SECOND, FIRST], &gone)?;
-    let gate = Crowded {
-        gone: &gone,
-        wires: 2,
-        free: Some(1),
-    };
+    let gate = Crowded::new(&gone, 2, Some(1));
     let endings = serve_all(rt, alloc, wires, &slots, &desk, seats, &gate)?;
+    gate.expect_in_time()?;
     expect_middle(&endings)?;
     expect_in(rt, &slots, b"BRKA", 3)?;
     expect_in(rt, &slots, b"BRKB", 3)?;

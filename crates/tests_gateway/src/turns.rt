@@ -28,10 +28,7 @@ impl Turns {
 
     /// No submit was held to the last turn.
     pub fn expect_in_time(&self) -> Result<(), Fail> {
-        if self.late.load(Ordering::SeqCst) != 0 {
-            return Err(Fail::new("held too long"));
-        }
-        Ok(())
+        expect_never(&self.late)
     }
 }
 
@@ -49,6 +46,14 @@ impl Gate for Turns {
     }
 }
 
+// No submit was late.
+fn expect_never(late: &AtomicU64) -> Result<(), Fail> {
+    if late.load(Ordering::SeqCst) != 0 {
+        return Err(Fail::new("held too long"));
+    }
+    Ok(())
+}
+
 // Waits until a number is as high: whether it came to that.
 fn is_raised(number: &AtomicU64, least: u64) -> bool {
     for _ in 0..TURNS {
@@ -63,15 +68,33 @@ fn is_raised(number: &AtomicU64, least: u64) -> bool {
 /// Holds each submit, but those of one place, until so many wires are gone.
 #[derive(Drop)]
 pub struct Crowded<'a> {
-    pub gone: &'a AtomicU64,
-    pub wires: u64,
-    pub free: Option<usize>,
+    gone: &'a AtomicU64,
+    wires: u64,
+    free: Option<usize>,
+    late: AtomicU64,
+}
+
+impl<'a> Crowded<'a> {
+    /// Holds submits until so many wires are gone, but not those of a place that is free.
+    pub fn new(gone: &'a AtomicU64, wires: u64, free: Option<usize>) -> Crowded<'a> {
+        Crowded {
+            gone,
+            wires,
+            free,
+            late: AtomicU64::new(0),
+        }
+    }
+
+    /// No submit was held to the last turn: the wires were gone before it.
+    pub fn expect_in_time(&self) -> Result<(), Fail> {
+        expect_never(&self.late)
+    }
 }
 
 impl Gate for Crowded<'_> {
     fn before(&self, place: usize) {
-        if self.free != Some(place) {
-            let _ = is_raised(self.gone, self.wires);
+        if self.free != Some(place) && !is_raised(self.gone, self.wires) {
+            self.late.store(1, Ordering::SeqCst);
         }
     }
 
