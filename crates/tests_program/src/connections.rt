@@ -1,13 +1,13 @@
 //! Peers over TCP, in one process with the blotter.
-ghost use Rattle.std.specs.Prelude.{◌≡◌, ◌+◌, ◌≤◌};
+ghost use Rattle.std.specs.Prelude.{◌≡◌, ◌+◌, ◌≤◌, IfOk, vec_len};
 
 use crate::calls::text;
 use crate::captures::capture;
-use blot_desk::Desk;
-use blot_gateway::{ListClock, MemoryWire, OpenGate, serve};
+use blot_desk::{Desk, Seat};
+use blot_gateway::{Ended, ListClock, MemoryWire, OpenGate, serve};
 use blot_slots::Slots;
 use blot_time::Day;
-use blotter::{Rounds, ServeFault, log_endings, serve_day};
+use blotter::{Rounds, ServeFault, Socket, SystemClock, log_endings, serve_day};
 use log::Log;
 use log::sink::{Lines, Memory};
 use std::alloc::Global;
@@ -202,5 +202,122 @@ fn endings_are_logged(rt: HostRuntime) -> Result<(), Fail> {
     };
     assert!(rt; first.as_str().ends_with("wire 0 ended 1"), "{first}");
     assert!(rt; second.as_str().ends_with("wire 1 ended 0"), "{second}");
+    Ok(())
+}
+
+// The next connection.
+fn accept<N: OpenListener>(listener: &N) -> io::Result<Socket<N::Stream>>
+where
+    N::Stream: OpenStream,
+{
+    let (stream, _) = listener.accept()?;
+    Socket::new(stream)
+}
+
+// Two connections, as they come.
+fn accept_two<N: OpenListener>(
+    alloc: Global,
+    listener: &N,
+) -> Result<Vec<Socket<N::Stream>>, ServeFault>
+where
+    N::Stream: OpenStream,
+    ensures { IfOk result (λ wires. vec_len wires ≡ 2) }
+{
+    let (Ok(first), Ok(second)) = (accept(listener), accept(listener)) else {
+        return Err(ServeFault::Connection);
+    };
+    let mut wires = Vec::with_capacity(alloc, 2)?;
+    wires.push_reserved(first);
+    wires.push_reserved(second);
+    Ok(wires)
+}
+
+// Two clocks of a system.
+fn two_clocks<'a, R: Clock>(rt: &'a R, alloc: Global) -> Result<Vec<SystemClock<'a, R>>, ServeFault>
+    ensures { IfOk result (λ clocks. vec_len clocks ≡ 2) }
+{
+    let mut clocks = Vec::with_capacity(alloc, 2)?;
+    clocks.push_reserved(SystemClock::new(rt));
+    clocks.push_reserved(SystemClock::new(rt));
+    Ok(clocks)
+}
+
+// The seats of some wires.
+fn seats_of<L: Ledger>(
+    alloc: Global,
+    endings: Vec<(Ended, Seat<L>)>,
+) -> Result<Vec<Seat<L>>, ServeFault> {
+    let mut seats = Vec::new(alloc);
+    for (_, seat) in endings {
+        seats.push(seat)?;
+    }
+    Ok(seats)
+}
+
+// Serves two connections at once, and settles the desk with their seats: how many events its history has.
+fn settle_two<L: Ledger + Send + Sync, R: Threads + Wait + Clock + Sync, N: OpenListener>(
+    rt: &R,
+    alloc: Global,
+    blank: Blank,
+    listener: &N,
+    slots: &Slots,
+) -> Result<usize, ServeFault>
+where
+    N::Stream: Read + Write + OpenStream + Send,
+    requires name { blank.name ≡ L.name }
+    requires parts { blank.parts ≡ L.parts }
+    requires two { blank.parts ≡ 2 }
+{
+    let (desk, seats) = Desk::<L>::new(alloc, blank, 2)?;
+    let wires = accept_two(alloc, listener)?;
+    let clocks = two_clocks(rt, alloc)?;
+    let Ok(endings) = serve(rt, alloc, wires, clocks, slots, &desk, seats, &OpenGate) else {
+        return Err(ServeFault::NoMemory);
+    };
+    match desk.close().settle(seats_of(alloc, endings)?) {
+        Ok(settled) => Ok(settled.held.history().len()),
+        Err(_) => Err(ServeFault::Unsettled),
+    }
+}
+
+// Two peers that say this at once, each over a connection of its own: how many events are settled.
+fn settled_events<L: Ledger + Send + Sync, R>(
+    rt: &R,
+    alloc: Global,
+    blank: Blank,
+    texts: [&'static str; 2],
+) -> Result<usize, Fail>
+where
+    R: Threads + Wait + Net + Clock + Sync,
+    R::Listener: Sync,
+    R::Stream: Send,
+    requires name { blank.name ≡ L.name }
+    requires parts { blank.parts ≡ L.parts }
+    requires two { blank.parts ≡ 2 }
+{
+    let listener = TcpListener::bind(rt, SocketAddrV4::new(Ipv4Addr::LOCALHOST, 0))?;
+    let address = listener.local_addr()?;
+    let peers = [text("BRKA")?, text("BRKB")?];
+    let slots = Slots::new(alloc, text("MO")?, &peers)?;
+    let (settled, answered) = join(
+        rt,
+        || -> Result<usize, ServeFault>
+            requires { (blank.name ≡ L.name) × (blank.parts ≡ L.parts) × (blank.parts ≡ 2) }
+        { settle_two::<L, _, _>(rt, alloc, blank, &listener, &slots) },
+        || are_answered(rt, alloc, address, texts, true),
+    );
+    if !answered {
+        return Err(Fail::new("a peer wasn't answered to the end"));
+    }
+    match settled {
+        Ok(events) => Ok(events),
+        Err(fault) => Err(Fail::new(format_args!("{fault}"))),
+    }
+}
+
+#[test]
+fn two_peers_settled(rt: HostRuntime) -> Result<(), Fail> {
+    let events = settled_events::<Brand, _>(&rt, rt.alloc(), Blank::new(2), [FIRST, SECOND])?;
+    assert_eq!(rt; events, 2);
     Ok(())
 }

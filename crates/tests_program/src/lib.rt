@@ -1,5 +1,6 @@
 //! Tests of the program's calls over readers and writers in memory: captures whole, cut, damaged and
-//! failing, and operators' scripts, at a desk of one's own and at a seat.
+//! failing, and operators' scripts, at a desk of one's own and at a seat; and of a served day's connections, over
+//! TCP and over streams, listeners and clocks in memory.
 #![tactic(auto)]
 
 #[cfg(test)]
@@ -8,6 +9,8 @@ mod calls;
 mod capture_rows;
 #[cfg(test)]
 mod captures;
+#[cfg(test)]
+mod clocks;
 #[cfg(test)]
 mod connections;
 #[cfg(test)]
@@ -19,8 +22,12 @@ mod desks;
 #[cfg(test)]
 mod dialogues;
 #[cfg(test)]
+mod listeners;
+#[cfg(test)]
 mod memory;
 #[cfg(test)]
 mod replays;
 #[cfg(test)]
 mod seats;
+#[cfg(test)]
+mod sockets;
