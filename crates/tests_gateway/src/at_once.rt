@@ -1,7 +1,7 @@
 //! Wires that are served at once, each with a seat at one desk.
 ghost use Rattle.std.specs.Prelude.{◌≡◌};
 
-use crate::streams::{moments, stream};
+use crate::streams::moments;
 use crate::turns::{Crowded, Turns, Watched};
 use blot_desk::{Desk, Reply, Seat};
 use blot_gateway::{Ended, Gate, ListClock, MemoryWire, OpenGate, Wire, serve};
@@ -14,7 +14,7 @@ use std::sync::atomic::AtomicU64;
 use std::sync::ledger::{Blank, Ledger};
 use std::test::Fail;
 use std::thread::Threads;
-use tests_words::text;
+use tests_words::{stream, text};
 
 // A Logon and a trade of BRKA.
 const FIRST: &str = "\

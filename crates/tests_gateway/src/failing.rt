@@ -5,11 +5,12 @@ use crate::runs::{
     BY_BYTES, BY_SEVENS, Manner, Row, Run, WHOLE, commands_text, expect_ended, expect_number,
     expect_run, expect_text, expect_written, new_session, run_of, serve,
 };
-use crate::streams::{frame, shown, stream};
+use crate::streams::shown;
 use blot_gateway::{Ended, MemoryWire, Wire};
 use blot_session::{CloseReason, Session};
 use std::alloc::{AllocError as NoMemory, Global};
 use std::test::Fail;
+use tests_words::{frame, stream};
 
 // More calls than a wire of these tests gets.
 const CALLS: usize = 10_000;

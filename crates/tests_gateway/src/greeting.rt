@@ -1,12 +1,12 @@
 //! The first message of a connection.
 
 use crate::runs::{expect_number, expect_text};
-use crate::streams::{shown, stream};
+use crate::streams::shown;
 use blot_gateway::{MemoryWire, Wire, greet};
 use blot_tag::{Frame, Reader};
 use std::alloc::{AllocError as NoMemory, Global};
 use std::test::Fail;
-use tests_words::text;
+use tests_words::{stream, text};
 
 // What a wire gives first, and how its greeting is answered: the peer, and behind it the frame that still stands in the reader;
 // or how the connection ends.

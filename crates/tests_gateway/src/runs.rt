@@ -1,13 +1,13 @@
 //! A session served over a wire in memory, and what comes of it.
 
-use crate::streams::{answers, moments, shown, stream};
+use crate::streams::{answers, moments, shown};
 use blot_gateway::{Ended, ListClock, ListSink, MemoryWire, Wire, greet, serve_session};
 use blot_session::{Phase, Session};
 use blot_tag::Reader;
 use blot_types::{Command, Text64};
 use std::alloc::{AllocError as NoMemory, Global};
 use std::test::Fail;
-use tests_words::text;
+use tests_words::{stream, text};
 
 /// What a wire gives, when, and how the commands are answered; and what comes of it.
 pub struct Row {

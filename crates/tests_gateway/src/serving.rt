@@ -4,13 +4,12 @@ use crate::rows::{answered, first_trade, gap, silence};
 use crate::runs::{
     BY_BYTES, BY_SEVENS, Manner, Row, WHOLE, expect_number, expect_run, new_session, run_of, serve,
 };
-use crate::streams::{soh, stream};
 use blot_gateway::{Ended, MemoryWire, greet};
 use blot_session::{CloseReason, Session};
 use blot_tag::Reader;
 use std::alloc::Global;
 use std::test::Fail;
-use tests_words::text;
+use tests_words::{soh, stream, text};
 
 // A row, over a wire of this manner.
 fn expect_row(alloc: Global, row: &Row, manner: Manner) -> Result<(), Fail> {

@@ -2,7 +2,6 @@
 ghost use Rattle.std.specs.Prelude.{◌≡◌, ◌+◌, ◌≤◌, IfOk, vec_len};
 
 use crate::calls::text;
-use crate::captures::capture;
 use blot_desk::{Desk, Seat};
 use blot_gateway::{Ended, ListClock, MemoryWire, OpenGate, serve};
 use blot_slots::Slots;
@@ -22,6 +21,7 @@ use std::sync::ledger::{Blank, Ledger};
 use std::test::Fail;
 use std::thread::{Threads, join};
 use std::time::Clock;
+use tests_words::stream;
 
 // BRKA logs on, reports a fill, and logs out.
 const FIRST: &str = "\
@@ -56,11 +56,11 @@ fn spoken<R: Net>(
     address: SocketAddr,
     text: &str,
 ) -> io::Result<R::Stream> {
-    let bytes = capture(alloc, text)?;
-    let mut stream = TcpStream::connect(net, address)?;
-    stream.write_all(&bytes)?;
-    stream.shutdown(Shutdown::Write)?;
-    Ok(stream)
+    let bytes = stream(alloc, text)?;
+    let mut peer = TcpStream::connect(net, address)?;
+    peer.write_all(&bytes)?;
+    peer.shutdown(Shutdown::Write)?;
+    Ok(peer)
 }
 
 // Reads until the connection ends: whether the Logon was answered.
@@ -177,8 +177,8 @@ fn logged<L: Ledger + Send + Sync, R: Threads + Wait + Sync>(
     let peers = [text("BRKA")?, text("BRKB")?];
     let slots = Slots::new(alloc, text("MO")?, &peers)?;
     let wires = vec![in alloc;
-        MemoryWire::new(alloc, capture(alloc, LOST)?),
-        MemoryWire::new(alloc, capture(alloc, SECOND)?),
+        MemoryWire::new(alloc, stream(alloc, LOST)?),
+        MemoryWire::new(alloc, stream(alloc, SECOND)?),
     ]?;
     let clocks = vec![in alloc;
         ListClock::new(Vec::new(alloc)),

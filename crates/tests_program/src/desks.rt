@@ -2,7 +2,6 @@
 
 use crate::calls::{check_taken, push_words};
 use crate::capture_rows::{LOGON, TRADE};
-use crate::captures::frame;
 use crate::desk_rows::{AT_LIMITS, FULL, MORNING, OTHER_TRADE, REPORT, Script, scripts};
 use crate::dialogues::{Dialogue, answers_to, captured, desk, spell};
 use crate::memory::{
@@ -14,6 +13,7 @@ use blotter::{ReplayFault, desk_lines};
 use std::alloc::{AllocError, Global};
 use std::process::Abort;
 use std::test::Fail;
+use tests_words::frame;
 
 // The capture of 200 trades of BRKA, E1 to E200, of 1 at 10.50 each.
 fn captured_200(alloc: Global) -> Result<Vec<u8>, AllocError> {

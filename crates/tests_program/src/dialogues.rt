@@ -2,11 +2,11 @@
 
 use crate::calls::{push_words, taken};
 use crate::capture_rows::LOGON;
-use crate::captures::{capture, frame};
 use crate::memory::{AT_ONCE, reader};
 use blot_desk::Held;
 use std::alloc::{AllocError, Global};
 use std::test::Fail;
+use tests_words::{frame, stream};
 
 /// A script as bytes: what is typed, and what is answered.
 #[derive(Drop)]
@@ -57,6 +57,6 @@ pub fn desk(alloc: Global, bytes: &[u8]) -> Result<Held, Fail> {
 /// The capture of BRKA's Logon and some messages.
 pub fn captured(alloc: Global, messages: &str) -> Result<Vec<u8>, AllocError> {
     let mut bytes = frame(alloc, LOGON)?;
-    bytes.extend_from_slice(capture(alloc, messages)?.as_slice())?;
+    bytes.extend_from_slice(stream(alloc, messages)?.as_slice())?;
     Ok(bytes)
 }

@@ -8,8 +8,6 @@ mod calls;
 #[cfg(test)]
 mod capture_rows;
 #[cfg(test)]
-mod captures;
-#[cfg(test)]
 mod clocks;
 #[cfg(test)]
 mod connections;

@@ -4,13 +4,13 @@ use crate::calls::{check_taken, replayed, report};
 use crate::capture_rows::{
     Capture, LINES, LOGON, LOGONS, THREE_DAYS, TRADE, captures, days, trades,
 };
-use crate::captures::{capture, frame};
 use crate::correction_rows::corrections;
 use crate::memory::{AT_ONCE, BY_BYTES, INTERRUPTED, Manner, cut_at, failing, reader, writer};
 use blot_desk::Held;
 use blotter::ReplayFault;
 use std::process::Abort;
 use std::test::Fail;
+use tests_words::{frame, stream};
 
 // The day of nearly all reports.
 const DAY: &str = "20240105";
@@ -35,8 +35,8 @@ fn check_report(
 // Captures behind the Logons of BRKA and BRKB come to their reports.
 fn check_trades(rt: &(impl Abort + AllocGlobal), rows: &[(&str, &str, &str)]) -> Result<(), Fail> {
     for (name, messages, lines) in rows {
-        let mut bytes = capture(rt.alloc(), LOGONS)?;
-        bytes.extend_from_slice(capture(rt.alloc(), messages)?.as_slice())?;
+        let mut bytes = stream(rt.alloc(), LOGONS)?;
+        bytes.extend_from_slice(stream(rt.alloc(), messages)?.as_slice())?;
         let expected = report(rt.alloc(), DAY, lines)?;
         check_report(rt, name, &bytes, DAY, &expected, BY_BYTES)?;
     }
@@ -49,7 +49,7 @@ fn check_capture(
     row: &Capture,
     manner: Manner,
 ) -> Result<(), Fail> {
-    let bytes = capture(rt.alloc(), row.messages)?;
+    let bytes = stream(rt.alloc(), row.messages)?;
     let expected = report(rt.alloc(), DAY, row.lines)?;
     check_report(rt, row.name, &bytes, DAY, &expected, manner)?;
     let mut held = Held::new(rt.alloc());
@@ -60,7 +60,7 @@ fn check_capture(
 
 // One capture comes to the reports of its days.
 fn check_days(rt: &(impl Abort + AllocGlobal)) -> Result<(), Fail> {
-    let bytes = capture(rt.alloc(), THREE_DAYS)?;
+    let bytes = stream(rt.alloc(), THREE_DAYS)?;
     for (day, lines) in days() {
         let expected = report(rt.alloc(), day, lines)?;
         check_report(rt, day, &bytes, day, &expected, AT_ONCE)?;

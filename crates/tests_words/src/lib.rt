@@ -1,9 +1,11 @@
-//! What the tests of the book and those of the desk share: keys and fills, commands in words, commands drawn from a
-//! seed, what a book shows as text, and how often each thing came. No contract says more than a caller's proof needs.
+//! What the tests share: those of the book and of the desk keys and fills, commands in words, commands drawn from a
+//! seed, what a book shows as text, and how often each thing came; those of the gateway and of the program streams of
+//! frames. No contract says more than a caller's proof needs.
 #![tactic(auto)]
 
 mod bookings;
 mod draws;
+mod frames;
 mod keys;
 mod shown;
 mod tally;
@@ -11,6 +13,7 @@ mod words;
 
 pub use bookings::{ALL_TO_A, BOTH, FIRST, SECOND};
 pub use draws::{Draws, drawn_execs, drawn_orders};
+pub use frames::{frame, soh, stream};
 pub use keys::{accounts, alloc_key, exec, fill, order, symbols, text};
 pub use shown::{order_text, position_text};
 pub use tally::{Tally, expect_each};

@@ -1,10 +1,10 @@
-//! Captures from the bodies of their messages.
+//! Streams of frames, from the bodies of their messages.
 
-use std::alloc::{AllocError, Global};
+use std::alloc::{AllocError as NoMemory, Global};
 
-/// A capture: each line of the text is a message from MsgType on, with `|` for SOH, and becomes a frame;
-/// a line that begins with `!` stands as it is.
-pub fn capture(alloc: Global, text: &str) -> Result<Vec<u8>, AllocError> {
+/// A stream: each line of the text is a message from MsgType on, with `|` for SOH, and becomes a frame; a line that begins
+/// with `!` stands as it is.
+pub fn stream(alloc: Global, text: &str) -> Result<Vec<u8>, NoMemory> {
     let mut bytes = Vec::new(alloc);
     for line in text.lines() {
         match line.strip_prefix('!') {
@@ -16,7 +16,7 @@ pub fn capture(alloc: Global, text: &str) -> Result<Vec<u8>, AllocError> {
 }
 
 /// A frame with this body: BodyLength and CheckSum are filled in.
-pub fn frame(alloc: Global, body: &str) -> Result<Vec<u8>, AllocError> {
+pub fn frame(alloc: Global, body: &str) -> Result<Vec<u8>, NoMemory> {
     let body = soh(alloc, body)?;
     let length = body.len();
     let head = format!(in alloc; "8=FIX.4.4\u{1}9={length}\u{1}")?;
@@ -32,8 +32,8 @@ pub fn frame(alloc: Global, body: &str) -> Result<Vec<u8>, AllocError> {
     Ok(bytes)
 }
 
-// The text with SOH for `|`.
-fn soh(alloc: Global, text: &str) -> Result<Vec<u8>, AllocError> {
+/// The text with SOH for `|`.
+pub fn soh(alloc: Global, text: &str) -> Result<Vec<u8>, NoMemory> {
     let mut bytes = Vec::new(alloc);
     for byte in text.as_bytes() {
         bytes.push(if *byte == b'|' { 1 } else { *byte })?;
