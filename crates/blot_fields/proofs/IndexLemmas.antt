@@ -1,7 +1,7 @@
 -- The slots come to know the fields, one at a time.
-use Rattle.std.proofs.Common.{◌≡◌, replicate, map, filter, ap, subst, ℕ, ◌+◌, ◌<◌, Bool, true, false, List, [], ◌∷◌, Option, Some, None, Result, Ok, Err, refl, sym, ◌∙◌}
-use Rattle.std.specs.Prelude.{slice_index_or, if◌then◌else◌, ◌==◌}
-use Rattle.std.proofs.lemmas.List.{get_or-replicate}
+use Rattle.std.proofs.Common.{◌≡◌, get_or, arith, ◌≤◌, inl, inr, length, replicate, map, filter, ap, subst, ℕ, ◌+◌, ◌<◌, Bool, true, false, List, [], ◌∷◌, Option, Some, None, Result, Ok, Err, refl, sym, ◌∙◌}
+use Rattle.std.specs.Prelude.{slice_index_or, slice_set, if◌then◌else◌, ◌==◌}
+use Rattle.std.proofs.lemmas.List.{get_or-replicate, get_or-set_same, get_or-set_other}
 use Rattle.blot_tag.specs.Fields.{TagValue, Item}
 use Rattle.blot_fields.specs.declared.fault.Flaw.{Flaw}
 use Rattle.blot_fields.specs.declared.slot.Slot.{Slot}
@@ -10,7 +10,10 @@ use Rattle.blot_fields.specs.declared.fault.Wrong.{Wrong}
 use Rattle.blot_fields.specs.Walk.{field_wrong, sound_behind, refused_behind}
 use Rattle.blot_fields.specs.Rows.{values}
 use Rattle.blot_fields.specs.Slots.{found_in, with_value}
-use Rattle.blot_fields.specs.Index.{together, IsIndexBefore, Notes}
+use Rattle.std.proofs.lemmas.List.Sums.{passes_at_first}
+use Rattle.std.proofs.lemmas.Bool.{eqb-true, eq-eqb, ne_eqb, cases_eq}
+use Rattle.blot_fields.specs.Index.{together, row_tags, row_of, IsIndexBefore, Notes}
+use Rattle.blot_fields.specs.declared.index.TheConstants.{ROWS}
 
 -- nothing is to come any more
 pub together-nil : (found : Result (Option (List ℕ)) Flaw) → together found [] ≡ found
@@ -52,7 +55,7 @@ values-not tag field fields other = values-cons tag field fields ∙ rw other re
 pub known_next : (fields later : List TagValue) (field : TagValue) (old new : List Slot)
     → IsIndexBefore fields (field ∷ later) old → Notes field old new → IsIndexBefore fields later new
 known_next fields later field old new known notes tag low =
-    slot_next (field.tag == tag) (found_in (slice_index_or old tag Missing)) (found_in (slice_index_or new tag Missing)) field.value (values tag later) _ (notes tag low) (rw (← values-cons tag field later) (known tag low))
+    slot_next (field.tag == tag) (found_in (slice_index_or old (row_of tag) Missing)) (found_in (slice_index_or new (row_of tag) Missing)) field.value (values tag later) _ (notes tag low) (rw (← values-cons tag field later) (known tag low))
 
 -- slots that are all missing know of nothing
 pub missing_everywhere : (count tag : ℕ) → tag < count → found_in (slice_index_or (replicate count Missing) tag Missing) ≡ Ok None
@@ -80,3 +83,41 @@ pub refused_later : (all : Option Wrong) (before : ℕ) (items rest : List Item)
     → refused_behind before items ≡ all → refused_behind (before + 1) rest ≡ all
 refused_later all before items rest field is sound so_far =
     sym (ap (refused_behind before) is ∙ refused_behind-cons before rest field sound) ∙ so_far
+
+-- a row belongs to one tag
+row_of-one : (tag other : ℕ) → row_of tag < ROWS → row_of tag ≡ row_of other → other ≡ tag
+row_of-one tag other low same =
+    let first : (get_or row_tags (row_of tag) 0 == tag) ≡ true = passes_at_first (λ t. t == tag) row_tags 0 low in
+    let second : (get_or row_tags (row_of other) 0 == other) ≡ true = passes_at_first (λ t. t == other) row_tags 0 (omega (arith, low, same)) in
+    sym (eqb-true _ _ second) ∙ ap (λ row. get_or row_tags row 0) (sym same) ∙ eqb-true _ _ first
+
+-- the slot of a row that is written, or of another
+written : (row place : ℕ) (bears : Bool) (old : List Slot) (slot : Slot) (value : List ℕ) → place < length old
+    → found_in slot ≡ with_value (found_in (slice_index_or old place Missing)) value
+    → (row ≡ place → bears ≡ true) → ((row ≡ place → ⊥) → bears ≡ false)
+    → found_in (slice_index_or (slice_set old place slot) row Missing)
+    ≡ (if bears then with_value (found_in (slice_index_or old row Missing)) value else found_in (slice_index_or old row Missing))
+written row place bears old slot value inside is here there =
+    elim (cases_eq row place) [
+      | inl same ↦
+          rw (here same)
+          (ap (λ r. found_in (slice_index_or (slice_set old place slot) r Missing)) same
+          ∙ ap found_in (get_or-set_same old place slot Missing inside)
+          ∙ is
+          ∙ ap (λ r. with_value (found_in (slice_index_or old r Missing)) value) (sym same))
+      | inr other ↦ rw (there other) (ap found_in (get_or-set_other old place row slot Missing other))
+    ]
+
+-- a field at the row of its tag
+pub noted : (field : TagValue) (place : ℕ) (old : List Slot) (slot : Slot) → place ≡ row_of field.tag → place < ROWS → length old ≡ ROWS
+    → found_in slot ≡ with_value (found_in (slice_index_or old place Missing)) field.value
+    → Notes field old (slice_set old place slot)
+noted field place old slot at low long is tag has =
+    written (row_of tag) place (field.tag == tag) old slot field.value (omega (arith, low, long)) is
+    (λ same. eq-eqb _ _ (row_of-one tag field.tag has (same ∙ at)))
+    (λ other. ne_eqb _ _ (λ same. other (ap row_of (sym same) ∙ sym at)))
+
+-- a field whose tag has no row
+pub unnoted : (field : TagValue) (place : ℕ) (old : List Slot) → place ≡ row_of field.tag → ROWS ≤ place → Notes field old old
+unnoted field place old at high tag has =
+    rw (ne_eqb field.tag tag (λ same. absurd (omega (arith, high, at ∙ ap row_of same, has)))) refl

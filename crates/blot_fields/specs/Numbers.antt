@@ -1,5 +1,5 @@
 -- The ranges of the numbers that a message gives (FIX 4.4 volume 1, "SeqNum"; the largest number is this project's rule).
-use Rattle.std.specs.Prelude.{ℕ, ◌≤◌, Option, Some, Result, Ok, Err, IfSome, IfOk}
+use Rattle.std.specs.Prelude.{◌≤◌, Option, Some, Result, Ok, Err, IfSome, IfOk}
 use Rattle.blot_fields.specs.declared.admin.Admin.{Admin}
 use Rattle.blot_fields.specs.declared.admin.Admin.TheVariants.{SequenceReset}
 use Rattle.blot_fields.specs.declared.fault.FieldFault.{FieldFault}

@@ -1,11 +1,11 @@
 //! The fields of a message, by their tags.
-ghost use Rattle.std.specs.Prelude.{◌≡◌, ◌<◌, ◌≤◌, length};
+ghost use Rattle.std.specs.Prelude.{◌≡◌, ◌≤◌, length};
 ghost use Rattle.blot_tag.specs.Fields.{fields_of};
 ghost use Rattle.blot_tag.specs.Views.{text_of, tag_value};
 ghost use Rattle.blot_fields.specs.declared.sound.TheConstants.{FIELDS_MAX};
 ghost use Rattle.blot_fields.specs.Rows.{only};
 ghost use Rattle.blot_fields.specs.Slots.{lone_value};
-ghost use Rattle.blot_fields.specs.Index.{KnowsNothing, Notes};
+ghost use Rattle.blot_fields.specs.Index.{HasRow, KnowsNothing, Notes, row_of};
 ghost use Rattle.blot_fields.specs.Walk.{sound_fields, refused_field};
 
 use crate::fault::{Flaw, Wrong};
@@ -14,14 +14,14 @@ use crate::sound::{SoundFields, field_wrong};
 use blot_tag::{Field, Frame};
 use std::marker::Model;
 
-/// More than the tags that have a row: each of them is below it.
-pub(crate) const ROW_TAGS: usize = 152;
+/// How many tags have a row in some table.
+pub(crate) const ROWS: usize = 36;
 
 /// The fields of a frame, up to the first that is refused. A contract sees it as their list.
 #[derive(Drop)]
 pub(crate) struct FieldIndex<'a> {
     frame: &'a Frame<'a>,
-    slots: [Slot<'a>; ROW_TAGS],
+    slots: [Slot<'a>; ROWS],
 }
 
 impl<'a> Model for FieldIndex<'a> {
@@ -37,6 +37,52 @@ impl<'a> Model for FieldIndex<'a> {
 
     ghost invariant = { λ index.
         IsIndex (sound_fields (fields_of (text_of index.frame.now))) index.slots };
+}
+
+// The place of a tag among those that have a row, and their number where it has none.
+#[inline(always)]
+fn row_of(tag: u32) -> usize
+    ensures { result ≡ row_of tag }
+{
+    match tag {
+        1 => 0,
+        6 => 1,
+        7 => 2,
+        14 => 3,
+        16 => 4,
+        17 => 5,
+        19 => 6,
+        31 => 7,
+        32 => 8,
+        34 => 9,
+        35 => 10,
+        36 => 11,
+        37 => 12,
+        38 => 13,
+        39 => 14,
+        43 => 15,
+        49 => 16,
+        52 => 17,
+        53 => 18,
+        54 => 19,
+        55 => 20,
+        56 => 21,
+        60 => 22,
+        70 => 23,
+        71 => 24,
+        72 => 25,
+        75 => 26,
+        78 => 27,
+        98 => 28,
+        108 => 29,
+        112 => 30,
+        123 => 31,
+        124 => 32,
+        141 => 33,
+        150 => 34,
+        151 => 35,
+        _ => ROWS,
+    }
 }
 
 impl<'a> FieldIndex<'a> {
@@ -70,28 +116,29 @@ impl<'a> FieldIndex<'a> {
     }
 
     /// The value of the only field with a tag that has a row, none without one.
+    #[inline(always)]
     #[tactic(auto, unfolding(crate::specs::Rows::only))]
     pub(crate) fn only(&self, tag: u32) -> Result<Option<&'a [u8]>, Flaw>
-        requires { tag < ROW_TAGS }
+        requires { HasRow tag }
         ensures { lone_value result ≡ only tag self.now }
     {
-        self.slots[tag as usize].lone()
+        self.slots[row_of(tag)].lone()
     }
 }
 
 // The slots before any field is noted.
-fn no_slots<'a>() -> [Slot<'a>; ROW_TAGS]
+fn no_slots<'a>() -> [Slot<'a>; ROWS]
     ensures { KnowsNothing result }
 {
-    [Slot::Missing; ROW_TAGS]
+    [Slot::Missing; ROWS]
 }
 
-// Notes a field at its tag, if the tag may have a row.
-fn note<'a>(slots: &mut [Slot<'a>; ROW_TAGS], field: Field<'a>)
+// Notes a field at the row of its tag, if that has one.
+fn note<'a>(slots: &mut [Slot<'a>; ROWS], field: Field<'a>)
     ensures { Notes (tag_value field.entry) slots.old slots.new }
 {
-    let tag = field.tag as usize;
-    if tag < ROW_TAGS {
-        slots[tag] = slots[tag].with(field.value);
+    let row = row_of(field.tag);
+    if row < ROWS {
+        slots[row] = slots[row].with(field.value);
     }
 }

@@ -1,6 +1,6 @@
 //! Execution Reports. FIX 4.4 volume 4, "Execution Report".
-ghost use Rattle.std.specs.Prelude.{◌≡◌, ◌<◌};
-ghost use Rattle.blot_fields.specs.declared.index.TheConstants.{ROW_TAGS};
+ghost use Rattle.std.specs.Prelude.{◌≡◌};
+ghost use Rattle.blot_fields.specs.Index.{HasRow};
 ghost use Rattle.blot_fields.specs.Messages.{size_part, order_size_of, execution_of, trade_of, correct_of, bust_of, report_of};
 
 use crate::fault::Wrong;
@@ -146,7 +146,7 @@ fn execution_of(order: Text64, id: Text64, fields: &FieldIndex) -> Result<Execut
 // CumQty or LeavesQty, whose value isn't read where there is an OrderQty.
 #[tactic(auto, unfolding(crate::specs::Messages::size_part))]
 fn size_part(fields: &FieldIndex, tag: u32) -> Result<Option<Qty>, Wrong>
-    requires { tag < ROW_TAGS }
+    requires { HasRow tag }
     ensures { result ≡ size_part tag fields.now }
 {
     if has(fields, 38) {

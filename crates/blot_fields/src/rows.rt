@@ -1,6 +1,6 @@
 //! The rows of the tables: the value of the only field with a tag, read by a form.
 ghost use Rattle.std.specs.Prelude.{◌≡◌, ◌<◌, ◌≤◌, ◌^◌, IfOk};
-ghost use Rattle.blot_fields.specs.declared.index.TheConstants.{ROW_TAGS};
+ghost use Rattle.blot_fields.specs.Index.{HasRow};
 ghost use Rattle.blot_fields.specs.Forms.{number_form, zero_form, positive_form};
 ghost use Rattle.blot_fields.specs.Rows.{at, found, has, there, needed, optional};
 ghost use Rattle.blot_fields.specs.Slots.{lent_value, found_value};
@@ -11,6 +11,7 @@ use crate::index::FieldIndex;
 use blot_decimal::Qty;
 
 /// What is found at a tag, with the tag beside its fault.
+#[inline(always)]
 pub(crate) fn at<T>(tag: u32, found: Result<T, Flaw>) -> Result<T, Wrong>
     ensures { result ≡ at tag found }
 {
@@ -21,26 +22,29 @@ pub(crate) fn at<T>(tag: u32, found: Result<T, Flaw>) -> Result<T, Wrong>
 }
 
 // The value of the only field with a tag, none without one.
+#[inline(always)]
 fn found<'a>(fields: &FieldIndex<'a>, tag: u32) -> Result<Option<&'a [u8]>, Wrong>
-    requires { tag < ROW_TAGS }
+    requires { HasRow tag }
     ensures { found_value result ≡ found tag fields.now }
 {
     at(tag, fields.only(tag))
 }
 
 /// Whether there is a field with a tag, once or more often.
+#[inline(always)]
 #[tactic(auto, unfolding(crate::specs::Rows::has))]
 pub(crate) fn has(fields: &FieldIndex, tag: u32) -> bool
-    requires { tag < ROW_TAGS }
+    requires { HasRow tag }
     ensures { result ≡ has tag fields.now }
 {
     !matches!(fields.only(tag), Ok(None))
 }
 
 /// The value of a field that must be there.
+#[inline(always)]
 #[tactic(auto, unfolding(crate::specs::Rows::there))]
 pub(crate) fn there<'a>(fields: &FieldIndex<'a>, tag: u32) -> Result<&'a [u8], Wrong>
-    requires { tag < ROW_TAGS }
+    requires { HasRow tag }
     ensures { lent_value result ≡ there tag fields.now }
 {
     let missing = Wrong::new(tag, Flaw::RequiredTagMissing);
@@ -48,18 +52,20 @@ pub(crate) fn there<'a>(fields: &FieldIndex<'a>, tag: u32) -> Result<&'a [u8], W
 }
 
 /// What a field says that must be there, by the form of its type.
+#[inline(always)]
 #[tactic(auto, unfolding(crate::specs::Rows::needed))]
 pub(crate) fn needed<T: Form>(fields: &FieldIndex, tag: u32) -> Result<T, Wrong>
-    requires { tag < ROW_TAGS }
+    requires { HasRow tag }
     ensures { result ≡ needed tag T.form fields.now }
 {
     at(tag, T::from_value(there(fields, tag)?))
 }
 
 /// What a field says that may be missing, by the form of its type.
+#[inline(always)]
 #[tactic(auto, unfolding(crate::specs::Rows::optional))]
 pub(crate) fn optional<T: Form>(fields: &FieldIndex, tag: u32) -> Result<Option<T>, Wrong>
-    requires { tag < ROW_TAGS }
+    requires { HasRow tag }
     ensures { result ≡ optional tag T.form fields.now }
 {
     match found(fields, tag)? {
@@ -71,7 +77,7 @@ pub(crate) fn optional<T: Form>(fields: &FieldIndex, tag: u32) -> Result<Option<
 /// A whole number from `low` to `high`.
 #[tactic(auto, unfolding(crate::specs::Rows::needed))]
 pub(crate) fn number(fields: &FieldIndex, tag: u32, low: u64, high: u64) -> Result<u64, Wrong>
-    requires tag { tag < ROW_TAGS }
+    requires tag { HasRow tag }
     requires small { high < 2 ^ 31 }
     ensures value { result ≡ needed tag (number_form low high) fields.now }
     ensures range { IfOk result (λ number. number ≤ high) }
@@ -85,7 +91,7 @@ pub(crate) fn number(fields: &FieldIndex, tag: u32, low: u64, high: u64) -> Resu
 /// `0` alone.
 #[tactic(auto, unfolding(crate::specs::Rows::needed))]
 pub(crate) fn zero(fields: &FieldIndex, tag: u32) -> Result<u64, Wrong>
-    requires { tag < ROW_TAGS }
+    requires { HasRow tag }
     ensures { result ≡ needed tag zero_form fields.now }
 {
     at(tag, zero_form(there(fields, tag)?))
@@ -94,7 +100,7 @@ pub(crate) fn zero(fields: &FieldIndex, tag: u32) -> Result<u64, Wrong>
 /// A quantity above 0.
 #[tactic(auto, unfolding(crate::specs::Rows::needed))]
 pub(crate) fn positive(fields: &FieldIndex, tag: u32) -> Result<Qty, Wrong>
-    requires { tag < ROW_TAGS }
+    requires { HasRow tag }
     ensures { result ≡ needed tag positive_form fields.now }
 {
     at(tag, positive_form(there(fields, tag)?))
