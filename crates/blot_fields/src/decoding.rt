@@ -11,7 +11,7 @@ use crate::admin::{logon_of, resend_request_of, sequence_reset_of, test_request_
 use crate::allocation::allocation_of;
 use crate::fault::Refusal;
 use crate::head::head_of;
-use crate::index::FieldIndex;
+use crate::index::{FieldIndex, no_slots, note_fields};
 use crate::kinds::{Kind, kind_of};
 use crate::report::report_of;
 use crate::{Admin, Body, FieldFault, Message};
@@ -37,7 +37,9 @@ pub fn decode(alloc: Global, frame: &Frame) -> Result<Message, FieldFault>
     ensures first { IfErr (decoded (fields_of (text_of frame.now)))
         (λ fault. IsFault (fields_of (text_of frame.now)) fault) }
 {
-    let (fields, refused) = FieldIndex::of(frame);
+    let mut slots = no_slots();
+    let refused = note_fields(&mut slots, frame);
+    let fields = FieldIndex::new(frame, &slots);
     let head = head_of(&fields);
     if let Some(wrong) = refused {
         return Err(wrong.under(head.ok()));

@@ -4,11 +4,11 @@ ghost use Rattle.blot_tag.specs.Fields.{fields_of};
 ghost use Rattle.blot_tag.specs.Views.{text_of, tag_value};
 ghost use Rattle.blot_fields.specs.declared.sound.TheConstants.{FIELDS_MAX};
 ghost use Rattle.blot_fields.specs.Rows.{only};
-ghost use Rattle.blot_fields.specs.Slots.{lone_value};
-ghost use Rattle.blot_fields.specs.Index.{HasRow, KnowsNothing, Notes, row_of};
+ghost use Rattle.blot_fields.specs.Slots.{found_in};
+ghost use Rattle.blot_fields.specs.Index.{HasRow, IsIndex, KnowsNothing, Notes, row_of};
 ghost use Rattle.blot_fields.specs.Walk.{sound_fields, refused_field};
 
-use crate::fault::{Flaw, Wrong};
+use crate::fault::Wrong;
 use crate::slot::Slot;
 use crate::sound::{SoundFields, field_wrong};
 use blot_tag::{Field, Frame};
@@ -17,11 +17,25 @@ use std::marker::Model;
 /// How many tags have a row in some table.
 pub(crate) const ROWS: usize = 36;
 
+// More than the tags that have a row: each of them is below it.
+const TAGS: usize = 152;
+
+// The place of each of these tags among those that have a row, and their number where it has none.
+static ROW_OF_TAG: [u8; TAGS] = [
+    36, 0, 36, 36, 36, 36, 1, 2, 36, 36, 36, 36, 36, 36, 3, 36, 4, 5, 36, 6, 36, 36, 36, 36, 36,
+    36, 36, 36, 36, 36, 36, 7, 8, 36, 9, 10, 11, 12, 13, 14, 36, 36, 36, 15, 36, 36, 36, 36, 36,
+    16, 36, 36, 17, 18, 19, 20, 21, 36, 36, 36, 22, 36, 36, 36, 36, 36, 36, 36, 36, 36, 23, 24, 25,
+    36, 36, 26, 36, 36, 27, 36, 36, 36, 36, 36, 36, 36, 36, 36, 36, 36, 36, 36, 36, 36, 36, 36, 36,
+    36, 28, 36, 36, 36, 36, 36, 36, 36, 36, 36, 29, 36, 36, 36, 30, 36, 36, 36, 36, 36, 36, 36, 36,
+    36, 36, 31, 32, 36, 36, 36, 36, 36, 36, 36, 36, 36, 36, 36, 36, 36, 36, 36, 36, 33, 36, 36, 36,
+    36, 36, 36, 36, 36, 34, 35,
+];
+
 /// The fields of a frame, up to the first that is refused. A contract sees it as their list.
 #[derive(Drop)]
 pub(crate) struct FieldIndex<'a> {
     frame: &'a Frame<'a>,
-    slots: [Slot<'a>; ROWS],
+    slots: &'a [Slot<'a>; ROWS],
 }
 
 impl<'a> Model for FieldIndex<'a> {
@@ -36,7 +50,7 @@ impl<'a> Model for FieldIndex<'a> {
     ghost view = { λ index. sound_fields (fields_of (text_of index.frame.now)) };
 
     ghost invariant = { λ index.
-        IsIndex (sound_fields (fields_of (text_of index.frame.now))) index.slots };
+        IsIndex (sound_fields (fields_of (text_of index.frame.now))) index.slots.now };
 }
 
 // The place of a tag among those that have a row, and their number where it has none.
@@ -44,67 +58,21 @@ impl<'a> Model for FieldIndex<'a> {
 fn row_of(tag: u32) -> usize
     ensures { result ≡ row_of tag }
 {
-    match tag {
-        1 => 0,
-        6 => 1,
-        7 => 2,
-        14 => 3,
-        16 => 4,
-        17 => 5,
-        19 => 6,
-        31 => 7,
-        32 => 8,
-        34 => 9,
-        35 => 10,
-        36 => 11,
-        37 => 12,
-        38 => 13,
-        39 => 14,
-        43 => 15,
-        49 => 16,
-        52 => 17,
-        53 => 18,
-        54 => 19,
-        55 => 20,
-        56 => 21,
-        60 => 22,
-        70 => 23,
-        71 => 24,
-        72 => 25,
-        75 => 26,
-        78 => 27,
-        98 => 28,
-        108 => 29,
-        112 => 30,
-        123 => 31,
-        124 => 32,
-        141 => 33,
-        150 => 34,
-        151 => 35,
-        _ => ROWS,
+    let tag = tag as usize;
+    if tag < TAGS {
+        usize::from(ROW_OF_TAG[tag])
+    } else {
+        ROWS
     }
 }
 
 impl<'a> FieldIndex<'a> {
-    /// The fields of a frame, and the fault of the first that is refused.
-    pub(crate) fn of(frame: &'a Frame<'a>) -> (FieldIndex<'a>, Option<Wrong>)
-        ensures fields { result.0 ≡ sound_fields (fields_of (text_of frame.now)) }
-        ensures refused { result.1 ≡ refused_field (fields_of (text_of frame.now)) }
+    /// The fields of a frame, over the slots that know them.
+    pub(crate) fn new(frame: &'a Frame<'a>, slots: &'a [Slot<'a>; ROWS]) -> FieldIndex<'a>
+        requires { IsIndex (sound_fields (fields_of (text_of frame.now))) slots.now }
+        ensures { result ≡ sound_fields (fields_of (text_of frame.now)) }
     {
-        let mut slots = no_slots();
-        let mut before = 0;
-        for item in frame.fields() {
-            let field = match item {
-                Ok(field) => field,
-                Err(fault) => return (FieldIndex { frame, slots }, Some(Wrong::split(fault))),
-            };
-            if let Some(wrong) = field_wrong(before, field) {
-                return (FieldIndex { frame, slots }, Some(wrong));
-            }
-            note(&mut slots, field);
-            before += 1;
-        }
-        (FieldIndex { frame, slots }, None)
+        FieldIndex { frame, slots }
     }
 
     /// The fields from left to right.
@@ -115,25 +83,49 @@ impl<'a> FieldIndex<'a> {
         SoundFields::of(self.frame)
     }
 
-    /// The value of the only field with a tag that has a row, none without one.
+    /// What is known of a tag that has a row.
     #[inline(always)]
     #[tactic(auto, unfolding(crate::specs::Rows::only))]
-    pub(crate) fn only(&self, tag: u32) -> Result<Option<&'a [u8]>, Flaw>
+    pub(crate) fn slot(&self, tag: u32) -> Slot<'a>
         requires { HasRow tag }
-        ensures { lone_value result ≡ only tag self.now }
+        ensures { found_in result ≡ only tag self.now }
     {
-        self.slots[row_of(tag)].lone()
+        self.slots[row_of(tag)]
     }
 }
 
-// The slots before any field is noted.
-fn no_slots<'a>() -> [Slot<'a>; ROWS]
+/// The slots before any field is noted.
+#[inline(always)]
+pub(crate) fn no_slots<'a>() -> [Slot<'a>; ROWS]
     ensures { KnowsNothing result }
 {
     [Slot::Missing; ROWS]
 }
 
+/// Notes the fields of a frame up to the first that is refused, and gives its fault.
+#[inline(always)]
+pub(crate) fn note_fields<'a>(slots: &mut [Slot<'a>; ROWS], frame: &Frame<'a>) -> Option<Wrong>
+    requires { KnowsNothing slots.old }
+    ensures known { IsIndex (sound_fields (fields_of (text_of frame.now))) slots.new }
+    ensures refused { result ≡ refused_field (fields_of (text_of frame.now)) }
+{
+    let mut before = 0;
+    for item in frame.fields() {
+        let field = match item {
+            Ok(field) => field,
+            Err(fault) => return Some(Wrong::split(fault)),
+        };
+        if let Some(wrong) = field_wrong(before, field) {
+            return Some(wrong);
+        }
+        note(slots, field);
+        before += 1;
+    }
+    None
+}
+
 // Notes a field at the row of its tag, if that has one.
+#[inline(always)]
 fn note<'a>(slots: &mut [Slot<'a>; ROWS], field: Field<'a>)
     ensures { Notes (tag_value field.entry) slots.old slots.new }
 {

@@ -2,12 +2,13 @@
 ghost use Rattle.std.specs.Prelude.{◌≡◌, ◌<◌, ◌≤◌, ◌^◌, IfOk};
 ghost use Rattle.blot_fields.specs.Index.{HasRow};
 ghost use Rattle.blot_fields.specs.Forms.{number_form, zero_form, positive_form};
-ghost use Rattle.blot_fields.specs.Rows.{at, found, has, there, needed, optional};
-ghost use Rattle.blot_fields.specs.Slots.{lent_value, found_value};
+ghost use Rattle.blot_fields.specs.Rows.{at, has, there, needed, optional};
+ghost use Rattle.blot_fields.specs.Slots.{lent_value};
 
 use crate::fault::{Flaw, Wrong};
 use crate::forms::{Form, number_form, positive_form, zero_form};
 use crate::index::FieldIndex;
+use crate::slot::Slot;
 use blot_decimal::Qty;
 
 /// What is found at a tag, with the tag beside its fault.
@@ -21,15 +22,6 @@ pub(crate) fn at<T>(tag: u32, found: Result<T, Flaw>) -> Result<T, Wrong>
     }
 }
 
-// The value of the only field with a tag, none without one.
-#[inline(always)]
-fn found<'a>(fields: &FieldIndex<'a>, tag: u32) -> Result<Option<&'a [u8]>, Wrong>
-    requires { HasRow tag }
-    ensures { found_value result ≡ found tag fields.now }
-{
-    at(tag, fields.only(tag))
-}
-
 /// Whether there is a field with a tag, once or more often.
 #[inline(always)]
 #[tactic(auto, unfolding(crate::specs::Rows::has))]
@@ -37,7 +29,7 @@ pub(crate) fn has(fields: &FieldIndex, tag: u32) -> bool
     requires { HasRow tag }
     ensures { result ≡ has tag fields.now }
 {
-    !matches!(fields.only(tag), Ok(None))
+    !matches!(fields.slot(tag), Slot::Missing)
 }
 
 /// The value of a field that must be there.
@@ -47,8 +39,11 @@ pub(crate) fn there<'a>(fields: &FieldIndex<'a>, tag: u32) -> Result<&'a [u8], W
     requires { HasRow tag }
     ensures { lent_value result ≡ there tag fields.now }
 {
-    let missing = Wrong::new(tag, Flaw::RequiredTagMissing);
-    found(fields, tag)?.ok_or(missing)
+    match fields.slot(tag) {
+        Slot::Missing => Err(Wrong::new(tag, Flaw::RequiredTagMissing)),
+        Slot::Once(value) => Ok(value),
+        Slot::Repeated => Err(Wrong::new(tag, Flaw::TagRepeated)),
+    }
 }
 
 /// What a field says that must be there, by the form of its type.
@@ -68,9 +63,10 @@ pub(crate) fn optional<T: Form>(fields: &FieldIndex, tag: u32) -> Result<Option<
     requires { HasRow tag }
     ensures { result ≡ optional tag T.form fields.now }
 {
-    match found(fields, tag)? {
-        None => Ok(None),
-        Some(value) => Ok(Some(at(tag, T::from_value(value))?)),
+    match fields.slot(tag) {
+        Slot::Missing => Ok(None),
+        Slot::Once(value) => Ok(Some(at(tag, T::from_value(value))?)),
+        Slot::Repeated => Err(Wrong::new(tag, Flaw::TagRepeated)),
     }
 }
 

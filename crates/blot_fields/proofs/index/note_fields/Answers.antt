@@ -2,7 +2,7 @@ use Rattle.std.proofs.Common.{◌≡◌, Ok, ◌∷◌, refl, sym, ◌∙◌, ar
 use Rattle.blot_tag.specs.Views.{tag_value}
 use Rattle.blot_fields.proofs.IndexLemmas.{known_behind, refused_later}
 use Rattle.blot_fields.proofs.WalkLemmas.{field_wrong-few}
-use Rattle.blot_fields.proofs.index.FieldIndex.of.Goals as goal
+use Rattle.blot_fields.proofs.index.note_fields.Goals as goal
 
 pub loop-item-preserved : goal.loop-item-preserved
 loop-item-preserved c =

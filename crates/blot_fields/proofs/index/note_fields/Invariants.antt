@@ -3,7 +3,7 @@ use Rattle.blot_tag.specs.Fields.{fields_of}
 use Rattle.blot_tag.specs.Views.{text_of}
 use Rattle.blot_fields.specs.Walk.{sound_behind, refused_behind, sound_fields, refused_field}
 use Rattle.blot_fields.specs.Index.{IsIndexBefore}
-use Rattle.blot_fields.proofs.index.FieldIndex.of.Given as goal
+use Rattle.blot_fields.proofs.index.note_fields.Given as goal
 use Rattle.blot_fields.specs.declared.sound.TheConstants.{FIELDS_MAX}
 
 abbrev pub invariant-loop-item : goal.invariant-loop-item
