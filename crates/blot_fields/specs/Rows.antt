@@ -30,10 +30,6 @@ one_of (value ∷ second ∷ more) = Err TagRepeated
 unfoldable pub only : ℕ → List TagValue → Result (Option (List ℕ)) Flaw
 only tag fields = one_of (values tag fields)
 
--- the same, with the tag beside the fault
-abbrev pub found : ℕ → List TagValue → Result (Option (List ℕ)) Wrong
-found tag fields = at tag (only tag fields)
-
 -- whether a look-up found a field, or several
 abbrev pub is_there : Result (Option (List ℕ)) Flaw → Bool
 is_there (Ok None) = false

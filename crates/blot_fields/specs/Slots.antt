@@ -29,8 +29,3 @@ lone_value (Err reason) = Err reason
 abbrev pub lent_value : Result (Bor (List ℕ)) Wrong → Result (List ℕ) Wrong
 lent_value (Ok value) = Ok value.now
 lent_value (Err wrong) = Err wrong
-
--- the value that may be there, as it is lent
-abbrev pub found_value : Result (Option (Bor (List ℕ))) Wrong → Result (Option (List ℕ)) Wrong
-found_value (Ok found) = Ok (option_copied found)
-found_value (Err wrong) = Err wrong

@@ -95,7 +95,6 @@ impl<'a> FieldIndex<'a> {
 }
 
 /// The slots before any field is noted.
-#[inline(always)]
 pub(crate) fn no_slots<'a>() -> [Slot<'a>; ROWS]
     ensures { KnowsNothing result }
 {
@@ -103,7 +102,6 @@ pub(crate) fn no_slots<'a>() -> [Slot<'a>; ROWS]
 }
 
 /// Notes the fields of a frame up to the first that is refused, and gives its fault.
-#[inline(always)]
 pub(crate) fn note_fields<'a>(slots: &mut [Slot<'a>; ROWS], frame: &Frame<'a>) -> Option<Wrong>
     requires { KnowsNothing slots.old }
     ensures known { IsIndex (sound_fields (fields_of (text_of frame.now))) slots.new }
@@ -125,7 +123,6 @@ pub(crate) fn note_fields<'a>(slots: &mut [Slot<'a>; ROWS], frame: &Frame<'a>) -
 }
 
 // Notes a field at the row of its tag, if that has one.
-#[inline(always)]
 fn note<'a>(slots: &mut [Slot<'a>; ROWS], field: Field<'a>)
     ensures { Notes (tag_value field.entry) slots.old slots.new }
 {

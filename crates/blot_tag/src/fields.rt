@@ -46,7 +46,7 @@ impl<'a> Iterator for Fields<'a> {
 
     ghost remaining = { item_count (λ items. items) };
 
-    #[inline]
+    #[inline(always)]
     fn next(&mut self) -> Option<Result<Field<'a>, SplitFault>> {
         if self.rest.is_empty() {
             return None;
