@@ -1,15 +1,15 @@
 -- What a day that is served comes to.
-use Rattle.std.proofs.Common.{◌≡◌, ℕ, List, [], ◌∷◌, ◌++◌, length, refl, ap, subst, ◌∙◌, arith, suc, inl, inr}
-use Rattle.std.specs.Prelude.{ℤ, true, ◌&&◌, ◌≢◌, Option, IfSome, IsOk, OnOk, OnErr, Result, Ok, Err}
+use Rattle.std.proofs.Common.{◌≡◌, ℕ, List, [], ◌∷◌, ◌++◌, length, refl, ap, subst, ◌∙◌, arith, suc}
+use Rattle.std.specs.Prelude.{ℤ, true, ◌&&◌, ◌≢◌, Option, IfSome, IsOk, OnOk, Result, Err}
 use Rattle.std.specs.Io.KnownBytes.{IsAtEnd}
 use Rattle.std.specs.List.{All, list_all}
 use Rattle.blot_desk.specs.declared.receipt.Receipt.{Receipt}
 use Rattle.blot_gateway.specs.AtOnce.{AddsSubmits, EachAdds}
 use Rattle.blot_gateway.proofs.AtOnceLemmas.{adds-none, adds-on}
 use Rattle.blotter.proofs.ResultLemmas.{ok-says}
-use Rattle.blotter.specs.Dialogue.{TellsLines, StopsAmong, seat_ways}
+use Rattle.blotter.specs.Dialogue.{TellsLines, seat_ways}
 use Rattle.blotter.specs.Lines.{lines_of}
-use Rattle.blotter.specs.Serving.{DayServed, Reported, TellsAll, TellsSome, are_submits}
+use Rattle.blotter.specs.Serving.{DayServed, Reported, are_submits}
 use Rattle.blotter.specs.declared.outcome.ServeFault.{ServeFault}
 use Rattle.blotter.specs.declared.outcome.ServeFault.TheVariants.{Connection, NoMemory}
 
@@ -53,29 +53,20 @@ not-memory served is = λ other. cc
 
 -- what an operator with an empty seat is told, where the lines come to their end
 pub tells-all : {T E : Type 0} (answered : Result T E) (input : Option (List ℕ)) (first last : List Receipt) (before after : Option (List ℕ)) → first ≡ [] → IsOk answered
-    → OnOk answered (IfSome input (λ bytes. TellsLines seat_ways first (lines_of bytes) last before after)) → TellsAll input last before after
+    → OnOk answered (IfSome input (λ bytes. TellsLines seat_ways first (lines_of bytes) last before after)) → IfSome input (λ bytes. TellsLines seat_ways [] (lines_of bytes) last before after)
 tells-all answered input first last before after empty is all =
     subst (λ found. IfSome input (λ bytes. TellsLines seat_ways found (lines_of bytes) last before after)) empty (ok-says answered is all)
-
--- what an operator with an empty seat is told, however the lines end
-pub tells-some : {T E : Type 0} (answered : Result T E) (input : Option (List ℕ)) (first last : List Receipt) (before after : Option (List ℕ)) → first ≡ []
-    → OnOk answered (IfSome input (λ bytes. TellsLines seat_ways first (lines_of bytes) last before after))
-    → OnErr answered (IfSome input (λ bytes. StopsAmong seat_ways first (lines_of bytes) last before after)) → TellsSome input last before after
-tells-some (Ok x) input first last before after empty all some =
-    inl (subst (λ found. IfSome input (λ bytes. TellsLines seat_ways found (lines_of bytes) last before after)) empty all)
-tells-some (Err e) input first last before after empty all some =
-    inr (subst (λ found. IfSome input (λ bytes. StopsAmong seat_ways found (lines_of bytes) last before after)) empty some)
 
 -- an input that is left so
 pub at-end : {R : Type 0} (remaining : R → Option (List ℕ)) (left last : R) → IsAtEnd (remaining left) → left ≡ last → IsAtEnd (remaining last)
 at-end remaining left last ended same = subst (λ found. IsAtEnd (remaining found)) same ended
 
 -- a day that is served, of its rounds, its lines and its report, which leave the output so
-pub is-served : {W : Type 0} (contents : W → Option (List ℕ)) (tells : List Receipt → Option (List ℕ) → Option (List ℕ) → Type 0) (opened brokers : List (List Receipt))
+pub is-served : {W : Type 0} (contents : W → Option (List ℕ)) (input : Option (List ℕ)) (opened brokers : List (List Receipt))
     (operator : List Receipt) (sessions : ℕ) (day : ℤ) (before : Option (List ℕ)) (between new last : W) → length opened ≡ sessions → All (λ receipts. receipts ≡ []) opened
-    → EachAdds opened brokers → tells operator before (contents between) → Reported day (brokers ++ (operator ∷ [])) (contents between) (contents new) → new ≡ last
-    → DayServed tells sessions day before (contents last)
-is-served contents tells opened brokers operator sessions day before between new last many empty adds told reported same =
+    → EachAdds opened brokers → IfSome input (λ bytes. TellsLines seat_ways [] (lines_of bytes) operator before (contents between)) → Reported day (brokers ++ (operator ∷ [])) (contents between) (contents new) → new ≡ last
+    → DayServed input sessions day before (contents last)
+is-served contents input opened brokers operator sessions day before between new last many empty adds told reported same =
     record {
       brokers = brokers;
       operator = operator;

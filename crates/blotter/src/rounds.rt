@@ -19,8 +19,8 @@ use std::time::Clock;
 /// How many rounds a day has, and how many connections a round.
 #[derive(Clone, Copy, Debug, PartialEq, Eq)]
 pub struct Rounds {
-    pub rounds: u32,
-    pub sessions: u32,
+    pub rounds: u16,
+    pub sessions: u16,
 }
 
 /// Logs how each wire of a round ended, in their order: `wire 0 ended 1`, by the number of its ending.
@@ -35,7 +35,7 @@ pub(crate) fn serve_rounds<R, N, L>(
     rt: &R,
     alloc: Global,
     listener: &N,
-    rounds: u32,
+    rounds: u16,
     slots: &Slots,
     desk: &Desk<L>,
     seats: &mut Vec<Seat<L>>,
@@ -112,11 +112,13 @@ where
 {
     for _ in 0..u64::MAX {
         match listener.accept() {
-            Ok((stream, _)) => {
-                if let Ok(socket) = Socket::new(stream) {
-                    return Ok(socket);
+            Ok((stream, _)) => match Socket::new(stream) {
+                Ok(socket) => return Ok(socket),
+                Err(error) if error.kind() == ErrorKind::OutOfMemory => {
+                    return Err(ServeFault::NoMemory);
                 }
-            }
+                Err(_) => {}
+            },
             Err(error) => match error.kind() {
                 ErrorKind::Interrupted | ErrorKind::ConnectionAborted => {}
                 ErrorKind::OutOfMemory => return Err(ServeFault::NoMemory),

@@ -1,9 +1,9 @@
 //! `serve_day`.
+ghost use Rattle.std.specs.Prelude.{◌≡◌, ◌≢◌, ◌+◌, ◌⊎◌, [], ◌∷◌, ◌++◌, length, Err, IfOk, IsOk, OnOk};
 ghost use Rattle.std.specs.List.{All};
 ghost use Rattle.std.specs.Io.KnownBytes.{Appends, IsAtEnd};
-ghost use Rattle.std.specs.Prelude.{◌≡◌, ◌≢◌, ◌+◌, ◌≤◌, ◌⊎◌, [], ◌∷◌, ◌++◌, length, Err, IfOk, IsOk, OnOk};
 ghost use Rattle.blot_gateway.specs.AtOnce.{EachAdds};
-ghost use Rattle.blotter.specs.Serving.{DayServed, Reported, TellsAll, TellsSome};
+ghost use Rattle.blotter.specs.Serving.{DayServed, Reported};
 
 use crate::meanwhile::{Lines, Task, take_back};
 use crate::replaying::day_report;
@@ -24,10 +24,11 @@ use std::time::Clock;
 
 /// Serves a day: rounds of connections, each of which is served at once, and meanwhile an operator's lines, through a seat of
 /// their own. After the last round and the last line the seats are settled with the desk, and the report of the day is written.
-/// How each connection of a round ended is logged after that round. A round has at most 1,000 connections.
+/// How each connection of a round ended is logged after that round.
 ///
-/// Connection: none can be accepted, and no further round begins; lines and report are told nevertheless. Lines: as `seat_lines` says,
-/// or the report can't be written. Unsettled: the receipts aren't those of the history, which no run comes to. NoMemory: memory ran out.
+/// NoMemory: memory ran out. Lines: they stopped, as `seat_lines` says, or the report can't be written; where they stopped, it is written
+/// if it can be. Connection: none can be accepted, and no further round begins; the lines are answered and the report is written all
+/// the same. Unsettled: the receipts aren't those of the history.
 pub fn serve_day<L, R, N, I, O>(
     rt: &R,
     alloc: Global,
@@ -49,11 +50,12 @@ where
     requires name { blank.name ≡ L.name }
     requires parts { blank.parts ≡ L.parts }
     requires seats { blank.parts ≡ rounds.sessions + 1 }
-    requires sessions { rounds.sessions ≤ 1000 }
-    ensures served { OnOk result (DayServed (TellsAll (I.remaining input.old)) rounds.sessions day (O.contents output.old) (O.contents output.new)) }
+    ensures served { OnOk result (DayServed (I.remaining input.old) rounds.sessions day (O.contents output.old) (O.contents output.new)) }
     ensures read_to_the_end { OnOk result (IsAtEnd (I.remaining input.new)) }
-    ensures no_connection { result ≡ Err ServeFault.Connection
-        → DayServed (TellsSome (I.remaining input.old)) rounds.sessions day (O.contents output.old) (O.contents output.new) }
+
+    // Without a further connection the day is told all the same.
+    ensures no_connection { result ≡ Err ServeFault.Connection → IsAtEnd (I.remaining input.new)
+        × DayServed (I.remaining input.old) rounds.sessions day (O.contents output.old) (O.contents output.new) }
 {
     let (desk, seats, operator) = open_day::<L>(alloc, blank, rounds.sessions)?;
     let lines = Lines {
@@ -87,16 +89,16 @@ where
 fn open_day<L: Ledger>(
     alloc: Global,
     blank: Blank,
-    sessions: u32,
+    sessions: u16,
 ) -> Result<(Desk<L>, Vec<Seat<L>>, Seat<L>), NoMemory>
     requires name { blank.name ≡ L.name }
     requires parts { blank.parts ≡ L.parts }
     requires seats { blank.parts ≡ sessions + 1 }
-    requires few { sessions ≤ 1000 }
-    ensures brokers { IfOk result (λ opened. (length opened.1.items ≡ sessions) × All (λ receipts. receipts ≡ []) opened.1.items) }
+    ensures count { IfOk result (λ opened. length opened.1.items ≡ sessions) }
+    ensures empty { IfOk result (λ opened. All (λ receipts. receipts ≡ []) opened.1.items) }
     ensures operator { IfOk result (λ opened. opened.2 ≡ []) }
 {
-    let (desk, seats) = Desk::<L>::new(alloc, blank, sessions + 1)?;
+    let (desk, seats) = Desk::<L>::new(alloc, blank, u32::from(sessions) + 1)?;
     let mut seats = seats;
     let operator = seats.pop().unwrap();
     Ok((desk, seats, operator))
@@ -107,7 +109,7 @@ fn serve_beside<L, R, N, T, A>(
     rt: &R,
     alloc: Global,
     listener: &N,
-    rounds: u32,
+    rounds: u16,
     slots: &Slots,
     desk: &Desk<L>,
     seats: Vec<Seat<L>>,
@@ -137,10 +139,10 @@ where
     )
 }
 
-// What two runs at once come to: out of memory in one of them is told before another fault.
+// What rounds and lines at once come to: out of memory is told before another fault, and the lines' before the rounds'.
 fn both(served: Result<(), ServeFault>, answered: Result<(), ReplayFault>) -> Result<(), ServeFault>
     ensures ok { OnOk result (IsOk served × IsOk answered) }
-    ensures connection { result ≡ Err ServeFault.Connection → served ≡ Err ServeFault.Connection }
+    ensures connection { result ≡ Err ServeFault.Connection → (served ≡ Err ServeFault.Connection) × IsOk answered }
     ensures memory { (served ≡ Err ServeFault.NoMemory) ⊎ (answered ≡ Err ReplayFault.NoMemory) → result ≡ Err ServeFault.NoMemory }
 {
     match (served, answered) {
@@ -148,8 +150,8 @@ fn both(served: Result<(), ServeFault>, answered: Result<(), ReplayFault>) -> Re
         (Err(ServeFault::NoMemory), _) | (_, Err(ReplayFault::NoMemory)) => {
             Err(ServeFault::NoMemory)
         }
-        (Err(fault), _) => Err(fault),
-        (Ok(()), Err(fault)) => Err(ServeFault::Lines(fault)),
+        (_, Err(fault)) => Err(ServeFault::Lines(fault)),
+        (Err(fault), Ok(())) => Err(fault),
     }
 }
 

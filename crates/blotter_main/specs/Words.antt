@@ -10,7 +10,8 @@ use Rattle.blot_desk.specs.Desk.{Journal}
 use Rattle.blotter.specs.Lines.{lines_of}
 use Rattle.blotter.specs.Operating.{told_over}
 use Rattle.blotter.specs.Replay.{list_of, report_of}
-use Rattle.blotter.specs.Serving.{DayServed, TellsAll}
+use Rattle.blotter.specs.Serving.{DayServed}
+use Rattle.blotter_main.specs.declared.command_line.TheConstants.{PORT_MAX, ROUNDS_MAX, SESSIONS_MAX}
 use Rattle.blotter_main.specs.declared.words.Words.{Words}
 use Rattle.blotter_main.specs.declared.words.Words.TheVariants.{Replay, Desk, Serve}
 
@@ -47,9 +48,9 @@ pub record IsCount (most : ℕ) (word : List ℕ) : Type 0 where
 pub record IsServe (own day port sessions rounds : Option (List ℕ)) (peers : Option (List (List ℕ))) : Type 0 where
   pub own_text : IsSomeAnd own (λ text. IsTrue (is_text text))
   pub day_text : IsSomeAnd day IsDayText
-  pub port_count : IsSomeAnd port (IsCount 65535)
-  pub sessions_count : IsSomeAnd sessions (IsCount 1000)
-  pub rounds_count : IsSomeAnd rounds (IsCount 1000)
+  pub port_count : IsSomeAnd port (IsCount PORT_MAX)
+  pub sessions_count : IsSomeAnd sessions (IsCount SESSIONS_MAX)
+  pub rounds_count : IsSomeAnd rounds (IsCount ROUNDS_MAX)
   pub peer_list : IsSomeAnd peers IsPeerList
 
 -- one's own CompID, the day, the file with the capture, and the peers that the words name
@@ -78,11 +79,6 @@ abbrev pub counts_named : Words → List (Option ℕ)
 counts_named (Serve own day port rounds peers) = Some port ∷ Some rounds.sessions ∷ Some rounds.rounds ∷ []
 counts_named words = []
 
--- a round has at most 1,000 connections
-abbrev pub AreFew : Words → Type 0
-AreFew (Serve own day port rounds peers) = rounds.sessions ≤ 1000
-AreFew words = Unit {0}
-
 -- what the words ask for was done. Of a replay, the input is read to its end, and the report of the day stands behind what was
 -- written; of a desk, the input is read to its end, and there stand the answers to its lines, of a desk as the capture left it; of a
 -- server, the input is read to its end, there stand the answers to its lines, and behind them the report of a settled history
@@ -91,7 +87,7 @@ Did (Replay own day peers) input left before after =
     IsAtEnd left × IfSome input (λ bytes. Appends before after (report_of (list_of own peers.items bytes) day))
 Did (Desk own capture peers) input left before after =
     IsAtEnd left × ((journal : Journal) × IfSome input (λ bytes. Appends before after (told_over journal (lines_of bytes)).text))
-Did (Serve own day port rounds peers) input left before after = IsAtEnd left × DayServed (TellsAll input) rounds.sessions day before after
+Did (Serve own day port rounds peers) input left before after = IsAtEnd left × DayServed input rounds.sessions day before after
 
 -- whether the words ask for a replay
 abbrev pub is_replay : Words → Bool

@@ -18,10 +18,16 @@ pub const DAY: &str = "day";
 pub const CAPTURE: &str = "capture";
 /// The option with the TCP port.
 pub const PORT: &str = "port";
+/// The largest TCP port.
+pub const PORT_MAX: u16 = 65_535;
 /// The option with the number of connections of a round.
 pub const SESSIONS: &str = "sessions";
+/// The most connections of a round.
+pub const SESSIONS_MAX: u16 = 1_000;
 /// The option with the number of rounds.
 pub const ROUNDS: &str = "rounds";
+/// The most rounds of a day.
+pub const ROUNDS_MAX: u16 = 1_000;
 /// The peers, behind the options.
 pub const PEER: &str = "peer";
 
@@ -89,7 +95,7 @@ fn port_option<'a>(alloc: Global) -> Arg<'a> {
         .long(PORT)
         .value_name("PORT")
         .required(true)
-        .value_parser(ValueParser::unsigned(1, 65_535))
+        .value_parser(ValueParser::unsigned(1, u64::from(PORT_MAX)))
         .help("The TCP port on 127.0.0.1 that brokers connect to, 1 to 65535")
 }
 
@@ -99,7 +105,7 @@ fn sessions_option<'a>(alloc: Global) -> Arg<'a> {
         .long(SESSIONS)
         .value_name("SESSIONS")
         .required(true)
-        .value_parser(ValueParser::unsigned(1, 1_000))
+        .value_parser(ValueParser::unsigned(1, u64::from(ROUNDS_MAX)))
         .help("How many connections a round waits for and serves at once, 1 to 1000")
 }
 
@@ -109,7 +115,7 @@ fn rounds_option<'a>(alloc: Global) -> Arg<'a> {
         .long(ROUNDS)
         .value_name("ROUNDS")
         .default_value("1")
-        .value_parser(ValueParser::unsigned(1, 1_000))
+        .value_parser(ValueParser::unsigned(1, u64::from(ROUNDS_MAX)))
         .help("How many rounds there are, 1 to 1000")
 }
 

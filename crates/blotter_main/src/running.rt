@@ -8,9 +8,9 @@ ghost use Rattle.blotter.specs.Capture.{commands_of};
 ghost use Rattle.blotter.specs.Lines.{lines_of};
 ghost use Rattle.blotter.specs.Operating.{told_over};
 ghost use Rattle.blotter.specs.Replay.{submitted};
-ghost use Rattle.blotter.specs.Serving.{DayServed, TellsAll};
+ghost use Rattle.blotter.specs.Serving.{DayServed};
 ghost use Rattle.blotter.specs.declared.outcome.Outcome.TheVariants.{BadWords, Done, NoMemory};
-ghost use Rattle.blotter_main.specs.Words.{IsPeerList, Did, is_replay, AreFew, peers_of};
+ghost use Rattle.blotter_main.specs.Words.{IsPeerList, Did, is_replay, peers_of};
 
 use crate::refusal::Refusal;
 use crate::words::{Words, given, parse};
@@ -65,7 +65,6 @@ where
 // What the command line asks for.
 fn words_of<S: Env + AllocGlobal>(system: &S) -> Result<Words, Refusal>
     ensures peers { IfOk result (λ words. IsPeerList (peers_of words)) }
-    ensures few { IfOk result AreFew }
 {
     let words = given(system)?;
     parse(system.alloc(), words.as_slice())
@@ -85,7 +84,6 @@ where
     T::Listener: Sync,
     T::Stream: Send,
     requires peers { IsPeerList (peers_of words) }
-    requires few { AreFew words }
     ensures did { result ≡ Done → Did words (R.remaining input.old) (R.remaining input.new) (W.contents output.old) (W.contents output.new) }
     ensures no_memory { result ≡ NoMemory → (is_replay words ≡ false) ⊎ Keeps (W.contents output.old) (W.contents output.new) }
     ensures words { result ≢ BadWords }
@@ -135,8 +133,7 @@ where
     T: Threads + Wait + Net + Clock + Log + Sync,
     T::Listener: Sync,
     T::Stream: Send,
-    requires { rounds.sessions ≤ 1000 }
-    ensures served { result ≡ Done → DayServed (TellsAll (R.remaining input.old)) rounds.sessions day (W.contents output.old) (W.contents output.new) }
+    ensures served { result ≡ Done → DayServed (R.remaining input.old) rounds.sessions day (W.contents output.old) (W.contents output.new) }
     ensures read_to_the_end { result ≡ Done → IsAtEnd (R.remaining input.new) }
     ensures words { result ≢ BadWords }
 {

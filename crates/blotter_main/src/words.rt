@@ -3,10 +3,11 @@ ghost use Rattle.std.specs.Prelude.{◌≡◌, ◌≢◌, ◌↔◌, ◌≤◌, 
 ghost use Rattle.clap.specs.Matches.{first_value, found_of, matched_of, one_text, raw_values};
 ghost use Rattle.blot_time.specs.Day.{day_of, IsDayText};
 ghost use Rattle.blot_types.specs.Text.{is_text};
-ghost use Rattle.blotter_main.specs.Words.{AreFew, IsCount, IsPeerList, IsReplay, IsDesk, IsServe, own_of, count_of, counts_named, day_named, capture_named, peers_of};
+ghost use Rattle.blotter_main.specs.Words.{IsCount, IsPeerList, IsReplay, IsDesk, IsServe, own_of, count_of, counts_named, day_named, capture_named, peers_of};
 
 use crate::command_line::{
-    CAPTURE, DAY, DESK, OWN, PEER, PORT, REPLAY, ROUNDS, SERVE, SESSIONS, command,
+    CAPTURE, DAY, DESK, OWN, PEER, PORT, PORT_MAX, REPLAY, ROUNDS, ROUNDS_MAX, SERVE, SESSIONS,
+    SESSIONS_MAX, command,
 };
 use crate::peers::read_peers;
 use crate::refusal::{Refusal, refusal_of};
@@ -56,7 +57,6 @@ pub fn given<S: Env + AllocGlobal>(system: &S) -> Result<Vec<String>, Refusal> {
 /// What these words ask for, the first of which is the program's name.
 pub fn parse<S: AsStr>(alloc: Global, words: &[S]) -> Result<Words, Refusal>
     ensures peers { IfOk result (λ words. IsPeerList (peers_of words)) }
-    ensures few { IfOk result AreFew }
 {
     let matches = match command(alloc)?.try_get_matches_from(words) {
         Ok(matches) => matches,
@@ -80,7 +80,6 @@ fn read_replay(alloc: Global, matches: &ArgMatches<'_>) -> Result<Words, Refusal
     ensures day { IfOk result (λ words. IfSome (first_value (found_of matches.now) (codes "day")) (λ word. option_map Ok (day_named words) ≡ Some (day_of word))) }
     ensures named { IfOk result (λ words. option_map raw_values (matched_of (found_of matches.now) (codes "peer")) ≡ Some (peers_of words)) }
     ensures peers { IfOk result (λ words. IsPeerList (peers_of words)) }
-    ensures few { IfOk result AreFew }
     ensures refused { IfErr result (λ refusal. refusal ≢ Refusal.NoMemory
         → IsReplay (first_value (found_of matches.now) (codes "own")) (first_value (found_of matches.now) (codes "day"))
         (option_map raw_values (matched_of (found_of matches.now) (codes "peer"))) → ⊥) }
@@ -104,7 +103,6 @@ fn read_desk(alloc: Global, matches: &ArgMatches<'_>) -> Result<Words, Refusal>
     ensures capture { IfOk result (λ words. first_value (found_of matches.now) (codes "capture") ≡ capture_named words) }
     ensures named { IfOk result (λ words. option_map raw_values (matched_of (found_of matches.now) (codes "peer")) ≡ Some (peers_of words)) }
     ensures peers { IfOk result (λ words. IsPeerList (peers_of words)) }
-    ensures few { IfOk result AreFew }
     ensures refused { IfErr result (λ refusal. refusal ≢ Refusal.NoMemory
         → IsDesk (first_value (found_of matches.now) (codes "own")) (first_value (found_of matches.now) (codes "capture"))
         (option_map raw_values (matched_of (found_of matches.now) (codes "peer"))) → ⊥) }
@@ -135,7 +133,6 @@ fn read_serve(alloc: Global, matches: &ArgMatches<'_>) -> Result<Words, Refusal>
         ∷ option_map count_of (one_text (found_of matches.now) (codes "sessions")) ∷ option_map count_of (one_text (found_of matches.now) (codes "rounds")) ∷ []) }
     ensures named { IfOk result (λ words. option_map raw_values (matched_of (found_of matches.now) (codes "peer")) ≡ Some (peers_of words)) }
     ensures peers { IfOk result (λ words. IsPeerList (peers_of words)) }
-    ensures few { IfOk result AreFew }
     ensures refused { IfErr result (λ refusal. refusal ≢ Refusal.NoMemory
         → IsServe (first_value (found_of matches.now) (codes "own")) (first_value (found_of matches.now) (codes "day"))
         (one_text (found_of matches.now) (codes "port")) (one_text (found_of matches.now) (codes "sessions")) (one_text (found_of matches.now) (codes "rounds"))
@@ -147,13 +144,13 @@ fn read_serve(alloc: Global, matches: &ArgMatches<'_>) -> Result<Words, Refusal>
     let Some(day) = read_day(matches.get_str(DAY)) else {
         return Err(Refusal::BadWords);
     };
-    let Some(port) = read_count(matches, PORT, u16::MAX) else {
+    let Some(port) = read_count(matches, PORT, PORT_MAX) else {
         return Err(Refusal::BadWords);
     };
-    let Some(sessions) = read_count(matches, SESSIONS, 1_000) else {
+    let Some(sessions) = read_count(matches, SESSIONS, SESSIONS_MAX) else {
         return Err(Refusal::BadWords);
     };
-    let Some(rounds) = read_count(matches, ROUNDS, 1_000) else {
+    let Some(rounds) = read_count(matches, ROUNDS, ROUNDS_MAX) else {
         return Err(Refusal::BadWords);
     };
     let Some(named) = matches.get_strs(PEER) else {
@@ -164,10 +161,7 @@ fn read_serve(alloc: Global, matches: &ArgMatches<'_>) -> Result<Words, Refusal>
         own,
         day,
         port,
-        rounds: Rounds {
-            rounds: u32::from(rounds),
-            sessions: u32::from(sessions),
-        },
+        rounds: Rounds { rounds, sessions },
         peers,
     })
 }
@@ -176,7 +170,6 @@ fn read_serve(alloc: Global, matches: &ArgMatches<'_>) -> Result<Words, Refusal>
 fn read_count(matches: &ArgMatches<'_>, id: &str, most: u16) -> Option<u16>
     ensures some { IsSome result ↔ IsSomeAnd (one_text (found_of matches.now) id.now) (IsCount most) }
     ensures value { IfSome result (λ count. option_map count_of (one_text (found_of matches.now) id.now) ≡ Some count) }
-    ensures few { IfSome result (λ count. count ≤ most) }
 {
     let count = matches.get_one::<u16>(id)?;
     if count < 1 || most < count {

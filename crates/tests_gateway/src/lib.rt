@@ -9,6 +9,8 @@ mod failing;
 #[cfg(test)]
 mod greeting;
 #[cfg(test)]
+mod patient;
+#[cfg(test)]
 mod rows;
 #[cfg(test)]
 mod runs;

@@ -137,7 +137,7 @@ pub fn run_of(
 }
 
 /// Serves a session that delivers nothing over a wire, at one moment.
-pub fn serve(alloc: Global, wire: &mut MemoryWire, session: &mut Session) -> Result<Ended, Fail> {
+pub fn serve<W: Wire>(alloc: Global, wire: &mut W, session: &mut Session) -> Result<Ended, Fail> {
     let mut clock = ListClock::new(moments(alloc, "20240105-10:00:01.000")?);
     let mut sink = ListSink::new(alloc, Vec::new(alloc));
     let mut reader = Reader::new(alloc);

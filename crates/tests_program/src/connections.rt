@@ -1,5 +1,5 @@
 //! Peers over TCP, in one process with the blotter.
-ghost use Rattle.std.specs.Prelude.{◌≡◌, ◌+◌, ◌≤◌, IfOk, vec_len};
+ghost use Rattle.std.specs.Prelude.{◌≡◌, ◌+◌, IfOk, vec_len};
 
 use crate::calls::text;
 use blot_desk::{Desk, Seat};
@@ -108,7 +108,6 @@ where
     requires name { blank.name ≡ L.name }
     requires parts { blank.parts ≡ L.parts }
     requires seats { blank.parts ≡ rounds.sessions + 1 }
-    requires sessions { rounds.sessions ≤ 1000 }
 {
     let listener = TcpListener::bind(rt, SocketAddrV4::new(Ipv4Addr::LOCALHOST, 0))?;
     let address = listener.local_addr()?;
@@ -120,7 +119,7 @@ where
     let (served, answered) = join(
         rt,
         || -> Result<(), ServeFault>
-            requires { (blank.name ≡ L.name) × (blank.parts ≡ L.parts) × (blank.parts ≡ rounds.sessions + 1) × (rounds.sessions ≤ 1000) }
+            requires { (blank.name ≡ L.name) × (blank.parts ≡ L.parts) × (blank.parts ≡ rounds.sessions + 1) }
         {
             serve_day::<L, _, _, _, _>(
                 rt, alloc, blank, &listener, rounds, &slots, day, &mut lines, &mut told,

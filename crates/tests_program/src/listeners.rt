@@ -6,7 +6,7 @@ use crate::capture_rows::{LINES, TRADE};
 use crate::dialogues::captured;
 use blot_slots::Slots;
 use blot_time::Day;
-use blotter::{Rounds, ServeFault, serve_day};
+use blotter::{ReplayFault, Rounds, ServeFault, serve_day};
 use log::Log;
 use std::alloc::Global;
 use std::io::{self, Error, ErrorKind, Read, Write};
@@ -109,12 +109,43 @@ impl OpenStream for Peer<'_> {
     }
 }
 
-// A day of one round of one connection, with an operator who asks for a position that isn't there: what is answered, and what is told.
+// An operator who asks for a position that isn't there. Then the lines end, or can't be read.
+#[derive(Drop)]
+struct Operator {
+    rest: &'static [u8],
+    is_broken: bool,
+}
+
+impl Operator {
+    // One who was read nothing of yet.
+    fn new(is_broken: bool) -> Operator {
+        Operator {
+            rest: b"position\tX\tY\n",
+            is_broken,
+        }
+    }
+}
+
+impl Read for Operator {
+    fn read(&mut self, buffer: &mut [u8]) -> io::Result<usize> {
+        if self.rest.is_empty() && self.is_broken {
+            return Err(Error::from(ErrorKind::BrokenPipe));
+        }
+        let count = buffer.len().min(self.rest.len());
+        let (piece, rest) = self.rest.split_at(count);
+        buffer[..count].copy_from_slice(piece);
+        self.rest = rest;
+        Ok(count)
+    }
+}
+
+// A day of one round of one connection: what is answered, and what the operator is told.
 fn served<L: Ledger + Send + Sync, R: Threads + Wait + Clock + Log + Sync>(
     rt: &R,
     alloc: Global,
     blank: Blank,
     listener: &Listener<'_>,
+    operator: Operator,
 ) -> Result<(Result<(), ServeFault>, Vec<u8>), Fail>
     requires name { blank.name ≡ L.name }
     requires parts { blank.parts ≡ L.parts }
@@ -126,10 +157,18 @@ fn served<L: Ledger + Send + Sync, R: Threads + Wait + Clock + Log + Sync>(
     };
     let slots = Slots::new(alloc, text("MO")?, &[text("BRKA")?])?;
     let day = Day::read(b"20240105")?;
-    let mut lines: &[u8] = b"position\tX\tY\n";
+    let mut operator = operator;
     let mut told = Vec::new(alloc);
     let ended = serve_day::<L, _, _, _, _>(
-        rt, alloc, blank, listener, rounds, &slots, day, &mut lines, &mut told,
+        rt,
+        alloc,
+        blank,
+        listener,
+        rounds,
+        &slots,
+        day,
+        &mut operator,
+        &mut told,
     );
     Ok((ended, told))
 }
@@ -155,10 +194,26 @@ fn connections_that_are_passed_over(rt: HostRuntime) -> Result<(), Fail> {
         bytes: &bytes,
         accepts: AtomicU64::new(0),
     };
-    let (ended, told) = served::<Brand, _>(&rt, rt.alloc(), Blank::new(2), &listener)?;
+    let operator = Operator::new(false);
+    let (ended, told) = served::<Brand, _>(&rt, rt.alloc(), Blank::new(2), &listener, operator)?;
     assert_eq!(rt; ended, Ok(()));
     assert_eq!(rt; told.as_slice(), telling(rt.alloc(), LINES)?.as_slice());
     assert_eq!(rt; listener.accepts.load(Ordering::SeqCst), 4);
+    Ok(())
+}
+
+#[test]
+fn lines_that_stop_before_the_report(rt: HostRuntime) -> Result<(), Fail> {
+    let bytes = captured(rt.alloc(), TRADE)?;
+    let listener = Listener {
+        arrivals: &[Arrival::Comes],
+        bytes: &bytes,
+        accepts: AtomicU64::new(0),
+    };
+    let operator = Operator::new(true);
+    let (ended, told) = served::<Brand, _>(&rt, rt.alloc(), Blank::new(2), &listener, operator)?;
+    assert_eq!(rt; ended, Err(ServeFault::Lines(ReplayFault::Read)));
+    assert_eq!(rt; told.as_slice(), telling(rt.alloc(), LINES)?.as_slice());
     Ok(())
 }
 
@@ -169,7 +224,8 @@ fn no_connection_can_be_accepted(rt: HostRuntime) -> Result<(), Fail> {
         bytes: b"",
         accepts: AtomicU64::new(0),
     };
-    let (ended, told) = served::<Brand, _>(&rt, rt.alloc(), Blank::new(2), &listener)?;
+    let operator = Operator::new(false);
+    let (ended, told) = served::<Brand, _>(&rt, rt.alloc(), Blank::new(2), &listener, operator)?;
     assert_eq!(rt; ended, Err(ServeFault::Connection));
     assert_eq!(rt;
         told.as_slice(),
