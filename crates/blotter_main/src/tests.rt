@@ -133,7 +133,7 @@ fn words_of_a_desk_are_read(rt: HostRuntime) -> Result<(), Fail> {
 
 #[test]
 fn words_of_a_server_are_read(rt: HostRuntime) -> Result<(), Fail> {
-    let rows: [(&str, u16, u32, u32); 3] = [
+    let rows: [(&str, u16, u16, u16); 3] = [
         (
             "blotter serve --own MO --day 20240105 --port 9878 --sessions 2 --rounds 3 BRKB BRKA",
             9878,
