@@ -1,6 +1,7 @@
 //! Live connections. A wire is greeted, and then one session is served over it: what the wire gives comes to the session frame by
 //! frame, what the session sends is written, what it delivers goes to a sink. Wire, clock and sink are the caller's. Wires of a
-//! desk are served at once, each with a seat. `delivered` and `seen_by` are for those who give frames to a session without a wire. `MemoryWire`, `ListClock` and `ListSink` serve tests.
+//! desk are served at once, each with a seat. `delivered` and `seen_by` are for those who give frames to a session without a
+//! wire; `MemoryWire`, `ListClock` and `ListSink` serve tests.
 #![tactic(auto)]
 
 mod at_once;

@@ -34,9 +34,9 @@ pub(crate) struct Lines<'a, 'i, 'o, R, I, O, L: Ledger> {
 }
 
 impl<'a, 'i, 'o, R: Wait, I: Read, O: Write, L: Ledger> Task for Lines<'a, 'i, 'o, R, I, O, L> {
-    ghost use Rattle.std.specs.Prelude.{◌≡◌, OnErr, OnOk, IfSome};
+    ghost use Rattle.std.specs.Prelude.{◌≡◌, OnOk, IfSome};
     ghost use Rattle.std.specs.Io.KnownBytes.{IsAtEnd};
-    ghost use Rattle.blotter.specs.Dialogue.{StopsAmong, TellsLines, seat_ways};
+    ghost use Rattle.blotter.specs.Dialogue.{TellsLines, seat_ways};
     ghost use Rattle.blotter.specs.Lines.{lines_of};
 
     type Output = (Result<(), ReplayFault>, Seat<L>, &'i mut I, &'o mut O);
@@ -44,9 +44,7 @@ impl<'a, 'i, 'o, R: Wait, I: Read, O: Write, L: Ledger> Task for Lines<'a, 'i, '
     ghost gives = { λ lines given. (given.2.ghost_name ≡ lines.input.ghost_name) × (given.3.ghost_name ≡ lines.output.ghost_name)
         × OnOk given.0 (IsAtEnd (I.remaining given.2.now))
         × OnOk given.0 (IfSome (I.remaining lines.input.now) (λ bytes.
-        TellsLines seat_ways lines.seat (lines_of bytes) given.1 (O.contents lines.output.now) (O.contents given.3.now)))
-        × OnErr given.0 (IfSome (I.remaining lines.input.now) (λ bytes.
-        StopsAmong seat_ways lines.seat (lines_of bytes) given.1 (O.contents lines.output.now) (O.contents given.3.now))) };
+        TellsLines seat_ways lines.seat (lines_of bytes) given.1 (O.contents lines.output.now) (O.contents given.3.now))) };
 
     fn run(self) -> (Result<(), ReplayFault>, Seat<L>, &'i mut I, &'o mut O) {
         let Lines {

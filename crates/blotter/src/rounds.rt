@@ -19,7 +19,9 @@ use std::time::Clock;
 /// How many rounds a day has, and how many connections a round.
 #[derive(Clone, Copy, Debug, PartialEq, Eq)]
 pub struct Rounds {
+    /// Rounds of a day; none where it is 0.
     pub rounds: u16,
+    /// Connections of a round; a round of 0 is over at once.
     pub sessions: u16,
 }
 
