@@ -8,11 +8,11 @@ use Rattle.std.proofs.lemmas.List.Folds.{list_all-append}
 use Rattle.blot_session.specs.declared.action.Action.{Action}
 use Rattle.blot_session.specs.declared.action.Action.TheVariants.{Send, Deliver, Close}
 use Rattle.blot_session.specs.declared.state.State.{State}
-use Rattle.blot_session.specs.Runs.{Call, AreMet, outcome, actions_of, behind_calls, bytes_of, delivered_by, delivered_of, sent_of}
+use Rattle.blot_session.specs.Runs.{Call, AreMet, outcome, actions_of, behind_calls, delivered_by, delivered_of, sent_of}
 use Rattle.blot_gateway.specs.declared.ended.Ended.{Ended}
 use Rattle.blot_gateway.specs.declared.ended.Ended.TheVariants as ended
-use Rattle.blot_gateway.specs.Wires.{Read, Did, Answered, Steps, read_in, taken_in, written_of}
-use Rattle.blot_gateway.specs.Serving.{Due, Parties, Happens, Runs, Ends, GoesOn, HasLast, Stops, EndsWith, Cause, Wrote, close_in, closed_by, due_by, due_in, moment_by, moments_of, reply_by, is_served, has_memory, seen_by}
+use Rattle.blot_gateway.specs.Wires.{Read, Did, Answered, Steps, read_in}
+use Rattle.blot_gateway.specs.Serving.{Due, Turn, Parties, Happens, InTurn, Runs, Ends, GoesOn, HasLast, Stops, EndsWith, Cause, Wrote, call_in, did_in, due_in, reads_behind, written_in, texts_of, close_in, closed_by, moment_by, moments_of, reply_by, is_served, has_memory, seen_by}
 use Rattle.blot_gateway.proofs.SendingLemmas.{steps-on}
 
 -- ---- two facts at once
@@ -35,9 +35,9 @@ actions-on (call ∷ first) second state =
     let here = (outcome state call).actions in
     ap (λ rest. here ++ rest) (actions-on first second (outcome state call).state) ∙ sym (append_assoc here _ _)
 
-pub sent-on : (first second : List Call) (state : State) → sent_of state (first ++ second) ≡ sent_of state first ++ sent_of (behind_calls state first) second
-sent-on first second state =
-    ap (flat_map bytes_of) (actions-on first second state) ∙ flat_map-append bytes_of (actions_of state first) (actions_of (behind_calls state first) second)
+pub texts-on : (first second : List Call) (state : State) → texts_of state (first ++ second) ≡ texts_of state first ++ texts_of (behind_calls state first) second
+texts-on [] second state = refl
+texts-on (call ∷ first) second state = ap (λ rest. sent_of state (call ∷ []) ∷ rest) (texts-on first second (outcome state call).state)
 
 pub delivered-on : (first second : List Call) (state : State) → delivered_of state (first ++ second) ≡ delivered_of state first ++ delivered_of (behind_calls state first) second
 delivered-on [] second state = refl
@@ -92,12 +92,15 @@ stops-behind ended.End first second state one two = goes-on first second state o
 stops-behind ended.ReadFault first second state one two = goes-on first second state one two
 stops-behind ended.TooLong first second state one two = goes-on first second state one two
 
-pub wrote-behind : (end : Ended) (first sent_first second sent_second : List ℕ) → first ≡ sent_first → Wrote end second sent_second → Wrote end (first ++ second) (sent_first ++ sent_second)
+pub wrote-behind : (end : Ended) (first sent_first second sent_second : List (List ℕ)) → first ≡ sent_first → Wrote end second sent_second → Wrote end (first ++ second) (sent_first ++ sent_second)
 wrote-behind ended.WriteFault first sent_first second sent_second one two =
     record {
-      back = two.back;
-      joined = append_assoc first second two.back ∙ ap (λ rest. first ++ rest) two.joined ∙ ap (λ front. front ++ sent_second) one;
-      short = two.short;
+      earlier = sent_first ++ two.earlier;
+      front = two.front;
+      last = two.last;
+      written_is = appended one two.written_is ∙ sym (append_assoc sent_first two.earlier (two.front ∷ []));
+      sent_is = ap (λ rest. sent_first ++ rest) two.sent_is ∙ sym (append_assoc sent_first two.earlier (two.last ∷ []));
+      is_front = two.is_front;
     }
 wrote-behind (ended.Closed reason) first sent_first second sent_second one two = appended one two
 wrote-behind ended.NoMemory first sent_first second sent_second one two = appended one two
@@ -145,11 +148,35 @@ handed-on answers answers_b calls calls_b state next led one two =
     ∙ sym (map-append (λ numbered. numbered.command) (delivered_of state calls) (delivered_of (behind_calls state calls) calls_b))
     ∙ ap (map (λ numbered. numbered.command)) (sym (delivered-on calls calls_b state))
 
--- what is done and what is left
-pub done-on : (calls calls_b : List Call) (due left rest : List Due) → due_in calls ++ left ≡ due → due_in calls_b ++ rest ≡ left → due_in (calls ++ calls_b) ++ rest ≡ due
-done-on calls calls_b due left rest one two =
-    ap (λ front. front ++ rest) (flat_map-append due_by calls calls_b) ∙ append_assoc (due_in calls) (due_in calls_b) rest
-    ∙ ap (λ back. due_in calls ++ back) two ∙ one
+-- ---- turns
+
+done-on : (turns turns_b : List Turn) (due left rest : List Due) → flat_map due_in turns ++ left ≡ due → flat_map due_in turns_b ++ rest ≡ left → flat_map due_in (turns ++ turns_b) ++ rest ≡ due
+done-on turns turns_b due left rest one two =
+    ap (λ front. front ++ rest) (flat_map-append due_in turns turns_b) ∙ append_assoc (flat_map due_in turns) (flat_map due_in turns_b) rest
+    ∙ ap (λ back. flat_map due_in turns ++ back) two ∙ one
+
+pub in-turn-on : (wrote : List (List ℕ) → List (List ℕ) → Type 0) (state next : State) (calls calls_b : List Call) (dids dids_b : List Did)
+    (due left rest : List Due) (reads reads_b : List Read)
+    → ((first sent_first second sent_second : List (List ℕ)) → first ≡ sent_first → wrote second sent_second → wrote (first ++ second) (sent_first ++ sent_second))
+    → next ≡ behind_calls state calls → InTurn (λ written sent. written ≡ sent) state calls dids due reads left → InTurn wrote next calls_b dids_b left reads_b rest
+    → InTurn wrote state (calls ++ calls_b) (dids ++ dids_b) due (reads ++ reads_b) rest
+in-turn-on wrote state next calls calls_b dids dids_b due left rest reads reads_b behind led one two =
+    let first = flat_map written_in one.turns in
+    let second = flat_map written_in two.turns in
+    record {
+      turns = one.turns ++ two.turns;
+      called = flat_map-append call_in one.turns two.turns ∙ appended one.called two.called;
+      did = flat_map-append did_in one.turns two.turns ∙ appended one.did two.did;
+      done = done-on one.turns two.turns due left rest one.done two.done;
+      read = flat_map-append read_in dids dids_b ∙ appended one.read two.read;
+      apart = flat_map-append reads_behind one.turns two.turns ∙ appended one.apart two.apart;
+      written = subst (λ found. wrote found (texts_of state (calls ++ calls_b))) (sym (flat_map-append written_in one.turns two.turns))
+          (subst (λ sent. wrote (first ++ second) sent) (sym (texts-on calls calls_b state))
+          (behind first (texts_of state calls) second (texts_of (behind_calls state calls) calls_b) one.written
+          (subst (λ (before : State). wrote second (texts_of before calls_b)) led two.written)));
+    }
+
+-- ---- calls in turn
 
 pub runs-on : {W C S : Type 0} (does : W → Did → W → Type 0) (ticks : C → ℤ → C → Type 0) (takes : S → Answered → S → Type 0)
     (a b c : Parties W C S) (due left rest : List Due) (reads reads_b : List Read)
@@ -160,12 +187,9 @@ runs-on does ticks takes a b c due left rest reads reads_b one two =
       dids = one.dids ++ two.dids;
       answers = one.answers ++ two.answers;
       happens = happens-on does ticks takes a b c one.calls two.calls one.dids two.dids one.answers two.answers one.happens two.happens;
-      done = done-on one.calls two.calls due left rest one.done two.done;
+      in_turn = in-turn-on (λ written sent. written ≡ sent) a.session b.session one.calls two.calls one.dids two.dids due left rest reads reads_b
+          (λ _ _ _ _ first second. appended first second) one.happens.session one.in_turn two.in_turn;
       handed = handed-on one.answers two.answers one.calls two.calls a.session b.session one.happens.session one.handed two.handed;
-      read = flat_map-append read_in one.dids two.dids ∙ appended one.read two.read;
-      written = flat_map-append taken_in one.dids two.dids
-          ∙ appended one.written (two.written ∙ ap (λ (state : State). sent_of state two.calls) one.happens.session)
-          ∙ sym (sent-on one.calls two.calls a.session);
       goes_on = goes-on one.calls two.calls a.session one.goes_on (subst (λ state. GoesOn state two.calls) one.happens.session two.goes_on);
     }
 
@@ -179,13 +203,9 @@ ends-behind does ticks takes end a b c due left reads reads_b other one two =
       answers = one.answers ++ two.answers;
       left = two.left;
       happens = happens-on does ticks takes a b c one.calls two.calls one.dids two.dids one.answers two.answers one.happens two.happens;
-      done = done-on one.calls two.calls due left two.left one.done two.done;
+      in_turn = in-turn-on (Wrote end) a.session b.session one.calls two.calls one.dids two.dids due left two.left reads reads_b (wrote-behind end)
+          one.happens.session one.in_turn two.in_turn;
       handed = handed-on one.answers two.answers one.calls two.calls a.session b.session one.happens.session one.handed two.handed;
-      read = flat_map-append read_in one.dids two.dids ∙ appended one.read two.read;
-      written = subst (λ text. Wrote end text (sent_of a.session (one.calls ++ two.calls))) (sym (flat_map-append taken_in one.dids two.dids))
-          (subst (λ sent. Wrote end (written_of one.dids ++ written_of two.dids) sent) (sym (sent-on one.calls two.calls a.session))
-          (wrote-behind end (written_of one.dids) (sent_of a.session one.calls) (written_of two.dids) (sent_of (behind_calls a.session one.calls) two.calls) one.written
-          (subst (λ state. Wrote end (written_of two.dids) (sent_of state two.calls)) one.happens.session two.written)));
       stops = stops-behind end one.calls two.calls a.session one.goes_on (subst (λ state. Stops end state two.calls) one.happens.session two.stops);
       cause = cause-behind end reads reads_b two.left other two.cause;
     }

@@ -3,7 +3,6 @@ use Rattle.std.proofs.Common.{◌≡◌, ℕ, Bool, true, false, List, [], ◌�
 use Rattle.std.specs.Prelude.{ℤ, option_to_list}
 use Rattle.std.specs.List.{flat_map}
 use Rattle.std.proofs.lemmas.List.{append-nil, map-append}
-use Rattle.std.proofs.lemmas.List.Concat.{flat_map-append}
 use Rattle.blot_types.specs.declared.command.Command.{Command}
 use Rattle.blot_session.specs.declared.replies.NotTaken.{NotTaken}
 use Rattle.blot_session.specs.declared.replies.SeenReply.{SeenReply}
@@ -17,14 +16,15 @@ use Rattle.blot_gateway.specs.declared.ended.Stop.{Stop}
 use Rattle.blot_gateway.specs.declared.ended.Stop.TheVariants as stops
 use Rattle.blot_gateway.specs.declared.ended.TheConstants.{READS_MAX}
 use Rattle.blot_gateway.specs.Endings.{ended_by}
-use Rattle.blot_gateway.specs.Wires.{Read, Did, Answered, Steps, read_in, taken_in, reads_of, written_of}
+use Rattle.blot_gateway.specs.Wires.{Read, Did, Answered, Steps, reads_of, written_of}
 use Rattle.blot_gateway.specs.Wires.Did.{Gave}
 use Rattle.blot_gateway.specs.Wires.Read.{AtEnd, Failed}
-use Rattle.blot_gateway.specs.Serving.{Due, EndsWith, Parties, parties, Happens, Runs, Ends, GoesOn, HasLast, Stops, Cause, IsFront, Wrote, close_in, due_by, due_in, moment_by, reply_by, is_served, has_memory, seen_by}
-use Rattle.blot_gateway.specs.Serving.Due.{Came, Passed}
+use Rattle.blot_gateway.specs.Serving.{Due, EndsWith, Parties, parties, Happens, InTurn, Runs, Ends, GoesOn, HasLast, Stops, Cause, IsFront, Wrote, close_in, due_by, moment_by, reply_by, is_served, has_memory, seen_by, texts_of, written_in}
+use Rattle.blot_gateway.specs.Serving.Due.{Fed, Came, Passed}
+use Rattle.blot_gateway.specs.Serving.Turn.{Reads, Calls}
 use Rattle.blot_gateway.specs.Sending.{Called, StopsAt, Halted, Submitted, SubmittedLast, DeliversJust}
 use Rattle.blot_gateway.proofs.SendingLemmas.{steps-one}
-use Rattle.blot_gateway.proofs.CallLemmas.{sent-on, goes-on, goes-nowhere, happens-on, done-on, appended, stops-behind, wrote-behind}
+use Rattle.blot_gateway.proofs.CallLemmas.{goes-on, goes-nowhere, happens-on, in-turn-on, appended, stops-behind, wrote-behind}
 
 -- ---- a single call
 
@@ -66,11 +66,26 @@ happens-one does ticks takes call now memory a b due replies dids answers is led
       wire = steps;
     }
 
-done-one : (call : Call) (due more : List Due) → due_by call ≡ due → due_in (call ∷ []) ++ more ≡ due ++ more
-done-one call due more is = ap (λ front. front ++ more) (append-nil (due_by call) ∙ is)
-
 sent-one : (state : State) (call : Call) → sent_of state (call ∷ []) ≡ flat_map bytes_of (outcome state call).actions
 sent-one state call = ap (flat_map bytes_of) (append-nil (outcome state call).actions)
+
+-- a turn with this call, behind which the wire did this
+in-turn-one : (wrote : List (List ℕ) → List (List ℕ) → Type 0) (state : State) (call : Call) (dids : List Did) (due more : List Due) → due_by call ≡ due → reads_of dids ≡ []
+    → wrote (written_of dids ∷ []) (sent_of state (call ∷ []) ∷ []) → InTurn wrote state (call ∷ []) dids (due ++ more) [] more
+in-turn-one wrote state call dids due more is apart written =
+    record {
+      turns = Calls call dids ∷ [];
+      called = refl;
+      did = append-nil dids;
+      done = ap (λ front. front ++ more) (append-nil (due_by call) ∙ is);
+      read = apart;
+      apart = append-nil (reads_of dids) ∙ apart;
+      written = written;
+    }
+
+-- all that it sends is written
+all-one : (state : State) (call : Call) (dids : List Did) → written_of dids ≡ flat_map bytes_of (outcome state call).actions → written_of dids ∷ [] ≡ sent_of state (call ∷ []) ∷ []
+all-one state call dids is = ap (λ text. text ∷ []) (is ∙ sym (sent-one state call))
 
 goes-one : (state : State) (call : Call) → close_in (outcome state call).actions ≡ None → has_memory call ≡ true → GoesOn state (call ∷ [])
 goes-one state call stays memory = record { stays = ap close_in (append-nil (outcome state call).actions) ∙ stays; memory = rw memory refl }
@@ -91,10 +106,9 @@ runs-one does ticks takes call a due more wire clock state is called =
       dids = called.writes.dids;
       answers = [];
       happens = happens-one does ticks takes call called.now true a (parties wire clock a.sink state) due [] called.writes.dids [] is called.session called.ticked refl refl called.writes.steps;
-      done = done-one made due more (is.due_is called.now true);
+      in_turn = in-turn-one (λ written sent. written ≡ sent) a.session made called.writes.dids due more (is.due_is called.now true) called.writes.read
+          (all-one a.session made called.writes.dids called.writes.written);
       handed = sym (commands-one a.session made None called.delivers);
-      read = called.writes.read;
-      written = called.writes.written ∙ sym (sent-one a.session made);
       goes_on = goes-one a.session made called.stays (is.memory_is called.now true);
     }
 
@@ -105,7 +119,7 @@ pub record Broke {W : Type 0} (does : W → Did → W → Type 0) (stop : Stop) 
   pub dids : List Did
   pub steps : Steps does before dids after
   pub read : reads_of dids ≡ []
-  pub written : Wrote (ended_by stop) (written_of dids) (sent_of state (call ∷ []))
+  pub written : Wrote (ended_by stop) (written_of dids ∷ []) (sent_of state (call ∷ []) ∷ [])
   pub stops : Stops (ended_by stop) state (call ∷ [])
 
 until-one : (state : State) (call : Call) → HasLast state (call ∷ [])
@@ -120,7 +134,7 @@ broke does (stops.Closed reason) before state call memory after has nothing halt
       dids = writes.dids;
       steps = writes.steps;
       read = writes.read;
-      written = writes.written ∙ sym (sent-one state call);
+      written = all-one state call writes.dids writes.written;
       stops = record { until = until-one state call; memory = has ∙ halts.0; closes = ap close_in (append-nil (outcome state call).actions) ∙ halts.1.1 };
     }
 broke does stops.WriteFault before state call memory after has nothing halts =
@@ -129,7 +143,15 @@ broke does stops.WriteFault before state call memory after has nothing halts =
       dids = front.writes.dids;
       steps = front.writes.steps;
       read = front.writes.read;
-      written = subst (λ text. IsFront text (sent_of state (call ∷ []))) (sym front.writes.written) (subst (λ sent. IsFront front.front sent) (sym (sent-one state call)) front.is_front);
+      written = record {
+        earlier = [];
+        front = written_of front.writes.dids;
+        last = sent_of state (call ∷ []);
+        written_is = refl;
+        sent_is = refl;
+        is_front = subst (λ text. IsFront text (sent_of state (call ∷ []))) (sym front.writes.written)
+            (subst (λ sent. IsFront front.front sent) (sym (sent-one state call)) front.is_front);
+      };
       stops = record { until = until-one state call; memory = has ∙ halts.0 };
     }
 broke does stops.NoMemory before state call memory after has nothing halts =
@@ -137,7 +159,7 @@ broke does stops.NoMemory before state call memory after has nothing halts =
       dids = [];
       steps = halts.1;
       read = refl;
-      written = sym (sent-one state call ∙ ap (flat_map bytes_of) (nothing halts.0));
+      written = all-one state call [] (sym (ap (flat_map bytes_of) (nothing halts.0)));
       stops = inr (record { until = until-one state call; memory = has ∙ halts.0 });
     }
 
@@ -170,10 +192,8 @@ ends-one does ticks takes stop call a due more wire clock state is halted =
       answers = [];
       left = more;
       happens = happens-one does ticks takes call halted.now halted.memory a (parties wire clock a.sink state) due [] broken.dids [] is halted.session halted.ticked refl refl broken.steps;
-      done = done-one made due more (is.due_is halted.now halted.memory);
+      in_turn = in-turn-one (Wrote (ended_by stop)) a.session made broken.dids due more (is.due_is halted.now halted.memory) broken.read broken.written;
       handed = sym (commands-one a.session made None halted.delivers);
-      read = broken.read;
-      written = broken.written;
       stops = broken.stops;
       cause = no-cause stop [] more;
     }
@@ -221,12 +241,12 @@ runs-pair does ticks takes command call a due more wire wire_after clock clock_a
           (happens-first does ticks takes (Some command) call a due wire clock state is called)
           (happens-one does ticks takes (Reply seen) reply.now true b c [] (seen ∷ []) reply.writes.dids (answered ∷ []) told reply.session reply.ticked
           (steps-one takes answered a.sink sink_after submitted.taken) refl reply.writes.steps);
-      done = done-on (one ∷ []) (two ∷ []) (due ++ more) more more (done-one one due more (is.due_is called.now true)) refl;
+      in_turn = in-turn-on (λ written sent. written ≡ sent) a.session state (one ∷ []) (two ∷ []) called.writes.dids reply.writes.dids (due ++ more) more more [] []
+          (λ _ _ _ _ first second. appended first second) called.session
+          (in-turn-one (λ written sent. written ≡ sent) a.session one called.writes.dids due more (is.due_is called.now true) called.writes.read
+          (all-one a.session one called.writes.dids called.writes.written))
+          (in-turn-one (λ written sent. written ≡ sent) state two reply.writes.dids [] more refl reply.writes.read (all-one state two reply.writes.dids reply.writes.written));
       handed = handed-pair command one two a.session state called.session called.delivers reply.delivers;
-      read = flat_map-append read_in called.writes.dids reply.writes.dids ∙ appended called.writes.read reply.writes.read;
-      written = flat_map-append taken_in called.writes.dids reply.writes.dids
-          ∙ appended (called.writes.written ∙ sym (sent-one a.session one)) (reply.writes.written ∙ sym (sent-one state two) ∙ ap (λ (before : State). sent_of before (two ∷ [])) called.session)
-          ∙ sym (sent-on (one ∷ []) (two ∷ []) a.session);
       goes_on = goes-on (one ∷ []) (two ∷ []) a.session (goes-one a.session one called.stays (is.memory_is called.now true))
           (subst (λ (before : State). GoesOn before (two ∷ [])) called.session (goes-one state two reply.stays refl));
     }
@@ -256,14 +276,12 @@ ends-pair does ticks takes stop command call a due more wire wire_after clock cl
           (happens-first does ticks takes (Some command) call a due wire clock state is called)
           (happens-one does ticks takes (Reply seen) reply.now reply.memory b c [] (seen ∷ []) broken.dids (answered ∷ []) told reply.session reply.ticked
           (steps-one takes answered a.sink sink_after submitted.taken) refl broken.steps);
-      done = done-on (one ∷ []) (two ∷ []) (due ++ more) more more (done-one one due more (is.due_is called.now true)) refl;
+      in_turn = in-turn-on (Wrote (ended_by stop)) a.session state (one ∷ []) (two ∷ []) called.writes.dids broken.dids (due ++ more) more more [] []
+          (wrote-behind (ended_by stop)) called.session
+          (in-turn-one (λ written sent. written ≡ sent) a.session one called.writes.dids due more (is.due_is called.now true) called.writes.read
+          (all-one a.session one called.writes.dids called.writes.written))
+          (in-turn-one (Wrote (ended_by stop)) state two broken.dids [] more refl broken.read broken.written);
       handed = handed-pair command one two a.session state called.session called.delivers reply.delivers;
-      read = flat_map-append read_in called.writes.dids broken.dids ∙ appended called.writes.read broken.read;
-      written = subst (λ text. Wrote (ended_by stop) text (sent_of a.session (one ∷ two ∷ []))) (sym (flat_map-append taken_in called.writes.dids broken.dids))
-          (subst (λ sent. Wrote (ended_by stop) (written_of called.writes.dids ++ written_of broken.dids) sent) (sym (sent-on (one ∷ []) (two ∷ []) a.session))
-          (wrote-behind (ended_by stop) (written_of called.writes.dids) (sent_of a.session (one ∷ [])) (written_of broken.dids) (sent_of (outcome a.session one).state (two ∷ []))
-          (called.writes.written ∙ sym (sent-one a.session one))
-          (subst (λ (before : State). Wrote (ended_by stop) (written_of broken.dids) (sent_of before (two ∷ []))) called.session broken.written)));
       stops = stops-behind (ended_by stop) (one ∷ []) (two ∷ []) a.session goes (subst (λ (before : State). Stops (ended_by stop) before (two ∷ [])) called.session broken.stops);
       cause = no-cause stop [] more;
     }
@@ -272,17 +290,15 @@ ends-pair does ticks takes stop command call a due more wire wire_after clock cl
 
 -- a read is made
 pub runs-read : {W C S : Type 0} (does : W → Did → W → Type 0) (ticks : C → ℤ → C → Type 0) (takes : S → Answered → S → Type 0)
-    (read : Read) (a : Parties W C S) (due : List Due) (wire : W) → does a.wire (Gave read) wire → Runs does ticks takes a due (read ∷ []) due (parties wire a.clock a.sink a.session)
+    (read : Read) (a : Parties W C S) (due : List Due) (wire : W) → does a.wire (Gave read) wire → Runs does ticks takes a (Fed read ∷ due) (read ∷ []) due (parties wire a.clock a.sink a.session)
 runs-read does ticks takes read a due wire step =
     record {
       calls = [];
       dids = Gave read ∷ [];
       answers = [];
       happens = record { session = refl; served = refl; met = tt; clock = refl; sink = refl; told = refl; wire = steps-one does (Gave read) a.wire wire step };
-      done = refl;
+      in_turn = record { turns = Reads read ∷ []; called = refl; did = refl; done = refl; read = refl; apart = refl; written = refl };
       handed = refl;
-      read = refl;
-      written = refl;
       goes_on = goes-nowhere a.session;
     }
 
@@ -294,11 +310,23 @@ runs-nowhere does ticks takes a due =
       dids = [];
       answers = [];
       happens = record { session = refl; served = refl; met = tt; clock = refl; sink = refl; told = refl; wire = refl };
-      done = refl;
+      in_turn = record { turns = []; called = refl; did = refl; done = refl; read = refl; apart = refl; written = refl };
       handed = refl;
-      read = refl;
-      written = refl;
       goes_on = goes-nowhere a.session;
+    }
+
+-- where no write failed, all is written
+in-turn-all : (wrote : List (List ℕ) → List (List ℕ) → Type 0) (state : State) (calls : List Call) (dids : List Did) (due : List Due) (reads : List Read) (left : List Due)
+    → ((written sent : List (List ℕ)) → written ≡ sent → wrote written sent) → InTurn (λ written sent. written ≡ sent) state calls dids due reads left → InTurn wrote state calls dids due reads left
+in-turn-all wrote state calls dids due reads left all in_turn =
+    record {
+      turns = in_turn.turns;
+      called = in_turn.called;
+      did = in_turn.did;
+      done = in_turn.done;
+      read = in_turn.read;
+      apart = in_turn.apart;
+      written = all (flat_map written_in in_turn.turns) (texts_of state calls) in_turn.written;
     }
 
 -- memory runs out between two calls
@@ -311,10 +339,8 @@ ends-there does ticks takes a b due left reads run =
       answers = run.answers;
       left = left;
       happens = run.happens;
-      done = run.done;
+      in_turn = in-turn-all (Wrote ended.NoMemory) a.session run.calls run.dids due reads left (λ _ _ is. is) run.in_turn;
       handed = run.handed;
-      read = run.read;
-      written = run.written;
       stops = inl run.goes_on;
       cause = tt;
     }
@@ -334,10 +360,8 @@ ends-by-wire does ticks takes end a b due reads (at_end given with_end) run =
       answers = run.answers;
       left = [];
       happens = run.happens;
-      done = run.done;
+      in_turn = in-turn-all (Wrote ended.End) a.session run.calls run.dids due reads [] (λ _ _ is. is) run.in_turn;
       handed = run.handed;
-      read = run.read;
-      written = run.written;
       stops = run.goes_on;
       cause = (with_end, refl);
     }
@@ -348,10 +372,8 @@ ends-by-wire does ticks takes end a b due reads (failed given with_end) run =
       answers = run.answers;
       left = [];
       happens = run.happens;
-      done = run.done;
+      in_turn = in-turn-all (Wrote ended.ReadFault) a.session run.calls run.dids due reads [] (λ _ _ is. is) run.in_turn;
       handed = run.handed;
-      read = run.read;
-      written = run.written;
       stops = run.goes_on;
       cause = (with_end, refl);
     }
@@ -362,10 +384,8 @@ ends-by-wire does ticks takes end a b due reads (too_long given long) run =
       answers = run.answers;
       left = [];
       happens = run.happens;
-      done = run.done;
+      in_turn = in-turn-all (Wrote ended.TooLong) a.session run.calls run.dids due reads [] (λ _ _ is. is) run.in_turn;
       handed = run.handed;
-      read = run.read;
-      written = run.written;
       stops = run.goes_on;
       cause = (long, refl);
     }

@@ -17,7 +17,7 @@ use Rattle.blot_gateway.specs.Wires.{Read, Did, Answered, Counts}
 use Rattle.blot_gateway.specs.Wires.Read.{AtEnd, Failed}
 use Rattle.blot_gateway.specs.Wires.Did.{Gave}
 use Rattle.blot_gateway.specs.Serving.{Due, Parties, parties, Runs, Ends, IsCounted, due_behind, due_fed, due_of}
-use Rattle.blot_gateway.specs.Serving.Due.{Came, Passed}
+use Rattle.blot_gateway.specs.Serving.Due.{Fed, Came, Passed}
 use Rattle.blot_gateway.specs.Sending.{Called, Halted}
 use Rattle.blot_gateway.proofs.CallLemmas.{runs-on, ends-behind}
 use Rattle.blot_gateway.proofs.RunLemmas.{tick-call, runs-one, ends-one, runs-read, runs-nowhere, ends-there, ends-by-wire}
@@ -118,28 +118,28 @@ counted-behind ended.NoMemory before mid after one two = omega (arith, one, two)
 -- a read, and then what is due by it
 pub runs-behind-read : {W C S : Type 0} (does : W → Did → W → Type 0) (ticks : C → ℤ → C → Type 0) (takes : S → Answered → S → Type 0)
     (read : Read) (a b : Parties W C S) (due left : List Due) (wire : W) → does a.wire (Gave read) wire
-    → Runs does ticks takes (parties wire a.clock a.sink a.session) due [] left b → Runs does ticks takes a due (read ∷ []) left b
+    → Runs does ticks takes (parties wire a.clock a.sink a.session) due [] left b → Runs does ticks takes a (Fed read ∷ due) (read ∷ []) left b
 runs-behind-read does ticks takes read a b due left wire step run =
-    runs-on does ticks takes a (parties wire a.clock a.sink a.session) b due due left (read ∷ []) [] (runs-read does ticks takes read a due wire step) run
+    runs-on does ticks takes a (parties wire a.clock a.sink a.session) b (Fed read ∷ due) due left (read ∷ []) [] (runs-read does ticks takes read a due wire step) run
 
 pub ends-behind-read : {W C S : Type 0} (does : W → Did → W → Type 0) (ticks : C → ℤ → C → Type 0) (takes : S → Answered → S → Type 0)
     (stop : Stop) (read : Read) (a b : Parties W C S) (due : List Due) (wire : W) → does a.wire (Gave read) wire
-    → Ends does ticks takes (ended_by stop) (parties wire a.clock a.sink a.session) due [] b → Ends does ticks takes (ended_by stop) a due (read ∷ []) b
+    → Ends does ticks takes (ended_by stop) (parties wire a.clock a.sink a.session) due [] b → Ends does ticks takes (ended_by stop) a (Fed read ∷ due) (read ∷ []) b
 ends-behind-read does ticks takes stop read a b due wire step ends =
-    ends-behind does ticks takes (ended_by stop) a (parties wire a.clock a.sink a.session) b due due (read ∷ []) [] (λ is. absurd (ended-short stop is))
+    ends-behind does ticks takes (ended_by stop) a (parties wire a.clock a.sink a.session) b (Fed read ∷ due) due (read ∷ []) [] (λ is. absurd (ended-short stop is))
     (runs-read does ticks takes read a due wire step) ends
 
 -- the wire's end, and its failure
 pub ends-at-end : {W C S : Type 0} (does : W → Did → W → Type 0) (ticks : C → ℤ → C → Type 0) (takes : S → Answered → S → Type 0)
-    (a : Parties W C S) (wire : W) → does a.wire (Gave AtEnd) wire → Ends does ticks takes ended.End a [] (AtEnd ∷ []) (parties wire a.clock a.sink a.session)
+    (a : Parties W C S) (wire : W) → does a.wire (Gave AtEnd) wire → Ends does ticks takes ended.End a (Fed AtEnd ∷ []) (AtEnd ∷ []) (parties wire a.clock a.sink a.session)
 ends-at-end does ticks takes a wire step =
-    ends-by-wire does ticks takes ended.End a (parties wire a.clock a.sink a.session) [] (AtEnd ∷ []) (at_end (AtEnd ∷ []) (record { earlier = []; joined = refl }))
+    ends-by-wire does ticks takes ended.End a (parties wire a.clock a.sink a.session) (Fed AtEnd ∷ []) (AtEnd ∷ []) (at_end (AtEnd ∷ []) (record { earlier = []; joined = refl }))
     (runs-read does ticks takes AtEnd a [] wire step)
 
 pub ends-failed : {W C S : Type 0} (does : W → Did → W → Type 0) (ticks : C → ℤ → C → Type 0) (takes : S → Answered → S → Type 0)
-    (a : Parties W C S) (wire : W) → does a.wire (Gave Failed) wire → Ends does ticks takes ended.ReadFault a [] (Failed ∷ []) (parties wire a.clock a.sink a.session)
+    (a : Parties W C S) (wire : W) → does a.wire (Gave Failed) wire → Ends does ticks takes ended.ReadFault a (Fed Failed ∷ []) (Failed ∷ []) (parties wire a.clock a.sink a.session)
 ends-failed does ticks takes a wire step =
-    ends-by-wire does ticks takes ended.ReadFault a (parties wire a.clock a.sink a.session) [] (Failed ∷ []) (failed (Failed ∷ []) (record { earlier = []; joined = refl }))
+    ends-by-wire does ticks takes ended.ReadFault a (parties wire a.clock a.sink a.session) (Fed Failed ∷ []) (Failed ∷ []) (failed (Failed ∷ []) (record { earlier = []; joined = refl }))
     (runs-read does ticks takes Failed a [] wire step)
 
 -- ---- all reads

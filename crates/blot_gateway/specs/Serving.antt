@@ -13,31 +13,33 @@ use Rattle.blot_session.specs.declared.replies.NotTaken.{NotTaken}
 use Rattle.blot_session.specs.declared.replies.SeenReply.{SeenReply}
 use Rattle.blot_session.specs.declared.replies.SeenReply.TheVariants as seen
 use Rattle.blot_session.specs.declared.state.State.{State}
-use Rattle.blot_session.specs.Runs.{Call, AreMet, actions_of, behind_calls, delivered_of, sent_of}
+use Rattle.blot_session.specs.Runs.{Call, AreMet, actions_of, behind_calls, delivered_of, outcome, sent_of}
 use Rattle.blot_session.specs.Runs.Call.{Frame, Reply, Tick}
 use Rattle.blot_session.specs.States.{closed}
 use Rattle.blot_gateway.specs.declared.ended.Ended.{Ended}
 use Rattle.blot_gateway.specs.declared.ended.Ended.TheVariants as ended
 use Rattle.blot_gateway.specs.declared.ended.TheConstants.{READS_MAX}
 use Rattle.blot_gateway.specs.Wires.{Read, Did, Answered, Counts, Steps, reads_of, written_of}
+use Rattle.blot_gateway.specs.Wires.Did.{Gave}
 use Rattle.blot_gateway.specs.Wires.Read.{Piece, Silence, AtEnd, Failed}
 
 -- ---- what is due to a session
 
--- a frame with this text came, or a moment passed
+-- the wire gave this read, a frame with this text came, or a moment passed
 pub data Due : Type 0 where
+  Fed : Read → Due
   Came : List ℕ → Due
   Passed : Due
 
--- by these reads, behind bytes that hold no frame: the frames of each piece, with the rest of the one before, and then a moment,
--- which passes where nothing came too. Nothing is due behind the wire's end or its failure
+-- by these reads, behind bytes that hold no frame: each read, and behind it the frames of its piece, with the rest of the one before, and
+-- then a moment, which passes where nothing came too. Nothing is due behind the wire's end or its failure
 abbrev pub due_behind : List ℕ → List Read → List Due
 due_behind unread [] = []
-due_behind unread (Piece bytes ∷ reads) = map Came (frames_of (unread ++ bytes)) ++ (Passed ∷ due_behind (rest_of (unread ++ bytes)) reads)
-due_behind unread (Silence ∷ reads) = Passed ∷ due_behind unread reads
-due_behind unread (read ∷ reads) = []
+due_behind unread (Piece bytes ∷ reads) = Fed (Piece bytes) ∷ (map Came (frames_of (unread ++ bytes)) ++ (Passed ∷ due_behind (rest_of (unread ++ bytes)) reads))
+due_behind unread (Silence ∷ reads) = Fed Silence ∷ Passed ∷ due_behind unread reads
+due_behind unread (read ∷ reads) = Fed read ∷ []
 
--- behind a piece, which stands with the rest of the one before
+-- behind a piece that was read, which stands with the rest of the one before
 abbrev pub due_fed : List ℕ → List Read → List Due
 due_fed unread reads = map Came (frames_of unread) ++ (Passed ∷ due_behind (rest_of unread) reads)
 
@@ -47,14 +49,11 @@ due_of unread reads = map Came (frames_of unread) ++ due_behind (rest_of unread)
 
 -- ---- the calls that are made
 
--- the frames and moments among some calls
+-- the frame or the moment that a call tells of
 abbrev pub due_by : Call → List Due
 due_by (Frame text now memory) = Came text ∷ []
 due_by (Tick now memory) = Passed ∷ []
 due_by call = []
-
-abbrev pub due_in : List Call → List Due
-due_in calls = flat_map due_by calls
 
 -- the moments at which they are made
 abbrev pub moment_by : Call → List ℤ
@@ -160,9 +159,18 @@ pub record IsFront (front text : List ℕ) : Type 0 where
   pub joined : front ++ back ≡ text
   pub short : 0 < length back
 
--- what was written of what is sent: all, or where a write failed a front
-abbrev pub Wrote : Ended → List ℕ → List ℕ → Type 0
-Wrote ended.WriteFault written sent = IsFront written sent
+-- the same texts, but of the last a front
+pub record LosesLast (written sent : List (List ℕ)) : Type 0 where
+  pub earlier : List (List ℕ)
+  pub front : List ℕ
+  pub last : List ℕ
+  pub written_is : written ≡ earlier ++ (front ∷ [])
+  pub sent_is : sent ≡ earlier ++ (last ∷ [])
+  pub is_front : IsFront front last
+
+-- what was written of what each call sends: all, or where a write failed a front of the last
+abbrev pub Wrote : Ended → List (List ℕ) → List (List ℕ) → Type 0
+Wrote ended.WriteFault written sent = LosesLast written sent
 Wrote end written sent = written ≡ sent
 
 -- a failure is counted, where the wire failed
@@ -170,6 +178,55 @@ abbrev pub IsCounted : Ended → ℕ → ℕ → Type 0
 IsCounted ended.ReadFault before after = Counts before after
 IsCounted ended.WriteFault before after = Counts before after
 IsCounted end before after = before ≤ after
+
+-- ---- turns
+
+-- a read is made; or the session gets a call, and then the wire does this
+pub data Turn : Type 0 where
+  Reads : Read → Turn
+  Calls : Call → List Did → Turn
+
+-- the call of a turn
+abbrev pub call_in : Turn → List Call
+call_in (Reads read) = []
+call_in (Calls call dids) = call ∷ []
+
+-- what the wire does in it
+abbrev pub did_in : Turn → List Did
+did_in (Reads read) = Gave read ∷ []
+did_in (Calls call dids) = dids
+
+-- what of that which is due is done in it
+abbrev pub due_in : Turn → List Due
+due_in (Reads read) = Fed read ∷ []
+due_in (Calls call dids) = due_by call
+
+-- the reads behind its call
+abbrev pub reads_behind : Turn → List Read
+reads_behind (Reads read) = []
+reads_behind (Calls call dids) = reads_of dids
+
+-- the text that is written behind its call
+abbrev pub written_in : Turn → List (List ℕ)
+written_in (Reads read) = []
+written_in (Calls call dids) = written_of dids ∷ []
+
+-- the text that each of some calls sends
+abbrev pub texts_of : State → List Call → List (List ℕ)
+texts_of state [] = []
+texts_of state (call ∷ calls) = sent_of state (call ∷ []) ∷ texts_of (outcome state call).state calls
+
+-- these calls, and what the wire did, in turn: a front of what is due is done, in its order, and this is left; the wire gave these
+-- reads, none of them behind a call; and behind each call, before anything else, it took what the call sends, as far as `wrote` says
+pub record InTurn (wrote : List (List ℕ) → List (List ℕ) → Type 0) (state : State) (calls : List Call) (dids : List Did)
+    (due : List Due) (reads : List Read) (left : List Due) : Type 0 where
+  pub turns : List Turn
+  pub called : flat_map call_in turns ≡ calls
+  pub did : flat_map did_in turns ≡ dids
+  pub done : flat_map due_in turns ++ left ≡ due
+  pub read : reads_of dids ≡ reads
+  pub apart : flat_map reads_behind turns ≡ []
+  pub written : wrote (flat_map written_in turns) (texts_of state calls)
 
 -- ---- the parties of a session
 
@@ -195,21 +252,18 @@ pub record Happens {W C S : Type 0} (does : W → Did → W → Type 0) (ticks :
   pub told : map (λ answered. seen_by answered.answer) answers ≡ replies_of calls
   pub wire : Steps does before.wire dids after.wire
 
--- calls that go on: a front of what is due is done, and this is left; the sink is handed what the session delivers, in order, each
--- once; the wire gave these reads, and took all that is sent
+-- calls that go on, in turn; the sink is handed what the session delivers, in order, each once; and all is written that is sent
 pub record Runs {W C S : Type 0} (does : W → Did → W → Type 0) (ticks : C → ℤ → C → Type 0) (takes : S → Answered → S → Type 0)
     (before : Parties W C S) (due : List Due) (reads : List Read) (left : List Due) (after : Parties W C S) : Type 0 where
   pub calls : List Call
   pub dids : List Did
   pub answers : List Answered
   pub happens : Happens does ticks takes before calls dids answers after
-  pub done : due_in calls ++ left ≡ due
+  pub in_turn : InTurn (λ written sent. written ≡ sent) before.session calls dids due reads left
   pub handed : map (λ answered. answered.command) answers ≡ map (λ numbered. numbered.command) (delivered_of before.session calls)
-  pub read : reads_of dids ≡ reads
-  pub written : written_of dids ≡ sent_of before.session calls
   pub goes_on : GoesOn before.session calls
 
--- calls that end so
+-- calls that end so, in turn
 pub record Ends {W C S : Type 0} (does : W → Did → W → Type 0) (ticks : C → ℤ → C → Type 0) (takes : S → Answered → S → Type 0)
     (end : Ended) (before : Parties W C S) (due : List Due) (reads : List Read) (after : Parties W C S) : Type 0 where
   pub calls : List Call
@@ -217,10 +271,8 @@ pub record Ends {W C S : Type 0} (does : W → Did → W → Type 0) (ticks : C 
   pub answers : List Answered
   pub left : List Due
   pub happens : Happens does ticks takes before calls dids answers after
-  pub done : due_in calls ++ left ≡ due
+  pub in_turn : InTurn (Wrote end) before.session calls dids due reads left
   pub handed : map (λ answered. answered.command) answers ≡ map (λ numbered. numbered.command) (delivered_of before.session calls)
-  pub read : reads_of dids ≡ reads
-  pub written : Wrote end (written_of dids) (sent_of before.session calls)
   pub stops : Stops end before.session calls
   pub cause : Cause end reads left
 

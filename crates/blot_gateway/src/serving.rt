@@ -5,7 +5,6 @@ ghost use Rattle.blot_session.specs.States.{IsIdle};
 ghost use Rattle.blot_gateway.specs.declared.ended.Stop.{Stop};
 ghost use Rattle.blot_gateway.specs.Endings.{ended_by};
 ghost use Rattle.blot_gateway.specs.Wires.{Counts, Read};
-ghost use Rattle.blot_gateway.specs.Wires.Read.{Piece};
 ghost use Rattle.blot_gateway.specs.Serving.{Due, Runs, Ends, Served, IsCounted, due_behind, due_fed, due_of, left_by, parties};
 ghost use Rattle.blot_gateway.specs.Serving.Due.{Came};
 
@@ -157,9 +156,9 @@ fn take_piece<W: Wire, C: Clock, S: Sink>(
 ) -> Result<(), Stop>
     requires { IsIdle session.old }
     ensures ok { OnOk result ((more : List Read) → Runs W.does C.ticks S.takes (parties wire.old clock.old sink.old session.old)
-        (due_behind reader.old.unread (Piece piece.now ∷ more)) [] (due_behind reader.new.unread more) (parties wire.new clock.new sink.new session.new)) }
+        (due_fed (reader.old.unread ++ piece.now) more) [] (due_behind reader.new.unread more) (parties wire.new clock.new sink.new session.new)) }
     ensures err { IfErr result (λ stop. (more : List Read) → Ends W.does C.ticks S.takes (ended_by stop) (parties wire.old clock.old sink.old session.old)
-        (due_behind reader.old.unread (Piece piece.now ∷ more)) [] (parties wire.new clock.new sink.new session.new)) }
+        (due_fed (reader.old.unread ++ piece.now) more) [] (parties wire.new clock.new sink.new session.new)) }
     ensures idle { IsIdle session.new }
     ensures failures { W.failures wire.old ≤ W.failures wire.new }
     ensures failed { IfErr result (λ stop. stop ≡ Stop.WriteFault → Counts (W.failures wire.old) (W.failures wire.new)) }

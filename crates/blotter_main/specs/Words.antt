@@ -43,15 +43,12 @@ pub record IsCount (most : ℕ) (word : List ℕ) : Type 0 where
   pub some : 1 ≤ count_of word
   pub few : count_of word ≤ most
 
--- the words of a server: one's own CompID, the day and the peers are as of a replay, and the port and the numbers of connections and
--- rounds are counts
+-- the words of a server: as of a replay, and the port and the numbers of connections and rounds are counts
 pub record IsServe (own day port sessions rounds : Option (List ℕ)) (peers : Option (List (List ℕ))) : Type 0 where
-  pub own_text : IsSomeAnd own (λ text. IsTrue (is_text text))
-  pub day_text : IsSomeAnd day IsDayText
+  pub as_replay : IsReplay own day peers
   pub port_count : IsSomeAnd port (IsCount PORT_MAX)
   pub sessions_count : IsSomeAnd sessions (IsCount SESSIONS_MAX)
   pub rounds_count : IsSomeAnd rounds (IsCount ROUNDS_MAX)
-  pub peer_list : IsSomeAnd peers IsPeerList
 
 -- one's own CompID, the day, the file with the capture, and the peers that the words name
 abbrev pub own_of : Words → List ℕ

@@ -105,7 +105,7 @@ fn sessions_option<'a>(alloc: Global) -> Arg<'a> {
         .long(SESSIONS)
         .value_name("SESSIONS")
         .required(true)
-        .value_parser(ValueParser::unsigned(1, u64::from(ROUNDS_MAX)))
+        .value_parser(ValueParser::unsigned(1, u64::from(SESSIONS_MAX)))
         .help("How many connections a round waits for and serves at once, 1 to 1000")
 }
 

@@ -1,9 +1,9 @@
-use Rattle.std.proofs.Common.{[], ◌∷◌, List, take}
+use Rattle.std.proofs.Common.{[], ◌∷◌, ◌++◌, List, take}
 use Rattle.blot_session.specs.Runs.Call.{Tick}
 use Rattle.blot_gateway.specs.Endings.{ended_by}
 use Rattle.blot_gateway.specs.Wires.{Read}
 use Rattle.blot_gateway.specs.Wires.Read.{Piece, Silence, AtEnd, Failed}
-use Rattle.blot_gateway.specs.Serving.{Ends, due_behind, parties}
+use Rattle.blot_gateway.specs.Serving.{Ends, due_behind, due_fed, parties}
 use Rattle.blot_gateway.specs.Serving.Due.{Passed}
 use Rattle.blot_gateway.specs.Sending.{Halted}
 use Rattle.blot_gateway.proofs.StepLemmas.{ok-through, err-through}
@@ -20,7 +20,7 @@ returns-in-Got-clause-ok g c =
     ok-through c.end_of.result c.take_piece.result c.end_of.ensures.ok c.take_piece.ensures.ok
     (λ runs. (
       Piece piece,
-      λ more. runs-behind-read g.W.Wire.does g.C.Clock.ticks g.S.Sink.takes (Piece piece) a b (due_behind c.args.reader.now.unread (Piece piece ∷ more))
+      λ more. runs-behind-read g.W.Wire.does g.C.Clock.ticks g.S.Sink.takes (Piece piece) a b (due_fed (c.args.reader.now.unread ++ piece) more)
           (due_behind c.take_piece.new.reader.unread more) c.read_some.new.self gave (runs more),
     ))
 
@@ -32,12 +32,12 @@ returns-in-Got-clause-err g c =
     let piece = take c.in-Got.count c.read_some.new.buffer in
     let gave = c.in-Got.ensures.gave in
     err-through
-    (λ stop. (more : List Read) → Ends g.W.Wire.does g.C.Clock.ticks g.S.Sink.takes (ended_by stop) m (due_behind c.args.reader.now.unread (Piece piece ∷ more)) [] b)
+    (λ stop. (more : List Read) → Ends g.W.Wire.does g.C.Clock.ticks g.S.Sink.takes (ended_by stop) m (due_fed (c.args.reader.now.unread ++ piece) more) [] b)
     (λ end. (read : Read) × ((more : List Read) → Ends g.W.Wire.does g.C.Clock.ticks g.S.Sink.takes end a (due_behind c.args.reader.now.unread (read ∷ more)) (read ∷ []) b))
     c.end_of.result c.take_piece.result c.end_of.ensures.err c.take_piece.ensures.err
     (λ stop ends. (
       Piece piece,
-      λ more. ends-behind-read g.W.Wire.does g.C.Clock.ticks g.S.Sink.takes stop (Piece piece) a b (due_behind c.args.reader.now.unread (Piece piece ∷ more))
+      λ more. ends-behind-read g.W.Wire.does g.C.Clock.ticks g.S.Sink.takes stop (Piece piece) a b (due_fed (c.args.reader.now.unread ++ piece) more)
           c.read_some.new.self gave (ends more),
     ))
 
@@ -50,7 +50,7 @@ returns-in-Quiet-clause-ok g c =
     ok-through c.end_of-in-Quiet.result c.pass_moment.result c.end_of-in-Quiet.ensures.ok c.pass_moment.ensures.ok
     (λ called. (
       Silence,
-      λ more. runs-behind-read g.W.Wire.does g.C.Clock.ticks g.S.Sink.takes Silence a b (due_behind unread (Silence ∷ more)) (due_behind unread more)
+      λ more. runs-behind-read g.W.Wire.does g.C.Clock.ticks g.S.Sink.takes Silence a b (Passed ∷ due_behind unread more) (due_behind unread more)
           c.read_some.new.self c.in-Quiet.ensures.gave
           (runs-one g.W.Wire.does g.C.Clock.ticks g.S.Sink.takes Tick m (Passed ∷ []) (due_behind unread more) c.pass_moment.new.wire c.pass_moment.new.clock c.pass_moment.new.session
           (tick-call c.args.session.now c.requires.idle) called),
@@ -68,7 +68,7 @@ returns-in-Quiet-clause-err g c =
     c.end_of-in-Quiet.result c.pass_moment.result c.end_of-in-Quiet.ensures.err c.pass_moment.ensures.err
     (λ stop halted. (
       Silence,
-      λ more. ends-behind-read g.W.Wire.does g.C.Clock.ticks g.S.Sink.takes stop Silence a b (due_behind unread (Silence ∷ more))
+      λ more. ends-behind-read g.W.Wire.does g.C.Clock.ticks g.S.Sink.takes stop Silence a b (Passed ∷ due_behind unread more)
           c.read_some.new.self c.in-Quiet.ensures.gave
           (ends-one g.W.Wire.does g.C.Clock.ticks g.S.Sink.takes stop Tick m (Passed ∷ []) (due_behind unread more) c.pass_moment.new.wire c.pass_moment.new.clock c.pass_moment.new.session
           (tick-call c.args.session.now c.requires.idle) halted),
