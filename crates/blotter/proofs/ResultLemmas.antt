@@ -1,5 +1,5 @@
 -- What holds of a result.
-use Rattle.std.proofs.Common.{◌≡◌, ◌≢◌, ap, Result, Option, Ok, Err, Some, None}
+use Rattle.std.proofs.Common.{◌≡◌, ◌≢◌, ap, subst, Result, Option, Ok, Err, Some, None}
 use Rattle.std.specs.Prelude.{IsOk, OnOk, IfErr, IfSome}
 
 pub on-ok : {T E P Q : Type 0} (result : Result T E) → OnOk result P → (P → Q) → OnOk result Q
@@ -29,3 +29,7 @@ fault_or other (Err e) = e
 pub same-fault : {T E : Type 0} (a b : E) → ◌≡◌ {A = Result T E} (Err a) (Err b) → a ≡ b
 unfolding fault_or
 same-fault a b is = ap (fault_or a) is
+
+pub err-says : {T E : Type 0} (P : E → Type 0) (result : Result T E) (e : E) → result ≡ Err e → IfErr result P → P e
+err-says P (Ok x) e is p = absurd cc
+err-says P (Err other) e is p = subst P (same-fault other e is) p

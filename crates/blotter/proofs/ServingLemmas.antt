@@ -1,25 +1,28 @@
 -- What a day that is served comes to.
-use Rattle.std.proofs.Common.{◌≡◌, ℕ, List, [], ◌∷◌, ◌++◌, length, refl, ap, subst, ◌∙◌, arith, suc}
-use Rattle.std.specs.Prelude.{ℤ, true, ◌&&◌, ◌≢◌, Option, IfSome, IsOk, OnOk, Result, Err}
+use Rattle.std.proofs.Common.{◌≡◌, ℕ, ◌+◌, ◌<◌, List, [], ◌∷◌, ◌++◌, length, replicate, refl, sym, ap, subst, ◌∙◌, arith, zero, suc}
+use Rattle.std.specs.Prelude.{ℤ, true, ◌&&◌, ◌≢◌, Option, IfErr, IfSome, IsOk, OnOk, Result, Err}
 use Rattle.std.specs.Io.KnownBytes.{IsAtEnd}
 use Rattle.std.specs.List.{All, list_all}
 use Rattle.blot_desk.specs.declared.receipt.Receipt.{Receipt}
 use Rattle.blot_gateway.specs.AtOnce.{AddsSubmits, EachAdds}
-use Rattle.blot_gateway.proofs.AtOnceLemmas.{adds-none, adds-on}
-use Rattle.blotter.proofs.ResultLemmas.{ok-says}
+use Rattle.blot_gateway.proofs.AtOnceLemmas.{adds-none, adds-on, each-adds}
+use Rattle.blotter.proofs.ResultLemmas.{err-says, ok-says}
 use Rattle.blotter.specs.Dialogue.{TellsLines, seat_ways}
 use Rattle.blotter.specs.Lines.{lines_of}
-use Rattle.blotter.specs.Serving.{DayServed, Reported, are_submits}
+use Rattle.blotter.specs.Serving.{DayServed, Reported, RoundsLead, ServesRound, are_submits}
+use Rattle.blotter.specs.Sockets.{ClockTicks, SocketDoes}
 use Rattle.blotter.specs.declared.outcome.ServeFault.{ServeFault}
 use Rattle.blotter.specs.declared.outcome.ServeFault.TheVariants.{Connection, NoMemory}
 
+-- ---- what rounds add
+
 -- no round adds nothing
-pub each-none : (seats : List (List Receipt)) → EachAdds seats seats
+each-none : (seats : List (List Receipt)) → EachAdds seats seats
 each-none [] = tt
 each-none (receipts ∷ seats) = (adds-none receipts receipts refl, each-none seats)
 
 -- one round behind another
-pub each-on : (a b c : List (List Receipt)) → EachAdds a b → EachAdds b c → EachAdds a c
+each-on : (a b c : List (List Receipt)) → EachAdds a b → EachAdds b c → EachAdds a c
 each-on [] [] [] one two = tt
 each-on (x ∷ a) (y ∷ b) (z ∷ c) one two = (adds-on x y z one.0 two.0, each-on a b c one.1 two.1)
 each-on [] [] (z ∷ c) one two = absurd two
@@ -27,8 +30,22 @@ each-on [] (y ∷ b) c one two = absurd one
 each-on (x ∷ a) [] c one two = absurd one
 each-on (x ∷ a) (y ∷ b) [] one two = absurd two
 
+-- a round adds receipts of submits
+pub round-adds : {R S : Type 0} (remaining contents : S → Option (List ℕ)) (own : List ℕ) (before after : List (List Receipt))
+    → ServesRound R remaining contents own before after → EachAdds before after
+round-adds remaining contents own before after round =
+    subst (λ seats. EachAdds before seats) (sym round.seats)
+    (each-adds (SocketDoes remaining contents) ClockTicks (λ socket. socket.faults) own round.wires round.clocks before round.endings round.served)
+
+-- and so do rounds
+rounds-add : (round : List (List Receipt) → List (List Receipt) → Type 0) → ((before after : List (List Receipt)) → round before after → EachAdds before after)
+    → (count : ℕ) (before after : List (List Receipt)) → RoundsLead round count before after → EachAdds before after
+rounds-add round adds zero before after same = subst (λ seats. EachAdds before seats) (sym same) (each-none before)
+rounds-add round adds (suc count) before after rounds =
+    each-on before rounds.0 after (rounds-add round adds count before rounds.0 rounds.1) (adds rounds.0 after rounds.2)
+
 -- behind rounds there are as many seats
-pub as-many : (before after : List (List Receipt)) → EachAdds before after → length after ≡ length before
+as-many : (before after : List (List Receipt)) → EachAdds before after → length after ≡ length before
 as-many [] [] adds = refl
 as-many (x ∷ before) (y ∷ after) adds = ap suc (as-many before after adds.1)
 as-many [] (y ∷ after) adds = absurd adds
@@ -39,7 +56,7 @@ adds-submits : (before after : List Receipt) → before ≡ [] → AddsSubmits b
 adds-submits before after empty adds = ap are_submits (adds.joined ∙ ap (λ front. front ++ adds.more) empty) ∙ adds.submits
 
 -- and so has each seat
-pub each-submits : (before after : List (List Receipt)) → All (λ receipts. receipts ≡ []) before → EachAdds before after → list_all are_submits after ≡ true
+each-submits : (before after : List (List Receipt)) → All (λ receipts. receipts ≡ []) before → EachAdds before after → list_all are_submits after ≡ true
 each-submits [] [] empty adds = refl
 each-submits (x ∷ before) (y ∷ after) empty adds =
     ap (λ found. found && list_all are_submits after) (adds-submits x y (empty 0 x (omega arith)) adds.0)
@@ -47,9 +64,38 @@ each-submits (x ∷ before) (y ∷ after) empty adds =
 each-submits [] (y ∷ after) empty adds = absurd adds
 each-submits (x ∷ before) [] empty adds = absurd adds
 
--- rounds that end for want of a connection don't end for want of memory
-pub not-memory : (served : Result (Unit {0}) ServeFault) → served ≡ Err Connection → served ≢ Err NoMemory
-not-memory served is = λ other. cc
+-- seats that are all empty are just so many
+all-empty : (seats : List (List Receipt)) → All (λ receipts. receipts ≡ []) seats → seats ≡ replicate (length seats) []
+all-empty [] empty = refl
+all-empty (x ∷ seats) empty =
+    let first : x ≡ [] = empty 0 x (omega arith) in
+    let others : seats ≡ replicate (length seats) [] = all-empty seats (λ k d less. empty (suc k) d (omega (arith, less))) in
+    cc
+
+-- ---- how many rounds there were
+
+-- one more round
+pub one-more : (round : List (List Receipt) → List (List Receipt) → Type 0) (count : ℕ) (before between after : List (List Receipt))
+    → RoundsLead round count before between → round between after → RoundsLead round (count + 1) before after
+one-more round count before between after rounds last =
+    let same : suc count ≡ count + 1 = omega arith in
+    subst (λ count. RoundsLead round count before after) same (between, rounds, last)
+
+-- rounds that stop at one that serves none
+pub stops-at : (round : List (List Receipt) → List (List Receipt) → Type 0) (count rounds : ℕ) (before between after : List (List Receipt)) (fault : ServeFault)
+    → count < rounds → RoundsLead round count before between → (fault ≢ NoMemory → after ≡ between)
+    → fault ≢ NoMemory → (made : ℕ) × (made < rounds) × RoundsLead round made before after
+stops-at round count rounds before between after fault less led kept other =
+    (count, less, subst (λ seats. RoundsLead round count before seats) (sym (kept other)) led)
+
+-- for want of a connection there were fewer
+pub were-fewer : {T : Type 0} (round : List (List Receipt) → List (List Receipt) → Type 0) (rounds : ℕ) (before after : List (List Receipt)) (served : Result T ServeFault)
+    → served ≡ Err Connection → IfErr served (λ fault. fault ≢ NoMemory → (count : ℕ) × (count < rounds) × RoundsLead round count before after)
+    → (count : ℕ) × (count < rounds) × RoundsLead round count before after
+were-fewer round rounds before after served is fewer =
+    err-says (λ fault. fault ≢ NoMemory → (count : ℕ) × (count < rounds) × RoundsLead round count before after) served Connection is fewer (λ same. cc)
+
+-- ---- a day
 
 -- what an operator with an empty seat is told, where the lines come to their end
 pub tells-all : {T E : Type 0} (answered : Result T E) (input : Option (List ℕ)) (first last : List Receipt) (before after : Option (List ℕ)) → first ≡ [] → IsOk answered
@@ -62,17 +108,21 @@ pub at-end : {R : Type 0} (remaining : R → Option (List ℕ)) (left last : R) 
 at-end remaining left last ended same = subst (λ found. IsAtEnd (remaining found)) same ended
 
 -- a day that is served, of its rounds, its lines and its report, which leave the output so
-pub is-served : {W : Type 0} (contents : W → Option (List ℕ)) (input : Option (List ℕ)) (opened brokers : List (List Receipt))
-    (operator : List Receipt) (sessions : ℕ) (day : ℤ) (before : Option (List ℕ)) (between new last : W) → length opened ≡ sessions → All (λ receipts. receipts ≡ []) opened
-    → EachAdds opened brokers → IfSome input (λ bytes. TellsLines seat_ways [] (lines_of bytes) operator before (contents between)) → Reported day (brokers ++ (operator ∷ [])) (contents between) (contents new) → new ≡ last
-    → DayServed input sessions day before (contents last)
-is-served contents input opened brokers operator sessions day before between new last many empty adds told reported same =
+pub is-served : {W : Type 0} (contents : W → Option (List ℕ)) (round : List (List Receipt) → List (List Receipt) → Type 0) (rounds : ℕ) (input : Option (List ℕ))
+    (opened brokers : List (List Receipt)) (operator : List Receipt) (sessions : ℕ) (day : ℤ) (before : Option (List ℕ)) (between new last : W)
+    → ((before after : List (List Receipt)) → round before after → EachAdds before after) → length opened ≡ sessions → All (λ receipts. receipts ≡ []) opened
+    → RoundsLead round rounds opened brokers → IfSome input (λ bytes. TellsLines seat_ways [] (lines_of bytes) operator before (contents between)) → Reported day (brokers ++ (operator ∷ [])) (contents between) (contents new) → new ≡ last
+    → DayServed round rounds input sessions day before (contents last)
+is-served contents round rounds input opened brokers operator sessions day before between new last adds many empty led told reported same =
+    let added = rounds-add round adds rounds opened brokers led in
+    let start : opened ≡ replicate sessions [] = all-empty opened empty ∙ ap (λ count. replicate count []) many in
     record {
       brokers = brokers;
       operator = operator;
       between = contents between;
-      count = as-many opened brokers adds ∙ many;
-      submits = each-submits opened brokers empty adds;
+      served = subst (λ seats. RoundsLead round rounds seats brokers) start led;
+      count = as-many opened brokers added ∙ many;
+      submits = each-submits opened brokers empty added;
       told = told;
       reported = subst (λ found. Reported day (brokers ++ (operator ∷ [])) (contents between) (contents found)) same reported;
     }

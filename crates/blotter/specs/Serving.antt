@@ -1,15 +1,37 @@
 -- What a day that is served comes to.
-use Rattle.std.specs.Prelude.{◌≡◌, ℕ, ℤ, Bool, true, List, [], ◌∷◌, ◌++◌, length, Option, IfSome}
+use Rattle.std.specs.Prelude.{◌≡◌, ℕ, zero, suc, ℤ, Bool, true, List, [], ◌∷◌, ◌++◌, length, map, replicate, Option, IfSome}
 use Rattle.std.specs.List.{list_all}
 use Rattle.std.specs.Io.KnownBytes.{Appends}
 use Rattle.blot_desk.specs.declared.event.Recorded.{Recorded}
 use Rattle.blot_desk.specs.declared.receipt.Receipt.{Receipt}
 use Rattle.blot_desk.specs.Desk.{events_of, replies_of, run_of}
 use Rattle.blot_desk.specs.Receipts.{IsSettled}
-use Rattle.blot_gateway.specs.AtOnce.{is_submit}
+use Rattle.blot_gateway.specs.AtOnce.{EachServed, is_submit}
+use Rattle.blot_gateway.specs.declared.ended.Ended.{Ended}
 use Rattle.blotter.specs.Dialogue.{TellsLines, seat_ways}
 use Rattle.blotter.specs.Lines.{lines_of}
 use Rattle.blotter.specs.Replay.{report_of}
+use Rattle.blotter.specs.Sockets.{ClockTicks, SocketDoes}
+use Rattle.blotter.specs.declared.socket.Socket.{Socket}
+use Rattle.blotter.specs.declared.system_clock.SystemClock.{SystemClock}
+
+-- ---- rounds
+
+-- a round is served: for each seat there is a connection and a clock, each connection was served at its clock until it ended, with its
+-- seat behind it, and those are the seats behind the round
+pub record ServesRound (R : Type 0) {S : Type 0} (remaining contents : S → Option (List ℕ)) (own : List ℕ) (before after : List (List Receipt)) : Type 0 where
+  pub wires : List (Socket S)
+  pub clocks : List (SystemClock R)
+  pub endings : List (Ended × List Receipt)
+  pub served : EachServed (SocketDoes remaining contents) ClockTicks (λ socket. socket.faults) own wires clocks before endings
+  pub seats : after ≡ map (λ ending. ending.1) endings
+
+-- so many rounds, one behind the other, lead from some seats to others
+abbrev pub RoundsLead : (List (List Receipt) → List (List Receipt) → Type 0) → ℕ → List (List Receipt) → List (List Receipt) → Type 0
+RoundsLead round zero before after = after ≡ before
+RoundsLead round (suc count) before after = (between : List (List Receipt)) × RoundsLead round count before between × round between after
+
+-- ---- a day
 
 -- whether all these receipts are of submits
 abbrev pub are_submits : List Receipt → Bool
@@ -23,12 +45,15 @@ pub record Reported (day : ℤ) (seats : List (List Receipt)) (before after : Op
   pub replied : (run_of (events_of history)).replies ≡ replies_of history
   pub written : Appends before after (report_of (run_of (events_of history)).book.list day)
 
--- a day is served: there are so many seats of brokers, with receipts of submits alone; the operator, with a seat that was empty, is told
--- the answers to all lines of the input; and then the report is written of the history of all these receipts
-pub record DayServed (input : Option (List ℕ)) (sessions : ℕ) (day : ℤ) (before after : Option (List ℕ)) : Type 0 where
+-- a day is served: so many rounds lead from so many empty seats to those of the brokers, whose receipts are of submits alone; the
+-- operator, with a seat that was empty, is told the answers to all lines of the input; and then the report is written of the history of
+-- all these receipts
+pub record DayServed (round : List (List Receipt) → List (List Receipt) → Type 0) (rounds : ℕ) (input : Option (List ℕ)) (sessions : ℕ) (day : ℤ)
+    (before after : Option (List ℕ)) : Type 0 where
   pub brokers : List (List Receipt)
   pub operator : List Receipt
   pub between : Option (List ℕ)
+  pub served : RoundsLead round rounds (replicate sessions []) brokers
   pub count : length brokers ≡ sessions
   pub submits : list_all are_submits brokers ≡ true
   pub told : IfSome input (λ bytes. TellsLines seat_ways [] (lines_of bytes) operator before between)

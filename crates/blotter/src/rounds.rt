@@ -1,6 +1,6 @@
 //! Rounds of connections, each served at once.
-ghost use Rattle.std.specs.Prelude.{◌≡◌, ◌≢◌, Err, IfOk, map, vec_len};
-ghost use Rattle.blot_gateway.specs.AtOnce.{EachAdds};
+ghost use Rattle.std.specs.Prelude.{◌≡◌, ◌≢◌, ◌<◌, ℕ, IfErr, IfOk, OnOk, map, vec_len};
+ghost use Rattle.blotter.specs.Serving.{RoundsLead, ServesRound};
 
 use crate::{ServeFault, Socket, SystemClock};
 use blot_desk::{Desk, Seat};
@@ -32,7 +32,8 @@ pub fn log_endings<G: Log, L: Ledger>(log: &G, endings: &[(Ended, Seat<L>)]) {
     }
 }
 
-/// Takes rounds of connections: each has one for each seat, which are served at once, and then their endings are logged.
+/// Takes rounds of connections: each has one for each seat, which are served at once, and then their endings are logged. A fault
+/// other than out of memory ends them before the last round.
 pub(crate) fn serve_rounds<R, N, L>(
     rt: &R,
     alloc: Global,
@@ -47,7 +48,9 @@ where
     N: OpenListener,
     N::Stream: Read + Write + OpenStream + Send,
     L: Ledger + Send + Sync,
-    ensures { result ≢ Err ServeFault.NoMemory → EachAdds seats.old.items seats.new.items }
+    ensures served { OnOk result (RoundsLead (ServesRound R N.Stream.remaining N.Stream.contents slots.now) rounds seats.old.items seats.new.items) }
+    ensures fewer { IfErr result (λ fault. fault ≢ ServeFault.NoMemory → (count : ℕ) × (count < rounds)
+        × RoundsLead (ServesRound R N.Stream.remaining N.Stream.contents slots.now) count seats.old.items seats.new.items) }
 {
     for _ in 0..rounds {
         serve_round(rt, alloc, listener, slots, desk, seats)?;
@@ -55,7 +58,7 @@ where
     Ok(())
 }
 
-// Takes a connection for each seat, and serves them at once.
+// Takes a connection for each seat, and serves them at once. Where too few come, none is served.
 fn serve_round<R, N, L>(
     rt: &R,
     alloc: Global,
@@ -69,7 +72,8 @@ where
     N: OpenListener,
     N::Stream: Read + Write + OpenStream + Send,
     L: Ledger + Send + Sync,
-    ensures { result ≢ Err ServeFault.NoMemory → EachAdds seats.old.items seats.new.items }
+    ensures served { OnOk result (ServesRound R N.Stream.remaining N.Stream.contents slots.now seats.old.items seats.new.items) }
+    ensures kept { IfErr result (λ fault. fault ≢ ServeFault.NoMemory → seats.new.items ≡ seats.old.items) }
 {
     let wires = accept_all(alloc, listener, seats.len())?;
     let clocks = clocks_of(rt, alloc, seats.len())?;

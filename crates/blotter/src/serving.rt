@@ -1,9 +1,8 @@
 //! `serve_day`.
-ghost use Rattle.std.specs.Prelude.{◌≡◌, ◌≢◌, ◌+◌, ◌⊎◌, [], ◌∷◌, ◌++◌, length, Err, IfOk, IsOk, OnOk};
+ghost use Rattle.std.specs.Prelude.{◌≡◌, ◌≢◌, ◌+◌, ◌<◌, ◌⊎◌, ℕ, [], ◌∷◌, ◌++◌, length, Err, IfErr, IfOk, IsOk, OnOk};
 ghost use Rattle.std.specs.List.{All};
 ghost use Rattle.std.specs.Io.KnownBytes.{Appends, IsAtEnd};
-ghost use Rattle.blot_gateway.specs.AtOnce.{EachAdds};
-ghost use Rattle.blotter.specs.Serving.{DayServed, Reported};
+ghost use Rattle.blotter.specs.Serving.{DayServed, Reported, RoundsLead, ServesRound};
 
 use crate::meanwhile::{Lines, Task, take_back};
 use crate::replaying::day_report;
@@ -50,12 +49,14 @@ where
     requires name { blank.name ≡ L.name }
     requires parts { blank.parts ≡ L.parts }
     requires seats { blank.parts ≡ rounds.sessions + 1 }
-    ensures served { OnOk result (DayServed (I.remaining input.old) rounds.sessions day (O.contents output.old) (O.contents output.new)) }
+    ensures served { OnOk result (DayServed (ServesRound R N.Stream.remaining N.Stream.contents slots.now) rounds.rounds
+        (I.remaining input.old) rounds.sessions day (O.contents output.old) (O.contents output.new)) }
     ensures read_to_the_end { OnOk result (IsAtEnd (I.remaining input.new)) }
 
-    // Without a further connection the day is told all the same.
-    ensures no_connection { result ≡ Err ServeFault.Connection → IsAtEnd (I.remaining input.new)
-        × DayServed (I.remaining input.old) rounds.sessions day (O.contents output.old) (O.contents output.new) }
+    // Without a further connection the day of the rounds so far is told all the same.
+    ensures no_connection { result ≡ Err ServeFault.Connection → IsAtEnd (I.remaining input.new) × ((count : ℕ) × (count < rounds.rounds)
+        × DayServed (ServesRound R N.Stream.remaining N.Stream.contents slots.now) count
+        (I.remaining input.old) rounds.sessions day (O.contents output.old) (O.contents output.new)) }
 {
     let (desk, seats, operator) = open_day::<L>(alloc, blank, rounds.sessions)?;
     let lines = Lines {
@@ -121,13 +122,17 @@ where
     N: OpenListener + Sync,
     N::Stream: Read + Write + OpenStream + Send,
     T: Task<Output = A> + Drop,
-    ensures adds { result.0.0 ≢ Err ServeFault.NoMemory → EachAdds seats.items result.0.1.items }
+    ensures served { OnOk result.0.0 (RoundsLead (ServesRound R N.Stream.remaining N.Stream.contents slots.now) rounds seats.items result.0.1.items) }
+    ensures fewer { IfErr result.0.0 (λ fault. fault ≢ ServeFault.NoMemory → (count : ℕ) × (count < rounds)
+        × RoundsLead (ServesRound R N.Stream.remaining N.Stream.contents slots.now) count seats.items result.0.1.items) }
     ensures gives { T.gives task result.1 }
 {
     join(
         rt,
         move || -> (Result<(), ServeFault>, Vec<Seat<L>>)
-            ensures { result.0 ≢ Err ServeFault.NoMemory → EachAdds seats.items result.1.items }
+            ensures served { OnOk result.0 (RoundsLead (ServesRound R N.Stream.remaining N.Stream.contents slots.entry.now) rounds seats.items result.1.items) }
+            ensures fewer { IfErr result.0 (λ fault. fault ≢ ServeFault.NoMemory → (count : ℕ) × (count < rounds)
+                × RoundsLead (ServesRound R N.Stream.remaining N.Stream.contents slots.entry.now) count seats.items result.1.items) }
         {
             let mut seats = seats;
             let served = serve_rounds(rt, alloc, listener, rounds, slots, desk, &mut seats);

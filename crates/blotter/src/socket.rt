@@ -45,9 +45,9 @@ impl<S> Socket<S> {
 }
 
 impl<S: Read + Write> Wire for Socket<S> {
-    ghost use Rattle.blotter.specs.Sockets.{Conveys};
+    ghost use Rattle.blotter.specs.Sockets.{SocketDoes};
 
-    ghost does = { λ before did after. Conveys S.remaining S.contents before.stream did after.stream };
+    ghost does = { SocketDoes S.remaining S.contents };
 
     ghost failures = { λ socket. socket.faults };
 

@@ -26,9 +26,9 @@ impl<'a, R: time::Clock> SystemClock<'a, R> {
 }
 
 impl<'a, R: time::Clock> Clock for SystemClock<'a, R> {
-    ghost use Rattle.std.specs.Prelude.{◌≡◌};
+    ghost use Rattle.blotter.specs.Sockets.{ClockTicks};
 
-    ghost ticks = { λ before moment after. after.last ≡ moment };
+    ghost ticks = { ClockTicks };
 
     fn now(&mut self) -> Moment {
         if let Some(moment) = shown_by(self.system) {

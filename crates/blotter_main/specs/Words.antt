@@ -7,6 +7,7 @@ use Rattle.blot_time.specs.Day.{IsDayText}
 use Rattle.blot_types.specs.Keys.{same_text}
 use Rattle.blot_types.specs.Text.{is_text}
 use Rattle.blot_desk.specs.Desk.{Journal}
+use Rattle.blot_desk.specs.declared.receipt.Receipt.{Receipt}
 use Rattle.blotter.specs.Lines.{lines_of}
 use Rattle.blotter.specs.Operating.{told_over}
 use Rattle.blotter.specs.Replay.{list_of, report_of}
@@ -76,15 +77,17 @@ abbrev pub counts_named : Words → List (Option ℕ)
 counts_named (Serve own day port rounds peers) = Some port ∷ Some rounds.sessions ∷ Some rounds.rounds ∷ []
 counts_named words = []
 
--- what the words ask for was done. Of a replay, the input is read to its end, and the report of the day stands behind what was
--- written; of a desk, the input is read to its end, and there stand the answers to its lines, of a desk as the capture left it; of a
--- server, the input is read to its end, there stand the answers to its lines, and behind them the report of a settled history
-abbrev pub Did : Words → Option (List ℕ) → Option (List ℕ) → Option (List ℕ) → Option (List ℕ) → Type 0
-Did (Replay own day peers) input left before after =
+-- what the words ask for was done, where `round` says what a round under a CompID does to the seats. Of a replay, the input is read to
+-- its end, and the report of the day stands behind what was written; of a desk, the input is read to its end, and there stand the answers
+-- to its lines, of a desk as the capture left it; of a server, the input is read to its end, there stand the answers to its lines, and
+-- behind them the report of a settled history, in which the brokers' seats are as so many rounds of so many connections left them
+abbrev pub Did : (List ℕ → List (List Receipt) → List (List Receipt) → Type 0) → Words → Option (List ℕ) → Option (List ℕ) → Option (List ℕ) → Option (List ℕ) → Type 0
+Did round (Replay own day peers) input left before after =
     IsAtEnd left × IfSome input (λ bytes. Appends before after (report_of (list_of own peers.items bytes) day))
-Did (Desk own capture peers) input left before after =
+Did round (Desk own capture peers) input left before after =
     IsAtEnd left × ((journal : Journal) × IfSome input (λ bytes. Appends before after (told_over journal (lines_of bytes)).text))
-Did (Serve own day port rounds peers) input left before after = IsAtEnd left × DayServed input rounds.sessions day before after
+Did round (Serve own day port rounds peers) input left before after =
+    IsAtEnd left × DayServed (round own) rounds.rounds input rounds.sessions day before after
 
 -- whether the words ask for a replay
 abbrev pub is_replay : Words → Bool

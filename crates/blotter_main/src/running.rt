@@ -8,7 +8,7 @@ ghost use Rattle.blotter.specs.Capture.{commands_of};
 ghost use Rattle.blotter.specs.Lines.{lines_of};
 ghost use Rattle.blotter.specs.Operating.{told_over};
 ghost use Rattle.blotter.specs.Replay.{submitted};
-ghost use Rattle.blotter.specs.Serving.{DayServed};
+ghost use Rattle.blotter.specs.Serving.{DayServed, ServesRound};
 ghost use Rattle.blotter.specs.declared.outcome.Outcome.TheVariants.{BadWords, Done, NoMemory};
 ghost use Rattle.blotter_main.specs.Words.{IsPeerList, Did, is_replay, peers_of};
 
@@ -45,7 +45,8 @@ where
     T: Threads + Wait + Net + Clock + Log + Sync,
     T::Listener: Sync,
     T::Stream: Send,
-    ensures did { result ≡ Done → (words : Words) × IsPeerList (peers_of words) × Did words (R.remaining input.old) (R.remaining input.new) (W.contents output.old) (W.contents output.new) }
+    ensures did { result ≡ Done → (words : Words) × IsPeerList (peers_of words)
+        × Did (ServesRound T T.Stream.remaining T.Stream.contents) words (R.remaining input.old) (R.remaining input.new) (W.contents output.old) (W.contents output.new) }
     ensures unread { result ≡ BadWords → input.new ≡ input.old }
     ensures unwritten { result ≡ BadWords → output.new ≡ output.old }
 {
@@ -84,7 +85,8 @@ where
     T::Listener: Sync,
     T::Stream: Send,
     requires peers { IsPeerList (peers_of words) }
-    ensures did { result ≡ Done → Did words (R.remaining input.old) (R.remaining input.new) (W.contents output.old) (W.contents output.new) }
+    ensures did { result ≡ Done
+        → Did (ServesRound T T.Stream.remaining T.Stream.contents) words (R.remaining input.old) (R.remaining input.new) (W.contents output.old) (W.contents output.new) }
     ensures no_memory { result ≡ NoMemory → (is_replay words ≡ false) ⊎ Keeps (W.contents output.old) (W.contents output.new) }
     ensures words { result ≢ BadWords }
 {
@@ -133,7 +135,8 @@ where
     T: Threads + Wait + Net + Clock + Log + Sync,
     T::Listener: Sync,
     T::Stream: Send,
-    ensures served { result ≡ Done → DayServed (R.remaining input.old) rounds.sessions day (W.contents output.old) (W.contents output.new) }
+    ensures served { result ≡ Done → DayServed (ServesRound T T.Stream.remaining T.Stream.contents slots.now) rounds.rounds
+        (R.remaining input.old) rounds.sessions day (W.contents output.old) (W.contents output.new) }
     ensures read_to_the_end { result ≡ Done → IsAtEnd (R.remaining input.new) }
     ensures words { result ≢ BadWords }
 {

@@ -1,17 +1,22 @@
-use Rattle.std.proofs.Common.{rules, ◌≢◌, Err}
-use Rattle.blotter.specs.declared.outcome.ServeFault.TheVariants.{NoMemory}
-use Rattle.blotter.proofs.ServingLemmas.{each-none, each-on}
+use Rattle.std.proofs.Common.{◌≡◌, Err, rules, arith, subst}
+use Rattle.blotter.specs.Serving.{RoundsLead, ServesRound}
+use Rattle.blotter.proofs.ServingLemmas.{one-more, stops-at}
 use Rattle.blotter.proofs.rounds.serve_rounds.Goals as goal
-
-pub loop-init : goal.loop-init
-loop-init g c = each-none c.args.seats.now.items
-
-pub returns-in_err-serve_round : goal.returns-in_err-serve_round
-returns-in_err-serve_round g c = λ other.
-    let same : c.serve_round.result ≢ Err NoMemory = search rules in
-    each-on c.args.seats.now.items c.loop.seats.items c.serve_round.new.seats.items c.loop.invariant (c.serve_round.ensures same)
 
 pub loop-preserved : goal.loop-preserved
 loop-preserved g c =
-    let same : c.serve_round.result ≢ Err NoMemory = search rules in
-    each-on c.args.seats.now.items c.loop.seats.items c.serve_round.new.seats.items c.loop.invariant (c.serve_round.ensures same)
+    one-more (ServesRound g.row.R.Denot g.N.Stream.Read.remaining g.N.Stream.Write.contents c.args.slots.now) c.loop.counter _ _ _ c.loop.invariant c.in_ok-serve_round.ensures.served
+
+pub returns-in_err-serve_round-clause-fewer : goal.returns-in_err-serve_round-clause-fewer
+returns-in_err-serve_round-clause-fewer g c =
+    let same : c.from_residual.result ≡ Err c.in_err-serve_round.field-0.0 = search rules in
+    rw same
+    (stops-at (ServesRound g.row.R.Denot g.N.Stream.Read.remaining g.N.Stream.Write.contents c.args.slots.now) c.loop.counter c.args.rounds _ _ _ c.in_err-serve_round.field-0.0
+    c.loop-test.true c.loop.invariant c.in_err-serve_round.ensures.kept)
+
+pub returns-clause-served : goal.returns-clause-served
+returns-clause-served g c =
+    let made : c.loop.counter ≡ c.args.rounds = omega arith in
+    subst
+    (λ count. RoundsLead (ServesRound g.row.R.Denot g.N.Stream.Read.remaining g.N.Stream.Write.contents c.args.slots.now) count c.args.seats.now.items c.loop.seats.items)
+    made c.loop.invariant
