@@ -1,4 +1,4 @@
-//! `Chains`.
+//! The links of executions: added, taken back, asked.
 ghost use Rattle.std.specs.Prelude.{◌≡◌, [], ◌∷◌, Some, None, IfSome, IsTrue, OnOk, OnErr};
 ghost use Rattle.blot_types.specs.declared.link.Role.TheVariants.{Begins, Corrects, Busts};
 ghost use Rattle.blot_types.specs.Chains.{root_in, current_in, bust_in, taker_in, chain_refusal, link_refusal, is_below};
@@ -40,9 +40,8 @@ impl Chains {
         }
     }
 
-    /// Adds a Trade, which begins a chain. Its key is taken up by no link so far, and its
-    /// number is above theirs. An error leaves the
-    /// chains as they were. FIX 4.4 volume 4, ExecType(150).
+    /// Adds a Trade, which begins a chain. Its key is taken up by no link so far, and its number is above
+    /// theirs. An error leaves the chains as they were. FIX 4.4 volume 4, ExecType(150).
     pub fn add(&mut self, number: u64, key: &ExecKey) -> Result<(), NoMemory>
         requires accepted { link_refusal self.old key.now Begins ≡ None }
         requires above { IsTrue (is_below number self.old) }
@@ -53,8 +52,8 @@ impl Chains {
     }
 
     /// Adds a Correct, which brings a version to the chain of the reference. Its key is taken up by no link
-    /// so far, and the reference has a root, which isn't busted. An error leaves the chains as they were.
-    /// FIX 4.4 volume 4, ExecRefID(19).
+    /// so far, its number is above theirs, and the reference has a root, which isn't busted. An error leaves
+    /// the chains as they were. FIX 4.4 volume 4, ExecRefID(19).
     pub fn correct(
         &mut self,
         number: u64,
@@ -70,9 +69,9 @@ impl Chains {
         self.push_link(number, key, Role::Corrects(*reference), root)
     }
 
-    /// Adds a Bust, which ends the chain of the reference. Its key is taken up by no link so far, and the
-    /// reference has a root, which isn't busted. An error leaves the chains as they were. FIX 4.4 volume 4,
-    /// ExecRefID(19).
+    /// Adds a Bust, which ends the chain of the reference. Its key is taken up by no link so far, its number
+    /// is above theirs, and the reference has a root, which isn't busted. An error leaves the chains as they
+    /// were. FIX 4.4 volume 4, ExecRefID(19).
     pub fn bust(&mut self, number: u64, key: &ExecKey, reference: &ExecKey) -> Result<(), NoMemory>
         requires accepted { link_refusal self.old key.now (Busts reference.now) ≡ None }
         requires above { IsTrue (is_below number self.old) }

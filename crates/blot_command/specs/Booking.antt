@@ -20,9 +20,11 @@ pub record Change : Type 0 where
   pub is_put : Bool
   pub part : Part
 
+-- the change that puts a part
 abbrev pub put_in : Part → Change
 put_in part = record { is_put = true; part = part }
 
+-- the change that takes a part
 abbrev pub taken_out : Part → Change
 taken_out part = record { is_put = false; part = part }
 

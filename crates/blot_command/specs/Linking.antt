@@ -32,6 +32,7 @@ IsLinkedLast entry links instructions =
     (earlier : List Link) × (before : List Instruction) × (links ≡ cons_option (link_of entry) earlier)
     × (instructions ≡ cons_option (instruction_by earlier entry.number entry.command) before)
 
+-- a list without its first item; an empty one as it is
 abbrev pub rest_of : {A : Type 0} → List A → List A
 rest_of [] = []
 rest_of (item ∷ rest) = rest

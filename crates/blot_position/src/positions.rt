@@ -1,4 +1,4 @@
-//! `Positions`.
+//! The positions: opened, changed, shown.
 ghost use Rattle.std.specs.Prelude.{◌≡◌, IsTrue, OnOk, OnErr};
 ghost use Rattle.std.specs.FinMap as map;
 ghost use Rattle.blot_position.specs.Positions.{sums_at, has_cell, with_cell, with_part, without_part};

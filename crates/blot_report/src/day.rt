@@ -1,4 +1,4 @@
-//! `day_lines`.
+//! The lines of a day, over a snapshot.
 ghost use Rattle.std.specs.Prelude.{◌≡◌, IfOk};
 ghost use Rattle.blot_report.specs.Laws.{IsOfOneDay, ShowsDay, ShowsBook};
 ghost use Rattle.blot_report.specs.Lines.{day_lines_of};

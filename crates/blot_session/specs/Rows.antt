@@ -56,10 +56,11 @@ first_logon_row state head heartbeat reset now =
 abbrev pub reset_by : Bool → State → State
 reset_by reset state = if reset then restarted state else state
 
--- whether a message names the session's peer and own CompID
+-- whether a message names the session's peer as its sender
 abbrev pub is_sender : State → Head → Bool
 is_sender state head = same_text head.sender state.peer
 
+-- and own CompID as its target
 abbrev pub is_from_peer : State → Head → Bool
 is_from_peer state head = is_sender state head && same_text head.target state.own
 
@@ -204,6 +205,7 @@ on_row state said now = on_row_by state (head_in said) said now
 
 -- ---- a frame, by phase
 
+-- what a session does about a frame: a closed one does nothing
 abbrev pub frame_row_by : State → Link → Result Message FieldFault → ℤ → Row
 frame_row_by state links.Waiting said now = waiting_row state said now
 frame_row_by state (links.On live) said now = on_row (heard now state) said now
@@ -240,15 +242,18 @@ quiet_row state live now =
     if passed live.received (patience live.heartbeat) now then sends TestRequest (asking now state)
     else heartbeat_row state live now
 
+-- what is due to the peer as time passes, by whether a TestRequest is out
 abbrev pub beat_row_by : State → Live → Option ℤ → ℤ → Row
 beat_row_by state live (Some asked) now = asked_row state live asked now
 beat_row_by state live None now = quiet_row state live now
 
+-- nothing, where no heartbeats were agreed on
 unfoldable pub beat_row : State → Live → ℤ → Row
 beat_row state live now =
     if live.heartbeat == 0 then silent state
     else beat_row_by state live live.asked now
 
+-- what a session does as time passes: only one that is on does anything
 abbrev pub tick_row_by : State → Link → ℤ → Row
 tick_row_by state (links.On live) now = beat_row state live now
 tick_row_by state link now = silent state

@@ -121,38 +121,51 @@ mismatch wanted block lines =
 
 -- ---- the rules, in their order
 
+-- DuplicateExec: an entry took up the execution that the command takes up; the number of that entry
 abbrev pub duplicate_exec : List Entry → Command → Option Refused
 duplicate_exec entries command = option_map DuplicateExec (option_and_then (taker_in (links_in entries)) (exec_key command))
 
+-- DuplicateAlloc: an entry took up the allocation that the command takes up; the number of that entry
 abbrev pub duplicate_alloc : List Entry → Command → Option Refused
 duplicate_alloc entries command =
     option_map DuplicateAlloc (option_and_then (alloc_taker_in (instructions_in entries)) (alloc_key command))
 
+-- UnknownAlloc: no AllocNew or AllocReplace took up the allocation that the command refers to
 abbrev pub unknown_alloc : List Entry → Command → Option Refused
 unknown_alloc entries command =
     option_and_then (λ key. if is_allocation_in (instructions_in entries) key then None else Some UnknownAlloc) (alloc_reference command)
 
+-- DeadAlloc: the allocation that the command refers to was replaced or cancelled; the number of the entry that did so
 abbrev pub dead_alloc : List Entry → Command → Option Refused
 dead_alloc entries command = option_map DeadAlloc (option_and_then (ended_in (instructions_in entries)) (alloc_reference command))
 
+-- UnknownExec: an execution that the command refers to has no root; the first such execution
 abbrev pub unknown_exec : List Entry → Command → Option Refused
 unknown_exec entries command = option_map UnknownExec (find (λ key. is_none (root_in (links_in entries) key)) (exec_references command))
 
+-- BustedExec: the chain of an execution that the command refers to is busted; the number of that Bust, for the first such
+-- execution
 abbrev pub busted_exec : List Entry → Command → Option Refused
 busted_exec entries command = option_map BustedExec (first_of (bust_of_key (links_in entries)) (exec_references command))
 
+-- RepeatedExec: the command lists an execution of the chain of one listed before it; the first such execution
 abbrev pub repeated_exec : List Entry → Command → Option Refused
 repeated_exec entries command = option_map RepeatedExec (repeated_in (links_in entries) [] (listed_by command))
 
+-- ExecTaken: a live allocation, other than the one referred to, names the chain of a listed execution; the number of that
+-- allocation, for the first such execution
 abbrev pub exec_taken : List Entry → Command → Option Refused
 exec_taken entries command =
     option_map ExecTaken (first_of (other_holder (links_in entries) (instructions_in entries) (alloc_reference command)) (listed_by command))
 
+-- Instrument: the last version of a listed execution has another symbol or sign than the allocation; the first such execution
 abbrev pub instrument : List Entry → Command → Option Refused
 instrument entries command =
     option_and_then (λ terms. option_map Instrument (find (λ key. option_map_or (differs terms) (current_fill entries key) false) terms.execs))
     (terms_of command)
 
+-- Quantity: the block, or else the lines' sum, isn't the quantity of the listed executions' last versions; that quantity, and
+-- the one that differs
 abbrev pub quantity : List Entry → Command → Option Refused
 quantity entries command =
     option_and_then (λ terms. mismatch (cum_of (filter_map (current_fill entries) terms.execs)) (pos terms.block) (booked terms.lines)) (terms_of command)

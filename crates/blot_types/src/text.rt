@@ -1,4 +1,4 @@
-//! `Text64`.
+//! Short texts, held in the value itself.
 ghost use Rattle.std.specs.Prelude.{◌≡◌, ◌≢◌, ℕ, ◌-◌, ◌<◌, ◌≤◌, ◌↔◌, ◌==◌, List, [], ◌++◌, length, take, Some, true, IsTrue, IsSome, IfSome, nat_eq, refl};
 ghost use Rattle.std.specs.List.{list_all};
 ghost use Rattle.std.specs.Ordering.{nat_cmp};
