@@ -5,7 +5,7 @@ use Rattle.blot_types.specs.declared.allocation.AllocRole.{AllocRole}
 use Rattle.blot_types.specs.declared.allocation.Instruction.{Instruction}
 use Rattle.blot_types.specs.declared.keys.AllocKey.{AllocKey}
 use Rattle.blot_types.specs.declared.keys.ExecKey.{ExecKey}
-use Rattle.blot_types.specs.Instructions.{is_keyed, is_instructed, is_above_all}
+use Rattle.blot_types.specs.Instructions.{is_keyed, is_instructed, is_above_instructions}
 
 -- the roots of the chains that the instruction which takes up a key lists
 abbrev pub roots_in : List Instruction → AllocKey → Option (List ExecKey)
@@ -14,7 +14,7 @@ roots_in instructions key = option_map (λ instruction. instruction.roots) (find
 -- whether the numbers fall, from the newest instruction on
 abbrev pub numbers_fall : List Instruction → Bool
 numbers_fall [] = true
-numbers_fall (instruction ∷ earlier) = is_above_all instruction.number earlier && numbers_fall earlier
+numbers_fall (instruction ∷ earlier) = is_above_instructions instruction.number earlier && numbers_fall earlier
 
 -- what is kept: each instruction might follow those before it, and the numbers fall
 pub record HoldsInstructions (instructions : List Instruction) : Type 0 where

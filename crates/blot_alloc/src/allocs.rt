@@ -2,7 +2,7 @@
 ghost use Rattle.std.specs.Prelude.{◌≡◌, ◌≤◌, [], ◌∷◌, length, filter, IsTrue, OnOk, OnErr};
 ghost use Rattle.std.specs.Option.{option_map};
 ghost use Rattle.blot_types.specs.declared.allocation.AllocRole.TheVariants.{Allocates, Replaces, Cancels};
-ghost use Rattle.blot_types.specs.Instructions.{alloc_taker_in, is_allocation_in, ended_in, holds_in, holder_in, other_holder_in, may_follow, is_above_all};
+ghost use Rattle.blot_types.specs.Instructions.{alloc_taker_in, is_allocation_in, ended_in, holds_in, holder_in, other_holder_in, may_follow, is_above_instructions};
 ghost use Rattle.blot_alloc.specs.Allocs.{roots_in, Adds, IsNewest};
 
 use crate::lookup::{
@@ -51,7 +51,7 @@ impl Allocs {
         roots: Items<ExecKey>,
     ) -> Result<(), NoMemory>
         requires accepted { IsTrue (may_follow self.old key.now Allocates roots) }
-        requires above { IsTrue (is_above_all number self.old) }
+        requires above { IsTrue (is_above_instructions number self.old) }
         ensures ok { OnOk result (self.new ≡ record { number = number; key = key.now; role = Allocates; roots = roots } ∷ self.old) }
         ensures err { OnErr result (self.new ≡ self.old) }
     {
@@ -70,7 +70,7 @@ impl Allocs {
         roots: Items<ExecKey>,
     ) -> Result<(), NoMemory>
         requires accepted { IsTrue (may_follow self.old key.now (Replaces reference.now) roots) }
-        requires above { IsTrue (is_above_all number self.old) }
+        requires above { IsTrue (is_above_instructions number self.old) }
         ensures ok { OnOk result (self.new ≡ record { number = number; key = key.now; role = Replaces reference.now; roots = roots } ∷ self.old) }
         ensures err { OnErr result (self.new ≡ self.old) }
     {
@@ -87,7 +87,7 @@ impl Allocs {
         reference: &AllocKey,
     ) -> Result<(), NoMemory>
         requires accepted { IsTrue (may_follow self.old key.now (Cancels reference.now) []) }
-        requires above { IsTrue (is_above_all number self.old) }
+        requires above { IsTrue (is_above_instructions number self.old) }
         ensures ok { OnOk result (self.new ≡ record { number = number; key = key.now; role = Cancels reference.now; roots = [] } ∷ self.old) }
         ensures err { OnErr result (self.new ≡ self.old) }
     {
@@ -176,7 +176,7 @@ impl Allocs {
         roots: Items<ExecKey>,
     ) -> Result<(), NoMemory>
         requires accepted { IsTrue (may_follow self.old key.now role roots) }
-        requires above { IsTrue (is_above_all number self.old) }
+        requires above { IsTrue (is_above_instructions number self.old) }
         ensures ok { OnOk result (self.new ≡ record { number = number; key = key.now; role = role; roots = roots } ∷ self.old) }
         ensures err { OnErr result (self.new ≡ self.old) }
     {

@@ -1,7 +1,7 @@
 //! The links of executions: added, taken back, asked.
 ghost use Rattle.std.specs.Prelude.{◌≡◌, [], ◌∷◌, Some, None, IfSome, IsTrue, OnOk, OnErr};
 ghost use Rattle.blot_types.specs.declared.link.Role.TheVariants.{Begins, Corrects, Busts};
-ghost use Rattle.blot_types.specs.Chains.{root_in, current_in, bust_in, taker_in, chain_refusal, link_refusal, is_below};
+ghost use Rattle.blot_types.specs.Chains.{root_in, current_in, bust_in, taker_in, chain_refusal, link_refusal, is_above_links};
 ghost use Rattle.blot_types.specs.Laws.{IsOneTrade};
 ghost use Rattle.blot_chain.specs.Rooted.{chain_root};
 ghost use Rattle.blot_chain.specs.Steps.{IsNewest, Adds};
@@ -44,7 +44,7 @@ impl Chains {
     /// theirs. An error leaves the chains as they were. FIX 4.4 volume 4, ExecType(150).
     pub fn add(&mut self, number: u64, key: &ExecKey) -> Result<(), NoMemory>
         requires accepted { link_refusal self.old key.now Begins ≡ None }
-        requires above { IsTrue (is_below number self.old) }
+        requires above { IsTrue (is_above_links number self.old) }
         ensures ok { OnOk result (self.new ≡ record { number = number; key = key.now; role = Begins } ∷ self.old) }
         ensures err { OnErr result (self.new ≡ self.old) }
     {
@@ -61,7 +61,7 @@ impl Chains {
         reference: &ExecKey,
     ) -> Result<(), NoMemory>
         requires accepted { link_refusal self.old key.now (Corrects reference.now) ≡ None }
-        requires above { IsTrue (is_below number self.old) }
+        requires above { IsTrue (is_above_links number self.old) }
         ensures ok { OnOk result (self.new ≡ record { number = number; key = key.now; role = Corrects reference.now } ∷ self.old) }
         ensures err { OnErr result (self.new ≡ self.old) }
     {
@@ -74,7 +74,7 @@ impl Chains {
     /// were. FIX 4.4 volume 4, ExecRefID(19).
     pub fn bust(&mut self, number: u64, key: &ExecKey, reference: &ExecKey) -> Result<(), NoMemory>
         requires accepted { link_refusal self.old key.now (Busts reference.now) ≡ None }
-        requires above { IsTrue (is_below number self.old) }
+        requires above { IsTrue (is_above_links number self.old) }
         ensures ok { OnOk result (self.new ≡ record { number = number; key = key.now; role = Busts reference.now } ∷ self.old) }
         ensures err { OnErr result (self.new ≡ self.old) }
     {
@@ -158,7 +158,7 @@ impl Chains {
         root: ExecKey,
     ) -> Result<(), NoMemory>
         requires accepted { link_refusal self.old key.now role ≡ None }
-        requires above { IsTrue (is_below number self.old) }
+        requires above { IsTrue (is_above_links number self.old) }
         requires rooted { chain_root self.old key.now role ≡ Some root }
         ensures ok { OnOk result (self.new ≡ record { number = number; key = key.now; role = role } ∷ self.old) }
         ensures err { OnErr result (self.new ≡ self.old) }

@@ -17,17 +17,17 @@ use Rattle.blot_types.specs.declared.lines.Version.{Version}
 use Rattle.blot_types.specs.declared.link.Link.{Link}
 use Rattle.blot_types.specs.declared.TheConstants.{EVENTS_MAX}
 use Rattle.blot_types.specs.Allocations.{instruction_by, instructions_in, instructions_of}
-use Rattle.blot_types.specs.Chains.{root_in, is_below}
-use Rattle.blot_types.specs.Instructions.{holds_in, holder_in, named_in, is_above_all}
+use Rattle.blot_types.specs.Chains.{root_in, is_above_links}
+use Rattle.blot_types.specs.Instructions.{holds_in, holder_in, named_in, is_above_instructions}
 use Rattle.blot_types.specs.Keys.{is_among}
-use Rattle.blot_types.specs.Legal.{is_above, numbers_rise, is_legal, is_book, refusal_of}
+use Rattle.blot_types.specs.Legal.{is_above_entries, numbers_rise, is_legal, is_book, refusal_of}
 use Rattle.blot_types.specs.Position.{is_named}
 use Rattle.blot_types.specs.Survivors.{link_by, link_of, links_in, links_of, version_of, versions_of}
 use Rattle.blot_types.proofs.AcceptLemmas.{accepted-instruction, instructions_of-push}
 use Rattle.blot_types.proofs.ChainLemmas.{none_is}
 use Rattle.blot_types.proofs.ChangeLemmas.{named-held}
 use Rattle.blot_types.proofs.LegalLemmas.{is_legal-push, numbers_rise-push, is_book-front}
-use Rattle.blot_types.proofs.EntryLemmas.{link-number, version-number, refusal-link, links_of-push, is_below-links}
+use Rattle.blot_types.proofs.EntryLemmas.{link-number, version-number, refusal-link, links_of-push, is_above_links-links}
 use Rattle.blot_command.specs.Linking.{CanLinkNext, CanInstructNext, CanLink, IsLinkedLast, without_link, without_instruction}
 use Rattle.blot_command.specs.Shown.{version_numbered, HoldsList}
 
@@ -75,20 +75,20 @@ pub record IsNextEntry (list : List Entry) (entry : Entry) : Type 0 where
   pub book : is_book list ≡ true
   pub rise : numbers_rise list ≡ true
   pub legal : is_legal list ≡ true
-  pub above : is_above entry.number (reverse list) ≡ true
+  pub above : is_above_entries entry.number (reverse list) ≡ true
   pub accepted : refusal_of list entry.command ≡ None
   pub within : entry.number ≤ EVENTS_MAX
 
 pub next-entry : (list : List Entry) (entry : Entry) → is_book (list ++ entry ∷ []) ≡ true → IsNextEntry list entry
 next-entry list entry book =
     let whole = book in
-    let parts : (numbers_rise (list ++ entry ∷ []) ≡ true) × (is_above (EVENTS_MAX + 1) (reverse (list ++ entry ∷ [])) ≡ true) × (is_legal (list ++ entry ∷ []) ≡ true) = grind (arith, whole) in
-    let rise : (is_above entry.number (reverse list) && numbers_rise list) ≡ true = sym (numbers_rise-push list entry) ∙ parts.0 in
+    let parts : (numbers_rise (list ++ entry ∷ []) ≡ true) × (is_above_entries (EVENTS_MAX + 1) (reverse (list ++ entry ∷ [])) ≡ true) × (is_legal (list ++ entry ∷ []) ≡ true) = grind (arith, whole) in
+    let rise : (is_above_entries entry.number (reverse list) && numbers_rise list) ≡ true = sym (numbers_rise-push list entry) ∙ parts.0 in
     let legal : (is_none (refusal_of list entry.command) && is_legal list) ≡ true = sym (is_legal-push list entry) ∙ parts.2 in
-    let limited : is_above (EVENTS_MAX + 1) (entry ∷ reverse list) ≡ true = sym (ap (is_above (EVENTS_MAX + 1)) (reverse-append list (entry ∷ []))) ∙ parts.1 in
-    let rises : (is_above entry.number (reverse list) ≡ true) × (numbers_rise list ≡ true) = and_parts _ _ rise in
+    let limited : is_above_entries (EVENTS_MAX + 1) (entry ∷ reverse list) ≡ true = sym (ap (is_above_entries (EVENTS_MAX + 1)) (reverse-append list (entry ∷ []))) ∙ parts.1 in
+    let rises : (is_above_entries entry.number (reverse list) ≡ true) × (numbers_rise list ≡ true) = and_parts _ _ rise in
     let legals : (is_none (refusal_of list entry.command) ≡ true) × (is_legal list ≡ true) = and_parts _ _ legal in
-    let limits : (nat_lt entry.number (EVENTS_MAX + 1) ≡ true) × (is_above (EVENTS_MAX + 1) (reverse list) ≡ true) = and_parts _ _ limited in
+    let limits : (nat_lt entry.number (EVENTS_MAX + 1) ≡ true) × (is_above_entries (EVENTS_MAX + 1) (reverse list) ≡ true) = and_parts _ _ limited in
     record {
       whole = book;
       book = is_book-front list entry book;
@@ -121,16 +121,16 @@ instruction-number links entry i is = numbered_instruction links entry.number en
 
 above_instruction :
     (number : ℕ) (links : List Link) (entry : Entry) (found : Option Instruction) (instructions : List Instruction)
-    → instruction_by links entry.number entry.command ≡ found → nat_lt entry.number number ≡ true → is_above_all number instructions ≡ true
-    → is_above_all number (cons_option found instructions) ≡ true
+    → instruction_by links entry.number entry.command ≡ found → nat_lt entry.number number ≡ true → is_above_instructions number instructions ≡ true
+    → is_above_instructions number (cons_option found instructions) ≡ true
 above_instruction number links entry None instructions is less above = above
 above_instruction number links entry (Some i) instructions is less above = and_from _ _ (ap (λ n. nat_lt n number) (instruction-number links entry i is) ∙ less) above
 
 -- the numbers of entries, seen in their instructions
-pub above-instructions : (number : ℕ) (entries : List Entry) → is_above number entries ≡ true → is_above_all number (instructions_in entries) ≡ true
+pub above-instructions : (number : ℕ) (entries : List Entry) → is_above_entries number entries ≡ true → is_above_instructions number (instructions_in entries) ≡ true
 above-instructions number [] above = refl
 above-instructions number (entry ∷ earlier) above =
-    let parts : (nat_lt entry.number number ≡ true) × (is_above number earlier ≡ true) = and_parts _ _ above in
+    let parts : (nat_lt entry.number number ≡ true) × (is_above_entries number earlier ≡ true) = and_parts _ _ above in
     above_instruction number (links_in earlier) entry (instruction_by (links_in earlier) entry.number entry.command) (instructions_in earlier) refl parts.0
     (above-instructions number earlier parts.1)
 
@@ -138,7 +138,7 @@ next_link : (list : List Entry) (entry : Entry) (found : Option Link) → IsNext
 next_link list entry None next is = tt
 next_link list entry (Some link) next is = record {
   accepted = sym (refusal-link (reverse list) entry link is) ∙ next.accepted;
-  above = ap (λ n. is_below n (links_of list)) (link-number entry link is) ∙ is_below-links entry.number (reverse list) next.above;
+  above = ap (λ n. is_above_links n (links_of list)) (link-number entry link is) ∙ is_above_links-links entry.number (reverse list) next.above;
 }
 
 next_instruction :
@@ -147,7 +147,7 @@ next_instruction :
 next_instruction list entry None next is = tt
 next_instruction list entry (Some i) next is = record {
   accepted = accepted-instruction (reverse list) entry i next.accepted is;
-  above = ap (λ n. is_above_all n (instructions_of list)) (instruction-number (links_of list) entry i is) ∙ above-instructions entry.number (reverse list) next.above;
+  above = ap (λ n. is_above_instructions n (instructions_of list)) (instruction-number (links_of list) entry i is) ∙ above-instructions entry.number (reverse list) next.above;
 }
 
 -- the chains and the allocations accept the next entry of a book

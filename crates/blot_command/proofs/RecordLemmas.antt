@@ -11,7 +11,7 @@ use Rattle.blot_types.specs.declared.command.Entry.{Entry}
 use Rattle.blot_types.specs.declared.lines.Version.{Version}
 use Rattle.blot_types.specs.declared.link.Link.{Link}
 use Rattle.blot_types.specs.Chains.{replaced_by}
-use Rattle.blot_types.specs.Legal.{is_above, rises_in, numbers_rise}
+use Rattle.blot_types.specs.Legal.{is_above_entries, rises_in, numbers_rise}
 use Rattle.blot_types.specs.Survivors.{link_of, links_in, links_of, version_of, versions_of, is_number, stands_in, survivors}
 use Rattle.blot_types.proofs.ChainLemmas.{clash}
 use Rattle.blot_types.proofs.EntryLemmas.{version-number}
@@ -343,7 +343,7 @@ rise-push from n links (version ∷ later) brought rise known less numbered =
 versions-rise : (entries : List Entry) → rises_in entries ≡ true → rise_from 0 (versions_of (reverse entries)) ≡ true
 versions-rise [] rise = refl
 versions-rise (entry ∷ earlier) rise =
-    let parts : (is_above entry.number earlier ≡ true) × (rises_in earlier ≡ true) = and_parts _ _ rise in
+    let parts : (is_above_entries entry.number earlier ≡ true) × (rises_in earlier ≡ true) = and_parts _ _ rise in
     let own = brings entry (version_of entry) refl in
     subst (λ versions. rise_from 0 versions ≡ true) (sym (versions-cons entry earlier))
     (rise-push 0 entry.number (links_in earlier) (versions_of (reverse earlier)) (version_of entry) (versions-rise earlier parts.1) (all_known entry.number earlier parts.0) (omega arith) own.numbered)

@@ -9,7 +9,7 @@ use Rattle.blot_types.specs.declared.command.Command.{Command}
 use Rattle.blot_types.specs.declared.command.Entry.{Entry}
 use Rattle.blot_command.specs.Book.{Shown, has_number, numbers_of, before, command_at, meaning_by}
 use Rattle.blot_command.specs.Law.{lawful_by}
-use Rattle.blot_command.specs.Undoable.{Meaning, IsAbove, numbers_in, Adds, TakesOut, Undoes}
+use Rattle.blot_command.specs.Undoable.{Meaning, IsAboveNumbers, numbers_in, Adds, TakesOut, Undoes}
 
 -- ---- the last entry
 
@@ -93,7 +93,7 @@ takes_out embed project old new inverse is list command number undoes =
 
 -- after a step every number is below the one that comes next
 pub below_next :
-    {S L C I R : Type 0} (m : Meaning S L C I R) (number : ℕ) (inverse : I) (old new : S) → IsAbove m number old → Adds m number inverse old new → IsAbove m (number + 1) new
+    {S L C I R : Type 0} (m : Meaning S L C I R) (number : ℕ) (inverse : I) (old new : S) → IsAboveNumbers m number old → Adds m number inverse old new → IsAboveNumbers m (number + 1) new
 below_next m number inverse old new above step =
     All-weaker (Contains (numbers_in m new)) (λ earlier. earlier < number + 1)
     (λ k within. elim (step.brings k within) [

@@ -7,19 +7,19 @@ use Rattle.blot_types.specs.declared.command.Command.TheVariants.{Trade, Correct
 use Rattle.blot_types.specs.declared.command.Entry.{Entry}
 use Rattle.blot_types.specs.declared.link.Link.{Link}
 use Rattle.blot_types.specs.Allocations.{instruction_by}
-use Rattle.blot_types.specs.Chains.{link_refusal, is_below}
-use Rattle.blot_types.specs.Instructions.{may_follow, is_above_all}
+use Rattle.blot_types.specs.Chains.{link_refusal, is_above_links}
+use Rattle.blot_types.specs.Instructions.{may_follow, is_above_instructions}
 use Rattle.blot_types.specs.Survivors.{link_of}
 
 -- a link may come next: it is accepted, and its number is above the others
 pub record CanLinkNext (links : List Link) (link : Link) : Type 0 where
   pub accepted : link_refusal links link.key link.role ≡ None
-  pub above : is_below link.number links ≡ true
+  pub above : is_above_links link.number links ≡ true
 
 -- an instruction may come next: it may follow the others, and its number is above them
 pub record CanInstructNext (instructions : List Instruction) (instruction : Instruction) : Type 0 where
   pub accepted : may_follow instructions instruction.key instruction.role instruction.roots ≡ true
-  pub above : is_above_all instruction.number instructions ≡ true
+  pub above : is_above_instructions instruction.number instructions ≡ true
 
 -- an entry may come next, as the link or the instruction that it is
 pub record CanLink (entry : Entry) (links : List Link) (instructions : List Instruction) : Type 0 where

@@ -37,8 +37,8 @@ abbrev pub numbers_in : {S L C I R : Type 0} → Meaning S L C I R → S → Lis
 numbers_in m state = m.spare state ++ m.numbers (m.list_of state)
 
 -- a number is above all numbers in a state
-abbrev pub IsAbove : {S L C I R : Type 0} → Meaning S L C I R → ℕ → S → Type 0
-IsAbove m number state = AllBelow number (numbers_in m state)
+abbrev pub IsAboveNumbers : {S L C I R : Type 0} → Meaning S L C I R → ℕ → S → Type 0
+IsAboveNumbers m number state = AllBelow number (numbers_in m state)
 
 -- a command may be taken next under a number: the list accepts it, and the number is above its numbers
 pub record IsNext {S L C I R : Type 0} (m : Meaning S L C I R) (list : L) (command : C) (number : ℕ) : Type 0 where

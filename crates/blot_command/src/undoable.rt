@@ -1,6 +1,6 @@
 //! What a command of any kind promises.
 ghost use Rattle.std.specs.Prelude.{◌≡◌, ◌≤◌, Some, IfOk, IfErr};
-ghost use Rattle.blot_command.specs.Undoable.{Meaning, IsLawful, IsAbove, IsStep, IsRefusal, Adds, Undoes, TakesOut};
+ghost use Rattle.blot_command.specs.Undoable.{Meaning, IsLawful, IsAboveNumbers, IsStep, IsRefusal, Adds, Undoes, TakesOut};
 ghost use Rattle.blot_types.specs.declared.TheConstants.{EVENTS_MAX};
 
 use blot_types::EVENTS_MAX;
@@ -30,7 +30,7 @@ pub trait Undoable: Sized + Drop {
         state: &mut Self::State,
         number: u64,
     ) -> Result<Self::Inverse, (Self, Self::Refusal)>
-        requires above { IsAbove meaning number state.old }
+        requires above { IsAboveNumbers meaning number state.old }
         requires within { number ≤ EVENTS_MAX }
         ensures accepted { IfOk result (λ inverse. IsStep meaning (meaning.list_of state.old) self number inverse (meaning.list_of state.new)) }
         ensures kept { IfOk result (λ inverse. Adds meaning number inverse state.old state.new) }

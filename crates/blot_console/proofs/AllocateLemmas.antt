@@ -1,24 +1,24 @@
 -- How the lists of an allocation come to be made.
 use Rattle.std.proofs.Common.{◌≡◌, ℕ, ℤ, ◌+◌, ◌*◌, ◌^◌, ◌<◌, ◌≤◌, List, [], ◌∷◌, length, Result, Ok, Err, refl, sym, ap, subst, ◌∙◌, suc, arith}
 use Rattle.std.specs.Prelude.{IfOk, IsOkAnd}
+use Rattle.blot_time.specs.Results.{◌>>=◌}
 use Rattle.blot_types.specs.declared.TheConstants.{ITEMS_MAX}
 use Rattle.blot_types.specs.declared.allocation.Line.{Line}
 use Rattle.blot_types.specs.declared.keys.ExecKey.{ExecKey}
+use Rattle.blot_types.specs.Making.{Made, Grows, Holds, Makes, IsShort}
 use Rattle.blot_console.specs.declared.allocate.Block.{Block}
 use Rattle.blot_console.specs.declared.fault.Wrong.{Wrong}
-use Rattle.blot_console.specs.declared.making.Making.{Making}
 use Rattle.blot_console.specs.Allocate.{execs_of, line_of, lines_of, block_of}
+use Rattle.blot_console.specs.Block.{kept_sum, MakesBlock}
 use Rattle.blot_console.specs.Forms.{text_form}
-use Rattle.blot_console.specs.Making.{Grows, Holds, Makes, IsShort, kept_sum, MakesBlock}
-use Rattle.blot_console.specs.Results.{◌>>=◌}
 use Rattle.blot_console.specs.Rows.{at}
-use Rattle.blot_console.proofs.MakingLemmas.{with_first, IsFront, front_begins, front_grows, front_faults, front_ends}
+use Rattle.blot_types.proofs.MakingLemmas.{with_first, IsFront, front_begins, front_grows, front_faults, front_ends, made_short, makes_short}
 
 -- ---- executions
 
 -- the executions so far are a front of these
-abbrev pub ExecsFront : Making ExecKey → List ℕ → ℕ → List (List ℕ) → Result (List ExecKey) Wrong → Type 0
-ExecsFront making peer place words meant = IsFront making (execs_of peer place words) meant
+abbrev pub ExecsFront : Made ExecKey → List ℕ → ℕ → List (List ℕ) → Result (List ExecKey) Wrong → Type 0
+ExecsFront made peer place words meant = IsFront made (execs_of peer place words) meant
 
 abbrev exec : List ℕ → List ℕ → ExecKey
 exec peer id = record { peer = peer; id = id }
@@ -37,24 +37,24 @@ execs_of-fault : (peer : List ℕ) (place : ℕ) (word : List ℕ) (wrong : Wron
 unfolding execs_of
 execs_of-fault peer place word wrong words read = rw read refl
 
-pub execs_grow : (old new : Making ExecKey) (peer : List ℕ) (place : ℕ) (all later : List (List ℕ)) (word id : List ℕ) (meant : Result (List ExecKey) Wrong)
+pub execs_grow : (old new : Made ExecKey) (peer : List ℕ) (place : ℕ) (all later : List (List ℕ)) (word id : List ℕ) (meant : Result (List ExecKey) Wrong)
     → all ≡ word ∷ later → at place (text_form word) ≡ Ok id → Grows (exec peer id) old new → ExecsFront old peer place all meant → ExecsFront new peer (place + 1) later meant
 execs_grow old new peer place all later word id meant is read grows front =
     let P : Result (List ExecKey) Wrong → Type 0 = λ rest. IsFront old rest meant in
     front_grows (exec peer id) old new (execs_of peer (place + 1) later) meant grows (subst P (ap (execs_of peer place) is ∙ execs_of-next peer place word id later read) front)
 
-pub execs_fail : (making : Making ExecKey) (peer : List ℕ) (place : ℕ) (all later : List (List ℕ)) (word : List ℕ) (wrong : Wrong) (meant : Result (List ExecKey) Wrong)
-    → all ≡ word ∷ later → at place (text_form word) ≡ Err wrong → ExecsFront making peer place all meant → meant ≡ Err wrong
-execs_fail making peer place all later word wrong meant is read front =
-    let P : Result (List ExecKey) Wrong → Type 0 = λ rest. IsFront making rest meant in
-    front_faults making wrong meant (subst P (ap (execs_of peer place) is ∙ execs_of-fault peer place word wrong later read) front)
+pub execs_fail : (made : Made ExecKey) (peer : List ℕ) (place : ℕ) (all later : List (List ℕ)) (word : List ℕ) (wrong : Wrong) (meant : Result (List ExecKey) Wrong)
+    → all ≡ word ∷ later → at place (text_form word) ≡ Err wrong → ExecsFront made peer place all meant → meant ≡ Err wrong
+execs_fail made peer place all later word wrong meant is read front =
+    let P : Result (List ExecKey) Wrong → Type 0 = λ rest. IsFront made rest meant in
+    front_faults made wrong meant (subst P (ap (execs_of peer place) is ∙ execs_of-fault peer place word wrong later read) front)
 
-pub execs_end : (making : Making ExecKey) (peer : List ℕ) (place : ℕ) (all : List (List ℕ)) (meant : Result (List ExecKey) Wrong)
-    → all ≡ [] → ExecsFront making peer place all meant → Makes (Ok making) meant
+pub execs_end : (made : Made ExecKey) (peer : List ℕ) (place : ℕ) (all : List (List ℕ)) (meant : Result (List ExecKey) Wrong)
+    → all ≡ [] → ExecsFront made peer place all meant → Makes (Ok made) meant
 unfolding execs_of
-execs_end making peer place all meant is front =
-    let P : Result (List ExecKey) Wrong → Type 0 = λ rest. IsFront making rest meant in
-    front_ends making meant (subst P (ap (execs_of peer place) is) front)
+execs_end made peer place all meant is front =
+    let P : Result (List ExecKey) Wrong → Type 0 = λ rest. IsFront made rest meant in
+    front_ends made meant (subst P (ap (execs_of peer place) is) front)
 
 -- ---- lines
 
@@ -91,12 +91,12 @@ summed before (Ok lines) = Ok (kept_sum (before + block_of lines))
 summed before (Err wrong) = Err wrong
 
 -- the lines so far are a front of these, and so is their sum
-pub record LinesFront (making : Making Line) (sum : ℕ) (rest meant : Result (List Line) Wrong) : Type 0 where
-  pub lines : IsFront making rest meant
+pub record LinesFront (made : Made Line) (sum : ℕ) (rest meant : Result (List Line) Wrong) : Type 0 where
+  pub lines : IsFront made rest meant
   pub sums : summed sum rest ≡ summed 0 meant
 
-pub lines_begin : (making : Making Line) (meant : Result (List Line) Wrong) → making.items.items ≡ [] → LinesFront making 0 meant meant
-lines_begin making meant none = record { lines = front_begins making meant none; sums = refl }
+pub lines_begin : (made : Made Line) (meant : Result (List Line) Wrong) → made.items ≡ [] → LinesFront made 0 meant meant
+lines_begin made meant none = record { lines = front_begins made meant none; sums = refl }
 
 kept-more : (before qty later : ℕ) → kept_sum (before + (qty + later)) ≡ kept_sum (kept_sum (before + qty) + later)
 kept-more before qty later = omega arith
@@ -105,14 +105,14 @@ summed-next : (sum : ℕ) (line : Line) (rest : Result (List Line) Wrong) → su
 summed-next sum line (Ok lines) = ap (λ total. Ok total) (kept-more sum line.qty (block_of lines))
 summed-next sum line (Err wrong) = refl
 
-grown : (old new : Making Line) (sum : ℕ) (line : Line) (rest meant : Result (List Line) Wrong)
+grown : (old new : Made Line) (sum : ℕ) (line : Line) (rest meant : Result (List Line) Wrong)
     → Grows line old new → LinesFront old sum (with_first line rest) meant → LinesFront new (kept_sum (sum + line.qty)) rest meant
 grown old new sum line rest meant grows front = record {
   lines = front_grows line old new rest meant grows front.lines;
   sums = sym (summed-next sum line rest) ∙ front.sums;
 }
 
-pub lines_grow : (old new : Making Line) (sum kept : ℕ) (price : ℤ) (place : ℕ) (all later : List (List ℕ)) (first second : List ℕ) (line : Line) (meant : Result (List Line) Wrong)
+pub lines_grow : (old new : Made Line) (sum kept : ℕ) (price : ℤ) (place : ℕ) (all later : List (List ℕ)) (first second : List ℕ) (line : Line) (meant : Result (List Line) Wrong)
     → all ≡ first ∷ second ∷ later → line_of price place first second ≡ Ok line → Grows line old new → kept ≡ kept_sum (sum + line.qty)
     → LinesFront old sum (lines_of price place all) meant → LinesFront new kept (lines_of price (place + 2) later) meant
 lines_grow old new sum kept price place all later first second line meant is read grows keeps front =
@@ -121,33 +121,33 @@ lines_grow old new sum kept price place all later first second line meant is rea
     let step = ap (lines_of price place) is ∙ lines_of-next price place first second line later read in
     subst Q (sym keeps) (grown old new sum line (lines_of price (place + 2) later) meant grows (subst P step front))
 
-pub lines_fail : (making : Making Line) (sum : ℕ) (price : ℤ) (place : ℕ) (all later : List (List ℕ)) (first second : List ℕ) (wrong : Wrong) (meant : Result (List Line) Wrong)
+pub lines_fail : (made : Made Line) (sum : ℕ) (price : ℤ) (place : ℕ) (all later : List (List ℕ)) (first second : List ℕ) (wrong : Wrong) (meant : Result (List Line) Wrong)
     → all ≡ first ∷ second ∷ later → line_of price place first second ≡ Err wrong
-    → LinesFront making sum (lines_of price place all) meant → meant ≡ Err wrong
-lines_fail making sum price place all later first second wrong meant is read front =
-    let P : Result (List Line) Wrong → Type 0 = λ rest. IsFront making rest meant in
+    → LinesFront made sum (lines_of price place all) meant → meant ≡ Err wrong
+lines_fail made sum price place all later first second wrong meant is read front =
+    let P : Result (List Line) Wrong → Type 0 = λ rest. IsFront made rest meant in
     let step = ap (lines_of price place) is ∙ lines_of-fault price place first second wrong later read in
-    front_faults making wrong meant (subst P step front.lines)
+    front_faults made wrong meant (subst P step front.lines)
 
 -- where no line is to come, the block is made
-ended : (making : Making Line) (sum : ℕ) (meant : Result (List Line) Wrong) → sum < 2 ^ 64 → Makes (Ok making) meant → Ok (kept_sum (sum + 0)) ≡ summed 0 meant
-    → MakesBlock (Ok (record { lines = making; sum = sum })) meant
-ended making sum (Ok lines) small makes sums =
+ended : (made : Made Line) (sum : ℕ) (meant : Result (List Line) Wrong) → sum < 2 ^ 64 → Makes (Ok made) meant → Ok (kept_sum (sum + 0)) ≡ summed 0 meant
+    → MakesBlock (Ok (record { lines = made; sum = sum })) meant
+ended made sum (Ok lines) small makes sums =
     let same : kept_sum (sum + 0) ≡ kept_sum (0 + block_of lines) = cc in
     (makes, omega (arith, same))
-ended making sum (Err wrong) small makes sums = absurd makes
+ended made sum (Err wrong) small makes sums = absurd makes
 
-pub lines_end : (making : Making Line) (sum : ℕ) (rest meant : Result (List Line) Wrong)
-    → sum < 2 ^ 64 → rest ≡ Ok [] → LinesFront making sum rest meant → MakesBlock (Ok (record { lines = making; sum = sum })) meant
-lines_end making sum rest meant small none front =
-    let P : Result (List Line) Wrong → Type 0 = λ rest. LinesFront making sum rest meant in
+pub lines_end : (made : Made Line) (sum : ℕ) (rest meant : Result (List Line) Wrong)
+    → sum < 2 ^ 64 → rest ≡ Ok [] → LinesFront made sum rest meant → MakesBlock (Ok (record { lines = made; sum = sum })) meant
+lines_end made sum rest meant small none front =
+    let P : Result (List Line) Wrong → Type 0 = λ rest. LinesFront made sum rest meant in
     let last = subst P none front in
-    ended making sum meant small (front_ends making meant last.lines) last.sums
+    ended made sum meant small (front_ends made meant last.lines) last.sums
 
-pub lines_end_few : (making : Making Line) (sum : ℕ) (price : ℤ) (place : ℕ) (all : List (List ℕ)) (meant : Result (List Line) Wrong)
-    → sum < 2 ^ 64 → length all < 2 → LinesFront making sum (lines_of price place all) meant → MakesBlock (Ok (record { lines = making; sum = sum })) meant
-lines_end_few making sum price place all meant small few front =
-    lines_end making sum (lines_of price place all) meant small (lines_of-few price place all few) front
+pub lines_end_few : (made : Made Line) (sum : ℕ) (price : ℤ) (place : ℕ) (all : List (List ℕ)) (meant : Result (List Line) Wrong)
+    → sum < 2 ^ 64 → length all < 2 → LinesFront made sum (lines_of price place all) meant → MakesBlock (Ok (record { lines = made; sum = sum })) meant
+lines_end_few made sum price place all meant small few front =
+    lines_end made sum (lines_of price place all) meant small (lines_of-few price place all few) front
 
 -- ---- how long they are
 
@@ -179,19 +179,10 @@ lines_of-length price place (first ∷ second ∷ words) lines is =
     let same = ap length (sym (given_same (line.0 ∷ others.0) lines others.2)) in
     omega (arith, same, lines_of-length price (place + 2) words others.0 others.1)
 
--- what was made of a list that is no longer than a list may be isn't either
-short : {T : Type 0} (making : Making T) (meant : Result (List T) Wrong)
-    → ((items : List T) → meant ≡ Ok items → length items ≤ ITEMS_MAX) → IsOkAnd meant (Holds making) → IsShort making
-short {T = T} making (Ok items) few makes = λ complete.
-    let P : List T → Type 0 = λ made. length made ≤ ITEMS_MAX in
-    subst P (sym (makes complete)) (few items refl)
-short making (Err wrong) few makes = absurd makes
-
-pub execs_short : (result : Result (Making ExecKey) Wrong) (peer : List ℕ) (place : ℕ) (words : List (List ℕ)) → length words ≤ ITEMS_MAX
+pub execs_short : (result : Result (Made ExecKey) Wrong) (peer : List ℕ) (place : ℕ) (words : List (List ℕ)) → length words ≤ ITEMS_MAX
     → Makes result (execs_of peer place words) → IfOk result IsShort
-execs_short (Ok making) peer place words few makes =
-    short making (execs_of peer place words) (λ execs is. let same = execs_of-length peer place words execs is in omega (arith, same)) makes
-execs_short (Err wrong) peer place words few makes = tt
+execs_short result peer place words few makes =
+    makes_short result (execs_of peer place words) (λ execs is. let same = execs_of-length peer place words execs is in omega (arith, same)) makes
 
 held : (block : Block) (meant : Result (List Line) Wrong) → MakesBlock (Ok block) meant → IsOkAnd meant (Holds block.lines)
 held block (Ok lines) makes = makes.0
@@ -200,5 +191,5 @@ held block (Err wrong) makes = absurd makes
 pub lines_short : (result : Result Block Wrong) (price : ℤ) (place : ℕ) (words : List (List ℕ)) → length words ≤ 2 * ITEMS_MAX
     → MakesBlock result (lines_of price place words) → IfOk result (λ block. IsShort block.lines)
 lines_short (Ok block) price place words few makes =
-    short block.lines (lines_of price place words) (λ lines is. let same = lines_of-length price place words lines is in omega (arith, same)) (held block (lines_of price place words) makes)
+    made_short block.lines (lines_of price place words) (λ lines is. let same = lines_of-length price place words lines is in omega (arith, same)) (held block (lines_of price place words) makes)
 lines_short (Err wrong) price place words few makes = tt

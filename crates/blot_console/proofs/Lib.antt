@@ -1,7 +1,6 @@
 -- What the proofs of the functions share.
 pub mod WordLemmas
 pub mod FormLemmas
-pub mod MakingLemmas
 pub mod AllocateLemmas
 pub mod TableLemmas
 mod LineRows

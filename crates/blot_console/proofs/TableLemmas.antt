@@ -3,6 +3,7 @@ use Rattle.std.proofs.Common.{◌≡◌, ℕ, ℤ, pos, ◌+◌, ◌-◌, Bool, 
 use Rattle.std.specs.Prelude.{if◌then◌else◌, ◌==◌, nat_lt, nat_le, codes}
 use Rattle.std.specs.Option.{option_or}
 use Rattle.blot_decimal.specs.Meaning.{qty_units}
+use Rattle.blot_time.specs.Results.{◌>>=◌}
 use Rattle.blot_types.specs.declared.allocation.Line.{Line}
 use Rattle.blot_types.specs.declared.keys.ExecKey.{ExecKey}
 use Rattle.blot_types.specs.Keys.{same_text}
@@ -19,7 +20,6 @@ use Rattle.blot_console.specs.Allocate.{are_pairs, counted_by, execs_counted, ex
 use Rattle.blot_console.specs.Forms.{number_form, count_form, text_form, sign_form, day_form, price_form, qty_form}
 use Rattle.blot_console.specs.Lines.{undo_line, redo_line, order_line, position_line, report_line}
 use Rattle.blot_console.specs.Parsing.{kind_of, line_by, words_line, ask_of, told, parsed}
-use Rattle.blot_console.specs.Results.{◌>>=◌}
 use Rattle.blot_console.specs.Rows.{counted, at, value_at}
 use Rattle.blot_console.specs.Tables.{Row, unless_read, needs, exec_rows, pair_rows, pairs_sum, block_row, rows_behind, allocate_rows, rows_of, IsFirstBad, IsBadAt}
 use Rattle.blot_console.specs.Words.{words_of, word_at}

@@ -1,6 +1,7 @@
 -- What `allocate peer allocid symbol sign day price n`, n ExecIDs and pairs `account qty` ask. Source: this project's rule.
 use Rattle.std.specs.Prelude.{ℕ, ℤ, pos, ◌+◌, ◌-◌, ◌*◌, ◌%◌, ◌==◌, ◌&&◌, nat_lt, nat_le, Bool, List, [], ◌∷◌, length, take, drop, Option, Some, None, Result, Ok, Err, if◌then◌else◌}
 use Rattle.blot_decimal.specs.Meaning.{qty_units}
+use Rattle.blot_time.specs.Results.{◌>>=◌}
 use Rattle.blot_desk.specs.declared.event.Event.TheVariants.{Submit}
 use Rattle.blot_types.specs.declared.TheConstants.{ITEMS_MAX}
 use Rattle.blot_types.specs.declared.allocation.Line.{Line}
@@ -12,7 +13,6 @@ use Rattle.blot_console.specs.declared.allocate.TheConstants.{EXECS_PLACE}
 use Rattle.blot_console.specs.declared.fault.Wrong.{Wrong}
 use Rattle.blot_console.specs.declared.fault.Wrong.TheVariants.{WrongCount}
 use Rattle.blot_console.specs.Forms.{count_form, text_form, sign_form, day_form, price_form, qty_form}
-use Rattle.blot_console.specs.Results.{◌>>=◌}
 use Rattle.blot_console.specs.Rows.{at, value_at}
 use Rattle.blot_console.specs.Words.{word_at}
 

@@ -1,13 +1,12 @@
 pub mod Allocate
 pub mod Answers
 pub mod Asks
+pub mod Block
 pub mod Faults
 pub mod FaultText
 pub mod Forms
 pub mod Lines
-pub mod Making
 pub mod Parsing
-pub mod Results
 pub mod Rows
 pub mod Tables
 pub mod Words

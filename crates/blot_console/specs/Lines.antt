@@ -1,12 +1,12 @@
 -- What each line asks, one line a word, in the order of its places; the count of words comes before each of them.
 -- Source: this project's rule.
 use Rattle.std.specs.Prelude.{ℕ, List, Result, Ok}
+use Rattle.blot_time.specs.Results.{◌>>=◌}
 use Rattle.blot_desk.specs.declared.event.Event.TheVariants.{Undo, Redo, AskOrder, AskPosition}
 use Rattle.blot_console.specs.declared.ask.Ask.{Ask}
 use Rattle.blot_console.specs.declared.ask.Ask.TheVariants.{Step, Report}
 use Rattle.blot_console.specs.declared.fault.Wrong.{Wrong}
 use Rattle.blot_console.specs.Forms.{number_form, text_form, day_form}
-use Rattle.blot_console.specs.Results.{◌>>=◌}
 use Rattle.blot_console.specs.Rows.{counted, value_at}
 
 -- `undo N`

@@ -1,6 +1,7 @@
 -- What a line asks, or its first fault: it is too long; its first word is unknown; its words are too few or too many; the
 -- word at the least place that is bad. Source: this project's rule.
 use Rattle.std.specs.Prelude.{ℕ, Bool, true, false, nat_le, List, codes, length, Result, Ok, Err, if◌then◌else◌}
+use Rattle.blot_time.specs.Results.{◌>>=◌}
 use Rattle.blot_types.specs.Keys.{same_text}
 use Rattle.blot_console.specs.declared.ask.Ask.{Ask}
 use Rattle.blot_console.specs.declared.fault.LineFault.{LineFault}
@@ -13,7 +14,6 @@ use Rattle.blot_console.specs.declared.parsing.TheConstants.{LINE_MAX}
 use Rattle.blot_console.specs.Allocate.{allocate_line}
 use Rattle.blot_console.specs.Faults.{fault_of}
 use Rattle.blot_console.specs.Lines.{undo_line, redo_line, order_line, position_line, report_line}
-use Rattle.blot_console.specs.Results.{◌>>=◌}
 use Rattle.blot_console.specs.Words.{words_of, word_at}
 
 -- the kind of line that a first word names

@@ -1,21 +1,23 @@
 //! What `allocate` asks.
 ghost use Rattle.std.specs.Prelude.{◌≡◌, ◌+◌, ◌*◌, ◌≤◌, drop, length, IfOk, IfSome, pos};
 ghost use Rattle.blot_decimal.specs.Meaning.{qty_units};
+ghost use Rattle.blot_types.specs.Making.{Makes, IsShort};
 ghost use Rattle.blot_types.specs.declared.TheConstants.{ITEMS_MAX};
 ghost use Rattle.blot_console.specs.Allocate.{are_pairs, execs_counted, execs_of, line_of, lines_of, allocate_line};
 ghost use Rattle.blot_console.specs.Asks.{Gives};
-ghost use Rattle.blot_console.specs.Making.{Makes, MakesBlock, IsShort};
+ghost use Rattle.blot_console.specs.Block.{MakesBlock};
 
 use crate::Ask;
 use crate::fault::{Refusal, Wrong};
 use crate::forms::{Form, count_form};
-use crate::making::Making;
 use crate::rows::{at, value_at};
 use crate::words::Words;
 use blot_decimal::{Price, Qty};
 use blot_desk::Event;
 use blot_time::Day;
-use blot_types::{AllocKey, AllocNew, Command, ExecKey, ITEMS_MAX, Line, Sign, Terms, Text64};
+use blot_types::{
+    AllocKey, AllocNew, Command, ExecKey, ITEMS_MAX, Line, Making, Sign, Terms, Text64,
+};
 use std::alloc::Global;
 
 // Where the ExecIDs begin: behind peer, AllocID, symbol, sign, day, price and n.

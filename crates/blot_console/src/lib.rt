@@ -11,7 +11,6 @@ mod fault;
 mod forms;
 mod kinds;
 mod lines;
-mod making;
 mod parsing;
 mod rows;
 mod telling;

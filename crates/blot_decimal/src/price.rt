@@ -14,7 +14,8 @@ use std::fmt;
 use std::marker::Model;
 
 /// A price: a whole number of units of 10^-8 with its sign, below 10^16 in size. A contract sees
-/// it as the number of its units.
+/// it as the number of its units. Its text is the shortest exact decimal: no point for a whole number,
+/// at least one digit before a point, and no zero at the end behind it.
 #[derive(Clone, Copy, Debug, PartialEq, Eq, PartialOrd, Ord, Hash)]
 pub struct Price(i64);
 
@@ -81,8 +82,6 @@ impl Price {
 impl fmt::Display for Price {
     ghost output = { λ price. Some (printed PLACES price) };
 
-    /// The shortest exact decimal: no point for a whole number, at least one digit before a point,
-    /// and no zero at the end behind it.
     fn fmt<W: fmt::Write>(&self, f: &mut fmt::Formatter<W>) -> fmt::Result
         ensures writes { DisplaysOnOk W.write_str_gives f.old result
             (Some (printed PLACES self.now)) f.new }

@@ -16,7 +16,8 @@ use std::fmt;
 use std::marker::Model;
 
 /// A quantity: a whole number of units of 10^-6, from 0 to 10^16 - 1. A contract sees it as the
-/// number of its units.
+/// number of its units. Its text is the shortest exact decimal: no point for a whole number,
+/// at least one digit before a point, and no zero at the end behind it.
 #[derive(Clone, Copy, Debug, PartialEq, Eq, PartialOrd, Ord, Hash)]
 pub struct Qty(u64);
 
@@ -100,8 +101,6 @@ impl Qty {
 impl fmt::Display for Qty {
     ghost output = { λ qty. Some (printed PLACES (pos qty)) };
 
-    /// The shortest exact decimal: no point for a whole number, at least one digit before a point,
-    /// and no zero at the end behind it.
     fn fmt<W: fmt::Write>(&self, f: &mut fmt::Formatter<W>) -> fmt::Result
         ensures writes { DisplaysOnOk W.write_str_gives f.old result
             (Some (printed PLACES (pos self.now))) f.new }

@@ -10,7 +10,8 @@ use std::fmt;
 use std::marker::Model;
 
 /// A sum of quantities, with a sign: a whole number of units of 10^-6. A contract sees it as the
-/// number of its units.
+/// number of its units. Its text is the shortest exact decimal: no point for a whole number,
+/// at least one digit before a point, and no zero at the end behind it.
 #[derive(Clone, Copy, Debug, PartialEq, Eq, PartialOrd, Ord, Hash)]
 pub struct QtySum(i128);
 
@@ -46,8 +47,6 @@ impl QtySum {
 impl fmt::Display for QtySum {
     ghost output = { λ sum. Some (printed PLACES sum) };
 
-    /// The shortest exact decimal: no point for a whole number, at least one digit before a point,
-    /// and no zero at the end behind it.
     fn fmt<W: fmt::Write>(&self, f: &mut fmt::Formatter<W>) -> fmt::Result
         ensures writes { DisplaysOnOk W.write_str_gives f.old result
             (Some (printed PLACES self.now)) f.new }

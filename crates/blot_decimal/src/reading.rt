@@ -47,14 +47,14 @@ fn split_point(size: &[u8]) -> (&[u8], &[u8])
 }
 
 // Whether every byte is a digit.
-fn all_digits(bytes: &[u8]) -> bool
+fn are_digits(bytes: &[u8]) -> bool
     ensures { result ≡ are_digits bytes.now }
 {
     bytes.iter().all(|byte| byte.is_ascii_digit())
 }
 
 // Whether every byte is a zero.
-fn all_zeros(bytes: &[u8]) -> bool
+fn are_zeros(bytes: &[u8]) -> bool
     ensures { result ≡ are_zeros bytes.now }
 {
     bytes.iter().all(|byte| *byte == b'0')
@@ -65,7 +65,7 @@ fn all_zeros(bytes: &[u8]) -> bool
 fn are_parts(whole: &[u8], fraction: &[u8]) -> bool
     ensures { result ≡ are_parts whole.now fraction.now }
 {
-    all_digits(whole) && all_digits(fraction) && whole.len() + fraction.len() > 0
+    are_digits(whole) && are_digits(fraction) && whole.len() + fraction.len() > 0
 }
 
 // The number with more digits behind it, or `SIZE_LIMIT` where it is that or more.
@@ -104,7 +104,7 @@ pub(crate) fn read_size(size: &[u8], places: usize) -> Result<u64, DecimalFault>
         return Err(DecimalFault::Format);
     }
     let (kept, past) = fraction.split_at(fraction.len().min(places));
-    if !all_zeros(past) {
+    if !are_zeros(past) {
         return Err(DecimalFault::TooFine);
     }
     let units = units_of(whole, kept, places);

@@ -10,7 +10,8 @@ use std::fmt;
 use std::marker::Model;
 
 /// A quantity times a price, or a sum of such: a whole number of units of 10^-14. A contract sees
-/// it as the number of its units.
+/// it as the number of its units. Its text is the shortest exact decimal: no point for a whole number,
+/// at least one digit before a point, and no zero at the end behind it.
 #[derive(Clone, Copy, Debug, PartialEq, Eq, PartialOrd, Ord, Hash)]
 pub struct Value(i128);
 
@@ -46,8 +47,6 @@ impl Value {
 impl fmt::Display for Value {
     ghost output = { λ value. Some (printed PLACES value) };
 
-    /// The shortest exact decimal: no point for a whole number, at least one digit before a point,
-    /// and no zero at the end behind it.
     fn fmt<W: fmt::Write>(&self, f: &mut fmt::Formatter<W>) -> fmt::Result
         ensures writes { DisplaysOnOk W.write_str_gives f.old result
             (Some (printed PLACES self.now)) f.new }

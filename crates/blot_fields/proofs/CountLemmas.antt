@@ -1,5 +1,5 @@
 -- The groups of an allocation are as long as their counts say, and so no longer than a list may be.
-use Rattle.std.proofs.Common.{◌≡◌, ℕ, ℤ, ◌≤◌, ◌+◌, Bool, true, false, List, [], ◌∷◌, length, filter, take, drop, Option, Result, Ok, Err, refl, sym, ap, subst, ◌∙◌, suc, arith, length-append}
+use Rattle.std.proofs.Common.{◌≡◌, ℕ, ℤ, ◌≤◌, ◌+◌, Bool, true, false, List, [], ◌∷◌, length, filter, take, drop, Option, Result, Ok, refl, sym, ap, ◌∙◌, suc, arith, length-append}
 use Rattle.std.specs.Prelude.{if◌then◌else◌, ◌&&◌, ◌==◌, not, IfOk}
 use Rattle.std.proofs.lemmas.Bool.{eqb-true}
 use Rattle.std.proofs.lemmas.List.{length-map, take-append-drop}
@@ -8,16 +8,15 @@ use Rattle.std.proofs.lemmas.List.Sums.{length-filter}
 use Rattle.std.specs.List.{list_any, position_or_len}
 use Rattle.blot_tag.specs.Fields.{TagValue}
 use Rattle.blot_tag.specs.Results.{◌>>=◌}
-use Rattle.blot_types.specs.declared.TheConstants.{ITEMS_MAX}
 use Rattle.blot_types.specs.declared.allocation.Line.{Line}
 use Rattle.blot_fields.specs.declared.allocation.TheConstants.{ENTRIES_MAX}
 use Rattle.blot_fields.specs.declared.fault.Wrong.{Wrong}
-use Rattle.blot_fields.specs.declared.making.Making.{Making}
 use Rattle.blot_fields.specs.Forms.{text_form}
 use Rattle.blot_fields.specs.Groups.{bears, before, behind, count_of, are_executions, are_lines, is_of_line, ids_of, line_of, lines_in, each_line_of}
-use Rattle.blot_fields.specs.Making.{Makes, IsShort}
+use Rattle.blot_types.specs.Making.{Made, Makes, IsShort}
 use Rattle.blot_fields.specs.Rows.{at, values}
 use Rattle.blot_fields.proofs.GroupLemmas.{bound}
+use Rattle.blot_types.proofs.MakingLemmas.{makes_short}
 
 abbrev given : {A : Type 0} → A → Result A Wrong
 given value = Ok value
@@ -68,36 +67,27 @@ count-drop tag place fields =
     let rest = length-filter (bears tag) (drop place fields) in
     omega (arith, whole, all, rest)
 
--- what was made of a list that is no longer than a list may be isn't either
-made_short : {T : Type 0} (result : Result (Making T) Wrong) (meant : Result (List T) Wrong)
-    → ((items : List T) → meant ≡ Ok items → length items ≤ ITEMS_MAX) → Makes result meant → IfOk result IsShort
-made_short {T = T} (Ok making) (Ok items) few makes = λ complete.
-    let P : List T → Type 0 = λ made. length made ≤ ITEMS_MAX in
-    subst P (sym (makes complete)) (few items refl)
-made_short (Ok making) (Err wrong) few makes = absurd makes
-made_short (Err wrong) meant few makes = tt
-
 and-left : (a b : Bool) → (a && b) ≡ true → a ≡ true
 and-left true b is = refl
 and-left false b is = absurd cc
 
 -- the executions are as many as their count says
-pub executions_short : (count : ℕ) (fields : List TagValue) (result : Result (Making (List ℕ)) Wrong)
+pub executions_short : (count : ℕ) (fields : List TagValue) (result : Result (Made (List ℕ)) Wrong)
     → count ≤ ENTRIES_MAX → are_executions count fields ≡ true → Makes result (ids_of (values 17 fields)) → IfOk result IsShort
 executions_short count fields result low are makes =
     let same = eqb-true (count_of 17 fields) count (and-left (count_of 17 fields == count) (count_of 17 (behind 124 fields) == count) are) in
-    made_short result (ids_of (values 17 fields)) (λ ids is.
+    makes_short result (ids_of (values 17 fields)) (λ ids is.
     let as_long = ids-length (values 17 fields) ids is ∙ values-length 17 fields ∙ same in
     omega (arith, as_long)) makes
 
 -- so are the lines
-pub lines_short : (count : ℕ) (average : Option ℤ) (fields : List TagValue) (result : Result (Making Line) Wrong)
+pub lines_short : (count : ℕ) (average : Option ℤ) (fields : List TagValue) (result : Result (Made Line) Wrong)
     → count ≤ ENTRIES_MAX → are_lines count fields ≡ true → Makes result (each_line_of average (lines_in (behind 78 fields))) → IfOk result IsShort
 lines_short count average fields result low are makes =
     let first = and-left (count_of 79 fields == count) (not (list_any is_of_line (before 78 fields)))
     (and-left ((count_of 79 fields == count) && not (list_any is_of_line (before 78 fields))) (not (list_any is_of_line (before 79 (behind 78 fields)))) are) in
     let same = eqb-true (count_of 79 fields) count first in
     let all_behind = count-drop 79 (position_or_len (bears 78) fields + 1) fields in
-    made_short result (each_line_of average (lines_in (behind 78 fields))) (λ lines is.
+    makes_short result (each_line_of average (lines_in (behind 78 fields))) (λ lines is.
     let as_long = lines-length average (lines_in (behind 78 fields)) lines is ∙ begun-length (behind 78 fields) ∙ length-filter (bears 79) (behind 78 fields) in
     omega (arith, as_long, all_behind)) makes

@@ -1,7 +1,6 @@
 -- What the proofs of the functions share.
 pub mod IndexLemmas
 pub mod WalkLemmas
-pub mod MakingLemmas
 pub mod AllocationLemmas
 pub mod LineLemmas
 pub mod TableLemmas

@@ -9,16 +9,15 @@ use Rattle.blot_tag.specs.Results.{◌>>=◌}
 use Rattle.blot_types.specs.declared.allocation.Line.{Line}
 use Rattle.blot_fields.specs.declared.fault.Flaw.{Flaw}
 use Rattle.blot_fields.specs.declared.fault.Wrong.{Wrong}
-use Rattle.blot_fields.specs.declared.making.Making.{Making}
 use Rattle.blot_fields.specs.Drafts.{Draft, line_from, with_field, begun, Pushes, NextLine}
 use Rattle.blot_fields.specs.Groups.{bears, before, lines_in, line_of, each_line_of}
 use Rattle.blot_fields.specs.Index.{together}
-use Rattle.blot_fields.specs.Making.{Makes}
+use Rattle.blot_types.specs.Making.{Made, Makes}
 use Rattle.blot_fields.specs.Slots.{with_value}
 use Rattle.blot_fields.specs.Rows.{values, one_of, needed, there, optional, only, needed_in, optional_in}
 use Rattle.blot_fields.specs.Forms.{text_form, qty_form, price_form}
 use Rattle.blot_fields.proofs.IndexLemmas.{values-has, values-not, together-nil, together-next}
-use Rattle.blot_fields.proofs.MakingLemmas.{with_first, IsFront, front_grows, front_faults, front_ends}
+use Rattle.blot_types.proofs.MakingLemmas.{with_first, IsFront, front_grows, front_faults, front_ends}
 
 -- a line's draft, together with its fields that are still to come
 abbrev pub known : Draft → List TagValue → Draft
@@ -152,19 +151,19 @@ resumed-nil average None = refl
 resumed-nil average (Some draft) = ap (λ whole. with_line (line_from average whole) (Ok [])) (known-nil draft)
 
 -- the lines so far, the open one and those to come are what is meant
-abbrev pub LinesFront : Option ℤ → Making Line → Option Draft → List TagValue → Result (List Line) Wrong → Type 0
+abbrev pub LinesFront : Option ℤ → Made Line → Option Draft → List TagValue → Result (List Line) Wrong → Type 0
 LinesFront average lines line fields meant = IsFront lines (resumed average line fields) meant
 
-pub pushed_front : (average : Option ℤ) (line : Option Draft) (old new : Making Line) (rest meant : Result (List Line) Wrong)
+pub pushed_front : (average : Option ℤ) (line : Option Draft) (old new : Made Line) (rest meant : Result (List Line) Wrong)
     → Pushes average line old (Ok tt) new → IsFront old (with_open average line rest) meant → IsFront new rest meant
 pushed_front average None old new rest meant pushes front =
-    let P : Making Line → Type 0 = λ lines. IsFront lines rest meant in
+    let P : Made Line → Type 0 = λ lines. IsFront lines rest meant in
     subst P (sym pushes.1) front
 pushed_front average (Some draft) old new rest meant pushes front =
     let P : Result Line Wrong → Type 0 = λ line. IsFront old (with_line line rest) meant in
     front_grows pushes.0 old new rest meant pushes.2 (subst P pushes.1 front)
 
-pub pushed_fault : (average : Option ℤ) (line : Option Draft) (old new : Making Line) (rest meant : Result (List Line) Wrong) (wrong : Wrong)
+pub pushed_fault : (average : Option ℤ) (line : Option Draft) (old new : Made Line) (rest meant : Result (List Line) Wrong) (wrong : Wrong)
     → Pushes average line old (Err wrong) new → IsFront old (with_open average line rest) meant → meant ≡ Err wrong
 pushed_fault average None old new rest meant wrong pushes front = absurd (let no = pushes.0 in cc)
 pushed_fault average (Some draft) old new rest meant wrong pushes front =
@@ -172,7 +171,7 @@ pushed_fault average (Some draft) old new rest meant wrong pushes front =
     front_faults old wrong meant (subst P pushes front)
 
 -- a field more, without a fault
-pub next_front : (average : Option ℤ) (line next : Option Draft) (field : TagValue) (all later : List TagValue) (old new : Making Line) (meant : Result (List Line) Wrong)
+pub next_front : (average : Option ℤ) (line next : Option Draft) (field : TagValue) (all later : List TagValue) (old new : Made Line) (meant : Result (List Line) Wrong)
     → all ≡ field ∷ later → NextLine average line field old (Ok next) new → LinesFront average old line all meant → LinesFront average new next later meant
 next_front average line next field all later old new meant is came front =
     let P : List TagValue → Type 0 = λ fields. LinesFront average old line fields meant in
@@ -189,11 +188,11 @@ next_front average line next field all later old new meant is came front =
     by_tag false is came front =
         let Q : Result (List Line) Wrong → Type 0 = λ rest. IsFront old rest meant in
         let R : Option Draft → Type 0 = λ begun. LinesFront average old begun later meant in
-        let S : Making Line → Type 0 = λ lines. LinesFront average lines next later meant in
+        let S : Made Line → Type 0 = λ lines. LinesFront average lines next later meant in
         subst S (sym came.1) (subst R (sym came.0) (subst Q (resumed-goes_on average line field later is) front))
 
 -- a field more, which ends a line at fault
-pub next_fault : (average : Option ℤ) (line : Option Draft) (field : TagValue) (all later : List TagValue) (old new : Making Line) (wrong : Wrong) (meant : Result (List Line) Wrong)
+pub next_fault : (average : Option ℤ) (line : Option Draft) (field : TagValue) (all later : List TagValue) (old new : Made Line) (wrong : Wrong) (meant : Result (List Line) Wrong)
     → all ≡ field ∷ later → NextLine average line field old (Err wrong) new → LinesFront average old line all meant → meant ≡ Err wrong
 next_fault average line field all later old new wrong meant is came front =
     let P : List TagValue → Type 0 = λ fields. LinesFront average old line fields meant in
@@ -202,14 +201,14 @@ next_fault average line field all later old new wrong meant is came front =
     (subst Q (resumed-begins average line field later (eq-eqb field.tag 79 came.0)) (subst P is front))
 
 -- no field more
-pub end_front : (average : Option ℤ) (line : Option Draft) (all : List TagValue) (old new : Making Line) (meant : Result (List Line) Wrong)
+pub end_front : (average : Option ℤ) (line : Option Draft) (all : List TagValue) (old new : Made Line) (meant : Result (List Line) Wrong)
     → all ≡ [] → Pushes average line old (Ok tt) new → LinesFront average old line all meant → Makes (Ok new) meant
 end_front average line all old new meant is pushes front =
     let P : List TagValue → Type 0 = λ fields. LinesFront average old line fields meant in
     let Q : Result (List Line) Wrong → Type 0 = λ rest. IsFront old rest meant in
     front_ends new meant (pushed_front average line old new (Ok []) meant pushes (subst Q (resumed-nil average line) (subst P is front)))
 
-pub end_fault : (average : Option ℤ) (line : Option Draft) (all : List TagValue) (old new : Making Line) (wrong : Wrong) (meant : Result (List Line) Wrong)
+pub end_fault : (average : Option ℤ) (line : Option Draft) (all : List TagValue) (old new : Made Line) (wrong : Wrong) (meant : Result (List Line) Wrong)
     → all ≡ [] → Pushes average line old (Err wrong) new → LinesFront average old line all meant → meant ≡ Err wrong
 end_fault average line all old new wrong meant is pushes front =
     let P : List TagValue → Type 0 = λ fields. LinesFront average old line fields meant in

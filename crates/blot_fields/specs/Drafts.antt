@@ -8,11 +8,10 @@ use Rattle.blot_fields.specs.declared.drafts.LineDraft.{LineDraft}
 use Rattle.blot_fields.specs.declared.fault.Flaw.{Flaw}
 use Rattle.blot_fields.specs.declared.fault.Flaw.TheVariants.{RequiredTagMissing}
 use Rattle.blot_fields.specs.declared.fault.Wrong.{Wrong}
-use Rattle.blot_fields.specs.declared.making.Making.{Making}
 use Rattle.blot_fields.specs.declared.slot.Slot.TheVariants.{Missing}
 use Rattle.blot_fields.specs.Forms.{text_form, qty_form, price_form}
 use Rattle.blot_fields.specs.Rows.{wrong, at, needed_in, optional_in}
-use Rattle.blot_fields.specs.Making.{Grows}
+use Rattle.blot_types.specs.Making.{Made, Grows}
 use Rattle.blot_fields.specs.Slots.{found_in, with_value}
 
 -- what is known of a line: its AllocAccount, and what is found of AllocQty and AllocPrice
@@ -47,7 +46,7 @@ abbrev pub begun : List ℕ → Draft
 begun account = record { account = account; qty = found_in Missing; price = found_in Missing }
 
 -- the open line, if there is one, was put behind the others, or is at fault
-abbrev pub Pushes : Option ℤ → Option Draft → Making Line → Result (Unit {0}) Wrong → Making Line → Type 0
+abbrev pub Pushes : Option ℤ → Option Draft → Made Line → Result (Unit {0}) Wrong → Made Line → Type 0
 Pushes average None old result new = (result ≡ Ok tt) × (new ≡ old)
 Pushes average (Some draft) old (Ok done) new =
     (line : Line) × (line_from average draft ≡ Ok line) × Grows line old new
@@ -59,7 +58,7 @@ next_draft (Ok line) = Ok (option_map draft_of line)
 next_draft (Err wrong) = Err wrong
 
 -- a field began a line and ended the one before, or went on with the open line
-abbrev pub NextLine : Option ℤ → Option Draft → TagValue → Making Line → Result (Option Draft) Wrong → Making Line → Type 0
+abbrev pub NextLine : Option ℤ → Option Draft → TagValue → Made Line → Result (Option Draft) Wrong → Made Line → Type 0
 NextLine average line field old (Ok next) new =
     MatchBool (field.tag == 79)
     (Pushes average line old (Ok tt) new × (next ≡ Some (begun field.value)))

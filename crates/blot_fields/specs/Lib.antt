@@ -2,7 +2,6 @@
 pub mod Rows
 pub mod Forms
 pub mod Kinds
-pub mod Making
 pub mod Groups
 pub mod Drafts
 pub mod Allocations

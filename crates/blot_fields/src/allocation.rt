@@ -2,11 +2,11 @@
 ghost use Rattle.std.specs.Prelude.{◌≡◌, IfOk};
 ghost use Rattle.std.specs.Option.{option_map};
 ghost use Rattle.blot_tag.specs.Views.{tag_value};
+ghost use Rattle.blot_types.specs.Making.{Makes, IsShort};
 ghost use Rattle.blot_fields.specs.Drafts.{draft_of, next_draft, Pushes, NextLine};
 ghost use Rattle.blot_fields.specs.Allocations.{allocation_of, terms_of};
 ghost use Rattle.blot_fields.specs.Faults.{Gives};
 ghost use Rattle.blot_fields.specs.Groups.{average_of, executions_of, lines_of, ids_of, each_line_of, lines_in};
-ghost use Rattle.blot_fields.specs.Making.{Makes, IsShort};
 ghost use Rattle.blot_fields.specs.Rows.{values};
 
 use crate::drafts::LineDraft;
@@ -15,13 +15,12 @@ use crate::forms::Form;
 use crate::groups::{are_executions, are_lines, behind, some_line_lacks_price};
 use crate::index::FieldIndex;
 use crate::kinds::AllocType;
-use crate::making::Making;
 use crate::rows::{at, needed, number, there};
 use crate::sound::SoundFields;
 use blot_decimal::{Price, Qty};
 use blot_tag::Field;
 use blot_time::Day;
-use blot_types::{ITEMS_MAX, Items, Line, Sign, Text64};
+use blot_types::{ITEMS_MAX, Items, Line, Making, Sign, Text64};
 use std::alloc::Global;
 
 // The most entries of a group: the most items of a list.

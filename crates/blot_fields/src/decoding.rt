@@ -14,7 +14,7 @@ use crate::head::head_of;
 use crate::index::{FieldIndex, no_slots, note_fields};
 use crate::kinds::{Kind, kind_of};
 use crate::report::report_of;
-use crate::{Admin, Body, FieldFault, Message};
+use crate::{Admin, Body, FieldFault, FieldReason, Message};
 use blot_tag::Frame;
 use std::alloc::Global;
 
@@ -52,6 +52,16 @@ pub fn decode(alloc: Global, frame: &Frame) -> Result<Message, FieldFault>
         Ok(body) => Ok(Message { head, body }),
         Err(Refusal::Wrong(wrong)) => Err(wrong.under(Some(head))),
         Err(Refusal::NoMemory) => Err(FieldFault::no_memory(head)),
+    }
+}
+
+/// Whether there was no memory for what a frame says.
+pub fn is_out_of_memory(said: &Result<Message, FieldFault>) -> bool
+    ensures { result ≡ is_out_of_memory said.now }
+{
+    match said {
+        Ok(_) => false,
+        Err(fault) => fault.reason == FieldReason::NoMemory,
     }
 }
 

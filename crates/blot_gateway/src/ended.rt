@@ -5,7 +5,7 @@ ghost use Rattle.blot_gateway.specs.Endings.{ended_by, ended_number};
 use blot_session::CloseReason;
 use std::alloc::AllocError;
 
-/// The most reads of one greeting, and of one session.
+/// The most reads of one input, as of one greeting or one session.
 pub const READS_MAX: u64 = 1 << 30;
 
 /// How a connection ends. This project's rule.

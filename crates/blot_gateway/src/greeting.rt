@@ -1,13 +1,11 @@
 //! The first message of a connection.
 ghost use Rattle.std.specs.Prelude.{◌≡◌, ◌<◌, ◌≤◌, [], length, IfErr, IfOk, OnErr, OnOk};
-ghost use Rattle.blot_fields.specs.Decoding.{is_out_of_memory};
 ghost use Rattle.blot_tag.specs.Walking.{frames_of, rest_of};
 ghost use Rattle.blot_gateway.specs.Greeting.{Feeds, FeedsLast, Greeted, PeeksBy, greeted_by};
 ghost use Rattle.blot_gateway.specs.Serving.{IsCounted};
 
-use crate::serving::empty_piece;
-use crate::{Ended, READS_MAX, Reading, Wire};
-use blot_fields::{Admin, Body, FieldFault, FieldReason, Message, decode};
+use crate::{Ended, READS_MAX, Reading, Wire, empty_piece};
+use blot_fields::{Admin, Body, FieldFault, Message, decode, is_out_of_memory};
 use blot_session::CloseReason;
 use blot_tag::Reader;
 use blot_types::Text64;
@@ -80,16 +78,6 @@ fn pass_over(reader: &mut Reader) -> Result<(), NoMemory>
 {
     reader.next()?;
     Ok(())
-}
-
-// Whether there was no memory for a message.
-fn is_out_of_memory(said: &Result<Message, FieldFault>) -> bool
-    ensures { result ≡ is_out_of_memory said.now }
-{
-    match said {
-        Ok(_) => false,
-        Err(fault) => fault.reason == FieldReason::NoMemory,
-    }
 }
 
 // Who speaks, by what the first message says.

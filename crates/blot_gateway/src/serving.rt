@@ -1,5 +1,5 @@
 //! A session, served over a wire.
-ghost use Rattle.std.specs.Prelude.{◌≡◌, ◌≢◌, ◌<◌, ◌≤◌, List, [], ◌∷◌, ◌++◌, length, map, Err, IfErr, IfOk, IsOk, OnOk, vec_len};
+ghost use Rattle.std.specs.Prelude.{◌≡◌, ◌≢◌, ◌<◌, ◌≤◌, List, [], ◌∷◌, ◌++◌, length, map, Err, IfErr, IfOk, IsOk, OnOk};
 ghost use Rattle.blot_tag.specs.Walking.{frames_of, rest_of};
 ghost use Rattle.blot_session.specs.States.{IsIdle};
 ghost use Rattle.blot_gateway.specs.declared.ended.Stop.{Stop};
@@ -10,13 +10,10 @@ ghost use Rattle.blot_gateway.specs.Serving.Due.{Came};
 
 use crate::driving::{pass_moment, take_frame};
 use crate::ended::Stop;
-use crate::{Clock, Ended, READS_MAX, Reading, Sink, Wire};
+use crate::{Clock, Ended, READS_MAX, Reading, Sink, Wire, empty_piece};
 use blot_session::Session;
 use blot_tag::Reader;
-use std::alloc::{AllocError as NoMemory, Global};
-
-// The bytes of one read.
-const PIECE: usize = 65_536;
+use std::alloc::Global;
 
 /// Serves a session over a wire, until one of them ends. The frames of the reader, and then of what the wire gives, come to the session in
 /// their order, and a moment passes behind each read. What the session sends is written; what it delivers goes to the sink,
@@ -219,11 +216,4 @@ fn take_frames<W: Wire, C: Clock, S: Sink>(
         }
     }
     Ok(())
-}
-
-/// Room for one read.
-pub(crate) fn empty_piece(alloc: Global) -> Result<Vec<u8>, NoMemory>
-    ensures { IfOk result (λ buffer. vec_len buffer ≡ PIECE) }
-{
-    vec![in alloc; 0; PIECE]
 }

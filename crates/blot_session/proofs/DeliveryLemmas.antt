@@ -15,7 +15,7 @@ use Rattle.blot_session.specs.declared.row.End.{End}
 use Rattle.blot_session.specs.declared.row.End.TheVariants.{Stays, Delivers, Closes}
 use Rattle.blot_session.specs.declared.row.Row.{Row}
 use Rattle.blot_session.specs.declared.state.State.{State}
-use Rattle.blot_session.specs.Calls.{Outcome, Awaits, DeliversLast, DeliversAlone, behind, sent, ending, carried_out, is_deliver, is_spent, spent, outcome_of, behind_all, command_said, on_frame, on_tick, row_of_reply, on_reply}
+use Rattle.blot_session.specs.Calls.{Outcome, Awaits, DeliversLast, DeliversAlone, behind, sent, ending, carried_out, is_deliver, is_spent, outcome_of, behind_all, command_said, on_frame, on_tick, row_of_reply, on_reply}
 use Rattle.blot_session.specs.Outbound.{text_of}
 use Rattle.blot_session.specs.Rows.{frame_row, tick_row}
 use Rattle.blot_session.specs.States.{awaited_of, IsIdle, IsAwaiting}

@@ -14,6 +14,7 @@ mod reports;
 mod row;
 mod session;
 mod state;
+mod tags;
 mod taking;
 mod ticks;
 mod writing;

@@ -3,7 +3,7 @@
 ghost use Rattle.std.specs.Prelude.{◌≡◌, IfOk, OnErr};
 ghost use Rattle.blot_tag.specs.Fields.{fields_of};
 ghost use Rattle.blot_tag.specs.Views.{text_of};
-ghost use Rattle.blot_fields.specs.Decoding.{decoded, is_out_of_memory};
+ghost use Rattle.blot_fields.specs.Decoding.{decoded};
 ghost use Rattle.blot_fields.specs.Numbers.{IsNumbered};
 ghost use Rattle.blot_session.specs.Calls.{command_said, ending, on_frame, on_reply, row_of_reply};
 ghost use Rattle.blot_session.specs.States.{closed, IsIdle, IsAwaiting, IsState};
@@ -15,7 +15,7 @@ use crate::reports::{count, hand_on, is_report_in_turn, is_report_taken};
 use crate::row::{End, Row};
 use crate::state::{Link, Live, State};
 use crate::{Action, NotTaken, SeenReply};
-use blot_fields::{FieldFault, FieldReason, Message, command_of, decode};
+use blot_fields::{FieldFault, Message, command_of, decode, is_out_of_memory};
 use blot_tag::Frame;
 use blot_time::Moment;
 use blot_types::Command;
@@ -121,16 +121,6 @@ fn take_message(
     let row = frame_row(state, said, now);
     let command = command_delivered(alloc, &row, said, &state)?;
     take_row(alloc, state, row, command, now)
-}
-
-// Whether there was no memory for a message.
-fn is_out_of_memory(said: &Result<Message, FieldFault>) -> bool
-    ensures { result ≡ is_out_of_memory said.now }
-{
-    match said {
-        Ok(_) => false,
-        Err(fault) => fault.reason == FieldReason::NoMemory,
-    }
 }
 
 // The command of a message, where it is delivered.

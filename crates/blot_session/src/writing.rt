@@ -7,14 +7,23 @@ ghost use Rattle.blot_time.specs.Moment.{moment_text};
 ghost use Rattle.blot_types.specs.Text.{is_text};
 ghost use Rattle.blot_session.specs.Outbound.{ack_fields, body_fields, field, gap_fill_fields, header_fields, kind_of, logon_fields, reject_code, reject_fields, resend_fields, text_of, unsupported_fields, with_fields, is_plain_tag};
 
-use crate::SeenReply;
 use crate::outbound::Outbound;
 use crate::state::State;
+use crate::{SeenReply, tags};
 use blot_tag::{FrameText, WriteFault};
 use blot_time::Moment;
 use blot_types::Text64;
 use itoa::Buffer;
 use std::alloc::{AllocError as NoMemory, Global};
+
+// The most bytes of a field that a session sends, with its tag, `=` and SOH.
+const FIELD_MAX: usize = 80;
+
+// The most bytes of a message up to the end of its header.
+const HEADER_MAX: usize = 2_000;
+
+// The most bytes of a message's fields before its last.
+const BODY_MAX: usize = 4_000;
 
 /// The frame of a message that is sent next.
 #[tactic(auto, unfolding(crate::specs::Outbound::text_of))]
@@ -37,7 +46,7 @@ pub(crate) fn text_of(
 fn begin(alloc: Global, kind: &[u8]) -> Result<FrameText, NoMemory>
     requires { is_text kind.now ≡ true }
     ensures text { IfOk result (λ text. text ≡ begun kind.now) }
-    ensures size { IfOk result (λ text. length (body_of text) ≤ 80) }
+    ensures size { IfOk result (λ text. length (body_of text) ≤ FIELD_MAX) }
 {
     match FrameText::new(alloc, kind) {
         Ok(text) => Ok(text),
@@ -52,19 +61,19 @@ fn put_header(
     message: &Outbound,
     now: Moment,
 ) -> Result<(), NoMemory>
-    requires { length (body_of text.old) ≤ 1000 }
+    requires { length (body_of text.old) ≤ FIELD_MAX }
     ensures fields { OnOk result (text.new ≡ with_fields text.old (header_fields state.now message.now now)) }
     ensures size { OnOk result (length (body_of text.new) ≤ 2000) }
 {
-    put_text(text, 49, &state.own)?;
-    put_text(text, 56, &state.peer)?;
-    put_number(text, 34, message.number(state.next))?;
+    put_text(text, tags::SENDER_COMP_ID, &state.own)?;
+    put_text(text, tags::TARGET_COMP_ID, &state.peer)?;
+    put_number(text, tags::MSG_SEQ_NUM, message.number(state.next))?;
     if message.is_gap_fill() {
-        put(text, 43, b"Y")?;
-        put_moment(text, 52, now)?;
-        return put_moment(text, 122, now);
+        put(text, tags::POSS_DUP_FLAG, b"Y")?;
+        put_moment(text, tags::SENDING_TIME, now)?;
+        return put_moment(text, tags::ORIG_SENDING_TIME, now);
     }
-    put_moment(text, 52, now)
+    put_moment(text, tags::SENDING_TIME, now)
 }
 
 // Puts what stands behind the header.
@@ -74,14 +83,14 @@ fn put_body(
     next: u64,
     now: Moment,
 ) -> Result<(), NoMemory>
-    requires { length (body_of text.old) ≤ 2000 }
+    requires { length (body_of text.old) ≤ HEADER_MAX }
     ensures { OnOk result (text.new ≡ with_fields text.old (body_fields message.now next now)) }
 {
     match message {
         Outbound::Logon { heartbeat, reset } => put_logon(text, *heartbeat, *reset),
-        Outbound::Heartbeat { id: Some(id) } => put_text(text, 112, id),
+        Outbound::Heartbeat { id: Some(id) } => put_text(text, tags::TEST_REQ_ID, id),
         Outbound::Heartbeat { id: None } => Ok(()),
-        Outbound::TestRequest => put_number(text, 112, next),
+        Outbound::TestRequest => put_number(text, tags::TEST_REQ_ID, next),
         Outbound::ResendRequest { begin } => put_resend_request(text, *begin),
         Outbound::Reject {
             number,
@@ -97,55 +106,55 @@ fn put_body(
 
 // Puts the fields of a Logon.
 fn put_logon(text: &mut FrameText, heartbeat: u32, reset: bool) -> Result<(), NoMemory>
-    requires { length (body_of text.old) ≤ 2000 }
+    requires { length (body_of text.old) ≤ HEADER_MAX }
     ensures { OnOk result (text.new ≡ with_fields text.old (logon_fields heartbeat reset)) }
 {
-    put(text, 98, b"0")?;
-    put_number(text, 108, u64::from(heartbeat))?;
+    put(text, tags::ENCRYPT_METHOD, b"0")?;
+    put_number(text, tags::HEART_BT_INT, u64::from(heartbeat))?;
     if reset {
-        return put(text, 141, b"Y");
+        return put(text, tags::RESET_SEQ_NUM_FLAG, b"Y");
     }
     Ok(())
 }
 
 // Puts the fields of a Resend Request.
 fn put_resend_request(text: &mut FrameText, begin: u64) -> Result<(), NoMemory>
-    requires { length (body_of text.old) ≤ 2000 }
+    requires { length (body_of text.old) ≤ HEADER_MAX }
     ensures { OnOk result (text.new ≡ with_fields text.old (resend_fields begin)) }
 {
-    put_number(text, 7, begin)?;
-    put(text, 16, b"0")
+    put_number(text, tags::BEGIN_SEQ_NO, begin)?;
+    put(text, tags::END_SEQ_NO, b"0")
 }
 
 // Puts the fields of a Reject.
 fn put_reject(text: &mut FrameText, number: u64, tag: u32, reason: u8) -> Result<(), NoMemory>
-    requires { length (body_of text.old) ≤ 2000 }
+    requires { length (body_of text.old) ≤ HEADER_MAX }
     ensures { OnOk result (text.new ≡ with_fields text.old (reject_fields number tag reason)) }
 {
-    put_number(text, 45, number)?;
+    put_number(text, tags::REF_SEQ_NUM, number)?;
     if tag != 0 {
-        put_number(text, 371, u64::from(tag))?;
+        put_number(text, tags::REF_TAG_ID, u64::from(tag))?;
     }
-    put_number(text, 373, u64::from(reason))
+    put_number(text, tags::SESSION_REJECT_REASON, u64::from(reason))
 }
 
 // Puts the fields of a gap fill up to the next number to send.
 fn put_gap_fill(text: &mut FrameText, next: u64) -> Result<(), NoMemory>
-    requires { length (body_of text.old) ≤ 2000 }
+    requires { length (body_of text.old) ≤ HEADER_MAX }
     ensures { OnOk result (text.new ≡ with_fields text.old (gap_fill_fields next)) }
 {
-    put(text, 123, b"Y")?;
-    put_number(text, 36, next)
+    put(text, tags::GAP_FILL_FLAG, b"Y")?;
+    put_number(text, tags::NEW_SEQ_NO, next)
 }
 
 // Puts the fields of a Business Message Reject for a type that isn't supported.
 fn put_unsupported(text: &mut FrameText, number: u64, kind: &Text64) -> Result<(), NoMemory>
-    requires { length (body_of text.old) ≤ 2000 }
+    requires { length (body_of text.old) ≤ HEADER_MAX }
     ensures { OnOk result (text.new ≡ with_fields text.old (unsupported_fields number kind.now)) }
 {
-    put_number(text, 45, number)?;
-    put_text(text, 372, kind)?;
-    put(text, 380, b"3")
+    put_number(text, tags::REF_SEQ_NUM, number)?;
+    put_text(text, tags::REF_MSG_TYPE, kind)?;
+    put(text, tags::BUSINESS_REJECT_REASON, b"3")
 }
 
 // Puts the fields of an Allocation Instruction Ack.
@@ -155,16 +164,16 @@ fn put_allocation_ack(
     reply: SeenReply,
     now: Moment,
 ) -> Result<(), NoMemory>
-    requires { length (body_of text.old) ≤ 2000 }
+    requires { length (body_of text.old) ≤ HEADER_MAX }
     ensures { OnOk result (text.new ≡ with_fields text.old (ack_fields id.now reply now)) }
 {
-    put_text(text, 70, id)?;
-    put_moment(text, 60, now)?;
+    put_text(text, tags::ALLOC_ID, id)?;
+    put_moment(text, tags::TRANSACT_TIME, now)?;
     match reply {
-        SeenReply::Accepted => put(text, 87, b"0"),
+        SeenReply::Accepted => put(text, tags::ALLOC_STATUS, b"0"),
         SeenReply::Refused(refusal) => {
-            put(text, 87, b"1")?;
-            put_number(text, 88, reject_code(refusal))
+            put(text, tags::ALLOC_STATUS, b"1")?;
+            put_number(text, tags::ALLOC_REJ_CODE, reject_code(refusal))
         }
     }
 }
@@ -183,9 +192,9 @@ fn reject_code(refusal: u8) -> u64
 // Puts a text.
 fn put_text(text: &mut FrameText, tag: u32, value: &Text64) -> Result<(), NoMemory>
     requires tag { is_plain_tag tag ≡ true }
-    requires room { length (body_of text.old) ≤ 4000 }
+    requires room { length (body_of text.old) ≤ BODY_MAX }
     ensures field { OnOk result (text.new ≡ with_field text.old (field tag value.now)) }
-    ensures size { OnOk result (length (body_of text.new) ≤ length (body_of text.old) + 80) }
+    ensures size { OnOk result (length (body_of text.new) ≤ length (body_of text.old) + FIELD_MAX) }
 {
     put(text, tag, value.bytes())
 }
@@ -194,9 +203,9 @@ fn put_text(text: &mut FrameText, tag: u32, value: &Text64) -> Result<(), NoMemo
 #[tactic(auto, using(crate::proofs::TextLemmas::decimal_is_text))]
 fn put_number(text: &mut FrameText, tag: u32, number: u64) -> Result<(), NoMemory>
     requires tag { is_plain_tag tag ≡ true }
-    requires room { length (body_of text.old) ≤ 4000 }
+    requires room { length (body_of text.old) ≤ BODY_MAX }
     ensures field { OnOk result (text.new ≡ with_field text.old (field tag (decimal number))) }
-    ensures size { OnOk result (length (body_of text.new) ≤ length (body_of text.old) + 80) }
+    ensures size { OnOk result (length (body_of text.new) ≤ length (body_of text.old) + FIELD_MAX) }
 {
     put(text, tag, Buffer::new().format(number).as_bytes())
 }
@@ -205,9 +214,9 @@ fn put_number(text: &mut FrameText, tag: u32, number: u64) -> Result<(), NoMemor
 #[tactic(auto, using(crate::proofs::TextLemmas::moment_is_text))]
 fn put_moment(text: &mut FrameText, tag: u32, moment: Moment) -> Result<(), NoMemory>
     requires tag { is_plain_tag tag ≡ true }
-    requires room { length (body_of text.old) ≤ 4000 }
+    requires room { length (body_of text.old) ≤ BODY_MAX }
     ensures field { OnOk result (text.new ≡ with_field text.old (field tag (moment_text moment))) }
-    ensures size { OnOk result (length (body_of text.new) ≤ length (body_of text.old) + 80) }
+    ensures size { OnOk result (length (body_of text.new) ≤ length (body_of text.old) + FIELD_MAX) }
 {
     put(text, tag, &moment.write())
 }
@@ -216,9 +225,9 @@ fn put_moment(text: &mut FrameText, tag: u32, moment: Moment) -> Result<(), NoMe
 fn put(text: &mut FrameText, tag: u32, value: &[u8]) -> Result<(), NoMemory>
     requires tag { is_plain_tag tag ≡ true }
     requires value { is_text value.now ≡ true }
-    requires room { length (body_of text.old) ≤ 4000 }
+    requires room { length (body_of text.old) ≤ BODY_MAX }
     ensures field { OnOk result (text.new ≡ with_field text.old (field tag value.now)) }
-    ensures size { OnOk result (length (body_of text.new) ≤ length (body_of text.old) + 80) }
+    ensures size { OnOk result (length (body_of text.new) ≤ length (body_of text.old) + FIELD_MAX) }
 {
     match text.put(tag, value) {
         Ok(()) => Ok(()),

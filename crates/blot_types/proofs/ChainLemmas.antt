@@ -10,7 +10,7 @@ use Rattle.blot_types.specs.declared.link.Role.TheVariants.{Begins, Corrects, Bu
 use Rattle.blot_types.specs.declared.refused.Refused.{Refused}
 use Rattle.blot_types.specs.declared.refused.Refused.TheVariants.{DuplicateExec, BustedExec}
 use Rattle.blot_types.specs.Keys.{same_exec}
-use Rattle.blot_types.specs.Chains.{takes_up, taker_in, own_root, root_in, is_root, busts, bust_in, current_in, chain_refusal, reference_refusal, link_refusal, is_below, falls}
+use Rattle.blot_types.specs.Chains.{takes_up, taker_in, own_root, root_in, is_root, busts, bust_in, current_in, chain_refusal, reference_refusal, link_refusal, is_above_links, falls}
 use Rattle.blot_types.specs.Survivors.{is_number}
 use Rattle.blot_types.proofs.KeyLemmas.{same_exec-true, same_exec-refl}
 
@@ -89,10 +89,10 @@ accepted_root links reference None none = cc
 accepted_root links reference (Some root) none = (root, record { root_is = refl; not_busted = not_busted (bust_in links root) none })
 
 -- no chain's last version has a number that is above those of the links
-pub current-below : (links : List Link) (number : ℕ) (root : ExecKey) → is_below number links ≡ true → is_number number (current_in links root) ≡ false
+pub current-below : (links : List Link) (number : ℕ) (root : ExecKey) → is_above_links number links ≡ true → is_number number (current_in links root) ≡ false
 current-below [] number root below = refl
 current-below (link ∷ earlier) number root below =
-    let parts : (nat_lt link.number number ≡ true) × (is_below number earlier ≡ true) = and_parts _ _ below in
+    let parts : (nat_lt link.number number ≡ true) × (is_above_links number earlier ≡ true) = and_parts _ _ below in
     let less : link.number < number = ltb-true _ _ parts.0 in
     elim (cases_Bool (is_root root (own_root (root_in earlier) link.key link.role))) [
       | inl own ↦ rw own (ne_eqb _ _ (λ same. absurd (omega (arith, same, less))))
@@ -113,7 +113,7 @@ pub current-apart :
     → is_number number (current_in links a) ≡ true → is_number number (current_in links b) ≡ false
 current-apart [] a b number fall apart of_a = refl
 current-apart (link ∷ earlier) a b number fall apart of_a =
-    let parts : (is_below link.number earlier ≡ true) × (falls earlier ≡ true) = and_parts _ _ fall in
+    let parts : (is_above_links link.number earlier ≡ true) × (falls earlier ≡ true) = and_parts _ _ fall in
     let own = own_root (root_in earlier) link.key link.role in
     elim (cases_Bool (is_root a own)) [
       | inl a_own ↦

@@ -19,7 +19,7 @@ use Rattle.blot_types.specs.Allocations.{Allocation, allocation_of, instruction_
 use Rattle.blot_types.specs.Chains.{takes_up, taker_in, root_in, replaced_by}
 use Rattle.blot_types.specs.Instructions.{ended_in, is_live_in, names, holds_in, named_in}
 use Rattle.blot_types.specs.Keys.{is_among, same_exec}
-use Rattle.blot_types.specs.Legal.{is_above, numbers_rise, is_legal, refusal_of}
+use Rattle.blot_types.specs.Legal.{is_above_entries, numbers_rise, is_legal, refusal_of}
 use Rattle.blot_types.specs.Order.{total}
 use Rattle.blot_types.specs.Position.{part_of_fill, moves_of, part_of, parts_of}
 use Rattle.blot_types.specs.Survivors.{link_by, link_of, links_in, links_of, versions_of, is_number, stands_in, survivors}
@@ -93,7 +93,7 @@ root-kept : (links : List Link) (link : Link) (key : ExecKey) → taker_in links
 root-kept links link key fresh taken = let other : takes_up key link ≡ false = taken_other links link.key key fresh taken in rw other refl
 
 -- the survivors of a list are known to its links
-survivors-known : (list : List Entry) (number : ℕ) → is_above number (reverse list) ≡ true → All (IsKnown number (links_of list)) (survivors list)
+survivors-known : (list : List Entry) (number : ℕ) → is_above_entries number (reverse list) ≡ true → All (IsKnown number (links_of list)) (survivors list)
 survivors-known list number above = All-filter (stands_in (links_of list)) (IsKnown number (links_of list)) (versions_of list) (versions-known number list above)
 
 -- the version whose number is this one, alone among those that survive
@@ -179,7 +179,7 @@ amount-kept f list entry link number version is fresh known =
 -- with one more link, the part of the version whose place it takes goes, and that of its own version comes
 pub total-link :
     (f : Part → ℤ) (list : List Entry) (entry : Entry) (link : Link) → link_of entry ≡ Some link → is_legal list ≡ true → numbers_rise list ≡ true
-    → is_above entry.number (reverse list) ≡ true → refusal_of list entry.command ≡ None
+    → is_above_entries entry.number (reverse list) ≡ true → refusal_of list entry.command ≡ None
     → (total f (parts_of (list ++ entry ∷ [])) +ℤ total (amount f list) (cons_option (replaced_version list entry) []))
     ≡ (total f (parts_of list) +ℤ total (amount f (list ++ entry ∷ [])) (versions_of (entry ∷ [])))
 total-link f list entry link is legal rise above accepted =
@@ -214,7 +214,7 @@ pub record LinkMoves (f : Part → ℤ) (list : List Entry) (entry : Entry) : Ty
 
 pub link-moves :
     (f : Part → ℤ) (list : List Entry) (entry : Entry) (link : Link) → link_of entry ≡ Some link → is_legal list ≡ true → numbers_rise list ≡ true
-    → is_above entry.number (reverse list) ≡ true → refusal_of list entry.command ≡ None → LinkMoves f list entry
+    → is_above_entries entry.number (reverse list) ≡ true → refusal_of list entry.command ≡ None → LinkMoves f list entry
 link-moves f list entry link is legal rise above accepted =
     let replaced = replaced_by (links_of list) (link_of entry) in
     let gone = without-replaced (amount f list) list replaced rise (λ n found. replaced-by_entry list entry n legal rise accepted found) in

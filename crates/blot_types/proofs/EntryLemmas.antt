@@ -13,8 +13,8 @@ use Rattle.blot_types.specs.declared.lines.Version.{Version}
 use Rattle.blot_types.specs.declared.link.Link.{Link}
 use Rattle.blot_types.specs.declared.link.Role.TheVariants.{Corrects}
 use Rattle.blot_types.specs.declared.refused.Refused.TheVariants.{DuplicateExec, UnknownExec, BustedExec}
-use Rattle.blot_types.specs.Chains.{taker_in, root_in, bust_in, chain_refusal, reference_refusal, link_refusal, is_chained, is_below, falls}
-use Rattle.blot_types.specs.Legal.{is_above, rises_in, refusal_in, legal_in}
+use Rattle.blot_types.specs.Chains.{taker_in, root_in, bust_in, chain_refusal, reference_refusal, link_refusal, is_chained, is_above_links, falls}
+use Rattle.blot_types.specs.Legal.{is_above_entries, rises_in, refusal_in, legal_in}
 use Rattle.blot_types.specs.Survivors.{link_by, link_of, links_in, links_of, version_by, version_of}
 use Rattle.blot_types.proofs.ChainLemmas.{none_is}
 use Rattle.blot_types.proofs.StandLemmas.{brings}
@@ -145,26 +145,26 @@ refusal-link entries entry link is = subst (RefusedAs entries entry.command) is 
 pub links_of-push : (list : List Entry) (entry : Entry) → links_of (list ++ entry ∷ []) ≡ cons_option (link_of entry) (links_of list)
 links_of-push list entry = ap links_in (reverse-append list (entry ∷ []))
 
-is_below-link : (number : ℕ) (entry : Entry) (found : Option Link) (links : List Link) → link_of entry ≡ found → nat_lt entry.number number ≡ true → is_below number links ≡ true → is_below number (cons_option found links) ≡ true
-is_below-link number entry None links is less below = below
-is_below-link number entry (Some link) links is less below = and_from _ _ (ap (λ n. nat_lt n number) (link-number entry link is) ∙ less) below
+is_above_links-link : (number : ℕ) (entry : Entry) (found : Option Link) (links : List Link) → link_of entry ≡ found → nat_lt entry.number number ≡ true → is_above_links number links ≡ true → is_above_links number (cons_option found links) ≡ true
+is_above_links-link number entry None links is less below = below
+is_above_links-link number entry (Some link) links is less below = and_from _ _ (ap (λ n. nat_lt n number) (link-number entry link is) ∙ less) below
 
 -- the numbers of entries, seen in their links
-pub is_below-links : (number : ℕ) (entries : List Entry) → is_above number entries ≡ true → is_below number (links_in entries) ≡ true
-is_below-links number [] above = refl
-is_below-links number (entry ∷ entries) above =
-    let parts : (nat_lt entry.number number ≡ true) × (is_above number entries ≡ true) = and_parts _ _ above in
-    is_below-link number entry (link_of entry) (links_in entries) refl parts.0 (is_below-links number entries parts.1)
+pub is_above_links-links : (number : ℕ) (entries : List Entry) → is_above_entries number entries ≡ true → is_above_links number (links_in entries) ≡ true
+is_above_links-links number [] above = refl
+is_above_links-links number (entry ∷ entries) above =
+    let parts : (nat_lt entry.number number ≡ true) × (is_above_entries number entries ≡ true) = and_parts _ _ above in
+    is_above_links-link number entry (link_of entry) (links_in entries) refl parts.0 (is_above_links-links number entries parts.1)
 
-falls-link : (entry : Entry) (found : Option Link) (links : List Link) → link_of entry ≡ found → is_below entry.number links ≡ true → falls links ≡ true → falls (cons_option found links) ≡ true
+falls-link : (entry : Entry) (found : Option Link) (links : List Link) → link_of entry ≡ found → is_above_links entry.number links ≡ true → falls links ≡ true → falls (cons_option found links) ≡ true
 falls-link entry None links is below fall = fall
-falls-link entry (Some link) links is below fall = and_from _ _ (ap (λ n. is_below n links) (link-number entry link is) ∙ below) fall
+falls-link entry (Some link) links is below fall = and_from _ _ (ap (λ n. is_above_links n links) (link-number entry link is) ∙ below) fall
 
 pub falls-links : (entries : List Entry) → rises_in entries ≡ true → falls (links_in entries) ≡ true
 falls-links [] rise = refl
 falls-links (entry ∷ entries) rise =
-    let parts : (is_above entry.number entries ≡ true) × (rises_in entries ≡ true) = and_parts _ _ rise in
-    falls-link entry (link_of entry) (links_in entries) refl (is_below-links entry.number entries parts.0) (falls-links entries parts.1)
+    let parts : (is_above_entries entry.number entries ≡ true) × (rises_in entries ≡ true) = and_parts _ _ rise in
+    falls-link entry (link_of entry) (links_in entries) refl (is_above_links-links entry.number entries parts.0) (falls-links entries parts.1)
 
 -- the links of legal entries are chained
 chained-link :

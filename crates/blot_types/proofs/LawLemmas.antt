@@ -18,7 +18,7 @@ use Rattle.blot_types.specs.declared.link.Role.TheVariants.{Begins, Corrects, Bu
 use Rattle.blot_types.specs.Keys.{same_exec}
 use Rattle.blot_types.specs.Chains.{takes_up, taker_in, own_root, root_in, is_root, busts, bust_in, current_in}
 use Rattle.blot_types.specs.Survivors.{link_of, links_in, links_of, root_of, version_of, versions_of, is_number, stands_under, stands_in}
-use Rattle.blot_types.specs.Legal.{is_above, rises_in, numbers_rise, is_legal, is_book, refusal_of}
+use Rattle.blot_types.specs.Legal.{is_above_entries, rises_in, numbers_rise, is_legal, is_book, refusal_of}
 use Rattle.blot_types.specs.Laws.{survivors_of_chain, survivors_beside, HasOneSurvivorEach, BustsLeaveOthers}
 use Rattle.blot_types.proofs.KeyLemmas.{same_exec-true, same_exec-refl, same_exec-sym}
 use Rattle.blot_types.proofs.ChainLemmas.{none_is, rootless, accepted_key, differing}
@@ -119,7 +119,7 @@ pub alone :
     → filter p (versions_of (reverse entries)) ≡ version ∷ []
 alone p n [] version rise only kept found = cc
 alone p n (entry ∷ earlier) version rise only kept found =
-    let rises : (is_above entry.number earlier ≡ true) × (rises_in earlier ≡ true) = and_parts _ _ rise in
+    let rises : (is_above_entries entry.number earlier ≡ true) × (rises_in earlier ≡ true) = and_parts _ _ rise in
     let links = links_in earlier in
     let older = versions_of (reverse earlier) in
     let new = versions_of (entry ∷ []) in

@@ -7,7 +7,7 @@ use Rattle.std.proofs.lemmas.List.Folds.{list_all-append}
 use Rattle.std.proofs.lemmas.List.{reverse-append, length-reverse, take-append-drop, take_more}
 use Rattle.std.proofs.lemmas.Bool.{cases_Bool, and_from, and_parts, lt-ltb, ltb-true}
 use Rattle.blot_types.specs.declared.command.Entry.{Entry}
-use Rattle.blot_types.specs.Legal.{is_above, rises_in, numbers_rise, legal_in, is_legal, is_numbered, is_book, refusal_of}
+use Rattle.blot_types.specs.Legal.{is_above_entries, rises_in, numbers_rise, legal_in, is_legal, is_numbered, is_book, refusal_of}
 use Rattle.blot_types.specs.declared.TheConstants.{EVENTS_MAX}
 
 -- a list with one more entry is legal where the entries before accept it and are legal
@@ -15,7 +15,7 @@ pub is_legal-push : (list : List Entry) (entry : Entry) → is_legal (list ++ en
 is_legal-push list entry = ap legal_in (reverse-append list (entry ∷ []))
 
 -- its numbers rise where the new number is above the others, and they rise
-pub numbers_rise-push : (list : List Entry) (entry : Entry) → numbers_rise (list ++ entry ∷ []) ≡ (is_above entry.number (reverse list) && numbers_rise list)
+pub numbers_rise-push : (list : List Entry) (entry : Entry) → numbers_rise (list ++ entry ∷ []) ≡ (is_above_entries entry.number (reverse list) && numbers_rise list)
 numbers_rise-push list entry = ap rises_in (reverse-append list (entry ∷ []))
 
 -- the older entries of a legal list are legal
@@ -48,21 +48,21 @@ is_legal-stops list index entry within is refused =
     ]
 
 -- entries whose numbers fall below a limit are fewer than it allows
-length_below : (limit : ℕ) (entries : List Entry) → is_above limit entries ≡ true → rises_in entries ≡ true → length entries ≤ limit
+length_below : (limit : ℕ) (entries : List Entry) → is_above_entries limit entries ≡ true → rises_in entries ≡ true → length entries ≤ limit
 length_below limit [] above rises = omega arith
 length_below limit (entry ∷ earlier) above rises =
-    let tests : (nat_lt entry.number limit ≡ true) × (is_above entry.number earlier ≡ true) × (rises_in earlier ≡ true) = grind (arith, above, rises) in
+    let tests : (nat_lt entry.number limit ≡ true) × (is_above_entries entry.number earlier ≡ true) × (rises_in earlier ≡ true) = grind (arith, above, rises) in
     let fewer : length earlier ≤ entry.number = length_below entry.number earlier tests.1 tests.2 in
     omega (arith, fewer, ltb-true _ _ tests.0)
 
 -- a numbered list has no more entries than there are numbers
 pub length_numbered : (list : List Entry) → is_numbered list ≡ true → length list ≤ EVENTS_MAX + 1
 length_numbered list numbered =
-    let parts : (numbers_rise list ≡ true) × (is_above (EVENTS_MAX + 1) (reverse list) ≡ true) = grind (arith, numbered) in
+    let parts : (numbers_rise list ≡ true) × (is_above_entries (EVENTS_MAX + 1) (reverse list) ≡ true) = grind (arith, numbered) in
     omega (arith, length_below (EVENTS_MAX + 1) (reverse list) parts.1 parts.0, length-reverse list)
 
 -- a number above those of a list is above each of its entries, newest first too
-above_from_All : (number : ℕ) (list : List Entry) → All (λ earlier. earlier < number) (map (λ entry. entry.number) list) → is_above number list ≡ true
+above_from_All : (number : ℕ) (list : List Entry) → All (λ earlier. earlier < number) (map (λ entry. entry.number) list) → is_above_entries number list ≡ true
 above_from_All number [] above = refl
 above_from_All number (entry ∷ list) above =
     and_from _ _ (lt-ltb _ _ (All-head (λ earlier. earlier < number) entry.number (map (λ e. e.number) list) above))
@@ -81,8 +81,8 @@ pub is_book-push :
     (list : List Entry) (entry : Entry) → is_book list ≡ true → refusal_of list entry.command ≡ None
     → All (λ earlier. earlier < entry.number) (map (λ e. e.number) list) → entry.number ≤ EVENTS_MAX → is_book (list ++ entry ∷ []) ≡ true
 is_book-push list entry book accepted above within =
-    let parts : (numbers_rise list ≡ true) × (is_above (EVENTS_MAX + 1) (reverse list) ≡ true) × (is_legal list ≡ true) = grind (arith, book) in
-    let below : is_above entry.number (reverse list) ≡ true = list_all-reverse (λ e. nat_lt e.number entry.number) list ∙ above_from_All entry.number list above in
+    let parts : (numbers_rise list ≡ true) × (is_above_entries (EVENTS_MAX + 1) (reverse list) ≡ true) × (is_legal list ≡ true) = grind (arith, book) in
+    let below : is_above_entries entry.number (reverse list) ≡ true = list_all-reverse (λ e. nat_lt e.number entry.number) list ∙ above_from_All entry.number list above in
     let limited : nat_lt entry.number (EVENTS_MAX + 1) ≡ true = lt-ltb _ _ (omega arith) in
     rw (numbers_rise-push, is_legal-push, reverse-append) (rw (below, parts.0, limited, parts.1, accepted, parts.2) refl)
 
@@ -90,25 +90,25 @@ is_book-push list entry book accepted above within =
 pub is_book-front : (list : List Entry) (entry : Entry) → is_book (list ++ entry ∷ []) ≡ true → is_book list ≡ true
 is_book-front list entry book =
     let whole = book in
-    let parts : (numbers_rise (list ++ entry ∷ []) ≡ true) × (is_above (EVENTS_MAX + 1) (reverse (list ++ entry ∷ [])) ≡ true) × (is_legal (list ++ entry ∷ []) ≡ true) = grind (arith, whole) in
-    let rise : (is_above entry.number (reverse list) && numbers_rise list) ≡ true = sym (numbers_rise-push list entry) ∙ parts.0 in
-    let limited : (nat_lt entry.number (EVENTS_MAX + 1) && is_above (EVENTS_MAX + 1) (reverse list)) ≡ true =
-    sym (ap (is_above (EVENTS_MAX + 1)) (reverse-append list (entry ∷ []))) ∙ parts.1 in
+    let parts : (numbers_rise (list ++ entry ∷ []) ≡ true) × (is_above_entries (EVENTS_MAX + 1) (reverse (list ++ entry ∷ [])) ≡ true) × (is_legal (list ++ entry ∷ []) ≡ true) = grind (arith, whole) in
+    let rise : (is_above_entries entry.number (reverse list) && numbers_rise list) ≡ true = sym (numbers_rise-push list entry) ∙ parts.0 in
+    let limited : (nat_lt entry.number (EVENTS_MAX + 1) && is_above_entries (EVENTS_MAX + 1) (reverse list)) ≡ true =
+    sym (ap (is_above_entries (EVENTS_MAX + 1)) (reverse-append list (entry ∷ []))) ∙ parts.1 in
     let legal : is_legal list ≡ true = is_legal-front list (entry ∷ []) parts.2 in
     grind (arith, rise, limited, legal)
 
 -- a greater number is above the same entries
-pub is_above-weaker : (m n : ℕ) (entries : List Entry) → m ≤ n → is_above m entries ≡ true → is_above n entries ≡ true
-is_above-weaker m n [] more above = refl
-is_above-weaker m n (entry ∷ entries) more above =
-    let parts : (nat_lt entry.number m ≡ true) × (is_above m entries ≡ true) = and_parts _ _ above in
-    and_from _ _ (lt-ltb _ _ (omega (arith, more, ltb-true _ _ parts.0))) (is_above-weaker m n entries more parts.1)
+pub is_above_entries-weaker : (m n : ℕ) (entries : List Entry) → m ≤ n → is_above_entries m entries ≡ true → is_above_entries n entries ≡ true
+is_above_entries-weaker m n [] more above = refl
+is_above_entries-weaker m n (entry ∷ entries) more above =
+    let parts : (nat_lt entry.number m ≡ true) × (is_above_entries m entries ≡ true) = and_parts _ _ above in
+    and_from _ _ (lt-ltb _ _ (omega (arith, more, ltb-true _ _ parts.0))) (is_above_entries-weaker m n entries more parts.1)
 
 -- a list whose numbers rise below n, with an entry of number n behind it, has numbers that rise below n + 1
 pub rises-push :
-    (list : List Entry) (entry : Entry) → is_above entry.number (reverse list) ≡ true → numbers_rise list ≡ true
-    → (is_above (entry.number + 1) (reverse (list ++ entry ∷ [])) ≡ true) × (numbers_rise (list ++ entry ∷ []) ≡ true)
+    (list : List Entry) (entry : Entry) → is_above_entries entry.number (reverse list) ≡ true → numbers_rise list ≡ true
+    → (is_above_entries (entry.number + 1) (reverse (list ++ entry ∷ [])) ≡ true) × (numbers_rise (list ++ entry ∷ []) ≡ true)
 rises-push list entry above rises =
     let limited : nat_lt entry.number (entry.number + 1) ≡ true = lt-ltb _ _ (omega arith) in
-    let earlier : is_above (entry.number + 1) (reverse list) ≡ true = is_above-weaker entry.number (entry.number + 1) (reverse list) (omega arith) above in
+    let earlier : is_above_entries (entry.number + 1) (reverse list) ≡ true = is_above_entries-weaker entry.number (entry.number + 1) (reverse list) (omega arith) above in
     (rw (reverse-append, limited, earlier) refl, rw (numbers_rise-push, above, rises) refl)

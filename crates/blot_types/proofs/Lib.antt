@@ -10,8 +10,9 @@ pub mod InstructionLemmas
 pub mod KeyLemmas
 pub mod LawLemmas
 pub mod LegalLemmas
-pub mod OrderLemmas
 pub mod LiveLemmas
+pub mod MakingLemmas
+pub mod OrderLemmas
 pub mod NamedLemmas
 pub mod PartLemmas
 pub mod QuantityLemmas

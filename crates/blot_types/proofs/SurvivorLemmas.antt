@@ -14,7 +14,7 @@ use Rattle.blot_types.specs.declared.link.Link.{Link}
 use Rattle.blot_types.specs.declared.link.Role.{Role}
 use Rattle.blot_types.specs.declared.link.Role.TheVariants.{Begins, Corrects, Busts}
 use Rattle.blot_types.specs.Chains.{takes_up, taker_in, own_root, root_in, is_root, bust_in, current_in, link_refusal, reference_refusal, replaced_in, replaced_by, falls}
-use Rattle.blot_types.specs.Legal.{is_above, rises_in, numbers_rise, legal_in, is_legal, refusal_in, refusal_of}
+use Rattle.blot_types.specs.Legal.{is_above_entries, rises_in, numbers_rise, legal_in, is_legal, refusal_in, refusal_of}
 use Rattle.blot_types.specs.Refusals.{version_in}
 use Rattle.blot_types.specs.Survivors.{link_of, links_in, links_of, version_of, versions_of, is_number, stands_in, survivors}
 use Rattle.blot_types.proofs.KeyLemmas.{same_exec-true, same_exec-refl}
@@ -119,10 +119,10 @@ last_known n entry (Some link) links is less =
     known-one n links link (version_of entry) (omega (arith, link-number entry link is, less)) (of_its_link entry link is)
 
 -- each version of a list is known to its links
-pub all_known : (n : ℕ) (entries : List Entry) → is_above n entries ≡ true → All (IsKnown n (links_in entries)) (versions_of (reverse entries))
+pub all_known : (n : ℕ) (entries : List Entry) → is_above_entries n entries ≡ true → All (IsKnown n (links_in entries)) (versions_of (reverse entries))
 all_known n [] above = All-nil _
 all_known n (entry ∷ earlier) above =
-    let parts : (nat_lt entry.number n ≡ true) × (is_above n earlier ≡ true) = and_parts _ _ above in
+    let parts : (nat_lt entry.number n ≡ true) × (is_above_entries n earlier ≡ true) = and_parts _ _ above in
     let links = links_in earlier in
     let more : All (IsKnown n (cons_option (link_of entry) links)) (versions_of (reverse earlier)) =
     All-weaker (IsKnown n links) (IsKnown n (cons_option (link_of entry) links))
@@ -132,7 +132,7 @@ all_known n (entry ∷ earlier) above =
     (All-append (IsKnown n (cons_option (link_of entry) links)) (versions_of (reverse earlier)) (versions_of (entry ∷ []))
     more (last_known n entry (link_of entry) links refl (ltb-true _ _ parts.0)))
 
-pub versions-known : (n : ℕ) (list : List Entry) → is_above n (reverse list) ≡ true → All (IsKnown n (links_of list)) (versions_of list)
+pub versions-known : (n : ℕ) (list : List Entry) → is_above_entries n (reverse list) ≡ true → All (IsKnown n (links_of list)) (versions_of list)
 versions-known n list above = subst (λ l. All (IsKnown n (links_of list)) (versions_of l)) (reverse-reverse list) (all_known n (reverse list) above)
 
 -- ---- one more entry
@@ -163,7 +163,7 @@ last_stands links entry link is accepted =
 
 -- the survivors with one more link: the version whose place it takes is gone, and its own is there
 push-link :
-    (list : List Entry) (entry : Entry) (link : Link) → link_of entry ≡ Some link → numbers_rise list ≡ true → is_above entry.number (reverse list) ≡ true
+    (list : List Entry) (entry : Entry) (link : Link) → link_of entry ≡ Some link → numbers_rise list ≡ true → is_above_entries entry.number (reverse list) ≡ true
     → link_refusal (links_of list) link.key link.role ≡ None
     → survivors (list ++ entry ∷ []) ≡ without (replaced_in (links_of list) link.role) (survivors list) ++ versions_of (entry ∷ [])
 push-link list entry link is rise above accepted =
@@ -196,7 +196,7 @@ push-unlinked list entry is =
     ∙ ap (filter (stands_in (links_of list))) (filter_map-append version_of list (entry ∷ []) ∙ ap (λ back. versions_of list ++ back) nothing ∙ append-nil (versions_of list))
 
 push-found :
-    (list : List Entry) (entry : Entry) (found : Option Link) → link_of entry ≡ found → numbers_rise list ≡ true → is_above entry.number (reverse list) ≡ true
+    (list : List Entry) (entry : Entry) (found : Option Link) → link_of entry ≡ found → numbers_rise list ≡ true → is_above_entries entry.number (reverse list) ≡ true
     → refusal_of list entry.command ≡ None
     → survivors (list ++ entry ∷ []) ≡ without (replaced_by (links_of list) found) (survivors list) ++ versions_of (entry ∷ [])
 push-found list entry None is rise above accepted =
@@ -207,7 +207,7 @@ push-found list entry (Some link) is rise above accepted =
 
 -- the survivors with one more entry
 pub survivors-push :
-    (list : List Entry) (entry : Entry) → numbers_rise list ≡ true → is_above entry.number (reverse list) ≡ true → refusal_of list entry.command ≡ None
+    (list : List Entry) (entry : Entry) → numbers_rise list ≡ true → is_above_entries entry.number (reverse list) ≡ true → refusal_of list entry.command ≡ None
     → survivors (list ++ entry ∷ []) ≡ without (replaced_by (links_of list) (link_of entry)) (survivors list) ++ versions_of (entry ∷ [])
 survivors-push list entry rise above accepted = push-found list entry (link_of entry) refl rise above accepted
 
@@ -258,7 +258,7 @@ links-turned entries = ap links_in (reverse-reverse entries)
 
 -- the last version of a chain, where the newest entry is a link
 current-link :
-    (entry : Entry) (earlier : List Entry) (link : Link) (root : ExecKey) (number : ℕ) → link_of entry ≡ Some link → is_above entry.number earlier ≡ true
+    (entry : Entry) (earlier : List Entry) (link : Link) (root : ExecKey) (number : ℕ) → link_of entry ≡ Some link → is_above_entries entry.number earlier ≡ true
     → taker_in (links_in earlier) link.key ≡ None
     → (current_in (links_in earlier) root ≡ Some number → (version : Version) × IsCurrent (reverse earlier) root number version)
     → current_in (link ∷ links_in earlier) root ≡ Some number → (version : Version) × IsCurrent (reverse (entry ∷ earlier)) root number version
@@ -310,7 +310,7 @@ current-unlinked entry earlier root number is older = (
 )
 
 current-entry :
-    (entry : Entry) (earlier : List Entry) (found : Option Link) (root : ExecKey) (number : ℕ) → link_of entry ≡ found → is_above entry.number earlier ≡ true
+    (entry : Entry) (earlier : List Entry) (found : Option Link) (root : ExecKey) (number : ℕ) → link_of entry ≡ found → is_above_entries entry.number earlier ≡ true
     → refusal_in earlier entry.command ≡ None
     → (current_in (links_in earlier) root ≡ Some number → (version : Version) × IsCurrent (reverse earlier) root number version)
     → current_in (cons_option found (links_in earlier)) root ≡ Some number → (version : Version) × IsCurrent (reverse (entry ∷ earlier)) root number version
@@ -324,7 +324,7 @@ pub current-found :
     → current_in (links_in entries) root ≡ Some number → (version : Version) × IsCurrent (reverse entries) root number version
 current-found [] root number legal rise current = cc
 current-found (entry ∷ earlier) root number legal rise current =
-    let rises : (is_above entry.number earlier ≡ true) × (rises_in earlier ≡ true) = and_parts _ _ rise in
+    let rises : (is_above_entries entry.number earlier ≡ true) × (rises_in earlier ≡ true) = and_parts _ _ rise in
     let legals : (is_none (refusal_in earlier entry.command) ≡ true) × (legal_in earlier ≡ true) = and_parts _ _ legal in
     current-entry entry earlier (link_of entry) root number refl rises.0 (none_is (refusal_in earlier entry.command) legals.0)
     (current-found earlier root number legals.1 rises.1) current
@@ -406,7 +406,7 @@ or-nothing None = refl
 or-nothing (Some a) = refl
 
 version-step :
-    (entry : Entry) (earlier : List Entry) (number : ℕ) (brought : Option Version) → version_of entry ≡ brought → is_above entry.number earlier ≡ true
+    (entry : Entry) (earlier : List Entry) (number : ℕ) (brought : Option Version) → version_of entry ≡ brought → is_above_entries entry.number earlier ≡ true
     → version_in earlier number ≡ find (λ v. v.number == number) (versions_of (reverse earlier))
     → find (λ v. v.number == number) (cons_option brought (filter_map version_of earlier))
     ≡ option_or (find (λ v. v.number == number) (versions_of (reverse earlier))) (find (λ v. v.number == number) (cons_option brought []))
@@ -427,5 +427,5 @@ pub version_in-rising :
     (entries : List Entry) (number : ℕ) → rises_in entries ≡ true → version_in entries number ≡ find (λ v. v.number == number) (versions_of (reverse entries))
 version_in-rising [] number rise = refl
 version_in-rising (entry ∷ earlier) number rise =
-    let parts : (is_above entry.number earlier ≡ true) × (rises_in earlier ≡ true) = and_parts _ _ rise in
+    let parts : (is_above_entries entry.number earlier ≡ true) × (rises_in earlier ≡ true) = and_parts _ _ rise in
     version-step entry earlier number (version_of entry) refl parts.0 (version_in-rising earlier number parts.1) ∙ sym (found-split entry earlier number)

@@ -11,7 +11,7 @@ use Rattle.blot_types.specs.declared.link.Link.{Link}
 use Rattle.blot_types.specs.declared.link.Role.{Role}
 use Rattle.blot_types.specs.declared.link.Role.TheVariants.{Begins, Corrects, Busts}
 use Rattle.blot_types.specs.Keys.{is_among, same_exec}
-use Rattle.blot_types.specs.Chains.{takes_up, taker_in, own_root, root_in, is_root, busted_by, busted_roots_in, bust_in, current_in, link_refusal, is_chained, is_below, falls}
+use Rattle.blot_types.specs.Chains.{takes_up, taker_in, own_root, root_in, is_root, busted_by, busted_roots_in, bust_in, current_in, link_refusal, is_chained, is_above_links, falls}
 use Rattle.blot_types.specs.Legal.{is_book}
 use Rattle.blot_types.specs.Laws.{is_correct, corrects_chain, StandsUncorrected}
 use Rattle.blot_types.specs.Survivors.{link_of, links_of, root_of, busted_roots, version_of, is_number, stands_under, stands_in}
@@ -84,12 +84,12 @@ same_corrections later earlier link root fresh =
     (λ other taken. ap (λ found. is_correct other.role && is_root root found) (same_root (later ++ earlier) link other fresh taken))
     later (all_taken later earlier))
 
-below-number : (later earlier : List Link) (link : Link) (number : ℕ) → is_below number (later ++ link ∷ earlier) ≡ true → link.number < number
+below-number : (later earlier : List Link) (link : Link) (number : ℕ) → is_above_links number (later ++ link ∷ earlier) ≡ true → link.number < number
 below-number [] earlier link number below =
-    let parts : (nat_lt link.number number ≡ true) × (is_below number earlier ≡ true) = and_parts _ _ below in
+    let parts : (nat_lt link.number number ≡ true) × (is_above_links number earlier ≡ true) = and_parts _ _ below in
     ltb-true _ _ parts.0
 below-number (other ∷ later) earlier link number below =
-    let parts : (nat_lt other.number number ≡ true) × (is_below number (later ++ link ∷ earlier) ≡ true) = and_parts _ _ below in
+    let parts : (nat_lt other.number number ≡ true) × (is_above_links number (later ++ link ∷ earlier) ≡ true) = and_parts _ _ below in
     below-number later earlier link number parts.1
 
 none_of : (test : Bool) → (test && false) ≡ false
@@ -112,7 +112,7 @@ last-uncorrected (other ∷ later) earlier link root chained fall is =
     let rest = later ++ link ∷ earlier in
     let chains : (is_none (link_refusal rest other.key other.role) ≡ true) × (is_chained rest ≡ true) = and_parts _ _ chained in
     let fresh : taker_in rest other.key ≡ None = (accepted_key rest other.key other.role (none_is (link_refusal rest other.key other.role) chains.0)).0 in
-    let falling : (is_below other.number rest ≡ true) × (falls rest ≡ true) = and_parts _ _ fall in
+    let falling : (is_above_links other.number rest ≡ true) × (falls rest ≡ true) = and_parts _ _ fall in
     let stood : root_in rest link.key ≡ Some root = sym (same_root rest other link fresh (taken-among later earlier link)) ∙ is in
     let own : root_in (other ∷ rest) other.key ≡ own_root (root_in rest) other.key other.role = rw (same_exec-refl other.key) refl in
     let test : corrects_chain (other ∷ rest) root other ≡ (is_correct other.role && is_root root (own_root (root_in rest) other.key other.role)) =

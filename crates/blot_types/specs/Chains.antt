@@ -95,10 +95,10 @@ abbrev pub replaced_by : List Link → Option Link → Option ℕ
 replaced_by links link = option_and_then (λ newest. replaced_in links newest.role) link
 
 -- whether a number is above those of the links
-abbrev pub is_below : ℕ → List Link → Bool
-is_below number links = list_all (λ link. nat_lt link.number number) links
+abbrev pub is_above_links : ℕ → List Link → Bool
+is_above_links number links = list_all (λ link. nat_lt link.number number) links
 
 -- whether the numbers fall from the newest link to the oldest
 abbrev pub falls : List Link → Bool
 falls [] = true
-falls (link ∷ earlier) = is_below link.number earlier && falls earlier
+falls (link ∷ earlier) = is_above_links link.number earlier && falls earlier

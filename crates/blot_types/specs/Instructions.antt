@@ -104,5 +104,5 @@ is_instructed [] = true
 is_instructed (instruction ∷ earlier) = may_follow earlier instruction.key instruction.role instruction.roots && is_instructed earlier
 
 -- whether a number is above those of the instructions
-abbrev pub is_above_all : ℕ → List Instruction → Bool
-is_above_all number instructions = list_all (λ instruction. nat_lt instruction.number number) instructions
+abbrev pub is_above_instructions : ℕ → List Instruction → Bool
+is_above_instructions number instructions = list_all (λ instruction. nat_lt instruction.number number) instructions

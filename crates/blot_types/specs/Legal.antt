@@ -10,13 +10,13 @@ use Rattle.blot_types.specs.declared.TheConstants.{EVENTS_MAX}
 use Rattle.blot_types.specs.Refusals.{duplicate_exec, duplicate_alloc, unknown_alloc, dead_alloc, unknown_exec, busted_exec, repeated_exec, exec_taken, instrument, quantity}
 
 -- whether a number is above those of the entries
-abbrev pub is_above : ℕ → List Entry → Bool
-is_above number entries = list_all (λ entry. nat_lt entry.number number) entries
+abbrev pub is_above_entries : ℕ → List Entry → Bool
+is_above_entries number entries = list_all (λ entry. nat_lt entry.number number) entries
 
 -- whether the entries' numbers rise
 abbrev pub rises_in : List Entry → Bool
 rises_in [] = true
-rises_in (entry ∷ earlier) = is_above entry.number earlier && rises_in earlier
+rises_in (entry ∷ earlier) = is_above_entries entry.number earlier && rises_in earlier
 
 abbrev pub numbers_rise : List Entry → Bool
 numbers_rise list = rises_in (reverse list)
@@ -48,7 +48,7 @@ is_legal list = legal_in (reverse list)
 
 -- a list of entries: the numbers rise, up to EVENTS_MAX
 abbrev pub is_numbered : List Entry → Bool
-is_numbered list = numbers_rise list && is_above (EVENTS_MAX + 1) (reverse list)
+is_numbered list = numbers_rise list && is_above_entries (EVENTS_MAX + 1) (reverse list)
 
 -- a book: a list of entries that is legal
 abbrev pub is_book : List Entry → Bool

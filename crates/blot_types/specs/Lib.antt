@@ -4,6 +4,7 @@ pub mod Instructions
 pub mod Keys
 pub mod Laws
 pub mod Legal
+pub mod Making
 pub mod Order
 pub mod Position
 pub mod Refusals

@@ -10,6 +10,7 @@ mod items;
 mod keys;
 mod lines;
 mod link;
+mod making;
 mod refused;
 mod text;
 
@@ -20,6 +21,7 @@ pub use items::Items;
 pub use keys::{AllocKey, ExecKey, OrderKey};
 pub use lines::{OrderLine, Part, PositionLine, Version};
 pub use link::{Link, Role};
+pub use making::Making;
 pub use refused::Refused;
 pub use text::{TEXT_MAX, Text64};
 

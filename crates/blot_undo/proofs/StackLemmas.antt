@@ -4,7 +4,7 @@ use Rattle.std.specs.Prelude.{All, Contains}
 use Rattle.std.proofs.lemmas.List.Elements.{All-nil, All-cons, All-weaker, All-contains, All-contains_itself, Contains-append_left, Contains-append_right, Contains-append_cases, Contains-push, Contains-push_cases}
 use Rattle.std.proofs.lemmas.List.{reverse-append, length-reverse}
 use Rattle.blot_types.specs.declared.TheConstants.{EVENTS_MAX}
-use Rattle.blot_command.specs.Undoable.{Meaning, IsStep, IsLawful, IsAbove, KeepsEarlier, Adds, Leaves, TakesOut, UndoesStep, numbers_in}
+use Rattle.blot_command.specs.Undoable.{Meaning, IsStep, IsLawful, IsAboveNumbers, KeepsEarlier, Adds, Leaves, TakesOut, UndoesStep, numbers_in}
 use Rattle.blot_undo.specs.declared.step.Done.{Done}
 use Rattle.blot_undo.specs.declared.step.Undone.{Undone}
 use Rattle.blot_undo.specs.Book.{done_number}
@@ -52,7 +52,7 @@ fall_below (step ∷ earlier) below fall =
 -- so a number at the limit is above those of the state
 pub above_state :
     {S L C I R : Type 0} (m : Meaning S L C I R) (state : S) (done : List (Done I)) (below : ℕ)
-    → ((k : ℕ) → Contains (numbers_in m state) k → Contains (map done_number done) k) → Fall done below → IsAbove m below state
+    → ((k : ℕ) → Contains (numbers_in m state) k → Contains (map done_number done) k) → Fall done below → IsAboveNumbers m below state
 above_state m state done below numbered fall =
     All-weaker (Contains (numbers_in m state)) (λ n. n < below)
     (λ k within. All-contains (λ n. n < below) (map done_number done) k (fall_below done below fall) (numbered k within))
@@ -161,7 +161,7 @@ newest_last xs ys x is = ap reverse is ∙ reverse-append ys (x ∷ [])
 -- the command at the top of the undone steps may be applied under its number
 pub above_redone :
     {S L C I R : Type 0} (m : Meaning S L C I R) (state : S) (done : List (Done I)) (undone later : List (Undone C)) (step : Undone C) (next dr ur : ℕ)
-    → undone ≡ later ++ step ∷ [] → IsStack m state (reverse done) (reverse undone) next dr ur → IsAbove m step.number state × (step.number ≤ EVENTS_MAX)
+    → undone ≡ later ++ step ∷ [] → IsStack m state (reverse done) (reverse undone) next dr ur → IsAboveNumbers m step.number state × (step.number ≤ EVENTS_MAX)
 above_redone m state done undone later step next dr ur is given =
     let stack = subst (λ u. IsStack m state (reverse done) u next dr ur) (newest_last undone later step is) given in
     let rest : limit (reverse later) next ≤ next = limit_next (reverse later) next stack.rise.1 in
@@ -170,7 +170,7 @@ above_redone m state done undone later step next dr ur is given =
 -- the next number is above those of the state
 pub above_next :
     {S L C I R : Type 0} (m : Meaning S L C I R) (state : S) (done : List (Done I)) (undone : List (Undone C)) (next dr ur : ℕ)
-    → IsStack m state done undone next dr ur → IsAbove m next state
+    → IsStack m state done undone next dr ur → IsAboveNumbers m next state
 above_next m state done undone next dr ur stack =
     above_state m state done next stack.numbered (fall_weaker done (limit undone next) next (limit_next undone next stack.rise) stack.fall)
 

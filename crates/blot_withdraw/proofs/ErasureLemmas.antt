@@ -16,7 +16,7 @@ use Rattle.blot_types.specs.declared.keys.OrderKey.{OrderKey}
 use Rattle.blot_types.specs.declared.TheConstants.{EVENTS_MAX}
 use Rattle.blot_types.specs.declared.link.Link.{Link}
 use Rattle.blot_types.specs.Chains.{is_root, bust_in}
-use Rattle.blot_types.specs.Legal.{is_above, rises_in, is_legal, is_book, refusal_of}
+use Rattle.blot_types.specs.Legal.{is_above_entries, rises_in, is_legal, is_book, refusal_of}
 use Rattle.blot_types.specs.Order.{order_of}
 use Rattle.blot_types.specs.Position.{position_of}
 use Rattle.blot_types.specs.Refusals.{alloc_key, listed_by}
@@ -138,17 +138,17 @@ without_chain-position list root account symbol book is none = position-spared (
 rises-older : (later earlier : List Entry) → rises_in (later ++ earlier) ≡ true → rises_in earlier ≡ true
 rises-older [] earlier rise = rise
 rises-older (entry ∷ later) earlier rise =
-    let parts : (is_above entry.number (later ++ earlier) ≡ true) × (rises_in (later ++ earlier) ≡ true) = and_parts _ _ rise in
+    let parts : (is_above_entries entry.number (later ++ earlier) ≡ true) × (rises_in (later ++ earlier) ≡ true) = and_parts _ _ rise in
     rises-older later earlier parts.1
 
 -- the front of a book is a book
 pub book-front : (front back : List Entry) → is_book (front ++ back) ≡ true → is_book front ≡ true
 book-front front back book =
     let turned : reverse (front ++ back) ≡ reverse back ++ reverse front = reverse-append front back in
-    let parts : ((rises_in (reverse (front ++ back)) && is_above (EVENTS_MAX + 1) (reverse (front ++ back))) ≡ true) × (is_legal (front ++ back) ≡ true) = and_parts _ _ book in
-    let numbered : (rises_in (reverse (front ++ back)) ≡ true) × (is_above (EVENTS_MAX + 1) (reverse (front ++ back)) ≡ true) = and_parts _ _ parts.0 in
-    let within : (is_above (EVENTS_MAX + 1) (reverse back) ≡ true) × (is_above (EVENTS_MAX + 1) (reverse front) ≡ true) =
-    and_parts _ _ (sym (list_all-append (λ e. nat_lt e.number (EVENTS_MAX + 1)) (reverse back) (reverse front)) ∙ ap (is_above (EVENTS_MAX + 1)) (sym turned) ∙ numbered.1) in
+    let parts : ((rises_in (reverse (front ++ back)) && is_above_entries (EVENTS_MAX + 1) (reverse (front ++ back))) ≡ true) × (is_legal (front ++ back) ≡ true) = and_parts _ _ book in
+    let numbered : (rises_in (reverse (front ++ back)) ≡ true) × (is_above_entries (EVENTS_MAX + 1) (reverse (front ++ back)) ≡ true) = and_parts _ _ parts.0 in
+    let within : (is_above_entries (EVENTS_MAX + 1) (reverse back) ≡ true) × (is_above_entries (EVENTS_MAX + 1) (reverse front) ≡ true) =
+    and_parts _ _ (sym (list_all-append (λ e. nat_lt e.number (EVENTS_MAX + 1)) (reverse back) (reverse front)) ∙ ap (is_above_entries (EVENTS_MAX + 1)) (sym turned) ∙ numbered.1) in
     and_from _ _ (and_from _ _ (rises-older (reverse back) (reverse front) (ap rises_in (sym turned) ∙ numbered.0)) within.1) (is_legal-front front back parts.1)
 
 -- what is known of the last entry of a book
@@ -157,22 +157,22 @@ pub record IsLast (list : List Entry) (entry : Entry) : Type 0 where
   pub above : All (λ earlier. earlier < entry.number) (map (λ e. e.number) list)
   pub within : entry.number ≤ EVENTS_MAX
 
-below_all : (number : ℕ) (list : List Entry) → is_above number (reverse list) ≡ true → All (λ earlier. earlier < number) (map (λ e. e.number) list)
+below_all : (number : ℕ) (list : List Entry) → is_above_entries number (reverse list) ≡ true → All (λ earlier. earlier < number) (map (λ e. e.number) list)
 below_all number [] above = All-nil (λ earlier. earlier < number)
 below_all number (entry ∷ list) above =
-    let split : (is_above number (reverse list) && (nat_lt entry.number number && true)) ≡ true =
-    sym (list_all-append (λ e. nat_lt e.number number) (reverse list) (entry ∷ [])) ∙ ap (is_above number) (sym (reverse-append (entry ∷ []) list)) ∙ above in
-    let parts : (is_above number (reverse list) ≡ true) × ((nat_lt entry.number number && true) ≡ true) = and_parts _ _ split in
+    let split : (is_above_entries number (reverse list) && (nat_lt entry.number number && true)) ≡ true =
+    sym (list_all-append (λ e. nat_lt e.number number) (reverse list) (entry ∷ [])) ∙ ap (is_above_entries number) (sym (reverse-append (entry ∷ []) list)) ∙ above in
+    let parts : (is_above_entries number (reverse list) ≡ true) × ((nat_lt entry.number number && true) ≡ true) = and_parts _ _ split in
     let own : (nat_lt entry.number number ≡ true) × (true ≡ true) = and_parts _ _ parts.1 in
     All-cons (λ earlier. earlier < number) entry.number (map (λ e. e.number) list) (ltb-true _ _ own.0) (below_all number list parts.0)
 
 pub last_of : (list : List Entry) (entry : Entry) → is_book (list ++ entry ∷ []) ≡ true → IsLast list entry
 last_of list entry book =
     let turned : reverse (list ++ entry ∷ []) ≡ entry ∷ reverse list = reverse-append list (entry ∷ []) in
-    let parts : ((rises_in (reverse (list ++ entry ∷ [])) && is_above (EVENTS_MAX + 1) (reverse (list ++ entry ∷ []))) ≡ true) × (is_legal (list ++ entry ∷ []) ≡ true) = and_parts _ _ book in
-    let numbered : (rises_in (reverse (list ++ entry ∷ [])) ≡ true) × (is_above (EVENTS_MAX + 1) (reverse (list ++ entry ∷ [])) ≡ true) = and_parts _ _ parts.0 in
-    let rises : (is_above entry.number (reverse list) ≡ true) × (rises_in (reverse list) ≡ true) = and_parts _ _ (ap rises_in (sym turned) ∙ numbered.0) in
-    let within : (nat_lt entry.number (EVENTS_MAX + 1) ≡ true) × (is_above (EVENTS_MAX + 1) (reverse list) ≡ true) = and_parts _ _ (ap (is_above (EVENTS_MAX + 1)) (sym turned) ∙ numbered.1) in
+    let parts : ((rises_in (reverse (list ++ entry ∷ [])) && is_above_entries (EVENTS_MAX + 1) (reverse (list ++ entry ∷ []))) ≡ true) × (is_legal (list ++ entry ∷ []) ≡ true) = and_parts _ _ book in
+    let numbered : (rises_in (reverse (list ++ entry ∷ [])) ≡ true) × (is_above_entries (EVENTS_MAX + 1) (reverse (list ++ entry ∷ [])) ≡ true) = and_parts _ _ parts.0 in
+    let rises : (is_above_entries entry.number (reverse list) ≡ true) × (rises_in (reverse list) ≡ true) = and_parts _ _ (ap rises_in (sym turned) ∙ numbered.0) in
+    let within : (nat_lt entry.number (EVENTS_MAX + 1) ≡ true) × (is_above_entries (EVENTS_MAX + 1) (reverse list) ≡ true) = and_parts _ _ (ap (is_above_entries (EVENTS_MAX + 1)) (sym turned) ∙ numbered.1) in
     let legal : (is_none (refusal_of list entry.command) ≡ true) × (is_legal list ≡ true) = and_parts _ _ (sym (is_legal-push list entry) ∙ parts.1) in
     let limited : entry.number < EVENTS_MAX + 1 = ltb-true _ _ within.0 in
     record { accepted = none_is (refusal_of list entry.command) legal.0; above = below_all entry.number list rises.0; within = omega (arith, limited) }

@@ -9,7 +9,7 @@ use Rattle.blot_types.specs.declared.command.Entry.{Entry}
 use Rattle.blot_types.specs.declared.TheConstants.{EVENTS_MAX}
 use Rattle.blot_types.specs.declared.link.Link.{Link}
 use Rattle.blot_types.specs.declared.link.Role.TheVariants.{Corrects, Busts}
-use Rattle.blot_types.specs.Legal.{is_above, rises_in, legal_in, is_book}
+use Rattle.blot_types.specs.Legal.{is_above_entries, rises_in, legal_in, is_book}
 use Rattle.blot_types.specs.Survivors.{links_in}
 use Rattle.blot_types.proofs.EntryLemmas.{chained-links}
 use Rattle.blot_withdraw.proofs.ChainStayLemmas.{refers-stays}
@@ -73,7 +73,7 @@ legal-spared split (entry ∷ earlier) spares =
 rises-spared : (split : Split) (entries : List Entry) → rises_in entries ≡ true → rises_in (filter split.stays entries) ≡ true
 rises-spared split [] rise = refl
 rises-spared split (entry ∷ earlier) rise =
-    let parts : (is_above entry.number earlier ≡ true) × (rises_in earlier ≡ true) = and_parts _ _ rise in
+    let parts : (is_above_entries entry.number earlier ≡ true) × (rises_in earlier ≡ true) = and_parts _ _ rise in
     let rest = rises-spared split earlier parts.1 in
     elim (cases_Bool (split.stays entry)) [
       | inl stays ↦ rw stays (and_from _ _ (all-stays (λ e. nat_lt e.number entry.number) split.stays earlier parts.0) rest)
@@ -83,9 +83,9 @@ rises-spared split (entry ∷ earlier) rise =
 -- a book without what nobody needs is a book
 pub book-spared : (split : Split) (list : List Entry) → Spares split (reverse list) → is_book list ≡ true → is_book (filter split.stays list) ≡ true
 book-spared split list spares book =
-    let parts : ((rises_in (reverse list) && is_above (EVENTS_MAX + 1) (reverse list)) ≡ true) × (legal_in (reverse list) ≡ true) = and_parts _ _ book in
-    let numbered : (rises_in (reverse list) ≡ true) × (is_above (EVENTS_MAX + 1) (reverse list) ≡ true) = and_parts _ _ parts.0 in
-    subst (λ entries. ((rises_in entries && is_above (EVENTS_MAX + 1) entries) && legal_in entries) ≡ true) (filter-reverse split.stays list)
+    let parts : ((rises_in (reverse list) && is_above_entries (EVENTS_MAX + 1) (reverse list)) ≡ true) × (legal_in (reverse list) ≡ true) = and_parts _ _ book in
+    let numbered : (rises_in (reverse list) ≡ true) × (is_above_entries (EVENTS_MAX + 1) (reverse list) ≡ true) = and_parts _ _ parts.0 in
+    subst (λ entries. ((rises_in entries && is_above_entries (EVENTS_MAX + 1) entries) && legal_in entries) ≡ true) (filter-reverse split.stays list)
     (and_from _ _
     (and_from _ _ (rises-spared split (reverse list) numbered.0) (all-stays (λ e. nat_lt e.number (EVENTS_MAX + 1)) split.stays (reverse list) numbered.1))
     (legal-spared split (reverse list) spares))

@@ -8,7 +8,7 @@ use Rattle.blot_types.specs.declared.command.Entry.{Entry}
 use Rattle.blot_types.specs.declared.keys.ExecKey.{ExecKey}
 use Rattle.blot_types.specs.declared.link.Link.{Link}
 use Rattle.blot_types.specs.Chains.{root_in, bust_in, current_in}
-use Rattle.blot_types.specs.Legal.{is_above, rises_in, refusal_in, legal_in}
+use Rattle.blot_types.specs.Legal.{is_above_entries, rises_in, refusal_in, legal_in}
 use Rattle.blot_types.specs.Survivors.{link_of, links_in}
 use Rattle.blot_types.proofs.ChainLemmas.{none_is, accepted_key}
 use Rattle.blot_types.proofs.EntryLemmas.{refusal-link, chained-links}
@@ -39,7 +39,7 @@ knows-before split entry earlier (Some link) is accepted knows =
 pub spares-newest : (split : Split) (entry : Entry) (earlier : List Entry) → Spares split (entry ∷ earlier) → SparesNewest split entry earlier
 spares-newest split entry earlier spares =
     let legals : (is_none (refusal_in earlier entry.command) ≡ true) × (legal_in earlier ≡ true) = and_parts _ _ spares.legal in
-    let rises : (is_above entry.number earlier ≡ true) × (rises_in earlier ≡ true) = and_parts _ _ spares.rises in
+    let rises : (is_above_entries entry.number earlier ≡ true) × (rises_in earlier ≡ true) = and_parts _ _ spares.rises in
     let accepted = none_is (refusal_in earlier entry.command) legals.0 in
     record {
       accepted = accepted;

@@ -1,4 +1,4 @@
-//! `capture`.
+//! `capture`: the frames of a byte stream at the sessions of their senders, and what these deliver at a desk.
 ghost use Rattle.std.specs.Prelude.{◌≡◌, ◌≢◌, Err, OnOk, IfErr, IfSome};
 ghost use Rattle.std.specs.Io.KnownBytes.{IsAtEnd};
 ghost use Rattle.std.specs.List.{IsDistinct};
@@ -11,8 +11,9 @@ ghost use Rattle.blotter.specs.Replay.{submitted, Stopped};
 use crate::ReplayFault;
 use crate::intake::take_piece;
 use crate::sessions::Sessions;
-use crate::transfer::{READS_MAX, empty_piece, read_piece};
+use crate::transfer::read_piece;
 use blot_desk::Held;
+use blot_gateway::{READS_MAX, empty_piece};
 use blot_tag::Reader;
 use blot_types::Text64;
 use std::alloc::Global;

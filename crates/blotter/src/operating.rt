@@ -1,4 +1,4 @@
-//! `desk_lines` and `seat_lines`.
+//! `desk_lines` and `seat_lines`: the lines of an input answered, at a desk of one's own or from a seat.
 ghost use Rattle.std.specs.Prelude.{◌≡◌, ◌≢◌, Err, IfSome, OnOk, OnErr};
 ghost use Rattle.std.specs.Io.KnownBytes.{Appends, IsAtEnd};
 ghost use Rattle.blotter.specs.Dialogue.{seat_ways, TellsLines, StopsAmong};
@@ -8,8 +8,9 @@ ghost use Rattle.blotter.specs.Operating.{told_over, StoppedIn};
 use crate::ReplayFault;
 use crate::lines::{answer_last, answer_piece};
 use crate::operated::{Operated, Own, Shared};
-use crate::transfer::{READS_MAX, empty_piece, read_piece};
+use crate::transfer::read_piece;
 use blot_desk::{Desk, Held, Seat};
+use blot_gateway::{READS_MAX, empty_piece};
 use std::alloc::Global;
 use std::io::{Read, Write};
 use std::sync::Wait;

@@ -1,4 +1,4 @@
-//! `replay`.
+//! `replay`: a capture taken into an empty desk, and the report of its day.
 ghost use Rattle.std.specs.Prelude.{◌≡◌, ◌≢◌, ◌<◌, ◌≤◌, List, ℕ, ◌++◌, length, Err, IfOk, IfSome, OnOk};
 ghost use Rattle.std.specs.Io.KnownBytes.{Appends, Keeps, IsAtEnd};
 ghost use Rattle.std.specs.List.{IsDistinct};

@@ -1,16 +1,9 @@
 //! Bytes in and out, a piece at a time.
-ghost use Rattle.std.specs.Prelude.{◌≡◌, ◌<◌, ◌≤◌, List, ℕ, ◌++◌, length, take, MatchOption, vec_len, Ok, IfNone, OnOk, OnErr, IfOk, IfErr, IfSome};
+ghost use Rattle.std.specs.Prelude.{◌≡◌, ◌<◌, ◌≤◌, List, ℕ, ◌++◌, length, take, MatchOption, Ok, IfNone, OnOk, OnErr, IfOk, IfErr, IfSome};
 ghost use Rattle.std.specs.Io.KnownBytes.{Appends, Keeps, Consumes, IsAtEnd};
 
 use crate::ReplayFault;
-use std::alloc::{AllocError as NoMemory, Global};
 use std::io::{ErrorKind, Read, Write};
-
-/// The most reads of one input.
-pub(crate) const READS_MAX: u64 = 1 << 30;
-
-// The bytes of one read.
-const PIECE: usize = 65_536;
 
 /// Reads a piece into the buffer: how many bytes, none at the end of the input, or 0 where the read was
 /// interrupted.
@@ -122,11 +115,4 @@ fn write_piece<W: Write>(output: &mut W, text: &[u8]) -> Result<usize, ReplayFau
             }
         }
     }
-}
-
-/// Room for one read.
-pub(crate) fn empty_piece(alloc: Global) -> Result<Vec<u8>, NoMemory>
-    ensures { IfOk result (λ buffer. vec_len buffer ≡ PIECE) }
-{
-    vec![in alloc; 0; PIECE]
 }

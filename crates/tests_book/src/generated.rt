@@ -1,6 +1,6 @@
 //! Generated runs of commands and their inverses, compared with the plain slow program after every step.
 ghost use Rattle.std.specs.Prelude.{◌≡◌, ◌+◌, ◌<◌, ◌≤◌, IfOk};
-ghost use Rattle.blot_command.specs.Undoable.{IsAbove};
+ghost use Rattle.blot_command.specs.Undoable.{IsAboveNumbers};
 ghost use Rattle.blot_command.specs.Kinds.{command_meaning};
 
 use crate::answers::{expect_back, expect_refused, expect_taken};
@@ -30,7 +30,7 @@ fn expected(
 
 // A command is taken or refused as the plain program says, and taken back.
 fn try_command(alloc: Global, tables: &mut Tables, number: u64, sent: &Command) -> Result<(), Fail>
-    requires above { IsAbove command_meaning number tables.old }
+    requires above { IsAboveNumbers command_meaning number tables.old }
     requires within { number ≤ EVENTS_MAX }
     ensures { IfOk result (λ _. tables.new.list ≡ tables.old.list) }
 {
@@ -79,7 +79,7 @@ fn cancel_of(reference: AllocKey) -> Result<Command, Fail> {
 
 // A key is taken up, rooted, busted and named as the plain program says.
 fn try_key(alloc: Global, tables: &mut Tables, number: u64, key: &ExecKey) -> Result<(), Fail>
-    requires above { IsAbove command_meaning number tables.old }
+    requires above { IsAboveNumbers command_meaning number tables.old }
     requires within { number ≤ EVENTS_MAX }
     ensures { IfOk result (λ _. tables.new.list ≡ tables.old.list) }
 {
@@ -104,7 +104,7 @@ fn try_allocation(
     number: u64,
     key: AllocKey,
 ) -> Result<(), Fail>
-    requires above { IsAbove command_meaning number tables.old }
+    requires above { IsAboveNumbers command_meaning number tables.old }
     requires within { number ≤ EVENTS_MAX }
     ensures { IfOk result (λ _. tables.new.list ≡ tables.old.list) }
 {
@@ -116,7 +116,7 @@ fn try_allocation(
 
 // An execution and an allocation that are drawn, likewise.
 fn try_keys(alloc: Global, tables: &mut Tables, draws: &mut Draws, number: u64) -> Result<(), Fail>
-    requires above { IsAbove command_meaning number tables.old }
+    requires above { IsAboveNumbers command_meaning number tables.old }
     requires within { number ≤ EVENTS_MAX }
     ensures { IfOk result (λ _. tables.new.list ≡ tables.old.list) }
 {
@@ -141,7 +141,7 @@ fn examine(
     orders: &[OrderKey],
     number: u64,
 ) -> Result<(), Fail>
-    requires above { IsAbove command_meaning number tables.old }
+    requires above { IsAboveNumbers command_meaning number tables.old }
     requires within { number ≤ EVENTS_MAX }
     ensures { IfOk result (λ _. tables.new.list ≡ tables.old.list) }
 {
@@ -166,7 +166,7 @@ fn explore(
     number: u64,
     steps: u32,
 ) -> Result<(), Fail>
-    requires above { IsAbove command_meaning number tables.old }
+    requires above { IsAboveNumbers command_meaning number tables.old }
     requires within { number + steps ≤ EVENTS_MAX }
     ensures { IfOk result (λ _. tables.new.list ≡ tables.old.list) }
 {

@@ -1,6 +1,6 @@
 //! Each kind of command by itself: taken and taken back by its own calls, and refused.
 ghost use Rattle.std.specs.Prelude.{◌≡◌, ◌≤◌, [], IfOk};
-ghost use Rattle.blot_command.specs.Undoable.{IsAbove};
+ghost use Rattle.blot_command.specs.Undoable.{IsAboveNumbers};
 ghost use Rattle.blot_command.specs.Kinds.{trade_meaning, correct_meaning, bust_meaning, alloc_new_meaning, alloc_replace_meaning, alloc_cancel_meaning};
 
 use blot_command::{ApplyFault, Tables, Undoable};
@@ -12,7 +12,7 @@ use tests_words::{FIRST, alloc_cancel, alloc_new, alloc_replace, bust, correct, 
 
 // A trade is taken, and its inverse hands it back.
 fn trade_and_back(tables: &mut Tables, number: u64, sent: Trade) -> Result<(), Fail>
-    requires above { IsAbove trade_meaning number tables.old }
+    requires above { IsAboveNumbers trade_meaning number tables.old }
     requires within { number ≤ EVENTS_MAX }
 {
     let Ok(inverse) = sent.apply(tables, number) else {
@@ -26,7 +26,7 @@ fn trade_and_back(tables: &mut Tables, number: u64, sent: Trade) -> Result<(), F
 
 // A correction is taken, and its inverse hands it back.
 fn correct_and_back(tables: &mut Tables, number: u64, sent: Correct) -> Result<(), Fail>
-    requires above { IsAbove correct_meaning number tables.old }
+    requires above { IsAboveNumbers correct_meaning number tables.old }
     requires within { number ≤ EVENTS_MAX }
 {
     let Ok(inverse) = sent.apply(tables, number) else {
@@ -40,7 +40,7 @@ fn correct_and_back(tables: &mut Tables, number: u64, sent: Correct) -> Result<(
 
 // A bust is taken, and its inverse hands it back.
 fn bust_and_back(tables: &mut Tables, number: u64, sent: Bust) -> Result<(), Fail>
-    requires above { IsAbove bust_meaning number tables.old }
+    requires above { IsAboveNumbers bust_meaning number tables.old }
     requires within { number ≤ EVENTS_MAX }
 {
     let Ok(inverse) = sent.apply(tables, number) else {
@@ -54,7 +54,7 @@ fn bust_and_back(tables: &mut Tables, number: u64, sent: Bust) -> Result<(), Fai
 
 // Refused under a number, for this reason, a bust comes back.
 fn refused_bust(tables: &mut Tables, number: u64, sent: Bust, reason: Refused) -> Result<(), Fail>
-    requires above { IsAbove bust_meaning number tables.old }
+    requires above { IsAboveNumbers bust_meaning number tables.old }
     requires within { number ≤ EVENTS_MAX }
 {
     match sent.apply(tables, number) {
@@ -90,7 +90,7 @@ fn a_trade_by_itself(rt: HostRuntime) -> Result<(), Fail> {
 // The first trade is taken under 1.
 fn take_first(tables: &mut Tables, first: Trade) -> Result<(), Fail>
     requires { tables.old.list ≡ [] }
-    ensures { IfOk result (λ _. IsAbove trade_meaning 2 tables.new) }
+    ensures { IfOk result (λ _. IsAboveNumbers trade_meaning 2 tables.new) }
 {
     match first.apply(tables, 1) {
         Ok(_) => Ok(()),
@@ -101,7 +101,7 @@ fn take_first(tables: &mut Tables, first: Trade) -> Result<(), Fail>
 // A book with the first trade under 1.
 fn begin(tables: &mut Tables) -> Result<(), Fail>
     requires { tables.old.list ≡ [] }
-    ensures { IfOk result (λ _. IsAbove trade_meaning 2 tables.new) }
+    ensures { IfOk result (λ _. IsAboveNumbers trade_meaning 2 tables.new) }
 {
     match first_trade() {
         Ok(first) => take_first(tables, first),
@@ -138,7 +138,7 @@ fn a_refused_bust_by_itself(rt: HostRuntime) -> Result<(), Fail> {
 
 // A new allocation is taken, and its inverse hands it back.
 fn new_and_back(alloc: Global, tables: &mut Tables, number: u64) -> Result<(), Fail>
-    requires above { IsAbove alloc_new_meaning number tables.old }
+    requires above { IsAboveNumbers alloc_new_meaning number tables.old }
     requires within { number ≤ EVENTS_MAX }
 {
     let (sent, again) = (first_allocation(alloc)?, first_allocation(alloc)?);
@@ -153,7 +153,7 @@ fn new_and_back(alloc: Global, tables: &mut Tables, number: u64) -> Result<(), F
 
 // An allocation in the place of another is taken, and its inverse hands it back.
 fn replace_and_back(alloc: Global, tables: &mut Tables, number: u64) -> Result<(), Fail>
-    requires above { IsAbove alloc_replace_meaning number tables.old }
+    requires above { IsAboveNumbers alloc_replace_meaning number tables.old }
     requires within { number ≤ EVENTS_MAX }
 {
     let (sent, again) = (first_replacement(alloc)?, first_replacement(alloc)?);
@@ -168,7 +168,7 @@ fn replace_and_back(alloc: Global, tables: &mut Tables, number: u64) -> Result<(
 
 // The end of an allocation is taken, and its inverse hands it back.
 fn cancel_and_back(tables: &mut Tables, number: u64, sent: AllocCancel) -> Result<(), Fail>
-    requires above { IsAbove alloc_cancel_meaning number tables.old }
+    requires above { IsAboveNumbers alloc_cancel_meaning number tables.old }
     requires within { number ≤ EVENTS_MAX }
 {
     let Ok(inverse) = sent.apply(tables, number) else {
@@ -192,8 +192,8 @@ fn first_replacement(alloc: Global) -> Result<AllocReplace, Fail> {
 
 // The allocation is taken under 2.
 fn take_allocation(tables: &mut Tables, first: AllocNew) -> Result<(), Fail>
-    requires { IsAbove alloc_new_meaning 2 tables.old }
-    ensures { IfOk result (λ _. IsAbove alloc_new_meaning 3 tables.new) }
+    requires { IsAboveNumbers alloc_new_meaning 2 tables.old }
+    ensures { IfOk result (λ _. IsAboveNumbers alloc_new_meaning 3 tables.new) }
 {
     match first.apply(tables, 2) {
         Ok(_) => Ok(()),
@@ -210,8 +210,8 @@ fn an_allocation_by_itself(rt: HostRuntime) -> Result<(), Fail> {
 
 // The first allocation is taken under 2.
 fn begin_allocation(alloc: Global, tables: &mut Tables) -> Result<(), Fail>
-    requires { IsAbove alloc_new_meaning 2 tables.old }
-    ensures { IfOk result (λ _. IsAbove alloc_new_meaning 3 tables.new) }
+    requires { IsAboveNumbers alloc_new_meaning 2 tables.old }
+    ensures { IfOk result (λ _. IsAboveNumbers alloc_new_meaning 3 tables.new) }
 {
     match first_allocation(alloc) {
         Ok(first) => take_allocation(tables, first),

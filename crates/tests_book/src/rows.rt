@@ -1,6 +1,6 @@
 //! Rows of commands, each with what the book says to it and shows after it.
 ghost use Rattle.std.specs.Prelude.{◌≡◌, ◌≤◌, IfOk};
-ghost use Rattle.blot_command.specs.Undoable.{IsAbove};
+ghost use Rattle.blot_command.specs.Undoable.{IsAboveNumbers};
 ghost use Rattle.blot_command.specs.Kinds.{command_meaning};
 ghost use Rattle.blot_types.specs.declared.TheConstants.{EVENTS_MAX};
 
@@ -146,7 +146,7 @@ fn play(
     before: &[&'static str; 2],
     rows: &[Offer],
 ) -> Result<(), Fail>
-    requires above { IsAbove command_meaning number tables.old }
+    requires above { IsAboveNumbers command_meaning number tables.old }
     requires within { number ≤ EVENTS_MAX }
     ensures { IfOk result (λ _. tables.new.list ≡ tables.old.list) }
 {

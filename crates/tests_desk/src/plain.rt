@@ -13,9 +13,9 @@ use std::test::Fail;
 #[derive(Drop)]
 pub struct PlainDesk {
     alloc: Global,
-    /// The live entries, which are the done steps.
+    // The live entries, which are the done steps.
     list: Vec<Entry>,
-    /// The undone steps, the one undone last at the end.
+    // The undone steps, the one undone last at the end.
     undone: Vec<Entry>,
     next: u64,
     history: Vec<Recorded>,

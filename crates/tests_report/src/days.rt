@@ -1,10 +1,11 @@
 //! Worked days. The amounts are worked out by hand.
 
 use crate::played::{Played, play};
+use crate::words::Filled;
 use crate::words::Said::{Allocates, Busts, Cancels, Corrects, Trades};
-use crate::words::{Booked, Filled};
 use blot_types::Sign::{Buy, Sell};
 use std::test::Fail;
+use tests_words::{BOTH, Booked, SECOND};
 
 // A fill of 100 of 300 of O1 at 10, bought for A1.
 const HUNDRED: Filled = Filled {
@@ -18,12 +19,12 @@ const HUNDRED: Filled = Filled {
     day: b"20240105",
 };
 
-// 100 of E1 at 10, all to A, a day after.
-const NEXT_DAY: Booked = Booked {
+// 100 of E1 at 10, all to A.
+const ALL_OF_E1: Booked = Booked {
+    sign: Buy,
     execs: &[b"E1"],
     block: b"100",
     lines: &[[b"A", b"100", b"10"]],
-    day: b"20240106",
 };
 
 // Nothing said.
@@ -93,18 +94,7 @@ fn at_the_average() -> &'static Played {
                     },
                 ),
             ),
-            (
-                b"BRKA",
-                Allocates(
-                    b"AL1",
-                    Booked {
-                        execs: &[b"E1", b"E2"],
-                        block: b"150",
-                        lines: &[[b"A", b"100", b"10.0033"], [b"B", b"50", b"10.0033"]],
-                        day: b"20240105",
-                    },
-                ),
-            ),
+            (b"BRKA", Allocates(b"AL1", b"20240105", BOTH)),
         ],
         reports: &[
             (
@@ -143,18 +133,7 @@ fn a_busted_allocation() -> &'static Played {
                     },
                 ),
             ),
-            (
-                b"BRKA",
-                Allocates(
-                    b"AL1",
-                    Booked {
-                        execs: &[b"E2"],
-                        block: b"50",
-                        lines: &[[b"A", b"30", b"11"], [b"B", b"20", b"11"]],
-                        day: b"20240105",
-                    },
-                ),
-            ),
+            (b"BRKA", Allocates(b"AL1", b"20240105", SECOND)),
             (b"BRKA", Busts(b"E3", b"E2")),
         ],
         reports: &[(
@@ -175,18 +154,7 @@ fn a_position_of_zero() -> &'static Played {
         name: "a position of zero",
         said: &[
             (b"BRKA", Trades(b"E1", HUNDRED)),
-            (
-                b"BRKA",
-                Allocates(
-                    b"AL1",
-                    Booked {
-                        execs: &[b"E1"],
-                        block: b"100",
-                        lines: &[[b"A", b"100", b"10"]],
-                        day: b"20240105",
-                    },
-                ),
-            ),
+            (b"BRKA", Allocates(b"AL1", b"20240105", ALL_OF_E1)),
         ],
         reports: &[(
             "20240105",
@@ -207,7 +175,7 @@ fn an_allocation_of_the_next_day() -> &'static Played {
         name: "an allocation of the next day",
         said: &[
             (b"BRKA", Trades(b"E1", HUNDRED)),
-            (b"BRKA", Allocates(b"AL1", NEXT_DAY)),
+            (b"BRKA", Allocates(b"AL1", b"20240106", ALL_OF_E1)),
         ],
         reports: &[
             ("20240104", b"report>20240104\nend>0\n"),
@@ -237,7 +205,7 @@ fn a_cancelled_allocation() -> &'static Played {
         name: "a cancelled allocation",
         said: &[
             (b"BRKA", Trades(b"E1", HUNDRED)),
-            (b"BRKA", Allocates(b"AL1", NEXT_DAY)),
+            (b"BRKA", Allocates(b"AL1", b"20240106", ALL_OF_E1)),
             (b"BRKA", Cancels(b"AL2", b"AL1")),
         ],
         reports: &[

@@ -10,7 +10,7 @@ use std::alloc::{AllocError as NoMemory, Global};
 // What a line of a script can't be played for.
 const OUT_OF_TURN: &str = "out of turn";
 
-// A text of a test isn't one.
+/// A text of a test isn't one.
 #[derive(Debug, Drop)]
 pub struct NoText;
 

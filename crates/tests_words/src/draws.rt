@@ -36,7 +36,7 @@ impl Draws {
         self.draw() & 15 == 0
     }
 
-    /// One of these texts.
+    // One of these texts.
     fn pick(&mut self, texts: &[&'static [u8]]) -> &'static [u8] {
         let place = self.draw() as usize % texts.len().max(1);
         texts.get(place).copied().unwrap_or(b"")

@@ -1,4 +1,4 @@
-//! What the tests share: those of the book and of the desk keys and fills, commands in words, commands drawn from a
+//! What the tests share: those of the book, of the desk and of reports keys and fills, commands in words, commands drawn from a
 //! seed, what a book shows as text, and how often each thing came; those of the gateway and of the program streams of
 //! frames. No contract says more than a caller's proof needs.
 #![tactic(auto)]

@@ -1,7 +1,7 @@
 use Rattle.std.proofs.Common.{◌+◌, length, Ok, sym, ap, ◌∙◌, arith}
 use Rattle.std.proofs.lemmas.Result.{err_from_is_err_and}
 use Rattle.blot_console.specs.Allocate.{lines_of}
-use Rattle.blot_console.specs.Making.{kept_sum}
+use Rattle.blot_console.specs.Block.{kept_sum}
 use Rattle.blot_console.proofs.AllocateLemmas.{lines_grow, lines_fail, lines_end_few, lines_short}
 use Rattle.blot_console.proofs.allocate.lines_of.Goals as goal
 

@@ -9,8 +9,8 @@ returns-then-not-are_parts c =
     let form : is_size c.args.size.now ≡ false = cc in
     sym (ap limited (size_of-format c.args.places c.args.size.now form))
 
-pub returns-then-not-all_zeros : goal.returns-then-not-all_zeros
-returns-then-not-all_zeros c =
+pub returns-then-not-are_zeros : goal.returns-then-not-are_zeros
+returns-then-not-are_zeros c =
     let form : is_size c.args.size.now ≡ true = cc in
     let turned = drop-min_turned c.args.places (fraction_of c.args.size.now) in
     let past : are_zeros (drop c.args.places (fraction_of c.args.size.now)) ≡ false = cc in

@@ -2,7 +2,7 @@ use Rattle.std.proofs.Common.{arith, ◌+◌, ap, ◌∙◌, Result, Ok, Err}
 use Rattle.std.specs.Prelude.{IfOk}
 use Rattle.blot_command.specs.Book.{Shown, before, after}
 use Rattle.blot_command.specs.Kinds.{command_meaning, command_lawful}
-use Rattle.blot_command.specs.Undoable.{IsAbove}
+use Rattle.blot_command.specs.Undoable.{IsAboveNumbers}
 use Rattle.blot_command.proofs.StepLemmas.{below_next}
 use Rattle.tests_book.proofs.generated.+explore.Goals as goal
 use Rattle.tests_book.proofs.generated.+explore.Goals.{in-Ok+in_ok-expect_taken-in-Ok+in_ok-explore-in-Ok+in_ok-explore-in-Ok-2+in_ok-expect_back-in-Ok, in-Err+in_ok-expect_refused-in-Err+in_ok-explore-in-Err}
@@ -13,7 +13,7 @@ if_ok (Err e) P p = tt
 
 pub explore-requires : goal.explore-requires
 explore-requires t c =
-    let above : IsAbove command_meaning (c.args.number + 1) c.apply.new.tables =
+    let above : IsAboveNumbers command_meaning (c.args.number + 1) c.apply.new.tables =
     below_next command_meaning _ _ c.examine.new.tables _ (rw c.in_ok-examine.ensures c.requires.above) c.in-Ok.ensures.kept in
     (omega arith, (above, omega (arith, c.requires.within)))
 

@@ -2,7 +2,7 @@ use Rattle.std.proofs.Common.{arith, ◌+◌, ap, ◌∙◌, Result, Ok, Err}
 use Rattle.std.specs.Prelude.{IfOk}
 use Rattle.blot_command.specs.Book.{Shown, before, after}
 use Rattle.blot_command.specs.Kinds.{command_meaning, command_lawful}
-use Rattle.blot_command.specs.Undoable.{IsAbove}
+use Rattle.blot_command.specs.Undoable.{IsAboveNumbers}
 use Rattle.blot_command.proofs.StepLemmas.{below_next}
 use Rattle.tests_book.proofs.rows.+play.Goals as goal
 use Rattle.tests_book.proofs.rows.+play.Goals.{in-Ok+in_ok-expect_taken-in-Ok+in_ok-play-in-Ok+in_ok-expect_back-in-Ok, in-Err+in_ok-expect_refused-in-Err+in_ok-play-in-Err}
@@ -13,7 +13,7 @@ if_ok (Err e) P p = tt
 
 pub play-requires : goal.play-requires
 play-requires t c =
-    let above : IsAbove command_meaning (c.args.number + 1) c.apply.new.tables =
+    let above : IsAboveNumbers command_meaning (c.args.number + 1) c.apply.new.tables =
     below_next command_meaning _ _ c.args.tables.now _ c.requires.above c.in-Ok.ensures.kept in
     (omega arith, (above, omega arith))
 
