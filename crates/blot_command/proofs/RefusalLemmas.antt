@@ -19,12 +19,12 @@ use Rattle.blot_types.specs.declared.refused.Refused.TheVariants.{DuplicateAlloc
 use Rattle.blot_types.specs.Allocations.{instructions_of}
 use Rattle.blot_types.specs.Instructions.{alloc_taker_in}
 use Rattle.blot_types.proofs.AcceptLemmas.{or_parts}
-use Rattle.blot_command.specs.Refusing.{terms_refusal, reference_refusal}
 use Rattle.blot_types.specs.Order.{cum_of}
 use Rattle.blot_types.specs.Refusals.{version_in, current_fill, mismatch}
 use Rattle.blot_types.specs.Survivors.{links_of}
 use Rattle.blot_types.proofs.SumLemmas.{total-append}
 use Rattle.blot_types.proofs.SurvivorLemmas.{version_in-rising}
+use Rattle.blot_command.specs.Refusing.{terms_refusal, reference_refusal}
 use Rattle.blot_command.specs.Shown.{version_numbered}
 
 same_version : (entries : List Entry) (number : ℕ) → numbers_rise entries ≡ true → version_in (reverse entries) number ≡ version_numbered entries number

@@ -4,15 +4,15 @@ use Rattle.std.specs.Prelude.{find, if◌then◌else◌}
 use Rattle.std.specs.Option.{option_map, option_or}
 use Rattle.std.proofs.lemmas.Bool.{cases_Bool, ne_eqb, eq-eqb, eqb-true, eqb-false}
 use Rattle.std.proofs.lemmas.List.Folds.{find-append}
+use Rattle.std.specs.FinMap as finite
+use Rattle.std.proofs.lemmas.List.Elements.{All-nil}
 use Rattle.blot_types.specs.declared.fill.Fill.{Fill}
 use Rattle.blot_types.specs.declared.lines.Version.{Version}
 use Rattle.blot_types.specs.Survivors.{is_number}
 use Rattle.blot_types.proofs.SurvivorLemmas.{without}
+use Rattle.blot_types.specs.declared.command.Entry.{Entry}
 use Rattle.blot_order.specs.Fills.{Fills, put_at, held_at}
 use Rattle.blot_order.proofs.FillLemmas.{put_at-empty, put_at-with_put, put_at-with_put_same, put_at-with_kept, kept_at-with_kept_same, held_at-with_put, held_at-with_put_same, held_at-with_put_other, held_at-with_kept, held_at-put, held_at-kept, kept_at-held}
-use Rattle.std.specs.FinMap as finite
-use Rattle.std.proofs.lemmas.List.Elements.{All-nil}
-use Rattle.blot_types.specs.declared.command.Entry.{Entry}
 use Rattle.blot_command.specs.Shown.{Shows, fill_numbered, with_put, with_kept, IsPut, IsKept}
 
 or_none : {A : Type 0} (o : Option A) → option_or o None ≡ o

@@ -187,13 +187,11 @@ impl LiveList {
 fn copy_of(alloc: Global, entry: &Entry) -> Result<Entry, NoMemory>
     ensures { IfOk result (λ copy. copy ≡ entry.now) }
 {
-    match entry.command.try_copy(alloc) {
-        Ok(command) => Ok(Entry {
-            number: entry.number,
-            command,
-        }),
-        Err(fail) => Err(fail),
-    }
+    let command = entry.command.try_copy(alloc)?;
+    Ok(Entry {
+        number: entry.number,
+        command,
+    })
 }
 
 // The terms of a command, where it brings the allocation of a key.

@@ -1,7 +1,7 @@
 //! What a command of any kind promises.
 ghost use Rattle.std.specs.Prelude.{◌≡◌, ◌≤◌, Some, IfOk, IfErr};
-ghost use Rattle.blot_command.specs.Undoable.{Meaning, IsLawful, IsAboveNumbers, IsStep, IsRefusal, Adds, Undoes, TakesOut};
 ghost use Rattle.blot_types.specs.declared.TheConstants.{EVENTS_MAX};
+ghost use Rattle.blot_command.specs.Undoable.{Meaning, IsLawful, IsAboveNumbers, IsStep, IsRefusal, Adds, Undoes, TakesOut};
 
 use blot_types::EVENTS_MAX;
 

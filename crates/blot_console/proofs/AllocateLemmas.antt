@@ -6,13 +6,13 @@ use Rattle.blot_types.specs.declared.TheConstants.{ITEMS_MAX}
 use Rattle.blot_types.specs.declared.allocation.Line.{Line}
 use Rattle.blot_types.specs.declared.keys.ExecKey.{ExecKey}
 use Rattle.blot_types.specs.Making.{Made, Grows, Holds, Makes, IsShort}
+use Rattle.blot_types.proofs.MakingLemmas.{with_first, IsFront, front_begins, front_grows, front_faults, front_ends, made_short, makes_short}
 use Rattle.blot_console.specs.declared.allocate.Block.{Block}
 use Rattle.blot_console.specs.declared.fault.Wrong.{Wrong}
 use Rattle.blot_console.specs.Allocate.{execs_of, line_of, lines_of, block_of}
 use Rattle.blot_console.specs.Block.{kept_sum, MakesBlock}
 use Rattle.blot_console.specs.Forms.{text_form}
 use Rattle.blot_console.specs.Rows.{at}
-use Rattle.blot_types.proofs.MakingLemmas.{with_first, IsFront, front_begins, front_grows, front_faults, front_ends, made_short, makes_short}
 
 -- ---- executions
 

@@ -25,7 +25,7 @@ abbrev pub IsAllocate : Ask → Type 0
 IsAllocate (Step event) = SubmitsAllocNew event
 IsAllocate _ = ⊥
 
--- a result is what is meant, unless memory was wanting for the lists of an allocation
+-- a result is what is meant, unless memory ran out for the lists of an allocation
 abbrev pub Gives : Result Ask Refusal → Result Ask Wrong → Type 0
 Gives (Ok ask) meant = meant ≡ Ok ask
 Gives (Err (refusals.Wrong wrong)) meant = meant ≡ Err wrong

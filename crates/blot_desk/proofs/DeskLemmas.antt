@@ -7,6 +7,7 @@ use Rattle.std.specs.Option.{option_map}
 use Rattle.blot_types.specs.declared.command.Command.{Command}
 use Rattle.blot_types.specs.declared.refused.Refused.{Refused as Reason}
 use Rattle.blot_types.specs.Legal.{refusal_of}
+use Rattle.blot_types.specs.declared.TheConstants.{EVENTS_MAX}
 use Rattle.blot_command.specs.declared.fault.ApplyFault.{ApplyFault}
 use Rattle.blot_command.specs.declared.fault.ApplyFault.TheVariants.{Refused, NoMemory}
 use Rattle.blot_command.specs.Kinds.{command_meaning}
@@ -15,7 +16,6 @@ use Rattle.blot_undo.specs.Faults.{IsFault}
 use Rattle.blot_undo.specs.Book.{undo_in, redo_in, newest_done, newest_undone}
 use Rattle.blot_undo.specs.declared.step.Done.{Done}
 use Rattle.blot_undo.specs.declared.step.Undone.{Undone}
-use Rattle.blot_types.specs.declared.TheConstants.{EVENTS_MAX}
 use Rattle.blot_desk.specs.declared.event.Event.{Event}
 use Rattle.blot_desk.specs.declared.event.Event.TheVariants.{Submit, Undo, Redo, AskOrder, AskPosition}
 use Rattle.blot_desk.specs.declared.event.Recorded.{Recorded}

@@ -21,13 +21,9 @@ use Rattle.blot_types.specs.declared.lines.PositionLine.{PositionLine}
 use Rattle.blot_types.specs.declared.fill.Sign.{Sign}
 use Rattle.blot_types.specs.declared.refused.Refused.{Refused}
 use Rattle.blot_types.specs.declared.command.Command.{Command}
-use Rattle.blot_desk.specs.declared.event.Event.{Event}
-use Rattle.blot_desk.specs.declared.event.Reply.{Reply}
 use Rattle.blot_types.specs.declared.fill.Sign.TheVariants as sign_of
 use Rattle.blot_types.specs.declared.refused.Refused.TheVariants as refused_of
 use Rattle.blot_types.specs.declared.command.Command.TheVariants as command_of
-use Rattle.blot_desk.specs.declared.event.Event.TheVariants as event_of
-use Rattle.blot_desk.specs.declared.event.Reply.TheVariants as reply_of
 use Rattle.blot_types.specs.contracts.keys.ExecKeyPartialEq.TheImpl.{ghosts as exec}
 use Rattle.blot_types.specs.contracts.keys.OrderKeyPartialEq.TheImpl.{ghosts as order}
 use Rattle.blot_types.specs.contracts.keys.AllocKeyPartialEq.TheImpl.{ghosts as alloc}
@@ -45,6 +41,10 @@ use Rattle.blot_types.specs.contracts.lines.PositionLinePartialEq.TheImpl.{ghost
 use Rattle.blot_types.specs.contracts.fill.SignPartialEq.TheImpl.{ghosts as sign}
 use Rattle.blot_types.specs.contracts.refused.RefusedPartialEq.TheImpl.{ghosts as refused}
 use Rattle.blot_types.specs.contracts.command.CommandPartialEq.TheImpl.{ghosts as command}
+use Rattle.blot_desk.specs.declared.event.Event.{Event}
+use Rattle.blot_desk.specs.declared.event.Reply.{Reply}
+use Rattle.blot_desk.specs.declared.event.Event.TheVariants as event_of
+use Rattle.blot_desk.specs.declared.event.Reply.TheVariants as reply_of
 use Rattle.blot_desk.specs.contracts.event.EventPartialEq.TheImpl.{ghosts as event}
 use Rattle.blot_desk.specs.contracts.event.ReplyPartialEq.TheImpl.{ghosts as reply}
 

@@ -25,10 +25,10 @@ impl Event {
         ensures { IfOk result (λ copy. copy ≡ self.now) }
     {
         match self {
-            Event::Submit(command) => match command.try_copy(alloc) {
-                Ok(command) => Ok(Event::Submit(command)),
-                Err(fault) => Err(fault),
-            },
+            Event::Submit(command) => {
+                let command = command.try_copy(alloc)?;
+                Ok(Event::Submit(command))
+            }
             Event::Undo { newest } => Ok(Event::Undo { newest: *newest }),
             Event::Redo => Ok(Event::Redo),
             Event::AskOrder(order) => Ok(Event::AskOrder(*order)),

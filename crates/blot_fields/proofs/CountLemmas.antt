@@ -9,14 +9,14 @@ use Rattle.std.specs.List.{list_any, position_or_len}
 use Rattle.blot_tag.specs.Fields.{TagValue}
 use Rattle.blot_tag.specs.Results.{◌>>=◌}
 use Rattle.blot_types.specs.declared.allocation.Line.{Line}
+use Rattle.blot_types.specs.Making.{Made, Makes, IsShort}
+use Rattle.blot_types.proofs.MakingLemmas.{makes_short}
 use Rattle.blot_fields.specs.declared.allocation.TheConstants.{ENTRIES_MAX}
 use Rattle.blot_fields.specs.declared.fault.Wrong.{Wrong}
 use Rattle.blot_fields.specs.Forms.{text_form}
 use Rattle.blot_fields.specs.Groups.{bears, before, behind, count_of, are_executions, are_lines, is_of_line, ids_of, line_of, lines_in, each_line_of}
-use Rattle.blot_types.specs.Making.{Made, Makes, IsShort}
 use Rattle.blot_fields.specs.Rows.{at, values}
 use Rattle.blot_fields.proofs.GroupLemmas.{bound}
-use Rattle.blot_types.proofs.MakingLemmas.{makes_short}
 
 abbrev given : {A : Type 0} → A → Result A Wrong
 given value = Ok value

@@ -2,6 +2,8 @@
 use Rattle.std.proofs.Common.{◌≡◌, get_or, arith, ◌≤◌, inl, inr, length, replicate, map, filter, ap, subst, ℕ, ◌+◌, ◌<◌, Bool, true, false, List, [], ◌∷◌, Option, Some, None, Result, Ok, Err, refl, sym, ◌∙◌}
 use Rattle.std.specs.Prelude.{slice_index_or, slice_set, if◌then◌else◌, ◌==◌}
 use Rattle.std.proofs.lemmas.List.{get_or-replicate, get_or-set_same, get_or-set_other}
+use Rattle.std.proofs.lemmas.List.Sums.{passes_at_first}
+use Rattle.std.proofs.lemmas.Bool.{eqb-true, eq-eqb, ne_eqb, cases_eq}
 use Rattle.blot_tag.specs.Fields.{TagValue, Item}
 use Rattle.blot_fields.specs.declared.fault.Flaw.{Flaw}
 use Rattle.blot_fields.specs.declared.slot.Slot.{Slot}
@@ -10,8 +12,6 @@ use Rattle.blot_fields.specs.declared.fault.Wrong.{Wrong}
 use Rattle.blot_fields.specs.Walk.{field_wrong, sound_behind, refused_behind}
 use Rattle.blot_fields.specs.Rows.{values}
 use Rattle.blot_fields.specs.Slots.{found_in, with_value}
-use Rattle.std.proofs.lemmas.List.Sums.{passes_at_first}
-use Rattle.std.proofs.lemmas.Bool.{eqb-true, eq-eqb, ne_eqb, cases_eq}
 use Rattle.blot_fields.specs.Index.{together, row_tags, row_of, IsIndexBefore, Notes}
 use Rattle.blot_fields.specs.declared.index.TheConstants.{ROWS}
 

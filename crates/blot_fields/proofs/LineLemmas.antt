@@ -7,17 +7,17 @@ use Rattle.std.specs.List.{prefix_len}
 use Rattle.blot_tag.specs.Fields.{TagValue}
 use Rattle.blot_tag.specs.Results.{◌>>=◌}
 use Rattle.blot_types.specs.declared.allocation.Line.{Line}
+use Rattle.blot_types.specs.Making.{Made, Makes}
+use Rattle.blot_types.proofs.MakingLemmas.{with_first, IsFront, front_grows, front_faults, front_ends}
 use Rattle.blot_fields.specs.declared.fault.Flaw.{Flaw}
 use Rattle.blot_fields.specs.declared.fault.Wrong.{Wrong}
 use Rattle.blot_fields.specs.Drafts.{Draft, line_from, with_field, begun, Pushes, NextLine}
 use Rattle.blot_fields.specs.Groups.{bears, before, lines_in, line_of, each_line_of}
 use Rattle.blot_fields.specs.Index.{together}
-use Rattle.blot_types.specs.Making.{Made, Makes}
 use Rattle.blot_fields.specs.Slots.{with_value}
 use Rattle.blot_fields.specs.Rows.{values, one_of, needed, there, optional, only, needed_in, optional_in}
 use Rattle.blot_fields.specs.Forms.{text_form, qty_form, price_form}
 use Rattle.blot_fields.proofs.IndexLemmas.{values-has, values-not, together-nil, together-next}
-use Rattle.blot_types.proofs.MakingLemmas.{with_first, IsFront, front_grows, front_faults, front_ends}
 
 -- a line's draft, together with its fields that are still to come
 abbrev pub known : Draft → List TagValue → Draft

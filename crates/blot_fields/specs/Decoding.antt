@@ -23,7 +23,7 @@ abbrev pub IsAllocation : Body → Type 0
 IsAllocation (bodies.Allocation allocation) = Unit {0}
 IsAllocation _ = ⊥
 
--- a message's own part is what is meant, unless memory was wanting for the lists of an allocation
+-- a message's own part is what is meant, unless memory ran out for the lists of an allocation
 abbrev pub GivesBody : Result Body Refusal → Result Body Wrong → Type 0
 GivesBody (Ok body) meant = meant ≡ Ok body
 GivesBody (Err (refusals.Wrong wrong)) meant = meant ≡ Err wrong

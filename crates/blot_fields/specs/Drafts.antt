@@ -4,6 +4,7 @@ use Rattle.std.specs.Option.{ok_or, option_or, option_map}
 use Rattle.blot_tag.specs.Fields.{TagValue}
 use Rattle.blot_tag.specs.Results.{◌>>=◌}
 use Rattle.blot_types.specs.declared.allocation.Line.{Line}
+use Rattle.blot_types.specs.Making.{Made, Grows}
 use Rattle.blot_fields.specs.declared.drafts.LineDraft.{LineDraft}
 use Rattle.blot_fields.specs.declared.fault.Flaw.{Flaw}
 use Rattle.blot_fields.specs.declared.fault.Flaw.TheVariants.{RequiredTagMissing}
@@ -11,7 +12,6 @@ use Rattle.blot_fields.specs.declared.fault.Wrong.{Wrong}
 use Rattle.blot_fields.specs.declared.slot.Slot.TheVariants.{Missing}
 use Rattle.blot_fields.specs.Forms.{text_form, qty_form, price_form}
 use Rattle.blot_fields.specs.Rows.{wrong, at, needed_in, optional_in}
-use Rattle.blot_types.specs.Making.{Made, Grows}
 use Rattle.blot_fields.specs.Slots.{found_in, with_value}
 
 -- what is known of a line: its AllocAccount, and what is found of AllocQty and AllocPrice

@@ -33,7 +33,7 @@ abbrev pub Refuses : {A : Type 0} → Refusal → Result A Wrong → Type 0
 Refuses (refusals.Wrong wrong) meant = meant ≡ Err wrong
 Refuses refusals.NoMemory meant = IsOk meant
 
--- a result is what is meant, unless memory was wanting for it
+-- a result is what is meant, unless memory ran out for it
 abbrev pub Gives : {A : Type 0} → Result A Refusal → Result A Wrong → Type 0
 Gives (Ok value) meant = meant ≡ Ok value
 Gives (Err refusal) meant = Refuses refusal meant

@@ -22,10 +22,10 @@ pub fn command_of(
 {
     match &message.body {
         Body::Report(report) => Ok(command_of_report(peer, message.head.sending, report)),
-        Body::Allocation(allocation) => match command_of_allocation(alloc, peer, allocation) {
-            Ok(command) => Ok(Some(command)),
-            Err(fail) => Err(fail),
-        },
+        Body::Allocation(allocation) => {
+            let command = command_of_allocation(alloc, peer, allocation)?;
+            Ok(Some(command))
+        }
         _ => Ok(None),
     }
 }
@@ -64,25 +64,25 @@ fn command_of_allocation(
     ensures { IfOk result (λ command. command ≡ command_of_allocation peer allocation.now) }
 {
     match allocation {
-        Allocation::New { id, terms } => match terms_of(alloc, peer, terms) {
-            Ok(terms) => Ok(Command::AllocNew(AllocNew {
+        Allocation::New { id, terms } => {
+            let terms = terms_of(alloc, peer, terms)?;
+            Ok(Command::AllocNew(AllocNew {
                 key: alloc_of(peer, *id),
                 terms,
-            })),
-            Err(fail) => Err(fail),
-        },
+            }))
+        }
         Allocation::Replace {
             id,
             reference,
             terms,
-        } => match terms_of(alloc, peer, terms) {
-            Ok(terms) => Ok(Command::AllocReplace(AllocReplace {
+        } => {
+            let terms = terms_of(alloc, peer, terms)?;
+            Ok(Command::AllocReplace(AllocReplace {
                 key: alloc_of(peer, *id),
                 reference: alloc_of(peer, *reference),
                 terms,
-            })),
-            Err(fail) => Err(fail),
-        },
+            }))
+        }
         Allocation::Cancel { id, reference } => Ok(Command::AllocCancel(AllocCancel {
             key: alloc_of(peer, *id),
             reference: alloc_of(peer, *reference),

@@ -9,6 +9,7 @@ use Rattle.blot_fields.specs.declared.fault.FieldFault.{FieldFault}
 use Rattle.blot_fields.specs.declared.message.Body.{Body}
 use Rattle.blot_fields.specs.declared.message.Body.TheVariants as bodies
 use Rattle.blot_fields.specs.declared.message.Message.{Message}
+use Rattle.blot_fields.specs.Numbers.{head_in}
 use Rattle.blot_types.specs.declared.command.Command.{Command}
 use Rattle.blot_session.specs.declared.action.Action.{Action}
 use Rattle.blot_session.specs.declared.action.Action.TheVariants.{Send, Deliver}
@@ -16,7 +17,6 @@ use Rattle.blot_session.specs.declared.replies.NotTaken.{NotTaken}
 use Rattle.blot_session.specs.declared.replies.SeenReply.{SeenReply}
 use Rattle.blot_session.specs.declared.state.State.{State}
 use Rattle.blot_session.specs.Calls.{Outcome, on_frame, on_tick, on_reply, row_of_reply}
-use Rattle.blot_fields.specs.Numbers.{head_in}
 use Rattle.blot_session.specs.States.{waiting_again, closed, IsIdle, IsAwaiting}
 
 -- a call: a frame with this text, the reply to what was delivered, a moment that passes, the end of the connection, and that the

@@ -1,5 +1,6 @@
 -- What a session remembers, and how that changes (FIX 4.4 volume 2, "Session protocol").
 use Rattle.std.specs.Prelude.{◌≡◌, ℕ, ◌+◌, ◌≤◌, true, ℤ, List, Option, Some, None, is_some}
+use Rattle.blot_fields.specs.declared.TheConstants.{SEQUENCE_MAX}
 use Rattle.blot_session.specs.declared.state.State.{State}
 use Rattle.blot_session.specs.declared.state.Link.{Link}
 use Rattle.blot_session.specs.declared.state.Link.TheVariants as links
@@ -7,7 +8,6 @@ use Rattle.blot_session.specs.declared.state.Live.{Live}
 use Rattle.blot_session.specs.declared.state.Awaited.{Awaited}
 use Rattle.blot_session.specs.declared.state.Phase.{Phase}
 use Rattle.blot_session.specs.declared.state.Phase.TheVariants as phases
-use Rattle.blot_fields.specs.declared.TheConstants.{SEQUENCE_MAX}
 
 -- the phase
 abbrev pub phase_by : Link → Phase

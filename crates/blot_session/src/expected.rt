@@ -3,17 +3,12 @@ ghost use Rattle.std.specs.Prelude.{◌≡◌, ◌≤◌};
 ghost use Rattle.blot_fields.specs.declared.TheConstants.{SEQUENCE_MAX};
 ghost use Rattle.blot_session.specs.Rows.{admin_row, alloc_id_of, body_row, expected_row, gap_fill_row, other_row, report_row, resend_row};
 
-use crate::CloseReason;
 use crate::outbound::Outbound;
 use crate::row::Row;
 use crate::state::{Awaited, State};
+use crate::{CloseReason, tags};
 use blot_fields::{Admin, Allocation, Body, FieldFault, Head, Message, Report};
 use blot_types::Text64;
-
-// Tags that a Reject names.
-const BEGIN_NUMBER: u32 = 7;
-
-const NEW_NUMBER: u32 = 36;
 
 /// What a session does about the expected message, without a fault or with one.
 #[tactic(auto, unfolding(crate::specs::Rows::expected_row))]
@@ -78,7 +73,10 @@ fn resend_row(state: State, number: u64, begin: u64) -> Row
     if begin < state.next {
         return Row::sends(Outbound::GapFill { begin }, state.counted());
     }
-    Row::sends(Outbound::incorrect(number, BEGIN_NUMBER), state.counted())
+    Row::sends(
+        Outbound::incorrect(number, tags::BEGIN_SEQ_NO),
+        state.counted(),
+    )
 }
 
 // A gap fill names a number above the expected one.
@@ -87,7 +85,7 @@ fn gap_fill_row(state: State, number: u64, new_number: u64) -> Row
     ensures { result ≡ gap_fill_row state number new_number }
 {
     if new_number <= state.expected {
-        return Row::sends(Outbound::incorrect(number, NEW_NUMBER), state);
+        return Row::sends(Outbound::incorrect(number, tags::NEW_SEQ_NO), state);
     }
     Row::silent(state.expecting(new_number))
 }

@@ -5,21 +5,14 @@ ghost use Rattle.blot_fields.specs.declared.TheConstants.{SEQUENCE_MAX};
 ghost use Rattle.blot_fields.specs.Numbers.{HasNumber, head_in};
 ghost use Rattle.blot_session.specs.Rows.{comp_id_row, high_body_row, high_row, frame_row, head_row, low_row, message_row, number_row, on_row, peer_row, reset_row};
 
-use crate::CloseReason;
 use crate::expected::expected_row;
 use crate::logons::{logon_row, waiting_row};
 use crate::outbound::Outbound;
 use crate::row::Row;
 use crate::state::{Link, State};
+use crate::{CloseReason, tags};
 use blot_fields::{Admin, Body, FieldFault, Head, Message};
 use blot_time::Moment;
-
-// Tags that a Reject names.
-const SENDER: u32 = 49;
-
-const TARGET: u32 = 56;
-
-const NEW_NUMBER: u32 = 36;
 
 // SessionRejectReason(373) of a CompID problem.
 const COMP_ID_PROBLEM: u8 = 9;
@@ -77,9 +70,9 @@ fn comp_id_row(state: State, head: &Head) -> Row
     ensures { result ≡ comp_id_row state head.now }
 {
     let tag = if state.is_sender(head) {
-        TARGET
+        tags::TARGET_COMP_ID
     } else {
-        SENDER
+        tags::SENDER_COMP_ID
     };
     let reject = Outbound::Reject {
         number: head.number,
@@ -141,7 +134,7 @@ fn reset_row(state: State, number: u64, new_number: u64) -> Row
     ensures { result ≡ reset_row state number new_number }
 {
     if new_number < state.expected {
-        return Row::sends(Outbound::incorrect(number, NEW_NUMBER), state);
+        return Row::sends(Outbound::incorrect(number, tags::NEW_SEQ_NO), state);
     }
     Row::silent(state.expecting(new_number))
 }

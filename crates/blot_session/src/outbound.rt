@@ -1,7 +1,7 @@
 //! Messages to send.
 ghost use Rattle.std.specs.Prelude.{◌≡◌, ◌-◌, ◌^◌, ◌<◌, true};
-ghost use Rattle.blot_session.specs.Outbound.{kind_of, number_of, next_behind, is_gap_fill};
 ghost use Rattle.blot_types.specs.Text.{is_text};
+ghost use Rattle.blot_session.specs.Outbound.{kind_of, number_of, next_behind, is_gap_fill};
 ghost use Rattle.blot_session.specs.declared.outbound.Outbound.TheVariants.{ResendRequest, Reject};
 
 use crate::SeenReply;

@@ -1,4 +1,4 @@
-//! The tags of the fields that a session sends. FIX 4.4 volume 6.
+//! The tags of the fields that a session sends, or names in a Reject. FIX 4.4 volume 6.
 
 /// BeginSeqNo.
 pub(crate) const BEGIN_SEQ_NO: u32 = 7;

@@ -16,13 +16,13 @@ use blot_types::Text64;
 use itoa::Buffer;
 use std::alloc::{AllocError as NoMemory, Global};
 
-// The most bytes of a field that a session sends, with its tag, `=` and SOH.
+// No field that a session sends has more bytes, with its tag, `=` and SOH.
 const FIELD_MAX: usize = 80;
 
-// The most bytes of a message up to the end of its header.
+// No message has more bytes up to the end of its header.
 const HEADER_MAX: usize = 2_000;
 
-// The most bytes of a message's fields before its last.
+// No field is put behind more bytes than these.
 const BODY_MAX: usize = 4_000;
 
 /// The frame of a message that is sent next.
@@ -63,7 +63,7 @@ fn put_header(
 ) -> Result<(), NoMemory>
     requires { length (body_of text.old) ≤ FIELD_MAX }
     ensures fields { OnOk result (text.new ≡ with_fields text.old (header_fields state.now message.now now)) }
-    ensures size { OnOk result (length (body_of text.new) ≤ 2000) }
+    ensures size { OnOk result (length (body_of text.new) ≤ HEADER_MAX) }
 {
     put_text(text, tags::SENDER_COMP_ID, &state.own)?;
     put_text(text, tags::TARGET_COMP_ID, &state.peer)?;

@@ -35,13 +35,8 @@ impl Slots {
         ensures repeated { (result ≡ Err SlotFault.RepeatedPeer) ↔ (IsDistinct same_text peers.now → ⊥) }
         ensures err { IfErr result (λ fault. (fault ≡ SlotFault.RepeatedPeer) ⊎ (fault ≡ SlotFault.NoMemory)) }
     {
-        match SlotTable::new(alloc, own, peers) {
-            Ok(table) => Ok(Slots {
-                own,
-                table: Mutex::new(table),
-            }),
-            Err(fault) => Err(fault),
-        }
+        let table = Mutex::new(SlotTable::new(alloc, own, peers)?);
+        Ok(Slots { own, table })
     }
 
     /// The blotter's CompID. No lock is taken.

@@ -2,11 +2,11 @@
 use Rattle.std.proofs.Common.{◌≡◌, ℕ, ◌+◌, ◌*◌, ◌-◌, ◌^◌, ◌<◌, ◌≤◌, true, List, [], ◌∷◌, length, fold, get_or, inl, lit≤, inr, arith}
 use Rattle.std.specs.Char.{is_ascii_digit}
 use Rattle.std.specs.List.{list_all}
-use Rattle.blot_tag.specs.Bytes.{is_number, with_digit, number_of}
 use Rattle.std.proofs.lemmas.Bool.{cases_Bool}
 use Rattle.std.proofs.Math.Nat.{mul-le-mul_right, pow-suc, pow-le-pow_right}
 use Rattle.std.proofs.lemmas.Bool.Decides.{nat_tests}
 use Rattle.std.proofs.lemmas.List.Folds.{list_all_at}
+use Rattle.blot_tag.specs.Bytes.{is_number, with_digit, number_of}
 
 -- each byte of a number is a digit
 pub is_number_at : (digits : List ℕ) (i : ℕ) → i < length digits → is_number digits ≡ true → (48 ≤ get_or digits i 0) × (get_or digits i 0 ≤ 57)

@@ -1,9 +1,9 @@
 -- What a step over the unread bytes finds.
 use Rattle.std.proofs.Common.{◌≡◌, ℕ, ◌+◌, ◌-◌, ◌≤◌, ◌++◌, List, [], length, take, drop, slice_get, unwrap_or, Option, Some, None, IfSome, Ok, Err, refl, sym, ap, subst, ◌∙◌, arith}
 use Rattle.std.proofs.lemmas.List.{drop-drop, take-append-drop, length-drop}
+use Rattle.std.specs.Option.{ok_or}
 use Rattle.blot_tag.specs.Frames.{IsFrame}
 use Rattle.blot_tag.specs.Looking.{look_of}
-use Rattle.std.specs.Option.{ok_or}
 use Rattle.blot_tag.specs.Buffers.{behind_found}
 use Rattle.blot_tag.specs.Finding.{NeitherBefore, IsFound}
 use Rattle.blot_tag.specs.Walking.{passes_by, frames_of}

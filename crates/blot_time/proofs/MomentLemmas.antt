@@ -1,7 +1,7 @@
 -- Moments as days and milliseconds since midnight.
 use Rattle.std.proofs.Common.{◌≡◌, ℕ, ◌<◌, List, [], ◌++◌, length, take, drop, refl, ap, arith, ℤ, pos, neg_ℤ, ◌+ℤ◌, ◌*ℤ◌, ◌≤ℤ◌, ◌<ℤ◌, Ok, Err}
-use Rattle.jiff.proofs.SpanFacts.{signed_arith}
 use Rattle.std.proofs.lemmas.List.{drop_all}
+use Rattle.jiff.proofs.SpanFacts.{signed_arith}
 use Rattle.blot_time.specs.declared.fault.TimeFault.TheVariants.{Format}
 use Rattle.blot_time.specs.Clock.{clock_of, clock_text}
 use Rattle.blot_time.specs.Day.{day_of, day_text}

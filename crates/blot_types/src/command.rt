@@ -91,21 +91,21 @@ impl Command {
             Command::Trade(trade) => Ok(Command::Trade(*trade)),
             Command::Correct(correct) => Ok(Command::Correct(*correct)),
             Command::Bust(bust) => Ok(Command::Bust(*bust)),
-            Command::AllocNew(new) => match new.terms.try_copy(alloc) {
-                Ok(terms) => Ok(Command::AllocNew(AllocNew {
+            Command::AllocNew(new) => {
+                let terms = new.terms.try_copy(alloc)?;
+                Ok(Command::AllocNew(AllocNew {
                     key: new.key,
                     terms,
-                })),
-                Err(fail) => Err(fail),
-            },
-            Command::AllocReplace(replace) => match replace.terms.try_copy(alloc) {
-                Ok(terms) => Ok(Command::AllocReplace(AllocReplace {
+                }))
+            }
+            Command::AllocReplace(replace) => {
+                let terms = replace.terms.try_copy(alloc)?;
+                Ok(Command::AllocReplace(AllocReplace {
                     key: replace.key,
                     reference: replace.reference,
                     terms,
-                })),
-                Err(fail) => Err(fail),
-            },
+                }))
+            }
             Command::AllocCancel(cancel) => Ok(Command::AllocCancel(*cancel)),
         }
     }

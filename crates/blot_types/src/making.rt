@@ -43,7 +43,7 @@ impl<T: Drop> Making<T> {
         }
     }
 
-    /// The list. An error is out of memory, now or for an item before.
+    /// The list, of at most `ITEMS_MAX` items. An error is out of memory for an item.
     pub fn finish(self) -> Result<Items<T>, NoMemory>
         requires { IsShort self }
         ensures complete { IfOk result (λ _. self.complete ≡ true) }

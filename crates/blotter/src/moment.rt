@@ -1,8 +1,8 @@
 //! The moment of a frame.
 ghost use Rattle.std.specs.Prelude.{◌≡◌, pos};
+ghost use Rattle.std.specs.Result.{result_unwrap_or};
 ghost use Rattle.blot_tag.specs.Fields.{fields_of};
 ghost use Rattle.blot_tag.specs.Views.{text_of};
-ghost use Rattle.std.specs.Result.{result_unwrap_or};
 ghost use Rattle.blot_time.specs.Moment.{moment_of};
 ghost use Rattle.blotter.specs.Capture.{sending_of};
 

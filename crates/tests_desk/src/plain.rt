@@ -22,6 +22,7 @@ pub struct PlainDesk {
 }
 
 impl PlainDesk {
+    /// The desk before its first event.
     pub fn new(alloc: Global) -> PlainDesk {
         PlainDesk {
             alloc,

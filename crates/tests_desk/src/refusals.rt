@@ -74,7 +74,7 @@ fn flaws_of_cancel() -> &'static [Flaw] {
     &FLAWS
 }
 
-// 100 of one execution, all to A.
+// 100 of one execution, all to A; the next three likewise.
 const ALL_OF_G0: Booked = Booked {
     sign: Sign::Buy,
     execs: &[b"G0"],

@@ -17,6 +17,7 @@ struct Run {
 }
 
 impl Run {
+    // Both before the first event.
     fn new(alloc: Global) -> Run {
         Run {
             alloc,

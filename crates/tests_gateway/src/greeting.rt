@@ -18,6 +18,7 @@ struct Greeting {
     answer: &'static str,
 }
 
+// The rows.
 fn greetings() -> &'static [Greeting] {
     static ROWS: [Greeting; 17] = [
         Greeting {

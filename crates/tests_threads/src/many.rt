@@ -12,6 +12,7 @@ use std::test::Fail;
 use std::thread::{Threads, for_each_mut};
 use tests_words::{Draws, order, text};
 
+// The events of each seat.
 const EVENTS: usize = 500;
 
 // A seat with the events that it is to submit, and how many of them were answered.

@@ -24,6 +24,7 @@ struct Own {
     line: &'static str,
 }
 
+// What the first seat submits.
 fn first() -> &'static Own {
     static OWN: Own = Own {
         peer: b"BRKA",
@@ -34,6 +35,7 @@ fn first() -> &'static Own {
     &OWN
 }
 
+// What the second seat submits.
 fn second() -> &'static Own {
     static OWN: Own = Own {
         peer: b"BRKB",

@@ -37,6 +37,7 @@ pub struct Draws {
 }
 
 impl Draws {
+    /// Those that follow from a seed.
     pub fn new(seed: u32) -> Draws {
         Draws { seed }
     }

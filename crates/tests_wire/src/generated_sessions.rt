@@ -52,6 +52,7 @@ fn place_of_command(asks: Asks) -> usize
 }
 
 impl Tally {
+    // Nothing counted yet.
     fn new() -> Tally {
         Tally {
             sent: [0; 9],

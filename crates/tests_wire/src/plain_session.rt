@@ -45,6 +45,7 @@ pub struct PlainSession {
 }
 
 impl PlainSession {
+    /// A session to which nothing came yet.
     pub fn new(alloc: Global, own: Text64, peer: Text64) -> PlainSession {
         PlainSession {
             own,

@@ -18,6 +18,7 @@ pub struct Draws {
 }
 
 impl Draws {
+    /// Those that follow from a seed.
     pub fn new(seed: u32) -> Draws {
         Draws { seed }
     }
@@ -163,12 +164,14 @@ impl Draws {
         }
     }
 
+    // A Trade.
     fn trade(&mut self, peer: &[u8]) -> Result<Command, Fail> {
         let key = self.exec(peer)?;
         let fill = self.fill(peer)?;
         Ok(Command::Trade(Trade { key, fill }))
     }
 
+    // A Correct, whose reference may not exist.
     fn correct(&mut self, peer: &[u8]) -> Result<Command, Fail> {
         let (key, reference) = (self.exec(peer)?, self.exec(peer)?);
         let fill = self.fill(peer)?;
@@ -179,11 +182,13 @@ impl Draws {
         }))
     }
 
+    // A Bust, likewise.
     fn bust(&mut self, peer: &[u8]) -> Result<Command, Fail> {
         let (key, reference) = (self.exec(peer)?, self.exec(peer)?);
         Ok(Command::Bust(Bust { key, reference }))
     }
 
+    // A new allocation of drawn executions.
     fn alloc_new(&mut self, alloc: Global, peer: &[u8], list: &[Entry]) -> Result<Command, Fail> {
         let key = self.alloc_key(peer)?;
         let execs = self.execs(alloc, peer)?;
@@ -193,6 +198,7 @@ impl Draws {
         }
     }
 
+    // An allocation in the place of another, of the same executions half of the time.
     fn alloc_replace(
         &mut self,
         alloc: Global,
@@ -215,6 +221,7 @@ impl Draws {
         }
     }
 
+    // The end of an allocation.
     fn alloc_cancel(&mut self, peer: &[u8], list: &[Entry]) -> Result<Command, Fail> {
         let (key, reference) = (self.alloc_key(peer)?, self.reference(peer, list)?);
         Ok(Command::AllocCancel(AllocCancel { key, reference }))

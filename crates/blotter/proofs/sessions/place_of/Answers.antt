@@ -1,6 +1,6 @@
 use Rattle.std.proofs.Common.{◌≡◌, length, ap, sym, subst, ◌∙◌, None}
-use Rattle.blotter.specs.Sessions.{session_among, session_in, IsAt}
 use Rattle.blot_slots.specs.Slots.{slot_of}
+use Rattle.blotter.specs.Sessions.{session_among, session_in, IsAt}
 use Rattle.blotter.proofs.LookupLemmas.{answered-ok, sessions-out, at-end}
 use Rattle.blotter.proofs.sessions.place_of.Goals as goal
 

@@ -1,5 +1,5 @@
-use Rattle.blot_undo.specs.Book.{book_of}
 use Rattle.std.proofs.Common.{subst}
+use Rattle.blot_undo.specs.Book.{book_of}
 use Rattle.blot_undo.proofs.BookLemmas.{round_trip}
 use Rattle.blot_undo.specs.Book.{Stack}
 use Rattle.blot_undo.specs.Laws.{RoundTrips}
