@@ -70,10 +70,8 @@ struct Row {
 
 // A step in words is taken.
 fn expect_taken(alloc: Global, held: &mut Held, step: &Step) -> Result<(), Fail> {
-    let taken = match command(alloc, A, step) {
-        Ok(command) => offer(held, command)?,
-        Err(fail) => return Err(fail),
-    };
+    let command = command(alloc, A, step)?;
+    let taken = offer(held, command)?;
     if !taken {
         return Err(Fail::new("a step is refused"));
     }

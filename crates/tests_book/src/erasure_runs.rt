@@ -21,13 +21,9 @@ fn drawn(alloc: Global, draws: &mut Draws, list: &[Entry]) -> Result<Command, Fa
 // A desk takes a command that is drawn, or refuses it.
 fn offer_drawn(alloc: Global, held: &mut Held, draws: &mut Draws) -> Result<(), Fail> {
     let snapshot = held.snapshot()?;
-    match drawn(alloc, draws, snapshot.entries()) {
-        Ok(command) => {
-            offer(held, command)?;
-            Ok(())
-        }
-        Err(fail) => Err(fail),
-    }
+    let command = drawn(alloc, draws, snapshot.entries())?;
+    offer(held, command)?;
+    Ok(())
 }
 
 // So it does with 40 commands.

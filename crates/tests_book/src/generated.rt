@@ -65,10 +65,8 @@ fn allocation_of(alloc: Global, exec: &ExecKey) -> Result<Command, Fail> {
     let mut execs = Vec::new(alloc);
     execs.push(*exec)?;
     let key = alloc_key(b"BRKA", b"X")?;
-    match terms(Sign::Buy, Qty::read(b"100")?, execs, Vec::new(alloc)) {
-        Ok(terms) => Ok(Command::AllocNew(AllocNew { key, terms })),
-        Err(fail) => Err(fail),
-    }
+    let terms = terms(Sign::Buy, Qty::read(b"100")?, execs, Vec::new(alloc))?;
+    Ok(Command::AllocNew(AllocNew { key, terms }))
 }
 
 // The end of an allocation, which tells whether it is there, and who ended it.
@@ -83,18 +81,12 @@ fn try_key(alloc: Global, tables: &mut Tables, number: u64, key: &ExecKey) -> Re
     requires within { number ≤ EVENTS_MAX }
     ensures { IfOk result (λ _. tables.new.list ≡ tables.old.list) }
 {
-    match trade_under(key) {
-        Ok(sent) => try_command(alloc, tables, number, &sent)?,
-        Err(fail) => return Err(fail),
-    }
-    match bust_of(key) {
-        Ok(sent) => try_command(alloc, tables, number, &sent)?,
-        Err(fail) => return Err(fail),
-    }
-    match allocation_of(alloc, key) {
-        Ok(sent) => try_command(alloc, tables, number, &sent),
-        Err(fail) => Err(fail),
-    }
+    let trade = trade_under(key)?;
+    try_command(alloc, tables, number, &trade)?;
+    let bust = bust_of(key)?;
+    try_command(alloc, tables, number, &bust)?;
+    let allocation = allocation_of(alloc, key)?;
+    try_command(alloc, tables, number, &allocation)
 }
 
 // An allocation is there and ended as the plain program says.
@@ -108,10 +100,8 @@ fn try_allocation(
     requires within { number ≤ EVENTS_MAX }
     ensures { IfOk result (λ _. tables.new.list ≡ tables.old.list) }
 {
-    match cancel_of(key) {
-        Ok(sent) => try_command(alloc, tables, number, &sent),
-        Err(fail) => Err(fail),
-    }
+    let sent = cancel_of(key)?;
+    try_command(alloc, tables, number, &sent)
 }
 
 // An execution and an allocation that are drawn, likewise.

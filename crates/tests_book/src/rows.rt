@@ -77,10 +77,7 @@ fn offer_of(alloc: Global, row: &Row) -> Result<Offer, Fail> {
 fn offers_of(alloc: Global, rows: &[Row]) -> Result<Vec<Offer>, Fail> {
     let mut offers = Vec::new(alloc);
     for row in rows {
-        match offer_of(alloc, row) {
-            Ok(offer) => offers.push(offer)?,
-            Err(fail) => return Err(fail),
-        }
+        offers.push(offer_of(alloc, row)?)?;
     }
     Ok(offers)
 }

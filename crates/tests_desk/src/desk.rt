@@ -171,10 +171,7 @@ fn undone_and_redone(rt: HostRuntime) -> Result<(), Fail> {
         a_refused_command(),
         moved_undoes(),
     ] {
-        match play(rt.alloc(), script) {
-            Ok(_) => {}
-            Err(fail) => return Err(fail),
-        }
+        play(rt.alloc(), script)?;
     }
     Ok(())
 }
@@ -192,10 +189,8 @@ fn trade_of(alloc: Global, number: u64) -> Result<Command, Fail> {
 // Trades up to a number, each of an execution of its own.
 fn trade_up_to(alloc: Global, desk: &mut Desk, last: u64) -> Result<(), Fail> {
     for number in 1..=last {
-        match trade_of(alloc, number) {
-            Ok(trade) => desk.expect(Event::Submit(trade), Reply::Accepted(number))?,
-            Err(fail) => return Err(fail),
-        }
+        let trade = trade_of(alloc, number)?;
+        desk.expect(Event::Submit(trade), Reply::Accepted(number))?;
     }
     Ok(())
 }
@@ -210,10 +205,8 @@ fn expect_entry(entry: &Entry, number: u64, command: &Command) -> Result<(), Fai
 
 // An entry is the trade of a number.
 fn expect_trade(alloc: Global, entry: &Entry, number: u64) -> Result<(), Fail> {
-    match trade_of(alloc, number) {
-        Ok(trade) => expect_entry(entry, number, &trade),
-        Err(fail) => Err(fail),
-    }
+    let trade = trade_of(alloc, number)?;
+    expect_entry(entry, number, &trade)
 }
 
 // The live entries are the trades up to a number.
@@ -294,10 +287,8 @@ fn expect_full(held: &mut Held, event: Event) -> Result<(), Fail> {
 // The desk is full for commands of each kind.
 fn expect_full_of_commands(alloc: Global, held: &mut Held) -> Result<(), Fail> {
     for step in steps_of_each_kind() {
-        match command(alloc, b"BRKA", step) {
-            Ok(command) => expect_full(held, Event::Submit(command))?,
-            Err(fail) => return Err(fail),
-        }
+        let command = command(alloc, b"BRKA", step)?;
+        expect_full(held, Event::Submit(command))?;
     }
     Ok(())
 }

@@ -48,18 +48,14 @@ fn allocation(alloc: Global, first: u64, last: &[u8]) -> Result<Command, Fail> {
     lines.push(numbered_line(alloc, 199, last)?)?;
     let block = Qty::read(b"200")?;
     let key = alloc_key(b"BRKA", b"AL1")?;
-    match terms(Sign::Buy, block, execs, lines) {
-        Ok(terms) => Ok(Command::AllocNew(AllocNew { key, terms })),
-        Err(fail) => Err(fail),
-    }
+    let terms = terms(Sign::Buy, block, execs, lines)?;
+    Ok(Command::AllocNew(AllocNew { key, terms }))
 }
 
 // The reply to that allocation.
 fn expect_reply(desk: &mut Desk, first: u64, last: &[u8], reply: Reply) -> Result<(), Fail> {
-    match allocation(desk.alloc(), first, last) {
-        Ok(command) => desk.expect(Event::Submit(command), reply),
-        Err(fail) => Err(fail),
-    }
+    let command = allocation(desk.alloc(), first, last)?;
+    desk.expect(Event::Submit(command), reply)
 }
 
 // The position of the last account, which is asked for, is this one.

@@ -55,10 +55,7 @@ impl PlainDesk {
     pub fn step(&mut self, book: &[Entry], event: Event) -> Result<Reply, Fail>
         requires { IsTrue (is_book book.now) }
     {
-        let reply = match self.reply(book, &event) {
-            Ok(reply) => reply,
-            Err(fail) => return Err(fail),
-        };
+        let reply = self.reply(book, &event)?;
         record(&mut self.history, event, &reply)?;
         Ok(reply)
     }

@@ -278,10 +278,7 @@ fn flawed_command(
     if kind == Kind::Cancel {
         return Ok(Command::AllocCancel(AllocCancel { key, reference }));
     }
-    let terms = match flawed_terms(alloc, flaws, turned) {
-        Ok(terms) => terms,
-        Err(fail) => return Err(fail),
-    };
+    let terms = flawed_terms(alloc, flaws, turned)?;
     if kind == Kind::New {
         return Ok(Command::AllocNew(AllocNew { key, terms }));
     }
@@ -300,10 +297,8 @@ fn expect(
     turned: bool,
     reply: Reply,
 ) -> Result<(), Fail> {
-    match flawed_command(desk.alloc(), kind, flaws, turned) {
-        Ok(command) => desk.expect(Event::Submit(command), reply),
-        Err(fail) => Err(fail),
-    }
+    let command = flawed_command(desk.alloc(), kind, flaws, turned)?;
+    desk.expect(Event::Submit(command), reply)
 }
 
 // A command with a flaw, and perhaps a later one, is refused for the first, in both orders of its executions. Of a
@@ -348,8 +343,6 @@ fn expect_each_kind(desk: &mut Desk) -> Result<(), Fail> {
 
 #[test]
 fn the_first_refusal(rt: HostRuntime) -> Result<(), Fail> {
-    match play(rt.alloc(), flawed()) {
-        Ok(mut desk) => expect_each_kind(&mut desk),
-        Err(fail) => Err(fail),
-    }
+    let mut desk = play(rt.alloc(), flawed())?;
+    expect_each_kind(&mut desk)
 }

@@ -34,10 +34,10 @@ impl Run {
             }),
             1 => Ok(Event::Undo { newest: 3 }),
             2 | 3 => Ok(Event::Redo),
-            _ => match draws.command(self.alloc, self.plain.entries()) {
-                Ok(command) => Ok(Event::Submit(command)),
-                Err(fail) => Err(fail),
-            },
+            _ => {
+                let command = draws.command(self.alloc, self.plain.entries())?;
+                Ok(Event::Submit(command))
+            }
         }
     }
 
@@ -57,10 +57,8 @@ impl Run {
 
     // Both desks take an event that is drawn.
     fn step_drawn(&mut self, draws: &mut Draws) -> Result<(), Fail> {
-        match self.event(draws) {
-            Ok(event) => self.step(event),
-            Err(fail) => Err(fail),
-        }
+        let event = self.event(draws)?;
+        self.step(event)
     }
 
     // Both desks are asked for the lines of some orders.

@@ -289,19 +289,17 @@ pub fn reply(peer: &[u8], answer: &Answer) -> Result<Reply, Fail> {
         Answer::Accepted(number) => Ok(Reply::Accepted(*number)),
         Answer::Undone(number) => Ok(Reply::Undone(*number)),
         Answer::Redone(number) => Ok(Reply::Redone(*number)),
-        _ => match refusal(peer, answer) {
-            Ok(refused) => Ok(Reply::Refused(refused)),
-            Err(fail) => Err(fail),
-        },
+        _ => {
+            let refused = refusal(peer, answer)?;
+            Ok(Reply::Refused(refused))
+        }
     }
 }
 
 // A peer's command comes, and its reply is this one.
 fn expect_command(desk: &mut Desk, peer: &[u8], step: &Step, reply: Reply) -> Result<(), Fail> {
-    match command(desk.alloc, peer, step) {
-        Ok(command) => desk.expect(Event::Submit(command), reply),
-        Err(fail) => Err(fail),
-    }
+    let command = command(desk.alloc, peer, step)?;
+    desk.expect(Event::Submit(command), reply)
 }
 
 // The peer whose command comes.
@@ -330,10 +328,8 @@ fn expect_act(desk: &mut Desk, act: &Act) -> Result<(), Fail> {
 pub fn play(alloc: Global, script: &Script) -> Result<Desk, Fail> {
     let mut desk = Desk::new(alloc, script.name);
     for act in script.acts {
-        match expect_act(&mut desk, act) {
-            Ok(()) => desk.expect_shown(script.watched, act.2)?,
-            Err(fail) => return Err(fail),
-        }
+        expect_act(&mut desk, act)?;
+        desk.expect_shown(script.watched, act.2)?;
     }
     Ok(desk)
 }
@@ -369,11 +365,7 @@ fn redo_all(desk: &mut Desk, script: &Script) -> Result<(), Fail> {
 
 /// Plays a script of commands, undoes those that were taken, newest first, and redoes them.
 pub fn play_back_and_forth(alloc: Global, script: &Script) -> Result<(), Fail> {
-    match play(alloc, script) {
-        Ok(mut desk) => {
-            undo_all(&mut desk, script)?;
-            redo_all(&mut desk, script)
-        }
-        Err(fail) => Err(fail),
-    }
+    let mut desk = play(alloc, script)?;
+    undo_all(&mut desk, script)?;
+    redo_all(&mut desk, script)
 }

@@ -367,10 +367,7 @@ fn reports_of_days(rt: HostRuntime) -> Result<(), Fail> {
         a_correction_of_the_day(),
         sorted_lines(),
     ] {
-        match play(rt.alloc(), day) {
-            Ok(()) => {}
-            Err(fail) => return Err(fail),
-        }
+        play(rt.alloc(), day)?;
     }
     Ok(())
 }

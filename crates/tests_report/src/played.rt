@@ -33,10 +33,7 @@ pub fn play(alloc: Global, played: &Played) -> Result<(), Fail> {
 
 // Whether a peer's command is accepted.
 fn is_taken(alloc: Global, held: &mut Held, peer: &[u8], said: &Said) -> Result<bool, Fail> {
-    let command = match command(alloc, peer, said) {
-        Ok(command) => command,
-        Err(fail) => return Err(fail),
-    };
+    let command = command(alloc, peer, said)?;
     match held.step(Event::Submit(command)) {
         Ok(Reply::Accepted(_)) => Ok(true),
         _ => Ok(false),

@@ -70,13 +70,9 @@ fn dated(
     words: &Booked,
 ) -> Result<AllocNew, Fail> {
     let day = Day::read(day)?;
-    match alloc_new(alloc, peer, id, words) {
-        Ok(mut new) => {
-            new.terms.day = day;
-            Ok(new)
-        }
-        Err(fail) => Err(fail),
-    }
+    let mut new = alloc_new(alloc, peer, id, words)?;
+    new.terms.day = day;
+    Ok(new)
 }
 
 /// A peer's command.

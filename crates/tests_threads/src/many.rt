@@ -55,10 +55,8 @@ fn drawn_event(alloc: Global, draws: &mut Draws, held: &Held) -> Result<Event, F
 // A command that is drawn from what a desk shows.
 fn drawn_command(alloc: Global, draws: &mut Draws, held: &Held) -> Result<Event, Fail> {
     let snapshot = held.snapshot()?;
-    match draws.command(alloc, snapshot.entries()) {
-        Ok(command) => Ok(Event::Submit(command)),
-        Err(fail) => Err(fail),
-    }
+    let command = draws.command(alloc, snapshot.entries())?;
+    Ok(Event::Submit(command))
 }
 
 // Events of every kind, drawn from a desk that takes them alone; the last one is to be taken first.
@@ -67,10 +65,7 @@ fn drawn_events(alloc: Global, seed: u32) -> Result<Vec<Event>, Fail> {
     let mut held = Held::new(alloc);
     let mut events = Vec::new(alloc);
     for _ in 0..EVENTS {
-        let event = match drawn_event(alloc, &mut draws, &held) {
-            Ok(event) => event,
-            Err(fail) => return Err(fail),
-        };
+        let event = drawn_event(alloc, &mut draws, &held)?;
         let _ = held.step(event.try_copy(alloc)?);
         put(&mut events, event)?;
     }

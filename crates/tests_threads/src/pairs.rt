@@ -49,10 +49,8 @@ fn second() -> &'static Own {
 // The trade, and the question for its order.
 fn events(alloc: Global, own: &Own) -> Result<(Event, Event), Fail> {
     let asked = order(own.peer, own.order)?;
-    match command(alloc, own.peer, &own.trade) {
-        Ok(command) => Ok((Event::Submit(command), Event::AskOrder(asked))),
-        Err(fail) => Err(fail),
-    }
+    let command = command(alloc, own.peer, &own.trade)?;
+    Ok((Event::Submit(command), Event::AskOrder(asked)))
 }
 
 // The line of an order that a seat is told behind a trade of it.

@@ -192,10 +192,8 @@ impl Draws {
     fn alloc_new(&mut self, alloc: Global, peer: &[u8], list: &[Entry]) -> Result<Command, Fail> {
         let key = self.alloc_key(peer)?;
         let execs = self.execs(alloc, peer)?;
-        match self.terms(alloc, execs, list) {
-            Ok(terms) => Ok(Command::AllocNew(AllocNew { key, terms })),
-            Err(fail) => Err(fail),
-        }
+        let terms = self.terms(alloc, execs, list)?;
+        Ok(Command::AllocNew(AllocNew { key, terms }))
     }
 
     // An allocation in the place of another, of the same executions half of the time.
@@ -211,14 +209,12 @@ impl Draws {
         } else {
             self.execs(alloc, peer)?
         };
-        match self.terms(alloc, execs, list) {
-            Ok(terms) => Ok(Command::AllocReplace(AllocReplace {
-                key,
-                reference,
-                terms,
-            })),
-            Err(fail) => Err(fail),
-        }
+        let terms = self.terms(alloc, execs, list)?;
+        Ok(Command::AllocReplace(AllocReplace {
+            key,
+            reference,
+            terms,
+        }))
     }
 
     // The end of an allocation.

@@ -144,10 +144,8 @@ fn terms_of(alloc: Global, peer: &[u8], words: &Booked) -> Result<Terms, Fail> {
 /// A new allocation in words.
 pub fn alloc_new(alloc: Global, peer: &[u8], id: &[u8], words: &Booked) -> Result<AllocNew, Fail> {
     let key = alloc_key(peer, id)?;
-    match terms_of(alloc, peer, words) {
-        Ok(terms) => Ok(AllocNew { key, terms }),
-        Err(fail) => Err(fail),
-    }
+    let terms = terms_of(alloc, peer, words)?;
+    Ok(AllocNew { key, terms })
 }
 
 /// An allocation in the place of another, in words.
@@ -159,14 +157,12 @@ pub fn alloc_replace(
     words: &Booked,
 ) -> Result<AllocReplace, Fail> {
     let (key, reference) = (alloc_key(peer, id)?, alloc_key(peer, reference)?);
-    match terms_of(alloc, peer, words) {
-        Ok(terms) => Ok(AllocReplace {
-            key,
-            reference,
-            terms,
-        }),
-        Err(fail) => Err(fail),
-    }
+    let terms = terms_of(alloc, peer, words)?;
+    Ok(AllocReplace {
+        key,
+        reference,
+        terms,
+    })
 }
 
 /// The end of an allocation, in words.
