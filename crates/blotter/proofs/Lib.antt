@@ -1,11 +1,1 @@
-mod DeskLemmas
-mod DialogueLemmas
-mod LineLemmas
-mod LookupLemmas
-mod OperatingLemmas
-mod PeerLemmas
-mod PieceLemmas
-mod ResultLemmas
 mod ServingLemmas
-mod SessionLemmas
-mod StreamLemmas

@@ -6,13 +6,13 @@ use Rattle.std.specs.List.{All, list_all}
 use Rattle.blot_desk.specs.declared.receipt.Receipt.{Receipt}
 use Rattle.blot_gateway.specs.AtOnce.{AddsSubmits, EachAdds}
 use Rattle.blot_gateway.proofs.AtOnceLemmas.{adds-none, adds-on, each-adds}
-use Rattle.blotter.proofs.ResultLemmas.{err-says, ok-says}
-use Rattle.blotter.specs.Dialogue.{TellsLines, seat_ways}
-use Rattle.blotter.specs.Lines.{lines_of}
+use Rattle.blot_stream.proofs.ResultLemmas.{err-says, ok-says}
+use Rattle.blot_operator.specs.Dialogue.{TellsLines, seat_ways}
+use Rattle.blot_operator.specs.Lines.{lines_of}
 use Rattle.blotter.specs.Serving.{DayServed, Reported, RoundsLead, ServesRound, are_submits}
 use Rattle.blotter.specs.Sockets.{ClockTicks, SocketDoes}
-use Rattle.blotter.specs.declared.outcome.ServeFault.{ServeFault}
-use Rattle.blotter.specs.declared.outcome.ServeFault.TheVariants.{Connection, NoMemory}
+use Rattle.blot_stream.specs.declared.outcome.ServeFault.{ServeFault}
+use Rattle.blot_stream.specs.declared.outcome.ServeFault.TheVariants.{Connection, NoMemory}
 
 -- ---- what rounds add
 

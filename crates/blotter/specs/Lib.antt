@@ -1,9 +1,2 @@
-pub mod Capture
-pub mod Dialogue
-pub mod Lines
-pub mod Operating
-pub mod Outcome
-pub mod Replay
 pub mod Serving
-pub mod Sessions
 pub mod Sockets

@@ -8,9 +8,9 @@ use Rattle.blot_desk.specs.Desk.{events_of, replies_of, run_of}
 use Rattle.blot_desk.specs.Receipts.{IsSettled}
 use Rattle.blot_gateway.specs.AtOnce.{EachServed, is_submit}
 use Rattle.blot_gateway.specs.declared.ended.Ended.{Ended}
-use Rattle.blotter.specs.Dialogue.{TellsLines, seat_ways}
-use Rattle.blotter.specs.Lines.{lines_of}
-use Rattle.blotter.specs.Replay.{report_of}
+use Rattle.blot_operator.specs.Dialogue.{TellsLines, seat_ways}
+use Rattle.blot_operator.specs.Lines.{lines_of}
+use Rattle.blot_capture.specs.Replay.{report_of}
 use Rattle.blotter.specs.Sockets.{ClockTicks, SocketDoes}
 use Rattle.blotter.specs.declared.socket.Socket.{Socket}
 use Rattle.blotter.specs.declared.system_clock.SystemClock.{SystemClock}

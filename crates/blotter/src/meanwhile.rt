@@ -1,9 +1,9 @@
 //! What is done while brokers are served: an operator's lines are answered.
 ghost use Rattle.std.specs.Prelude.{◌≡◌};
 
-use crate::ReplayFault;
-use crate::operating::seat_lines;
 use blot_desk::{Desk, Seat};
+use blot_operator::seat_lines;
+use blot_stream::ReplayFault;
 use std::alloc::Global;
 use std::io::{Read, Write};
 use std::sync::Wait;
@@ -36,8 +36,8 @@ pub(crate) struct Lines<'a, 'i, 'o, R, I, O, L: Ledger> {
 impl<'a, 'i, 'o, R: Wait, I: Read, O: Write, L: Ledger> Task for Lines<'a, 'i, 'o, R, I, O, L> {
     ghost use Rattle.std.specs.Prelude.{◌≡◌, OnOk, IfSome};
     ghost use Rattle.std.specs.Io.KnownBytes.{IsAtEnd};
-    ghost use Rattle.blotter.specs.Dialogue.{TellsLines, seat_ways};
-    ghost use Rattle.blotter.specs.Lines.{lines_of};
+    ghost use Rattle.blot_operator.specs.Dialogue.{TellsLines, seat_ways};
+    ghost use Rattle.blot_operator.specs.Lines.{lines_of};
 
     type Output = (Result<(), ReplayFault>, Seat<L>, &'i mut I, &'o mut O);
 

@@ -2,10 +2,11 @@
 ghost use Rattle.std.specs.Prelude.{◌≡◌, ◌≢◌, ◌<◌, ℕ, IfErr, IfOk, OnOk, map, vec_len};
 ghost use Rattle.blotter.specs.Serving.{RoundsLead, ServesRound};
 
-use crate::{ServeFault, Socket, SystemClock};
+use crate::{Socket, SystemClock};
 use blot_desk::{Desk, Seat};
 use blot_gateway::{Ended, OpenGate, serve};
 use blot_slots::Slots;
+use blot_stream::ServeFault;
 use log::{Log, info};
 use std::alloc::{AllocError as NoMemory, Global};
 use std::io::{ErrorKind, Read, Write};

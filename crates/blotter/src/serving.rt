@@ -4,13 +4,13 @@ ghost use Rattle.std.specs.List.{All};
 ghost use Rattle.std.specs.Io.KnownBytes.{Appends, IsAtEnd};
 ghost use Rattle.blotter.specs.Serving.{DayServed, Reported, RoundsLead, ServesRound};
 
+use crate::Rounds;
 use crate::meanwhile::{Lines, Task, take_back};
-use crate::replaying::day_report;
 use crate::rounds::serve_rounds;
-use crate::transfer::{flush, write_text};
-use crate::{ReplayFault, Rounds, ServeFault};
+use blot_capture::day_report;
 use blot_desk::{Desk, DeskFault, Seat};
 use blot_slots::Slots;
+use blot_stream::{ReplayFault, ServeFault, flush, write_text};
 use blot_time::Day;
 use log::Log;
 use std::alloc::{AllocError as NoMemory, Global};

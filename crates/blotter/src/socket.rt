@@ -2,8 +2,8 @@
 ghost use Rattle.std.specs.Prelude.{◌≡◌, IfOk};
 ghost use Rattle.blot_gateway.specs.Wires.{Counts};
 
-use crate::transfer::write_retrying;
 use blot_gateway::{Reading, Wire, Writing};
+use blot_stream::write_retrying;
 use std::io::{self, ErrorKind, Read, Write};
 use std::net::OpenStream;
 use std::time::Duration;

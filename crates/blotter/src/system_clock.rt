@@ -1,7 +1,7 @@
 //! The moments of the system's clock.
 ghost use Rattle.std.specs.Prelude.{◌≡◌, pos};
 
-use crate::moment::first_moment;
+use blot_capture::first_moment;
 use blot_gateway::Clock;
 use blot_time::Moment;
 use std::time::{self, SystemTime};

@@ -1,2 +1,1 @@
-pub mod OutcomeLemmas
-pub mod PeerLemmas
+mod OutcomeLemmas

@@ -1,11 +1,11 @@
 -- How a run ended that went well.
 use Rattle.std.proofs.Common.{◌≡◌, Result, Ok, Err, ◌∙◌, sym}
 use Rattle.std.specs.Prelude.{OnOk}
-use Rattle.blotter.specs.declared.outcome.Outcome.{Outcome}
-use Rattle.blotter.specs.declared.outcome.Outcome.TheVariants.{Done}
-use Rattle.blotter.specs.declared.outcome.ReplayFault.{ReplayFault}
-use Rattle.blotter.specs.declared.outcome.ReplayFault.TheVariants.{Read, Write, Full, NoMemory, TooLong}
-use Rattle.blotter.specs.Outcome.{outcome_of}
+use Rattle.blot_stream.specs.declared.outcome.Outcome.{Outcome}
+use Rattle.blot_stream.specs.declared.outcome.Outcome.TheVariants.{Done}
+use Rattle.blot_stream.specs.declared.outcome.ReplayFault.{ReplayFault}
+use Rattle.blot_stream.specs.declared.outcome.ReplayFault.TheVariants.{Read, Write, Full, NoMemory, TooLong}
+use Rattle.blot_stream.specs.Outcome.{outcome_of}
 
 -- what holds of a replay that went well holds where the run is done
 pub done-ok : {P : Type 0} (replayed : Result (Unit {0}) ReplayFault) (outcome : Outcome) → outcome ≡ outcome_of replayed → outcome ≡ Done → OnOk replayed P → P

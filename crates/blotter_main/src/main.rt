@@ -1,15 +1,11 @@
-//! The program `blotter`, thin: it reads the words of its command line, hands its streams to the library of
-//! the same name, and ends with the status of the run. What a run does is proved in that library; here stand
-//! the words, what is told on standard error, and `main`.
+//! The program `blotter`, thin: it asks `blot_words` what its command line wants, hands its streams to the library
+//! of its own name, and ends with the status of the run. What a run does is proved in that library; here stand
+//! what is told on standard error, the file, the port, and `main`.
 #![tactic(auto)]
 
-mod command_line;
-mod peers;
-mod refusal;
 mod running;
 #[cfg(test)]
 mod tests;
-mod words;
 
 use running::run;
 use std::process::ExitCode;

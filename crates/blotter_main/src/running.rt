@@ -4,20 +4,20 @@ ghost use Rattle.std.specs.Io.KnownBytes.{Appends, IsAtEnd, Keeps};
 ghost use Rattle.std.specs.List.{IsDistinct};
 ghost use Rattle.blot_types.specs.Keys.{same_text};
 ghost use Rattle.blot_desk.specs.Desk.{Journal, empty_journal};
-ghost use Rattle.blotter.specs.Capture.{commands_of};
-ghost use Rattle.blotter.specs.Lines.{lines_of};
-ghost use Rattle.blotter.specs.Operating.{told_over};
-ghost use Rattle.blotter.specs.Replay.{submitted};
+ghost use Rattle.blot_capture.specs.Capture.{commands_of};
+ghost use Rattle.blot_operator.specs.Lines.{lines_of};
+ghost use Rattle.blot_operator.specs.Operating.{told_over};
+ghost use Rattle.blot_capture.specs.Replay.{submitted};
 ghost use Rattle.blotter.specs.Serving.{DayServed, ServesRound};
-ghost use Rattle.blotter.specs.declared.outcome.Outcome.TheVariants.{BadWords, Done, NoMemory};
-ghost use Rattle.blotter_main.specs.Words.{IsPeerList, Did, is_replay, peers_of};
+ghost use Rattle.blot_stream.specs.declared.outcome.Outcome.TheVariants.{BadWords, Done, NoMemory};
+ghost use Rattle.blot_words.specs.Words.{IsPeerList, is_replay, peers_of};
+ghost use Rattle.blotter_main.specs.Running.{Did};
 
-use crate::refusal::Refusal;
-use crate::words::{Words, given, parse};
 use blot_desk::Held;
 use blot_slots::Slots;
 use blot_time::Day;
 use blot_types::Text64;
+use blot_words::{Refusal, Words, given, parse};
 use blotter::{Outcome, Rounds, capture, desk_lines, replay, serve_day};
 use log::Log;
 use std::alloc::Global;
@@ -111,10 +111,14 @@ where
             own,
             day,
             port,
+            sessions,
             rounds,
             peers,
         } => match Slots::new(alloc, own, peers.as_slice()) {
-            Ok(slots) => serve_port(rt, alloc, &slots, day, port, rounds, input, output),
+            Ok(slots) => {
+                let rounds = Rounds { rounds, sessions };
+                serve_port(rt, alloc, &slots, day, port, rounds, input, output)
+            }
             Err(_) => Outcome::NoMemory,
         },
     }

@@ -1,9 +1,8 @@
 //! What the words ask for, how a run ends and what it tells, over words and streams in memory.
 
-use crate::refusal::Refusal;
 use crate::running::run;
-use crate::words::{Words, parse};
 use blot_types::Text64;
+use blot_words::{Refusal, Words, parse};
 use blotter::{Outcome, ReplayFault, ServeFault};
 use std::alloc::{AllocError, Global};
 use std::env::{Env, FillError};
@@ -153,11 +152,12 @@ fn words_of_a_server_are_read(rt: HostRuntime) -> Result<(), Fail> {
             1000,
         ),
     ];
-    for (line, want_port, sessions, want_rounds) in rows {
+    for (line, want_port, want_sessions, want_rounds) in rows {
         let Words::Serve {
             own,
             day,
             port,
+            sessions,
             rounds,
             peers,
         } = parse_line(rt.alloc(), line)?
@@ -167,8 +167,8 @@ fn words_of_a_server_are_read(rt: HostRuntime) -> Result<(), Fail> {
         assert_eq!(rt; own.bytes(), b"MO".as_slice(), "{line}");
         assert_eq!(rt; day.write().as_slice(), b"20240105".as_slice(), "{line}");
         assert_eq!(rt; port, want_port, "{line}");
-        assert_eq!(rt; rounds.sessions, sessions, "{line}");
-        assert_eq!(rt; rounds.rounds, want_rounds, "{line}");
+        assert_eq!(rt; sessions, want_sessions, "{line}");
+        assert_eq!(rt; rounds, want_rounds, "{line}");
         let peers = spelled(rt.alloc(), peers.as_slice())?;
         assert_eq!(rt; peers.as_slice(), b" BRKB BRKA".as_slice(), "{line}");
     }

@@ -1,0 +1,5 @@
+mod DeskLemmas
+mod LookupLemmas
+mod PeerLemmas
+mod SessionLemmas
+mod StreamLemmas

@@ -1,0 +1,3 @@
+pub mod Capture
+pub mod Replay
+pub mod Sessions

@@ -1,0 +1,61 @@
+-- What a desk comes to by a capture, and the report of a day.
+use Rattle.std.specs.Prelude.{◌≡◌, ℕ, ℤ, ◌<◌, ⊤, List, ◌++◌, length, map, fold, Option, Some, None}
+use Rattle.blot_types.specs.declared.command.Command.{Command}
+use Rattle.blot_types.specs.declared.command.Entry.{Entry}
+use Rattle.blot_types.specs.declared.TheConstants.{EVENTS_MAX}
+use Rattle.blot_tag.specs.Walking.{frames_of}
+use Rattle.blot_desk.specs.declared.event.Event.TheVariants.{Submit}
+use Rattle.blot_desk.specs.declared.fault.DeskFault.{DeskFault}
+use Rattle.blot_desk.specs.declared.fault.DeskFault.TheVariants as desk
+use Rattle.blot_desk.specs.Desk.{Journal, recorded_of, run_of}
+use Rattle.blot_report.specs.Lines.{day_lines_of}
+use Rattle.blot_report.specs.Text.{report_text}
+use Rattle.blot_capture.specs.Capture.{Sessions, commands_over, commands_of}
+use Rattle.blot_stream.specs.declared.outcome.ReplayFault.{ReplayFault}
+use Rattle.blot_stream.specs.declared.outcome.ReplayFault.TheVariants.{Full, NoMemory}
+
+-- what a desk holds when some commands were submitted, in their order
+abbrev pub submitted : Journal → List Command → Journal
+submitted journal commands = fold (λ before command. recorded_of before (Submit command)) journal commands
+
+-- a fault of a step, as a capture's: the desk is full, or memory ran out. No step answers Unsettled
+abbrev pub fault_of : DeskFault → ReplayFault
+fault_of desk.Full = Full
+fault_of desk.NoMemory = NoMemory
+fault_of desk.Unsettled = NoMemory
+
+-- a desk was submitted a front of some commands, and then a fault came. Full is answered only where as many events are recorded
+-- as a day has, and a further command came
+pub record Stopped (fault : ReplayFault) (before after : Journal) (commands : List Command) : Type 0 where
+  pub front : List Command
+  pub back : List Command
+  pub joined : front ++ back ≡ commands
+  pub taken : after ≡ submitted before front
+  pub full : fault ≡ Full → (length after.history ≡ EVENTS_MAX) × (0 < length back)
+
+-- the live list that a capture leads to: that of the run of its commands, each submitted, from the empty book
+abbrev pub list_of : List ℕ → List (List ℕ) → List ℕ → List Entry
+list_of own peers bytes = (run_of (map Submit (commands_of own peers bytes))).book.list
+
+-- the report of a day of a list
+abbrev pub report_of : List Entry → ℤ → List ℕ
+report_of list day = report_text (day_lines_of list day)
+
+-- ---- a capture that is partly taken
+
+-- the sessions and the desk as they are
+pub record Taking : Type 0 where
+  pub sessions : Sessions
+  pub journal : Journal
+
+-- from here to there a front of the commands of some frames was submitted, and those of the frames that are left are the rest
+pub record Came (from : Taking) (texts : List (List ℕ)) (now : Taking) (left : List (List ℕ)) : Type 0 where
+  pub front : List Command
+  pub joined : front ++ commands_over now.sessions left ≡ commands_over from.sessions texts
+  pub taken : now.journal ≡ submitted from.journal front
+
+-- the same of an input's bytes, where they are known: some were read, and of those some are unread
+abbrev pub CameOf : Option (List ℕ) → Taking → Option (List ℕ) → List ℕ → Taking → Type 0
+CameOf None from rest unread now = ⊤
+CameOf (Some bytes) from None unread now = ⊥
+CameOf (Some bytes) from (Some rest) unread now = Came from (frames_of bytes) now (frames_of (unread ++ rest))

@@ -1,0 +1,57 @@
+//! The frames of a byte stream, taken piece by piece.
+ghost use Rattle.std.specs.Prelude.{◌≡◌, ◌≢◌, ℕ, List, [], ◌++◌, Err, OnOk, IfErr};
+ghost use Rattle.blot_tag.specs.Walking.{frames_of};
+ghost use Rattle.blot_capture.specs.Capture.{commands_over};
+ghost use Rattle.blot_capture.specs.Replay.{Came, Stopped};
+ghost use Rattle.blot_capture.specs.Sessions.{sessions_of};
+
+use crate::sessions::Sessions;
+use blot_desk::Held;
+use blot_stream::ReplayFault;
+use blot_tag::Reader;
+use std::alloc::Global;
+
+/// Takes the frames of a piece of the stream, with what the reader holds of the pieces before. What is left there holds no
+/// frame, and whatever comes behind it, the commands that were taken and those to come are those of the whole.
+pub(crate) fn take_piece(
+    alloc: Global,
+    reader: &mut Reader,
+    sessions: &mut Sessions,
+    held: &mut Held,
+    piece: &[u8],
+) -> Result<(), ReplayFault>
+    ensures drained { OnOk result (frames_of reader.new.unread ≡ []) }
+    ensures came { OnOk result ((more : List ℕ) → Came (record { sessions = sessions_of sessions.old; journal = held.old }) (frames_of ((reader.old.unread ++ piece.now) ++ more))
+        (record { sessions = sessions_of sessions.new; journal = held.new }) (frames_of (reader.new.unread ++ more))) }
+    ensures err { IfErr result (λ fault. (more : List ℕ)
+        → Stopped fault held.old held.new (commands_over (sessions_of sessions.old) (frames_of ((reader.old.unread ++ piece.now) ++ more)))) }
+    ensures no_write { result ≢ Err ReplayFault.Write }
+{
+    match reader.feed(piece) {
+        Ok(()) => take_frames(alloc, reader, sessions, held),
+        Err(_) => Err(ReplayFault::NoMemory),
+    }
+}
+
+// Takes the frames that stand in the reader, in their order.
+fn take_frames(
+    alloc: Global,
+    reader: &mut Reader,
+    sessions: &mut Sessions,
+    held: &mut Held,
+) -> Result<(), ReplayFault>
+    ensures drained { OnOk result (frames_of reader.new.unread ≡ []) }
+    ensures came { OnOk result ((more : List ℕ) → Came (record { sessions = sessions_of sessions.old; journal = held.old }) (frames_of (reader.old.unread ++ more))
+        (record { sessions = sessions_of sessions.new; journal = held.new }) (frames_of (reader.new.unread ++ more))) }
+    ensures err { IfErr result (λ fault. (more : List ℕ)
+        → Stopped fault held.old held.new (commands_over (sessions_of sessions.old) (frames_of (reader.old.unread ++ more)))) }
+    ensures no_write { result ≢ Err ReplayFault.Write }
+{
+    while let Some(frame) = reader.next()? {
+        match sessions.take(alloc, &frame, held) {
+            Ok(()) => {}
+            Err(fault) => return Err(fault),
+        }
+    }
+    Ok(())
+}

@@ -1,0 +1,46 @@
+//! The moment of a frame.
+ghost use Rattle.std.specs.Prelude.{◌≡◌, pos};
+ghost use Rattle.std.specs.Result.{result_unwrap_or};
+ghost use Rattle.blot_tag.specs.Fields.{fields_of};
+ghost use Rattle.blot_tag.specs.Views.{text_of};
+ghost use Rattle.blot_time.specs.Moment.{moment_of};
+ghost use Rattle.blot_capture.specs.Capture.{sending_of};
+
+use blot_tag::Frame;
+use blot_time::Moment;
+
+/// The first field SendingTime(52) of a frame, or the first moment of 1970 where that isn't there or can't be read. The frame
+/// may be at fault elsewhere. It takes no memory.
+pub(crate) fn sending_of(frame: &Frame) -> Moment
+    ensures { result ≡ sending_of (fields_of (text_of frame.now)) }
+{
+    for item in frame.fields() {
+        let Ok(field) = item else {
+            return first_moment();
+        };
+        if field.tag == 52 {
+            return moment_in(field.value);
+        }
+    }
+    first_moment()
+}
+
+// The moment of these bytes, or the first of 1970.
+fn moment_in(bytes: &[u8]) -> Moment
+    ensures { result ≡ result_unwrap_or (moment_of bytes.now) (pos 0) }
+{
+    match Moment::read(bytes) {
+        Ok(moment) => moment,
+        Err(_) => first_moment(),
+    }
+}
+
+/// 19700101-00:00:00.
+pub fn first_moment() -> Moment
+    ensures { result ≡ pos 0 }
+{
+    match Moment::from_millis(0) {
+        Some(moment) => moment,
+        None => unreachable!(),
+    }
+}

@@ -1,0 +1,85 @@
+//! `replay`: a capture taken into an empty desk, and the report of its day.
+ghost use Rattle.std.specs.Prelude.{◌≡◌, ◌≢◌, ◌<◌, ◌≤◌, List, ℕ, ◌++◌, length, Err, IfOk, IfSome, OnOk};
+ghost use Rattle.std.specs.Io.KnownBytes.{Appends, Keeps, IsAtEnd};
+ghost use Rattle.std.specs.List.{IsDistinct};
+ghost use Rattle.blot_types.specs.Keys.{same_text};
+ghost use Rattle.blot_desk.specs.Desk.{events_of, run_of};
+ghost use Rattle.blot_capture.specs.Capture.{commands_of};
+ghost use Rattle.blot_capture.specs.Replay.{list_of, report_of};
+
+use crate::capturing::capture;
+use blot_desk::Held;
+use blot_report::{day_lines, report_text};
+use blot_stream::{ReplayFault, write_text};
+use blot_time::Day;
+use blot_types::{EVENTS_MAX, Text64};
+use std::alloc::{AllocError as NoMemory, Global};
+use std::io::{Read, Write};
+
+/// Takes a capture to its end, as `capture` does into an empty desk, and writes the report of a day. Nothing is written
+/// before the end of the input. No peer may be listed twice.
+pub fn replay<R: Read, W: Write>(
+    alloc: Global,
+    input: &mut R,
+    output: &mut W,
+    own: Text64,
+    peers: &[Text64],
+    day: Day,
+) -> Result<(), ReplayFault>
+    requires { IsDistinct same_text peers.now }
+    ensures wrote { OnOk result (IfSome (R.remaining input.old) (λ bytes.
+        Appends (W.contents output.old) (W.contents output.new) (report_of (list_of own peers.now bytes) day))) }
+    ensures read_to_the_end { OnOk result (IsAtEnd (R.remaining input.new)) }
+
+    // Ok only where no more commands come than a day has events, and Full only where more come.
+    ensures few { OnOk result (IfSome (R.remaining input.old) (λ bytes. length (commands_of own peers.now bytes) ≤ EVENTS_MAX)) }
+    ensures full { result ≡ Err ReplayFault.Full
+        → IfSome (R.remaining input.old) (λ bytes. EVENTS_MAX < length (commands_of own peers.now bytes)) }
+
+    // A write fault leaves a front of the text, every other fault nothing.
+    ensures write_fault { result ≡ Err ReplayFault.Write → IfSome (R.remaining input.old) (λ bytes. (front back : List ℕ)
+        × (front ++ back ≡ report_of (list_of own peers.now bytes) day) × Appends (W.contents output.old) (W.contents output.new) front) }
+    ensures other_faults { (fault : ReplayFault) → result ≡ Err fault → fault ≢ ReplayFault.Write
+        → Keeps (W.contents output.old) (W.contents output.new) }
+{
+    match captured_report(alloc, input, own, peers, day) {
+        Ok(text) => write_text(output, &text),
+        Err(fault) => Err(fault),
+    }
+}
+
+// The report of a day of a capture.
+fn captured_report<R: Read>(
+    alloc: Global,
+    input: &mut R,
+    own: Text64,
+    peers: &[Text64],
+    day: Day,
+) -> Result<Vec<u8>, ReplayFault>
+    requires { IsDistinct same_text peers.now }
+    ensures text { IfOk result (λ text. IfSome (R.remaining input.old) (λ bytes. text.items ≡ report_of (list_of own peers.now bytes) day)) }
+    ensures read_to_the_end { OnOk result (IsAtEnd (R.remaining input.new)) }
+    ensures few { OnOk result (IfSome (R.remaining input.old) (λ bytes. length (commands_of own peers.now bytes) ≤ EVENTS_MAX)) }
+    ensures full { result ≡ Err ReplayFault.Full
+        → IfSome (R.remaining input.old) (λ bytes. EVENTS_MAX < length (commands_of own peers.now bytes)) }
+    ensures no_write { result ≢ Err ReplayFault.Write }
+{
+    let mut held = Held::new(alloc);
+    if let Err(fault) = capture(alloc, input, own, peers, &mut held) {
+        return Err(fault);
+    }
+    match day_report(alloc, &held, day) {
+        Ok(text) => Ok(text),
+        Err(_) => Err(ReplayFault::NoMemory),
+    }
+}
+
+/// The report of a day of a desk.
+pub fn day_report(alloc: Global, held: &Held, day: Day) -> Result<Vec<u8>, NoMemory>
+    ensures text { IfOk result (λ text. text.items ≡ report_of (run_of (events_of held.now.history)).book.list day) }
+    ensures few { length held.now.history ≤ EVENTS_MAX }
+{
+    let snapshot = held.snapshot()?;
+    let lines = day_lines(alloc, &snapshot, day)?;
+    report_text(alloc, &lines)
+}

@@ -1,0 +1,116 @@
+//! The sessions of a capture's peers.
+ghost use Rattle.std.specs.Prelude.{◌≡◌, ◌≢◌, All, Err, IfOk, IfErr, OnOk, MatchOption, None, find};
+ghost use Rattle.std.specs.List.{IsDistinct};
+ghost use Rattle.blot_tag.specs.Views.{text_of};
+ghost use Rattle.blot_types.specs.Keys.{same_text};
+ghost use Rattle.blot_session.specs.States.{IsIdle};
+ghost use Rattle.blot_capture.specs.Capture.{first_sessions, sessions_behind, commands_in};
+ghost use Rattle.blot_capture.specs.Replay.{submitted, Stopped};
+ghost use Rattle.blot_capture.specs.Sessions.{session_in, sessions_of, IsAt};
+
+use crate::driving::take_frame;
+use blot_desk::Held;
+use blot_fields::sender_of;
+use blot_session::Session;
+use blot_slots::SlotTable;
+use blot_stream::ReplayFault;
+use blot_tag::Frame;
+use blot_types::Text64;
+use std::alloc::{AllocError as NoMemory, Global};
+use std::marker::Model;
+
+/// The sessions of a capture's peers. A session is checked out by its peer's first frame, and stays out to the end of the
+/// capture. A contract sees the session of each peer.
+#[derive(Drop)]
+pub(crate) struct Sessions {
+    table: SlotTable,
+    out: Vec<Session>,
+}
+
+impl Model for Sessions {
+    ghost use Rattle.std.specs.Prelude.{All};
+    ghost use Rattle.blot_session.specs.States.{IsIdle};
+    ghost use Rattle.blot_capture.specs.Sessions.{Parts};
+
+    ghost Value = { Parts };
+
+    ghost view = { λ sessions. record { out = sessions.out.items; table = sessions.table } };
+
+    ghost invariant = { λ sessions. All IsIdle sessions.out.items };
+}
+
+impl Sessions {
+    /// The sessions of peers that were never heard of.
+    pub(crate) fn new(alloc: Global, own: Text64, peers: &[Text64]) -> Result<Sessions, NoMemory>
+        requires { IsDistinct same_text peers.now }
+        ensures { IfOk result (λ sessions. sessions_of sessions ≡ first_sessions own peers.now) }
+    {
+        match SlotTable::new(alloc, own, peers) {
+            Ok(table) => Ok(Sessions {
+                table,
+                out: Vec::new(alloc),
+            }),
+            Err(_) => Err(NoMemory),
+        }
+    }
+
+    /// Gives a frame to the session of its sender, and what that delivers to the desk. The frames of others are passed over.
+    pub(crate) fn take(
+        &mut self,
+        alloc: Global,
+        frame: &Frame,
+        held: &mut Held,
+    ) -> Result<(), ReplayFault>
+        ensures sessions { OnOk result (sessions_of self.new ≡ sessions_behind (sessions_of self.old) (text_of frame.now)) }
+        ensures desk { OnOk result (held.new ≡ submitted held.old (commands_in (sessions_of self.old) (text_of frame.now))) }
+        ensures err { IfErr result (λ fault. Stopped fault held.old held.new (commands_in (sessions_of self.old) (text_of frame.now))) }
+        ensures no_write { result ≢ Err ReplayFault.Write }
+    {
+        let Some(sender) = sender_of(frame) else {
+            return Ok(());
+        };
+        let Ok(place) = place_of(&mut self.table, &mut self.out, &sender) else {
+            return Err(ReplayFault::NoMemory);
+        };
+        match place {
+            Some(place) => take_frame(alloc, &mut self.out[place], frame, held),
+            None => Ok(()),
+        }
+    }
+}
+
+// The place of a peer's session among those that are out; it is checked out where it was in. None where the peer has none.
+fn place_of(
+    table: &mut SlotTable,
+    out: &mut Vec<Session>,
+    peer: &Text64,
+) -> Result<Option<usize>, NoMemory>
+    requires { All IsIdle out.old.items }
+    ensures same { IfOk result (λ place. session_in out.new.items table.new ≡ session_in out.old.items table.old) }
+    ensures idle { All IsIdle out.new.items }
+    ensures place { IfOk result (λ place. MatchOption place (session_in out.new.items table.new peer.now ≡ None) (IsAt peer.now out.new.items)) }
+{
+    if let Some(place) = place_out(out, peer) {
+        return Ok(Some(place));
+    }
+    let Ok(session) = table.check_out(peer) else {
+        return Ok(None);
+    };
+    let place = out.len();
+    match out.push(session) {
+        Ok(()) => Ok(Some(place)),
+        Err(_) => Err(NoMemory),
+    }
+}
+
+// The first place of a peer's session among those that are out.
+fn place_out(out: &[Session], peer: &Text64) -> Option<usize>
+    ensures { MatchOption result (find (λ session. same_text session.peer peer.now) out.now ≡ None) (IsAt peer.now out.now) }
+{
+    for (place, session) in out.iter().enumerate() {
+        if session.peer() == *peer {
+            return Some(place);
+        }
+    }
+    None
+}

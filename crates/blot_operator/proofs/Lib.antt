@@ -1,0 +1,3 @@
+mod DialogueLemmas
+mod LineLemmas
+mod OperatingLemmas

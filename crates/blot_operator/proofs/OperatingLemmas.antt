@@ -1,0 +1,127 @@
+-- What is told at a desk of one's own is what the desk's definition says.
+use Rattle.std.proofs.Common.{◌≡◌, ◌≢◌, ℕ, List, [], ◌∷◌, ◌++◌, length, Option, Some, None, Result, Ok, Err, refl, sym, ap, ◌∙◌, subst, inl, inr}
+use Rattle.std.specs.Prelude.{◌==◌, fold, option_to_list}
+use Rattle.std.specs.Io.KnownBytes.{Appends}
+use Rattle.std.specs.List.{flat_map}
+use Rattle.std.proofs.KnownBytes.{Appends-trans, Appends-kept}
+use Rattle.std.proofs.lemmas.Bool.{cases_Bool, eqb-true, eq-eqb}
+use Rattle.std.proofs.lemmas.List.{append_assoc, append-nil}
+use Rattle.std.proofs.lemmas.List.Sums.{fold-append}
+use Rattle.blot_types.specs.declared.TheConstants.{EVENTS_MAX}
+use Rattle.blot_desk.specs.declared.event.Event.{Event}
+use Rattle.blot_desk.specs.declared.event.Reply.{Reply}
+use Rattle.blot_desk.specs.declared.fault.DeskFault.{DeskFault}
+use Rattle.blot_desk.specs.declared.fault.DeskFault.TheVariants.{Full, NoMemory, Unsettled}
+use Rattle.blot_desk.specs.Desk.{Journal, step_of, recorded_of}
+use Rattle.blot_console.specs.declared.answer.Answer.{Answer}
+use Rattle.blot_console.specs.declared.answer.Answer.TheVariants as answers
+use Rattle.blot_console.specs.declared.ask.Ask.{Ask}
+use Rattle.blot_console.specs.declared.ask.Ask.TheVariants as asks
+use Rattle.blot_console.specs.declared.fault.LineFault.{LineFault}
+use Rattle.blot_console.specs.Answers.{answer_text}
+use Rattle.blot_console.specs.Parsing.{parsed}
+use Rattle.blot_operator.specs.Dialogue.{answer_by, AnswersAsk, AnswersLine, AnswersLines, TellsLines, Stops, StopsAmong, OwnStep, own_ways}
+use Rattle.blot_operator.specs.Operating.{asked_by, with_key, telling, told_event, told_ask, answer_to, told_on, told_over, StoppedIn}
+
+-- an event that is recorded is told by its reply
+told-recorded : (old new : Journal) (event : Event) (reply : Reply) → length old.history ≢ EVENTS_MAX
+    → reply ≡ (step_of old.book event).reply → new ≡ recorded_of old event
+    → telling new (with_key (asked_by event) reply) ≡ told_event old event
+told-recorded old new event reply room is recorded = elim (cases_Bool (length old.history == EVENTS_MAX)) [
+  | inl full ↦ absurd (room (eqb-true (length old.history) EVENTS_MAX full))
+  | inr fits ↦ rw (fits, is, recorded) refl
+]
+
+-- and one for which there is no room is told so
+told-full : (old new : Journal) (event : Event) → length old.history ≡ EVENTS_MAX → new ≡ old → telling new answers.Full ≡ told_event old event
+told-full old new event full same = rw (eq-eqb (length old.history) EVENTS_MAX full, same) refl
+
+own-event : (old new : Journal) (event : Event) (answer : Answer) (reply : Result Reply DeskFault)
+    → OwnStep old event reply new → answer_by event reply ≡ Some answer → telling new answer ≡ told_event old event
+own-event old new event answer (Ok reply) step is =
+    let same : with_key (asked_by event) reply ≡ answer = cc in
+    ap (telling new) (sym same) ∙ told-recorded old new event reply (λ full. let stopped = step.full.1 full in cc) step.reply step.taken
+own-event old new event answer (Err Full) step is =
+    let same : answers.Full ≡ answer = cc in
+    ap (telling new) (sym same) ∙ told-full old new event (step.full.0 refl) step.err
+own-event old new event answer (Err NoMemory) step is = cc
+own-event old new event answer (Err Unsettled) step is = cc
+
+own-ask : (old new : Journal) (ask : Result Ask LineFault) (answer : Answer) → AnswersAsk own_ways old ask answer new → telling new answer ≡ told_ask old ask
+own-ask old new (Ok (asks.Step event)) answer answered = own-event old new event answer answered.reply answered.stepped answered.answer_is
+own-ask old new (Ok (asks.Report day)) answer answered = rw (answered.0, answered.1.answer_is, answered.1.shown) refl
+own-ask old new (Ok asks.Mine) answer answered = rw (answered.0, answered.1) refl
+own-ask old new (Err fault) answer answered = rw (answered.0, answered.1) refl
+
+own-line : (old new : Journal) (line : List ℕ) (answer : Answer) → AnswersLine own_ways old line answer new → telling new answer ≡ answer_to old line
+unfolding answer_to
+own-line old new line answer answered = own-ask old new (parsed line) answer answered.ask
+
+-- lines, behind some text
+own-lines : (old new : Journal) (lines : List (List ℕ)) (told : List Answer) (text : List ℕ) → AnswersLines own_ways old lines told new
+    → fold told_on (record { journal = old; text = text }) lines ≡ record { journal = new; text = text ++ flat_map answer_text told }
+own-lines old new [] [] text same = rw (same, append-nil text) refl
+own-lines old new (line ∷ lines) (answer ∷ told) text so =
+    ap (λ one. fold told_on (record { journal = one.journal; text = text ++ one.text }) lines) (sym (own-line old so.0 line answer so.1))
+    ∙ own-lines so.0 new lines told (text ++ answer_text answer) so.2
+    ∙ ap (λ text. record { journal = new; text = text }) (append_assoc text (answer_text answer) (flat_map answer_text told))
+own-lines old new [] (answer ∷ told) text so = absurd so
+own-lines old new (line ∷ lines) [] text so = absurd so
+
+pub own-told : (old new : Journal) (lines : List (List ℕ)) (before after : Option (List ℕ)) → TellsLines own_ways old lines new before after
+    → (new ≡ (told_over old lines).journal) × Appends before after (told_over old lines).text
+own-told old new lines before after tells =
+    let is = own-lines old new lines tells.told [] tells.answered in (
+      sym (ap (λ told. told.journal) is),
+      subst (Appends before after) (sym (ap (λ told. told.text) is)) tells.written,
+    )
+
+-- one line more
+told_over-line : (start : Journal) (lines : List (List ℕ)) (line : List ℕ) → told_over start (lines ++ line ∷ []) ≡ told_on (told_over start lines) line
+told_over-line start lines line = fold-append told_on (record { journal = start; text = [] }) lines (line ∷ [])
+
+own-more : (start between new : Journal) (lines : List (List ℕ)) (line : List ℕ) (answer : Answer) → between ≡ (told_over start lines).journal
+    → AnswersLine own_ways between line answer new
+    → told_over start (lines ++ line ∷ []) ≡ record { journal = new; text = (told_over start lines).text ++ answer_text answer }
+own-more start between new lines line answer held answered =
+    told_over-line start lines line
+    ∙ ap (λ journal. record { journal = (answer_to journal line).journal; text = (told_over start lines).text ++ (answer_to journal line).text }) (sym held)
+    ∙ ap (λ one. record { journal = one.journal; text = (told_over start lines).text ++ one.text }) (sym (own-line between new line answer answered))
+
+stopped-by : (start between new : Journal) (lines front : List (List ℕ)) (taken : Option (List ℕ)) (left : List (List ℕ)) (before mid after : Option (List ℕ))
+    → front ++ (option_to_list taken ++ left) ≡ lines → TellsLines own_ways start front between before mid
+    → Stops own_ways between taken new mid after → StoppedIn start lines new before after
+stopped-by start between new lines front None left before mid after lines_are tells stops =
+    let told = own-told start between front before mid tells in
+    let text = (told_over start front).text in
+    record {
+      answered = front;
+      taken = None;
+      left = left;
+      lines_are = lines_are;
+      journal = stops.0 ∙ told.0 ∙ ap (λ lines. (told_over start lines).journal) (sym (append-nil front));
+      front = [];
+      back = [];
+      written = subst (Appends before after) (sym (append-nil text)) (Appends-kept before mid after _ told.1 stops.1);
+      told = append-nil (text ++ []) ∙ append-nil text ∙ ap (λ lines. (told_over start lines).text) (sym (append-nil front));
+    }
+stopped-by start between new lines front (Some line) left before mid after lines_are tells stops =
+    let told = own-told start between front before mid tells in
+    let text = (told_over start front).text in
+    let more = sym (own-more start between new front line stops.answer told.0 stops.answered) in
+    record {
+      answered = front;
+      taken = Some line;
+      left = left;
+      lines_are = lines_are;
+      journal = ap (λ told. told.journal) more;
+      front = stops.front;
+      back = stops.back;
+      written = Appends-trans before mid after _ _ told.1 stops.written;
+      told = append_assoc text stops.front stops.back ∙ ap (λ back. text ++ back) stops.text_is ∙ ap (λ told. told.text) more;
+    }
+
+pub own-stopped : (start new : Journal) (lines : List (List ℕ)) (before after : Option (List ℕ)) → StopsAmong own_ways start lines new before after
+    → StoppedIn start lines new before after
+own-stopped start new lines before after stopped =
+    stopped-by start stopped.between new lines stopped.front stopped.taken stopped.left before stopped.written after stopped.lines_are stopped.told stopped.stops

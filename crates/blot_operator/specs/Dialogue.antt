@@ -1,0 +1,153 @@
+-- What is told at a desk, one's own or one of many: each line is answered by what the desk replies, and its answer is told before
+-- the next line is taken. Source: this project's rule.
+use Rattle.std.specs.Prelude.{◌≡◌, ◌↔◌, ℕ, ℤ, List, [], ◌∷◌, ◌++◌, length, IsTrue, IfOk, OnOk, OnErr, Option, Some, None, option_to_list, Result, Ok, Err, ◌⊎◌}
+use Rattle.std.specs.Io.KnownBytes.{Appends, Keeps}
+use Rattle.std.specs.List.{flat_map}
+use Rattle.blot_types.specs.declared.command.Entry.{Entry}
+use Rattle.blot_types.specs.declared.TheConstants.{EVENTS_MAX}
+use Rattle.blot_types.specs.Legal.{is_book}
+use Rattle.blot_desk.specs.declared.event.Event.{Event}
+use Rattle.blot_desk.specs.declared.event.Reply.{Reply}
+use Rattle.blot_desk.specs.declared.fault.DeskFault.{DeskFault}
+use Rattle.blot_desk.specs.declared.fault.DeskFault.TheVariants.{Full}
+use Rattle.blot_desk.specs.declared.receipt.Receipt.{Receipt}
+use Rattle.blot_desk.specs.Desk.{Journal, step_of, recorded_of}
+use Rattle.blot_desk.specs.Receipts.{IsOneMore}
+use Rattle.blot_report.specs.Lines.{day_lines_of}
+use Rattle.blot_console.specs.declared.answer.Answer.{Answer}
+use Rattle.blot_console.specs.declared.answer.Answer.TheVariants as answers
+use Rattle.blot_console.specs.declared.ask.Ask.{Ask}
+use Rattle.blot_console.specs.declared.ask.Ask.TheVariants as asks
+use Rattle.blot_console.specs.declared.fault.LineFault.{LineFault}
+use Rattle.blot_console.specs.Answers.{answer_text}
+use Rattle.blot_console.specs.Parsing.{parsed}
+use Rattle.blot_operator.specs.Lines.{split_of, kept}
+use Rattle.blot_operator.specs.Operating.{asked_by, with_key}
+
+-- the ways of a desk, as far as an operator sees them
+pub record Ways (S : Type 0) : Type 1 where
+  -- what is there before an event, the reply to it, and what is there behind it
+  pub steps : S → Event → Result Reply DeskFault → S → Type 0
+  -- a list that it may show
+  pub shows : S → List Entry → Type 0
+
+-- ---- one line
+
+-- the answer to an event, by the reply to it: `full` where the desk had no room, none where memory ran out
+abbrev pub answer_by : Event → Result Reply DeskFault → Option Answer
+answer_by event (Ok reply) = Some (with_key (asked_by event) reply)
+answer_by event (Err Full) = Some answers.Full
+answer_by event (Err fault) = None
+
+-- an event is submitted, once, and the reply to it is the answer
+pub record AnswersEvent {S : Type 0} (ways : Ways S) (before : S) (event : Event) (answer : Answer) (after : S) : Type 0 where
+  pub reply : Result Reply DeskFault
+  pub stepped : ways.steps before event reply after
+  pub answer_is : answer_by event reply ≡ Some answer
+
+-- an event is submitted, and the reply to it is no answer
+pub record Declines {S : Type 0} (ways : Ways S) (before : S) (event : Event) (after : S) : Type 0 where
+  pub reply : Result Reply DeskFault
+  pub stepped : ways.steps before event reply after
+  pub none : answer_by event reply ≡ None
+
+-- the report of a day is made of a list that may be shown
+pub record AnswersReport {S : Type 0} (ways : Ways S) (before : S) (day : ℤ) (answer : Answer) : Type 0 where
+  pub list : List Entry
+  pub shown : ways.shows before list
+  pub answer_is : answer ≡ answers.Report (day_lines_of list day)
+
+-- what a line asks, or its fault, is answered: only an event is submitted
+abbrev pub AnswersAsk : {S : Type 0} → Ways S → S → Result Ask LineFault → Answer → S → Type 0
+AnswersAsk ways before (Ok (asks.Step event)) answer after = AnswersEvent ways before event answer after
+AnswersAsk ways before (Ok (asks.Report day)) answer after = (after ≡ before) × AnswersReport ways before day answer
+AnswersAsk ways before (Ok asks.Mine) answer after = (after ≡ before) × (answer ≡ answers.Nothing)
+AnswersAsk ways before (Err fault) answer after = (after ≡ before) × (answer ≡ answers.Bad fault)
+
+-- a line is answered
+pub record AnswersLine {S : Type 0} (ways : Ways S) (before : S) (line : List ℕ) (answer : Answer) (after : S) : Type 0 where
+  pub ask : AnswersAsk ways before (parsed line) answer after
+
+-- and the answer is written
+pub record TellsLine {S : Type 0} (ways : Ways S) (before : S) (line : List ℕ) (after : S) (old new : Option (List ℕ)) : Type 0 where
+  pub answer : Answer
+  pub answered : AnswersLine ways before line answer after
+  pub written : Appends old new (answer_text answer)
+
+-- or a front of it is
+pub record TellsFront {S : Type 0} (ways : Ways S) (before : S) (line : List ℕ) (after : S) (old new : Option (List ℕ)) : Type 0 where
+  pub answer : Answer
+  pub answered : AnswersLine ways before line answer after
+  pub front : List ℕ
+  pub back : List ℕ
+  pub text_is : front ++ back ≡ answer_text answer
+  pub written : Appends old new front
+
+-- the lines stop: no line more is taken, or this one is
+abbrev pub Stops : {S : Type 0} → Ways S → S → Option (List ℕ) → S → Option (List ℕ) → Option (List ℕ) → Type 0
+Stops ways before None after old new = (after ≡ before) × Keeps old new
+Stops ways before (Some line) after old new = TellsFront ways before line after old new
+
+-- they stop at a line, which is taken or isn't
+abbrev pub StopsAtLine : {S : Type 0} → Ways S → S → List ℕ → S → Option (List ℕ) → Option (List ℕ) → Type 0
+StopsAtLine ways before line after old new = Stops ways before None after old new ⊎ Stops ways before (Some line) after old new
+
+-- ---- lines in their order
+
+-- each is answered, by one answer
+abbrev pub AnswersLines : {S : Type 0} → Ways S → S → List (List ℕ) → List Answer → S → Type 0
+AnswersLines {S = S} ways before [] [] after = after ≡ before
+AnswersLines {S = S} ways before (line ∷ lines) (answer ∷ later) after = (between : S) × AnswersLine ways before line answer between × AnswersLines ways between lines later after
+AnswersLines {S = S} ways before _ _ after = ⊥
+
+-- and the answers are written
+pub record TellsLines {S : Type 0} (ways : Ways S) (before : S) (lines : List (List ℕ)) (after : S) (old new : Option (List ℕ)) : Type 0 where
+  pub told : List Answer
+  pub answered : AnswersLines ways before lines told after
+  pub written : Appends old new (flat_map answer_text told)
+
+-- the lines stop among these: so many are told, and at most one more is taken
+pub record StopsAmong {S : Type 0} (ways : Ways S) (before : S) (lines : List (List ℕ)) (after : S) (old new : Option (List ℕ)) : Type 0 where
+  pub front : List (List ℕ)
+  pub taken : Option (List ℕ)
+  pub left : List (List ℕ)
+  pub lines_are : front ++ (option_to_list taken ++ left) ≡ lines
+  pub between : S
+  pub written : Option (List ℕ)
+  pub told : TellsLines ways before front between old written
+  pub stops : Stops ways between taken after written new
+
+-- the bytes of an input that came: each line that they end is told, and what they begin is kept
+pub record HasTold {S : Type 0} (ways : Ways S) (before : S) (bytes line : List ℕ) (after : S) (old new : Option (List ℕ)) : Type 0 where
+  pub told : TellsLines ways before (split_of bytes).ended after old new
+  pub line_is : line ≡ kept (split_of bytes).begun
+
+-- ---- two kinds of desk
+
+-- an event at a desk of one's own
+pub record OwnStep (before : Journal) (event : Event) (given : Result Reply DeskFault) (after : Journal) : Type 0 where
+  pub reply : IfOk given (λ reply. reply ≡ (step_of before.book event).reply)
+  pub taken : OnOk given (after ≡ recorded_of before event)
+  pub full : (given ≡ Err Full) ↔ (length before.history ≡ EVENTS_MAX)
+  pub err : OnErr given (after ≡ before)
+
+-- it shows its live list
+abbrev pub OwnList : Journal → List Entry → Type 0
+OwnList journal list = list ≡ journal.book.list
+
+-- its ways
+abbrev pub own_ways : Ways Journal
+own_ways = record { steps = OwnStep; shows = OwnList }
+
+-- an event of a seat at a desk of many: a reply adds the receipt of it, and a fault none
+pub record SeatStep (before : List Receipt) (event : Event) (given : Result Reply DeskFault) (after : List Receipt) : Type 0 where
+  pub receipt : IfOk given (λ reply. IsOneMore before after event reply)
+  pub err : OnErr given (after ≡ before)
+
+-- it may show any legal list: that of the moment, which others change
+abbrev pub SeatList : List Receipt → List Entry → Type 0
+SeatList receipts list = IsTrue (is_book list)
+
+-- the ways of a seat
+abbrev pub seat_ways : Ways (List Receipt)
+seat_ways = record { steps = SeatStep; shows = SeatList }

@@ -1,0 +1,3 @@
+pub mod Dialogue
+pub mod Lines
+pub mod Operating

@@ -1,0 +1,78 @@
+-- What an operator is told at a desk of one's own: each line is answered for itself, and its answer is told before the next line
+-- is taken. Source: this project's rule.
+use Rattle.std.specs.Prelude.{◌≡◌, ℕ, ◌==◌, List, [], ◌++◌, length, fold, Option, option_to_list, Result, Ok, Err, if◌then◌else◌}
+use Rattle.std.specs.Io.KnownBytes.{Appends}
+use Rattle.blot_types.specs.declared.TheConstants.{EVENTS_MAX}
+use Rattle.blot_desk.specs.declared.event.Event.{Event}
+use Rattle.blot_desk.specs.declared.event.Event.TheVariants.{AskOrder, AskPosition}
+use Rattle.blot_desk.specs.declared.event.Reply.{Reply}
+use Rattle.blot_desk.specs.declared.event.Reply.TheVariants as replies
+use Rattle.blot_desk.specs.Desk.{Journal, step_of, recorded_of}
+use Rattle.blot_report.specs.Lines.{day_lines_of}
+use Rattle.blot_console.specs.declared.answer.Answer.{Answer}
+use Rattle.blot_console.specs.declared.answer.Answer.TheVariants as answers
+use Rattle.blot_console.specs.declared.ask.Ask.{Ask}
+use Rattle.blot_console.specs.declared.ask.Ask.TheVariants as asks
+use Rattle.blot_console.specs.declared.fault.LineFault.{LineFault}
+use Rattle.blot_console.specs.Answers.{answer_text}
+use Rattle.blot_console.specs.Parsing.{parsed}
+use Rattle.blot_operator.specs.declared.answering.Asked.{Asked}
+use Rattle.blot_operator.specs.declared.answering.Asked.TheVariants as asked
+
+-- what a desk holds, and what its operator was told
+pub record Told : Type 0 where
+  pub journal : Journal
+  pub text : List ℕ
+
+-- what an event asks for by a key
+abbrev pub asked_by : Event → Asked
+asked_by (AskOrder order) = asked.Order order
+asked_by (AskPosition account symbol) = asked.Position account symbol
+asked_by _ = asked.Nothing
+
+-- a reply as an answer, with the key that was asked for
+abbrev pub with_key : Asked → Reply → Answer
+with_key (asked.Order order) (replies.Order line) = answers.Order order line
+with_key (asked.Position account symbol) (replies.Position line) = answers.Position account symbol line
+with_key _ reply = answers.Replied reply
+
+-- a desk that tells an answer
+abbrev pub telling : Journal → Answer → Told
+telling journal answer = record { journal = journal; text = answer_text answer }
+
+-- an event: where as many are recorded as a day has, that is told; else it is recorded, and its reply is told
+abbrev pub told_event : Journal → Event → Told
+told_event journal event =
+    if length journal.history == EVENTS_MAX then telling journal answers.Full
+    else telling (recorded_of journal event) (with_key (asked_by event) (step_of journal.book event).reply)
+
+-- what a line asks, or its fault: only an event changes what the desk holds
+abbrev pub told_ask : Journal → Result Ask LineFault → Told
+told_ask journal (Ok (asks.Step event)) = told_event journal event
+told_ask journal (Ok (asks.Report day)) = telling journal (answers.Report (day_lines_of journal.book.list day))
+told_ask journal (Ok asks.Mine) = telling journal answers.Nothing
+told_ask journal (Err fault) = telling journal (answers.Bad fault)
+
+-- a line
+unfoldable pub answer_to : Journal → List ℕ → Told
+answer_to journal line = told_ask journal (parsed line)
+
+-- one line more
+abbrev pub told_on : Told → List ℕ → Told
+told_on told line = record { journal = (answer_to told.journal line).journal; text = told.text ++ (answer_to told.journal line).text }
+
+-- lines, in their order
+abbrev pub told_over : Journal → List (List ℕ) → Told
+told_over journal lines = fold told_on (record { journal = journal; text = [] }) lines
+
+-- a desk that stopped among lines: so many are answered, at most one more is taken, and a front of its answer is written
+pub record StoppedIn (start : Journal) (lines : List (List ℕ)) (held : Journal) (before after : Option (List ℕ)) : Type 0 where
+  pub answered : List (List ℕ)
+  pub taken : Option (List ℕ)
+  pub left : List (List ℕ)
+  pub lines_are : answered ++ (option_to_list taken ++ left) ≡ lines
+  pub journal : held ≡ (told_over start (answered ++ option_to_list taken)).journal
+  pub front : List ℕ
+  pub back : List ℕ
+  pub written : Appends before after ((told_over start answered).text ++ front)
+  pub told : ((told_over start answered).text ++ front) ++ back ≡ (told_over start (answered ++ option_to_list taken)).text

@@ -1,0 +1,138 @@
+//! The answer to a line of an operator.
+ghost use Rattle.std.specs.Prelude.{◌≡◌, ◌≢◌, None, IsOk, OnOk, OnErr, IfOk, Ok, Err};
+ghost use Rattle.blot_console.specs.Answers.{CanBeTold};
+ghost use Rattle.blot_console.specs.Parsing.{parsed};
+ghost use Rattle.blot_operator.specs.Dialogue.{AnswersEvent, AnswersAsk, AnswersLine, AnswersReport, Declines, TellsLine, StopsAtLine};
+ghost use Rattle.blot_operator.specs.Operating.{asked_by, with_key};
+
+use crate::operated::Operated;
+use blot_console::{Answer, Ask, LineFault, answer_text, parse_line};
+use blot_desk::{DeskFault, Event, Reply};
+use blot_report::day_lines;
+use blot_stream::{ReplayFault, flush, write_text};
+use blot_time::Day;
+use blot_types::{OrderKey, Text64};
+use std::alloc::{AllocError as NoMemory, Global};
+use std::io::Write;
+
+// What an event asks for by a key.
+#[derive(Drop)]
+enum Asked {
+    Order(OrderKey),
+    Position(Text64, Text64),
+    Nothing,
+}
+
+/// Answers a line, without its end: it is taken, and its answer is written and flushed.
+pub(crate) fn answer_line<D: Operated, W: Write>(
+    alloc: Global,
+    desk: &D,
+    state: &mut D::State,
+    output: &mut W,
+    line: &[u8],
+) -> Result<(), ReplayFault>
+    ensures ok { OnOk result (TellsLine D.ways state.old line.now state.new (W.contents output.old) (W.contents output.new)) }
+    ensures err { OnErr result (StopsAtLine D.ways state.old line.now state.new (W.contents output.old) (W.contents output.new)) }
+    ensures never_full { result ≢ Err ReplayFault.Full }
+{
+    let answer = answer_to(alloc, desk, state, line)?;
+    let text = answer_text(alloc, &answer)?;
+    write_text(output, &text)?;
+    flush(output)
+}
+
+// What a line comes to: an event is taken, a report is made, and a fault is told. An error is out of memory, and comes
+// only where the line asks something.
+fn answer_to<D: Operated>(
+    alloc: Global,
+    desk: &D,
+    state: &mut D::State,
+    line: &[u8],
+) -> Result<Answer, NoMemory>
+    ensures ok { IfOk result (λ answer. AnswersLine D.ways state.old line.now answer state.new) }
+    ensures tellable { IfOk result CanBeTold }
+    ensures err { OnErr result (state.new ≡ state.old) }
+    ensures err_of_an_ask { OnErr result (IsOk (parsed line.now)) }
+{
+    match parse_line(alloc, line) {
+        Ok(ask) => answer_ask(alloc, desk, state, ask),
+        Err(LineFault::NoMemory) => Err(NoMemory),
+        Err(fault) => Ok(Answer::Bad(fault)),
+    }
+}
+
+// What an ask comes to. An error is out of memory.
+fn answer_ask<D: Operated>(
+    alloc: Global,
+    desk: &D,
+    state: &mut D::State,
+    ask: Ask,
+) -> Result<Answer, NoMemory>
+    ensures ok { IfOk result (λ answer. AnswersAsk D.ways state.old (Ok ask) answer state.new) }
+    ensures tellable { IfOk result CanBeTold }
+    ensures err { OnErr result (state.new ≡ state.old) }
+{
+    match ask {
+        Ask::Step(event) => answer_event(desk, state, event),
+        Ask::Report(day) => report(alloc, desk, state, day),
+        Ask::Mine => Ok(Answer::Nothing),
+    }
+}
+
+// Takes an event: the reply to it, or that no more events are taken. An error is out of memory, and comes only where
+// the desk has no answer. No step answers Unsettled.
+fn answer_event<D: Operated>(
+    desk: &D,
+    state: &mut D::State,
+    event: Event,
+) -> Result<Answer, NoMemory>
+    ensures ok { IfOk result (λ answer. AnswersEvent D.ways state.old event answer state.new) }
+    ensures tellable { IfOk result CanBeTold }
+    ensures err { OnErr result (state.new ≡ state.old) }
+    ensures declined { OnErr result (Declines D.ways state.old event state.new) }
+{
+    let asked = asked_by(&event);
+    match desk.step(state, event) {
+        Ok(reply) => Ok(with_key(&asked, &reply)),
+        Err(DeskFault::Full) => Ok(Answer::Full),
+        Err(DeskFault::NoMemory | DeskFault::Unsettled) => Err(NoMemory),
+    }
+}
+
+// What an event asks for by a key.
+fn asked_by(event: &Event) -> Asked
+    ensures { result ≡ asked_by event.now }
+{
+    match event {
+        Event::AskOrder(order) => Asked::Order(*order),
+        Event::AskPosition(account, symbol) => Asked::Position(*account, *symbol),
+        _ => Asked::Nothing,
+    }
+}
+
+// A reply, with the key that was asked for.
+fn with_key(asked: &Asked, reply: &Reply) -> Answer
+    ensures { result ≡ with_key asked.now reply.now }
+{
+    match (asked, reply) {
+        (Asked::Order(order), Reply::Order(line)) => Answer::Order(*order, *line),
+        (Asked::Position(account, symbol), Reply::Position(line)) => {
+            Answer::Position(*account, *symbol, *line)
+        }
+        _ => Answer::Replied(*reply),
+    }
+}
+
+// The report of a day.
+fn report<D: Operated>(
+    alloc: Global,
+    desk: &D,
+    state: &D::State,
+    day: Day,
+) -> Result<Answer, NoMemory>
+    ensures ok { IfOk result (λ answer. AnswersReport D.ways state.now day answer) }
+    ensures tellable { IfOk result CanBeTold }
+{
+    let snapshot = desk.snapshot(state)?;
+    Ok(Answer::Report(day_lines(alloc, &snapshot, day)?))
+}

@@ -1,0 +1,10 @@
+//! An operator's lines, read from an input: each is taken to a desk, one's own or one of many by a seat, and its answer is written
+//! before the next line is taken.
+#![tactic(auto)]
+
+mod answering;
+mod lines;
+mod operated;
+mod operating;
+
+pub use operating::{desk_lines, seat_lines};

@@ -1,0 +1,88 @@
+//! `desk_lines` and `seat_lines`: the lines of an input answered, at a desk of one's own or from a seat.
+ghost use Rattle.std.specs.Prelude.{◌≡◌, ◌≢◌, Err, IfSome, OnOk, OnErr};
+ghost use Rattle.std.specs.Io.KnownBytes.{Appends, IsAtEnd};
+ghost use Rattle.blot_operator.specs.Dialogue.{seat_ways, TellsLines, StopsAmong};
+ghost use Rattle.blot_operator.specs.Lines.{lines_of};
+ghost use Rattle.blot_operator.specs.Operating.{told_over, StoppedIn};
+
+use crate::lines::{answer_last, answer_piece};
+use crate::operated::{Operated, Own, Shared};
+use blot_desk::{Desk, Held, Seat};
+use blot_gateway::{READS_MAX, empty_piece};
+use blot_stream::{ReplayFault, read_piece};
+use std::alloc::Global;
+use std::io::{Read, Write};
+use std::sync::Wait;
+use std::sync::ledger::Ledger;
+
+/// Answers an operator's lines to the end of the input. Each line's answer is written and flushed before the next line
+/// is taken. A line that asks nothing is answered by its fault, and an event that the desk has no room for by `full`;
+/// both leave what the desk holds as it is, and the next line is taken. It ends early where a read, a write or a flush
+/// fails, where memory runs out, and behind 2^30 reads; never as `Full`.
+pub fn desk_lines<R: Read, W: Write>(
+    alloc: Global,
+    input: &mut R,
+    output: &mut W,
+    held: &mut Held,
+) -> Result<(), ReplayFault>
+    ensures journal { OnOk result (IfSome (R.remaining input.old) (λ bytes. held.new ≡ (told_over held.old (lines_of bytes)).journal)) }
+    ensures wrote { OnOk result (IfSome (R.remaining input.old) (λ bytes.
+        Appends (W.contents output.old) (W.contents output.new) (told_over held.old (lines_of bytes)).text)) }
+    ensures read_to_the_end { OnOk result (IsAtEnd (R.remaining input.new)) }
+
+    // After a fault the lines of a front were taken, and of the last answer a front was written.
+    ensures fault { OnErr result (IfSome (R.remaining input.old) (λ bytes.
+        StoppedIn held.old (lines_of bytes) held.new (W.contents output.old) (W.contents output.new))) }
+    ensures never_full { result ≢ Err ReplayFault.Full }
+{
+    answer_lines(alloc, input, output, &Own, held)
+}
+
+/// The same for a seat at a desk of many. Each event of the lines is submitted once, and the seat gets the receipt of its
+/// reply, by which the line is answered; an event that is answered by `full` has none, and no other line has one. A report
+/// shows the desk as it is when its line is taken.
+pub fn seat_lines<R: Read, W: Write, L: Ledger>(
+    rt: &impl Wait,
+    alloc: Global,
+    input: &mut R,
+    output: &mut W,
+    desk: &Desk<L>,
+    seat: &mut Seat<L>,
+) -> Result<(), ReplayFault>
+    ensures told { OnOk result (IfSome (R.remaining input.old) (λ bytes.
+        TellsLines seat_ways seat.old (lines_of bytes) seat.new (W.contents output.old) (W.contents output.new))) }
+    ensures read_to_the_end { OnOk result (IsAtEnd (R.remaining input.new)) }
+
+    // After a fault the lines of a front were taken, and of the last answer a front was written.
+    ensures fault { OnErr result (IfSome (R.remaining input.old) (λ bytes.
+        StopsAmong seat_ways seat.old (lines_of bytes) seat.new (W.contents output.old) (W.contents output.new))) }
+    ensures never_full { result ≢ Err ReplayFault.Full }
+{
+    answer_lines(alloc, input, output, &Shared { rt, desk }, seat)
+}
+
+// Answers the lines of an input to its end.
+fn answer_lines<R: Read, W: Write, D: Operated>(
+    alloc: Global,
+    input: &mut R,
+    output: &mut W,
+    desk: &D,
+    state: &mut D::State,
+) -> Result<(), ReplayFault>
+    ensures told { OnOk result (IfSome (R.remaining input.old) (λ bytes.
+        TellsLines D.ways state.old (lines_of bytes) state.new (W.contents output.old) (W.contents output.new))) }
+    ensures read_to_the_end { OnOk result (IsAtEnd (R.remaining input.new)) }
+    ensures fault { OnErr result (IfSome (R.remaining input.old) (λ bytes.
+        StopsAmong D.ways state.old (lines_of bytes) state.new (W.contents output.old) (W.contents output.new))) }
+    ensures never_full { result ≢ Err ReplayFault.Full }
+{
+    let mut line = Vec::new(alloc);
+    let mut buffer = empty_piece(alloc)?;
+    for _ in 0..READS_MAX {
+        let Some(count) = read_piece(input, &mut buffer)? else {
+            return answer_last(alloc, desk, state, output, &line);
+        };
+        answer_piece(alloc, desk, state, output, &mut line, &buffer[..count])?;
+    }
+    Err(ReplayFault::TooLong)
+}

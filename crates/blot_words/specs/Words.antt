@@ -1,0 +1,76 @@
+-- What the words of the command line ask for.
+use Rattle.std.specs.Prelude.{◌≡◌, ℕ, ◌<◌, ◌≤◌, ℤ, Bool, true, false, List, [], ◌∷◌, length, Option, Some, None, IsSome, IsSomeAnd, IsTrue}
+use Rattle.std.specs.List.{IsDistinct, list_all}
+use Rattle.std.specs.Str.Parse.{IsNumeral, digits_value, without_leading_plus}
+use Rattle.blot_time.specs.Day.{IsDayText}
+use Rattle.blot_types.specs.Keys.{same_text}
+use Rattle.blot_types.specs.Text.{is_text}
+use Rattle.blot_words.specs.declared.command_line.TheConstants.{PORT_MAX, ROUNDS_MAX, SESSIONS_MAX}
+use Rattle.blot_words.specs.declared.words.Words.{Words}
+use Rattle.blot_words.specs.declared.words.Words.TheVariants.{Replay, Desk, Serve}
+
+-- the peers of a replay: one or more texts, and no two the same
+pub record IsPeerList (peers : List (List ℕ)) : Type 0 where
+  pub some : 0 < length peers
+  pub texts : list_all is_text peers ≡ true
+  pub distinct : IsDistinct same_text peers
+
+-- the words of a replay: one's own CompID is a text, the day a day, and the peers are as above
+pub record IsReplay (own day : Option (List ℕ)) (peers : Option (List (List ℕ))) : Type 0 where
+  pub own_text : IsSomeAnd own (λ text. IsTrue (is_text text))
+  pub day_text : IsSomeAnd day IsDayText
+  pub peer_list : IsSomeAnd peers IsPeerList
+
+-- the words of a desk: one's own CompID is a text, a file is named, and the peers are as above
+pub record IsDesk (own capture : Option (List ℕ)) (peers : Option (List (List ℕ))) : Type 0 where
+  pub own_text : IsSomeAnd own (λ text. IsTrue (is_text text))
+  pub file : IsSome capture
+  pub peer_list : IsSomeAnd peers IsPeerList
+
+-- the number that the digits of a word write, a plus before them passed over
+abbrev pub count_of : List ℕ → ℕ
+count_of word = digits_value 10 (without_leading_plus word)
+
+-- a word is digits, with a plus before them or none, of a number from 1 to the most
+pub record IsCount (most : ℕ) (word : List ℕ) : Type 0 where
+  pub digits : IsNumeral 10 (without_leading_plus word)
+  pub some : 1 ≤ count_of word
+  pub few : count_of word ≤ most
+
+-- the words of a server: as of a replay, and the port and the numbers of connections and rounds are counts
+pub record IsServe (own day port sessions rounds : Option (List ℕ)) (peers : Option (List (List ℕ))) : Type 0 where
+  pub as_replay : IsReplay own day peers
+  pub port_count : IsSomeAnd port (IsCount PORT_MAX)
+  pub sessions_count : IsSomeAnd sessions (IsCount SESSIONS_MAX)
+  pub rounds_count : IsSomeAnd rounds (IsCount ROUNDS_MAX)
+
+-- one's own CompID, the day, the file with the capture, and the peers that the words name
+abbrev pub own_of : Words → List ℕ
+own_of (Replay own day peers) = own
+own_of (Desk own capture peers) = own
+own_of (Serve own day port sessions rounds peers) = own
+
+abbrev pub day_named : Words → Option ℤ
+day_named (Replay own day peers) = Some day
+day_named (Desk own capture peers) = None
+day_named (Serve own day port sessions rounds peers) = Some day
+
+abbrev pub capture_named : Words → Option (List ℕ)
+capture_named (Replay own day peers) = None
+capture_named (Desk own capture peers) = Some capture.bytes.items
+capture_named (Serve own day port sessions rounds peers) = None
+
+abbrev pub peers_of : Words → List (List ℕ)
+peers_of (Replay own day peers) = peers.items
+peers_of (Desk own capture peers) = peers.items
+peers_of (Serve own day port sessions rounds peers) = peers.items
+
+-- the port, and how many connections and rounds
+abbrev pub counts_named : Words → List (Option ℕ)
+counts_named (Serve own day port sessions rounds peers) = Some port ∷ Some sessions ∷ Some rounds ∷ []
+counts_named words = []
+
+-- whether the words ask for a replay
+abbrev pub is_replay : Words → Bool
+is_replay (Replay own day peers) = true
+is_replay words = false

@@ -1,0 +1,196 @@
+//! The words of the command line: what they ask for.
+ghost use Rattle.std.specs.Prelude.{◌≡◌, ◌≢◌, ◌↔◌, ◌≤◌, [], ◌∷◌, Ok, Some, IfErr, IfOk, IfSome, IsSome, IsSomeAnd, IsTrue, codes, option_map};
+ghost use Rattle.clap.specs.Matches.{first_value, found_of, matched_of, one_text, raw_values};
+ghost use Rattle.blot_time.specs.Day.{day_of, IsDayText};
+ghost use Rattle.blot_types.specs.Text.{is_text};
+ghost use Rattle.blot_words.specs.Words.{IsCount, IsPeerList, IsReplay, IsDesk, IsServe, own_of, count_of, counts_named, day_named, capture_named, peers_of};
+
+use crate::command_line::{
+    CAPTURE, DAY, DESK, OWN, PEER, PORT, PORT_MAX, REPLAY, ROUNDS, ROUNDS_MAX, SERVE, SESSIONS,
+    SESSIONS_MAX, command,
+};
+use crate::peers::read_peers;
+use crate::refusal::{Refusal, refusal_of};
+use blot_time::Day;
+use blot_types::Text64;
+use clap::ArgMatches;
+use std::alloc::Global;
+use std::convert::AsStr;
+use std::env::{self, Env};
+use std::io::ErrorKind;
+
+/// What the command line asks for.
+#[derive(Debug, Drop)]
+pub enum Words {
+    /// The report of a day, of the capture on standard input.
+    Replay {
+        own: Text64,
+        day: Day,
+        peers: Vec<Text64>,
+    },
+    /// The answers to the lines on standard input, of the capture in a file.
+    Desk {
+        own: Text64,
+        capture: String,
+        peers: Vec<Text64>,
+    },
+    /// The brokers that connect, the answers to the lines on standard input, and the report of a day.
+    Serve {
+        own: Text64,
+        day: Day,
+        port: u16,
+        sessions: u16,
+        rounds: u16,
+        peers: Vec<Text64>,
+    },
+}
+
+/// The words that the system gives, the program's name first.
+pub fn given<S: Env + AllocGlobal>(system: &S) -> Result<Vec<String>, Refusal> {
+    match env::args(system) {
+        Ok(words) => Ok(words.collect(system.alloc())?),
+        Err(error) if error.kind() == ErrorKind::OutOfMemory => Err(Refusal::NoMemory),
+        Err(_) => Err(Refusal::BadWords),
+    }
+}
+
+/// What these words ask for, the first of which is the program's name.
+pub fn parse<S: AsStr>(alloc: Global, words: &[S]) -> Result<Words, Refusal>
+    ensures peers { IfOk result (λ words. IsPeerList (peers_of words)) }
+{
+    let matches = match command(alloc)?.try_get_matches_from(words) {
+        Ok(matches) => matches,
+        Err(error) => return Err(refusal_of(alloc, error)),
+    };
+    if let Some(matches) = matches.subcommand_matches(REPLAY) {
+        return read_replay(alloc, matches);
+    }
+    if let Some(matches) = matches.subcommand_matches(DESK) {
+        return read_desk(alloc, matches);
+    }
+    match matches.subcommand_matches(SERVE) {
+        Some(matches) => read_serve(alloc, matches),
+        None => Err(Refusal::BadWords),
+    }
+}
+
+// The words of a replay, as `clap` found them.
+fn read_replay(alloc: Global, matches: &ArgMatches<'_>) -> Result<Words, Refusal>
+    ensures own { IfOk result (λ words. first_value (found_of matches.now) (codes "own") ≡ Some (own_of words)) }
+    ensures day { IfOk result (λ words. IfSome (first_value (found_of matches.now) (codes "day")) (λ word. option_map Ok (day_named words) ≡ Some (day_of word))) }
+    ensures named { IfOk result (λ words. option_map raw_values (matched_of (found_of matches.now) (codes "peer")) ≡ Some (peers_of words)) }
+    ensures peers { IfOk result (λ words. IsPeerList (peers_of words)) }
+    ensures refused { IfErr result (λ refusal. refusal ≢ Refusal.NoMemory
+        → IsReplay (first_value (found_of matches.now) (codes "own")) (first_value (found_of matches.now) (codes "day"))
+        (option_map raw_values (matched_of (found_of matches.now) (codes "peer"))) → ⊥) }
+{
+    let Some(own) = read_text(matches.get_str(OWN)) else {
+        return Err(Refusal::BadWords);
+    };
+    let Some(day) = read_day(matches.get_str(DAY)) else {
+        return Err(Refusal::BadWords);
+    };
+    let Some(named) = matches.get_strs(PEER) else {
+        return Err(Refusal::BadWords);
+    };
+    let peers = read_peers(alloc, named)?;
+    Ok(Words::Replay { own, day, peers })
+}
+
+// The words of a desk, as `clap` found them.
+fn read_desk(alloc: Global, matches: &ArgMatches<'_>) -> Result<Words, Refusal>
+    ensures own { IfOk result (λ words. first_value (found_of matches.now) (codes "own") ≡ Some (own_of words)) }
+    ensures capture { IfOk result (λ words. first_value (found_of matches.now) (codes "capture") ≡ capture_named words) }
+    ensures named { IfOk result (λ words. option_map raw_values (matched_of (found_of matches.now) (codes "peer")) ≡ Some (peers_of words)) }
+    ensures peers { IfOk result (λ words. IsPeerList (peers_of words)) }
+    ensures refused { IfErr result (λ refusal. refusal ≢ Refusal.NoMemory
+        → IsDesk (first_value (found_of matches.now) (codes "own")) (first_value (found_of matches.now) (codes "capture"))
+        (option_map raw_values (matched_of (found_of matches.now) (codes "peer"))) → ⊥) }
+{
+    let Some(own) = read_text(matches.get_str(OWN)) else {
+        return Err(Refusal::BadWords);
+    };
+    let Some(file) = matches.get_str(CAPTURE) else {
+        return Err(Refusal::BadWords);
+    };
+    let Some(named) = matches.get_strs(PEER) else {
+        return Err(Refusal::BadWords);
+    };
+    let capture = String::from_str(alloc, file)?;
+    let peers = read_peers(alloc, named)?;
+    Ok(Words::Desk {
+        own,
+        capture,
+        peers,
+    })
+}
+
+// The words of a server, as `clap` found them.
+fn read_serve(alloc: Global, matches: &ArgMatches<'_>) -> Result<Words, Refusal>
+    ensures own { IfOk result (λ words. first_value (found_of matches.now) (codes "own") ≡ Some (own_of words)) }
+    ensures day { IfOk result (λ words. IfSome (first_value (found_of matches.now) (codes "day")) (λ word. option_map Ok (day_named words) ≡ Some (day_of word))) }
+    ensures counts { IfOk result (λ words. counts_named words ≡ option_map count_of (one_text (found_of matches.now) (codes "port"))
+        ∷ option_map count_of (one_text (found_of matches.now) (codes "sessions")) ∷ option_map count_of (one_text (found_of matches.now) (codes "rounds")) ∷ []) }
+    ensures named { IfOk result (λ words. option_map raw_values (matched_of (found_of matches.now) (codes "peer")) ≡ Some (peers_of words)) }
+    ensures peers { IfOk result (λ words. IsPeerList (peers_of words)) }
+    ensures refused { IfErr result (λ refusal. refusal ≢ Refusal.NoMemory
+        → IsServe (first_value (found_of matches.now) (codes "own")) (first_value (found_of matches.now) (codes "day"))
+        (one_text (found_of matches.now) (codes "port")) (one_text (found_of matches.now) (codes "sessions")) (one_text (found_of matches.now) (codes "rounds"))
+        (option_map raw_values (matched_of (found_of matches.now) (codes "peer"))) → ⊥) }
+{
+    let Some(own) = read_text(matches.get_str(OWN)) else {
+        return Err(Refusal::BadWords);
+    };
+    let Some(day) = read_day(matches.get_str(DAY)) else {
+        return Err(Refusal::BadWords);
+    };
+    let Some(port) = read_count(matches, PORT, PORT_MAX) else {
+        return Err(Refusal::BadWords);
+    };
+    let Some(sessions) = read_count(matches, SESSIONS, SESSIONS_MAX) else {
+        return Err(Refusal::BadWords);
+    };
+    let Some(rounds) = read_count(matches, ROUNDS, ROUNDS_MAX) else {
+        return Err(Refusal::BadWords);
+    };
+    let Some(named) = matches.get_strs(PEER) else {
+        return Err(Refusal::BadWords);
+    };
+    let peers = read_peers(alloc, named)?;
+    Ok(Words::Serve {
+        own,
+        day,
+        port,
+        sessions,
+        rounds,
+        peers,
+    })
+}
+
+// The count that an option's word is, if it is one from 1 to the most.
+fn read_count(matches: &ArgMatches<'_>, id: &str, most: u16) -> Option<u16>
+    ensures some { IsSome result ↔ IsSomeAnd (one_text (found_of matches.now) id.now) (IsCount most) }
+    ensures value { IfSome result (λ count. option_map count_of (one_text (found_of matches.now) id.now) ≡ Some count) }
+{
+    let count = matches.get_one::<u16>(id)?;
+    if count < 1 || most < count {
+        return None;
+    }
+    Some(count)
+}
+
+// The text of a word, if it is one.
+fn read_text(word: Option<&str>) -> Option<Text64>
+    ensures some { IsSome result ↔ IsSomeAnd word.entry (λ word. IsTrue (is_text word.now)) }
+    ensures value { IfSome result (λ text. option_map (λ word. word.now) word.entry ≡ Some text) }
+{
+    Text64::read(word?.as_bytes())
+}
+
+// The day of a word, if it is one.
+fn read_day(word: Option<&str>) -> Option<Day>
+    ensures some { IsSome result ↔ IsSomeAnd word.entry (λ word. IsDayText word.now) }
+    ensures value { IfSome result (λ day. IfSome word.entry (λ word. day_of word.now ≡ Ok day)) }
+{
+    Day::read(word?.as_bytes()).ok()
+}

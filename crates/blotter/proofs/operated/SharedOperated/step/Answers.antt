@@ -1,5 +1,0 @@
-use Rattle.blotter.proofs.DialogueLemmas.{tellable-reply}
-use Rattle.blotter.proofs.operated.SharedOperated.step.Goals as goal
-
-pub returns-clause-tellable : goal.returns-clause-tellable
-returns-clause-tellable g c = tellable-reply c.args.event c.submit.result c.submit.ensures.reply

@@ -1,9 +1,0 @@
-use Rattle.std.proofs.Common.{[], ap, ◌∙◌}
-use Rattle.blotter.specs.Sessions.{session_in}
-use Rattle.blotter.proofs.LookupLemmas.{sessions-first}
-use Rattle.blotter.proofs.sessions.Sessions.new.Goals as goal
-
-pub returns-in-Ok : goal.returns-in-Ok
-returns-in-Ok c =
-    ap (λ out. session_in out c.in-Ok.table) c.new-in-Ok.ensures.items ∙ ap (session_in []) c.in-Ok.ensures.ok
-    ∙ sessions-first c.args.own c.args.peers.now
