@@ -1,0 +1,225 @@
+"""Plays the conversation of a case with `blotter serve`: peers over sockets, and an operator.
+
+  played(command, port, body, seconds)     a namedtuple of what came of it
+
+A line of the body is what a peer does (README.md beside this file has the words) or an operator's line with its answer.
+What a peer gets is compared byte for byte with the message that the case wants, in which SendingTime(52) is the one that
+came, and so is what stands for it elsewhere (`now`, and 122 of what is sent again): that it's a moment of the clock while
+the case runs is checked by itself.
+"""
+import collections
+import datetime
+import queue
+import re
+import socket
+import struct
+import subprocess
+import threading
+import time
+
+from messages import OWN, SOH, frame, message, sender_of, spelled, with_header
+
+Played = collections.namedtuple('Played', 'differences rest wanted_rest status errors')
+WAIT = 10  # seconds for one thing that is awaited
+MOMENT = re.compile(rb'\x0152=(\d{8}-\d\d:\d\d:\d\d\.\d{3})\x01')
+DEED = re.compile(r'(\S+) (connects|hangs up|breaks off|is closed)')
+GETS = re.compile(r'(\S+) gets (35=.*)')
+
+
+def free_port():
+    """A port that nobody uses, as the system gives it out."""
+    with socket.socket() as probe:
+        probe.bind(('127.0.0.1', 0))
+        return probe.getsockname()[1]
+
+
+def take(port):
+    """Listens on a port, where nobody else does."""
+    try:
+        return socket.create_server(('127.0.0.1', port))
+    except OSError:
+        return None
+
+
+def put_lines(stream, lines):
+    for line in stream:
+        lines.put(line)
+    lines.put(None)
+
+
+def begin(command):
+    process = subprocess.Popen(command, stdin=subprocess.PIPE, stdout=subprocess.PIPE, stderr=subprocess.PIPE)
+    lines, errors = queue.Queue(), []
+    threads = [threading.Thread(target=put_lines, args=(process.stdout, lines)),
+               threading.Thread(target=lambda: errors.append(process.stderr.read()))]
+    for thread in threads:
+        thread.start()
+    return {'process': process, 'lines': lines, 'errors': errors, 'threads': threads, 'begun': datetime.datetime.utcnow(),
+            'wires': {}, 'numbers': {}, 'own': {}, 'differences': [], 'wanted_rest': []}
+
+
+def connect(talk, label, port):
+    """A connection of a peer: the program may only just have begun to listen."""
+    until = time.monotonic() + WAIT
+    while True:
+        try:
+            talk['wires'][label] = {'socket': socket.create_connection(('127.0.0.1', port), WAIT), 'came': b'', 'is_over': False}
+            return
+        except ConnectionRefusedError:
+            if time.monotonic() > until or talk['process'].poll() is not None:
+                raise TimeoutError(f'{label} finds nobody at the port') from None
+            time.sleep(0.02)
+
+
+def wire_of(talk, label, port):
+    """The connection of a peer; one that it ended itself is awaited to its end, and then there's a new one."""
+    if label in talk['wires'] and talk['wires'][label]['is_over']:
+        expect_closed(talk, label, None)
+    if label not in talk['wires']:
+        connect(talk, label, port)
+    return talk['wires'][label]
+
+
+def came_frame(wire):
+    """The next whole message that came, or what came before the connection ended or was quiet for too long."""
+    while True:
+        found = re.match(rb'8=FIX\.4\.4\x019=(\d+)\x01', wire['came'])
+        end = found.end() + int(found[1]) + 7 if found else None
+        if end and len(wire['came']) >= end:
+            got, wire['came'] = wire['came'][:end], wire['came'][end:]
+            return got
+        try:
+            piece = wire['socket'].recv(65536)
+        except (TimeoutError, ConnectionResetError):
+            piece = b''
+        if not piece:
+            got, wire['came'] = wire['came'], b''
+            return got
+        wire['came'] += piece
+
+
+def moment_of(talk, got):
+    """SendingTime(52) of a message, if it's a moment since the program began."""
+    found = MOMENT.search(got)
+    if not found:
+        return 'a moment'
+    moment = datetime.datetime.strptime(found[1].decode(), '%Y%m%d-%H:%M:%S.%f')
+    second = datetime.timedelta(seconds=1)
+    is_now = talk['begun'] - second <= moment <= datetime.datetime.utcnow() + second
+    return found[1].decode() if is_now else 'a moment of this run'
+
+
+def wanted_frame(talk, peer, text, moment):
+    """The message that a case wants, by the number that comes next and with this moment."""
+    number = talk['own'].get(peer, 1)
+    whole = with_header(text, OWN, peer, number, moment).replace('=now|', f'={moment}|')
+    given = int(re.search(r'\|34=(\d+)\|', whole)[1])
+    if '|43=Y|' in whole:
+        whole = whole.replace(f'|52={moment}|', f'|52={moment}|122={moment}|')
+    else:
+        talk['own'][peer] = given + 1
+    return frame(spelled(whole, b'|', SOH))
+
+
+def differ(talk, number, wanted, got):
+    if wanted != got:
+        talk['differences'].append((number, wanted, got))
+
+
+def expect_message(talk, label, number, text):
+    got = came_frame(talk['wires'][label])
+    differ(talk, number, wanted_frame(talk, sender_of(label)[0], text, moment_of(talk, got)), got)
+
+
+def expect_closed(talk, label, number):
+    """The connection ends, and nothing comes before that."""
+    wire = talk['wires'].pop(label)
+    got = came_frame(wire)
+    try:
+        is_closed = not wire['socket'].recv(1)
+    except (ConnectionResetError, TimeoutError) as error:
+        is_closed = isinstance(error, ConnectionResetError)
+    wire['socket'].close()
+    differ(talk, number, b'', got)
+    differ(talk, number, b'the end of the connection', b'the end of the connection' if is_closed else b'an open connection')
+
+
+def end_wire(talk, label, deed):
+    wire = talk['wires'][label]
+    if deed == 'hangs up':
+        wire['is_over'] = True
+        wire['socket'].shutdown(socket.SHUT_WR)
+    else:
+        wire['socket'].setsockopt(socket.SOL_SOCKET, socket.SO_LINGER, struct.pack('ii', 1, 0))
+        talk['wires'].pop(label)['socket'].close()
+
+
+def ask(talk, number, line, answers):
+    """An operator's line, and its answers, of which each is awaited."""
+    talk['process'].stdin.write(spelled(line, b'>', b'\t') + b'\n')
+    talk['process'].stdin.flush()
+    for place, wanted in answers:
+        try:
+            got = talk['lines'].get(timeout=WAIT)
+        except queue.Empty:
+            raise TimeoutError('no answer') from None
+        differ(talk, place, spelled(wanted, b'>', b'\t') + b'\n', got or b'')
+
+
+def deed_of(talk, port, number, text):
+    """What a peer does."""
+    deed, gets = DEED.fullmatch(text), GETS.fullmatch(text)
+    if gets:
+        expect_message(talk, gets[1], number, gets[2])
+    elif deed and deed[2] == 'connects':
+        connect(talk, deed[1], port)
+    elif deed and deed[2] == 'is closed':
+        expect_closed(talk, deed[1], number)
+    elif deed:
+        end_wire(talk, deed[1], deed[2])
+    else:
+        label = text.partition(' ')[0] if not text.startswith('35=') else sender_of(text)[0]
+        wire_of(talk, label, port)['socket'].sendall(message(text, talk['numbers']))
+
+
+def converse(talk, port, body):
+    for number, text, answers in body:
+        if answers is None:
+            deed_of(talk, port, number, text)
+        elif text == 'end of lines':
+            talk['process'].stdin.close()
+            talk['wanted_rest'] = answers
+        else:
+            ask(talk, number, text, answers)
+    if not talk['process'].stdin.closed:
+        talk['process'].stdin.close()
+
+
+def finish(talk):
+    """Waits for the program's end: what it printed behind the answers, its status, and its standard error."""
+    for label in list(talk['wires']):
+        expect_closed(talk, label, None)
+    status = talk['process'].wait()
+    for thread in talk['threads']:
+        thread.join()
+    rest = b''.join(iter(talk['lines'].get, None))
+    return Played(talk['differences'], rest, talk['wanted_rest'], status, b''.join(talk['errors']))
+
+
+def played(command, port, body, seconds):
+    """Plays a body, a list of lines with their numbers and answers, to its end or until the seconds are over."""
+    is_taken = bool(body) and body[0][1] == 'the port is taken'
+    taken = take(port) if is_taken else None
+    talk = begin(command)
+    alarm = threading.Timer(seconds, talk['process'].kill)
+    alarm.start()
+    try:
+        converse(talk, port, body[1:] if is_taken else body)
+    except (OSError, KeyError) as error:
+        talk['differences'].append((None, b'the conversation to its end', str(error).encode()))
+        talk['process'].kill()
+    found = finish(talk)
+    alarm.cancel()
+    if taken:
+        taken.close()
+    return found
