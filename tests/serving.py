@@ -9,6 +9,7 @@ the case runs is checked by itself.
 """
 import collections
 import datetime
+import itertools
 import queue
 import re
 import socket
@@ -17,7 +18,7 @@ import subprocess
 import threading
 import time
 
-from messages import OWN, SOH, frame, message, sender_of, spelled, with_header
+from messages import OWN, PEER, SOH, frame, message, sender_of, spelled, with_header
 
 Played = collections.namedtuple('Played', 'differences rest wanted_rest status errors')
 WAIT = 10  # seconds for one thing that is awaited
@@ -154,16 +155,21 @@ def end_wire(talk, label, deed):
         talk['wires'].pop(label)['socket'].close()
 
 
-def ask(talk, number, line, answers):
-    """An operator's line, and its answers, of which each is awaited."""
-    talk['process'].stdin.write(spelled(line, b'>', b'\t') + b'\n')
+def ask(talk, lines):
+    """An operator's lines, one behind the other, and their answers, of which each is awaited."""
+    talk['process'].stdin.write(b''.join(spelled(line, b'>', b'\t') + b'\n' for _, line, _ in lines))
     talk['process'].stdin.flush()
-    for place, wanted in answers:
+    for place, wanted in itertools.chain.from_iterable(answers for _, _, answers in lines):
         try:
             got = talk['lines'].get(timeout=WAIT)
         except queue.Empty:
             raise TimeoutError('no answer') from None
         differ(talk, place, spelled(wanted, b'>', b'\t') + b'\n', got or b'')
+
+
+def label_of(text):
+    """The peer of a message, with the number of its connection where it has one."""
+    return text.partition(' ')[0] if text.startswith(f'{sender_of(text)[0]}') else PEER
 
 
 def deed_of(talk, port, number, text):
@@ -178,26 +184,40 @@ def deed_of(talk, port, number, text):
     elif deed:
         end_wire(talk, deed[1], deed[2])
     else:
-        label = text.partition(' ')[0] if not text.startswith('35=') else sender_of(text)[0]
-        wire_of(talk, label, port)['socket'].sendall(message(text, talk['numbers']))
+        wire_of(talk, label_of(text), port)['socket'].sendall(message(text, talk['numbers']))
+
+
+def end_lines(talk, answers):
+    """The operator's lines end: what is printed then stands at the program's end."""
+    talk['process'].stdin.close()
+    talk['wanted_rest'] = answers
+
+
+def kind_of(line):
+    """Whether a line of a body is a deed, an operator's, or the end of these."""
+    return 'deed' if line[2] is None else 'end' if line[1] == 'end of lines' else 'lines'
 
 
 def converse(talk, port, body):
-    for number, text, answers in body:
-        if answers is None:
-            deed_of(talk, port, number, text)
-        elif text == 'end of lines':
-            talk['process'].stdin.close()
-            talk['wanted_rest'] = answers
+    for kind, lines in itertools.groupby(body, kind_of):
+        lines = list(lines)
+        if kind == 'lines':
+            ask(talk, lines)
+        elif kind == 'end':
+            end_lines(talk, lines[0][2])
         else:
-            ask(talk, number, text, answers)
+            for number, text, _ in lines:
+                deed_of(talk, port, number, text)
     if not talk['process'].stdin.closed:
         talk['process'].stdin.close()
 
 
 def finish(talk):
-    """Waits for the program's end: what it printed behind the answers, its status, and its standard error."""
+    """Peers that are still there hang up. Then waits for the program's end: what it printed behind the answers, its status, and its
+    standard error."""
     for label in list(talk['wires']):
+        if not talk['wires'][label]['is_over']:
+            end_wire(talk, label, 'hangs up')
         expect_closed(talk, label, None)
     status = talk['process'].wait()
     for thread in talk['threads']:
