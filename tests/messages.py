@@ -31,10 +31,14 @@ def lines_of(text):
     return [times[1] + numbered(times[3], count + 1) for count in range(int(times[2]))] if times else [text]
 
 
+def expanded(text):
+    """The text with each `{3 times x}` as xxx."""
+    return TIMES.sub(lambda it: ''.join(numbered(it[2], count + 1) for count in range(int(it[1]))), text)
+
+
 def spelled(text, mark, byte):
-    """The bytes of a text: the mark stands for the byte, `{3 times x}` for xxx, and \\x0D for any byte by its number."""
-    text = TIMES.sub(lambda it: ''.join(numbered(it[2], count + 1) for count in range(int(it[1]))), text)
-    parts = re.split(r'\\x([0-9A-F]{2})', text)
+    """The bytes of a text: the mark stands for the byte, and \\x0D for any byte by its number."""
+    parts = re.split(r'\\x([0-9A-F]{2})', expanded(text))
     return b''.join(bytes.fromhex(part) if place % 2 else part.encode().replace(mark, byte) for place, part in enumerate(parts))
 
 
@@ -136,7 +140,7 @@ def sender_of(line):
 
 def message(line, numbers):
     """The bytes of one line of messages. A peer that has sent nothing yet logs on in front of its first counted message."""
-    peer, text = sender_of(line)
+    peer, text = sender_of(expanded(line))
     if re.match('bytes( |$)', text):
         return spelled(text[6:], b'|', SOH)
     if text.startswith('frame '):

@@ -27,6 +27,10 @@ DEED = re.compile(r'(\S+) (connects|hangs up|breaks off|is closed)')
 GETS = re.compile(r'(\S+) gets (35=.*)')
 
 
+def now():
+    return datetime.datetime.now(datetime.timezone.utc)
+
+
 def free_port():
     """A port that nobody uses, as the system gives it out."""
     with socket.socket() as probe:
@@ -55,7 +59,7 @@ def begin(command):
                threading.Thread(target=lambda: errors.append(process.stderr.read()))]
     for thread in threads:
         thread.start()
-    return {'process': process, 'lines': lines, 'errors': errors, 'threads': threads, 'begun': datetime.datetime.utcnow(),
+    return {'process': process, 'lines': lines, 'errors': errors, 'threads': threads, 'begun': now(),
             'wires': {}, 'numbers': {}, 'own': {}, 'differences': [], 'wanted_rest': []}
 
 
@@ -104,9 +108,9 @@ def moment_of(talk, got):
     found = MOMENT.search(got)
     if not found:
         return 'a moment'
-    moment = datetime.datetime.strptime(found[1].decode(), '%Y%m%d-%H:%M:%S.%f')
+    moment = datetime.datetime.strptime(found[1].decode() + '+0000', '%Y%m%d-%H:%M:%S.%f%z')
     second = datetime.timedelta(seconds=1)
-    is_now = talk['begun'] - second <= moment <= datetime.datetime.utcnow() + second
+    is_now = talk['begun'] - second <= moment <= now() + second
     return found[1].decode() if is_now else 'a moment of this run'
 
 
