@@ -31,11 +31,12 @@ def now():
     return datetime.datetime.now(datetime.timezone.utc)
 
 
-def free_port():
-    """A port that nobody uses, as the system gives it out."""
-    with socket.socket() as probe:
-        probe.bind(('127.0.0.1', 0))
-        return probe.getsockname()[1]
+def held_port():
+    """A socket that holds a port, as the system gives it out: nobody else gets it, and the program, which may share it, listens there."""
+    holder = socket.socket()
+    holder.bind(('127.0.0.1', 0))
+    holder.setsockopt(socket.SOL_SOCKET, socket.SO_REUSEADDR, 1)
+    return holder
 
 
 def take(port):
