@@ -217,13 +217,16 @@ def converse(talk, port, body):
         talk['process'].stdin.close()
 
 
-def finish(talk):
-    """Peers that are still there hang up. Then waits for the program's end: what it printed behind the answers, its status, and its
-    standard error."""
+def leave(talk):
+    """The peers that are still there hang up."""
     for label in list(talk['wires']):
         if not talk['wires'][label]['is_over']:
             end_wire(talk, label, 'hangs up')
         expect_closed(talk, label, None)
+
+
+def finish(talk):
+    """Waits for the program's end: what it printed behind the answers, its status, and its standard error."""
     status = talk['process'].wait()
     for thread in talk['threads']:
         thread.join()
@@ -240,6 +243,7 @@ def played(command, port, body, seconds):
     alarm.start()
     try:
         converse(talk, port, body[1:] if is_taken else body)
+        leave(talk)
     except (OSError, KeyError) as error:
         talk['differences'].append((None, b'the conversation to its end', str(error).encode()))
         talk['process'].kill()
