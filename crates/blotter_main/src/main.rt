@@ -4,8 +4,6 @@
 #![tactic(auto)]
 
 mod running;
-#[cfg(test)]
-mod tests;
 
 use running::run;
 use std::process::ExitCode;

@@ -1,13 +1,10 @@
-//! Texts of answers: each kind, each refusal, each fault of a line.
+//! Texts of answers: each reply with a number, each refusal, each fault of a line.
 ghost use Rattle.blot_console.specs.Answers.{CanBeTold};
 
-use crate::expect::expect_text;
 use blot_console::{Answer, LineFault, answer_text};
-use blot_decimal::{QtySum, Value};
+use blot_decimal::QtySum;
 use blot_desk::Reply;
-use blot_report::{DayLines, OrderRow, PositionKey, PositionRow, Rows};
-use blot_time::Day;
-use blot_types::{ExecKey, OrderKey, OrderLine, PositionLine, Refused, Sign, Text64};
+use blot_types::{ExecKey, Refused, Text64};
 use std::alloc::{AllocError as NoMemory, Global};
 use std::process::Abort;
 use std::test::Fail;
@@ -27,6 +24,11 @@ fn shown_answer(alloc: Global, answer: &Answer) -> Result<String, NoMemory>
     Ok(shown)
 }
 
+// The texts are the same. It stands in a function of its own, since the text of a difference costs more proof than the comparison.
+fn expect_text(rt: &impl Abort, found: &str, wanted: &str) {
+    assert_eq!(rt; found, wanted);
+}
+
 // An answer has this text.
 fn expect_answer(
     rt: &impl Abort,
@@ -37,7 +39,7 @@ fn expect_answer(
     requires { CanBeTold answer.now }
 {
     let found = shown_answer(alloc, answer)?;
-    expect_text(rt, wanted, found.as_str(), wanted);
+    expect_text(rt, found.as_str(), wanted);
     Ok(())
 }
 
@@ -139,105 +141,5 @@ fn bad_lines_are_told(rt: HostRuntime) -> Result<(), Fail> {
     }
     expect_answer(&rt, rt.alloc(), &Answer::Full, "full/")?;
     expect_answer(&rt, rt.alloc(), &Answer::Nothing, "none/")?;
-    Ok(())
-}
-
-// An order of 300 of which 100 were bought at 10.50.
-fn order_line(symbol: Text64) -> OrderLine {
-    OrderLine {
-        cum: QtySum::from_units(100_000_000),
-        leaves: QtySum::from_units(200_000_000),
-        value: Value::from_units(105_000_000_000_000_000),
-        symbol,
-        sign: Sign::Buy,
-    }
-}
-
-// Its position.
-fn position_line() -> PositionLine {
-    PositionLine {
-        qty: QtySum::from_units(100_000_000),
-        value: Value::from_units(105_000_000_000_000_000),
-    }
-}
-
-#[test]
-fn orders_and_positions_are_told(rt: HostRuntime) -> Result<(), Fail> {
-    let alloc = rt.alloc();
-    let peer = Text64::read(b"BRKA").ok_or("no text")?;
-    let id = Text64::read(b"O1").ok_or("no text")?;
-    let symbol = Text64::read(b"XYZ").ok_or("no text")?;
-    let account = Text64::read(b"A1").ok_or("no text")?;
-    let shown = Answer::Order(OrderKey { peer, id }, Some(order_line(symbol)));
-    expect_answer(&rt, alloc, &shown, "order>BRKA>O1>XYZ>B>100>200>1050/")?;
-    expect_answer(
-        &rt,
-        alloc,
-        &Answer::Order(OrderKey { peer, id }, None),
-        "none/",
-    )?;
-    let shown = Answer::Position(account, symbol, Some(position_line()));
-    expect_answer(&rt, alloc, &shown, "position>A1>XYZ>100>1050/")?;
-    expect_answer(
-        &rt,
-        alloc,
-        &Answer::Position(account, symbol, None),
-        "none/",
-    )?;
-    Ok(())
-}
-
-// A position of zero, and one below.
-fn house_line(qty: i128, value: i128) -> PositionLine {
-    PositionLine {
-        qty: QtySum::from_units(qty),
-        value: Value::from_units(value),
-    }
-}
-
-#[test]
-fn house_positions_are_told(rt: HostRuntime) -> Result<(), Fail> {
-    let alloc = rt.alloc();
-    let symbol = Text64::read(b"XYZ").ok_or("no text")?;
-    let house = Text64::read(b"*").ok_or("no text")?;
-    let zero = Answer::Position(house, symbol, Some(house_line(0, 0)));
-    expect_answer(&rt, alloc, &zero, "position>*>XYZ>0>0/")?;
-    let below = house_line(-50_000_000, -55_000_000_000_000_000);
-    let below = Answer::Position(house, symbol, Some(below));
-    expect_answer(&rt, alloc, &below, "position>*>XYZ>-50>-550/")?;
-    Ok(())
-}
-
-// A report of one order and one position.
-fn report(
-    alloc: Global,
-    day: Day,
-    key: OrderKey,
-    symbol: Text64,
-    account: Text64,
-) -> Result<DayLines, NoMemory> {
-    let line = order_line(symbol);
-    let orders = vec![in alloc; OrderRow { order: key, line }]?;
-    let line = position_line();
-    let position = PositionKey { account, symbol };
-    let positions = vec![in alloc; PositionRow { position, line }]?;
-    Ok(DayLines {
-        day,
-        orders: Rows::new(orders),
-        positions: Rows::new(positions),
-    })
-}
-
-#[test]
-fn reports_are_told(rt: HostRuntime) -> Result<(), Fail> {
-    let alloc = rt.alloc();
-    let day = Day::read(b"20240105").ok().ok_or("no day")?;
-    let peer = Text64::read(b"BRKA").ok_or("no text")?;
-    let id = Text64::read(b"O1").ok_or("no text")?;
-    let symbol = Text64::read(b"XYZ").ok_or("no text")?;
-    let account = Text64::read(b"A1").ok_or("no text")?;
-    let lines = report(alloc, day, OrderKey { peer, id }, symbol, account)?;
-    let wanted = "report>20240105/order>BRKA>O1>XYZ>B>100>200>1050/position>A1>XYZ>100>1050/end>2/";
-    expect_answer(&rt, alloc, &Answer::Report(lines), wanted)?;
     Ok(())
 }

@@ -1,13 +1,5 @@
-//! Tests of the operator's console: what each line asks, or its first fault, and the text of each answer.
+//! Tests of the texts of answers that no operator's line can bring about, or not with these values.
 #![tactic(auto)]
 
 #[cfg(test)]
 mod answers;
-#[cfg(test)]
-mod expect;
-#[cfg(test)]
-mod line_rows;
-#[cfg(test)]
-mod lines;
-#[cfg(test)]
-mod shown;

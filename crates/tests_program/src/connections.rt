@@ -1,14 +1,11 @@
 //! Peers over TCP, in one process with the blotter.
-ghost use Rattle.std.specs.Prelude.{◌≡◌, ◌+◌, IfOk, vec_len};
+ghost use Rattle.std.specs.Prelude.{◌≡◌, IfOk, vec_len};
 
 use crate::calls::text;
 use blot_desk::{Desk, Seat};
-use blot_gateway::{Ended, ListClock, MemoryWire, OpenGate, serve};
+use blot_gateway::{Ended, OpenGate, serve};
 use blot_slots::Slots;
-use blot_time::Day;
-use blotter::{Rounds, ServeFault, Socket, SystemClock, log_endings, serve_day};
-use log::Log;
-use log::sink::{Lines, Memory};
+use blotter::{ServeFault, Socket, SystemClock};
 use std::alloc::Global;
 use std::io::{self, Read, Write};
 use std::marker::Brand;
@@ -35,19 +32,6 @@ const SECOND: &str = "\
 35=A|49=BRKB|56=MO|34=1|52=20240105-09:59:59|98=0|108=30|
 35=8|49=BRKB|56=MO|34=2|52=20240105-10:00:00|37=O2|17=E1|150=F|39=1|1=B1|55=XYZ|54=1|38=250|32=50|31=11|151=200|14=50|6=11|60=20240105-10:00:00|75=20240105|
 35=5|49=BRKB|56=MO|34=3|52=20240105-10:00:01|
-";
-
-// BRKA without its logout.
-const LOST: &str = "\
-35=A|49=BRKA|56=MO|34=1|52=20240105-09:59:59|98=0|108=30|
-35=8|49=BRKA|56=MO|34=2|52=20240105-10:00:00|37=O1|17=E1|150=F|39=1|1=A1|55=XYZ|54=1|38=300|32=100|31=10.50|151=200|14=100|6=10.50|60=20240105-10:00:00|75=20240105|
-";
-
-// BRKA where it comes back with its numbers.
-const BACK: &str = "\
-35=A|49=BRKA|56=MO|34=3|52=20240105-10:00:02|98=0|108=30|
-35=8|49=BRKA|56=MO|34=4|52=20240105-10:00:03|37=O1|17=E2|150=F|39=1|1=A1|55=XYZ|54=1|38=300|32=50|31=11|151=150|14=150|6=10.6667|60=20240105-10:00:03|75=20240105|
-35=5|49=BRKA|56=MO|34=5|52=20240105-10:00:04|
 ";
 
 // A peer that connects, and sends these messages and no more.
@@ -77,132 +61,17 @@ fn is_answered<S: Read + Drop>(alloc: Global, stream: io::Result<S>) -> bool {
             .any(|piece| piece == b"\x0135=A\x01".as_slice())
 }
 
-// Two peers that speak at once, or one behind the other: whether both were answered.
+// Two peers that speak at once: whether both were answered.
 fn are_answered<R: Net>(
     net: &R,
     alloc: Global,
     address: SocketAddr,
     texts: [&'static str; 2],
-    at_once: bool,
 ) -> bool {
     let [first, second] = texts;
     let one = spoken(net, alloc, address, first);
-    if at_once {
-        let two = spoken(net, alloc, address, second);
-        return is_answered(alloc, one) && is_answered(alloc, two);
-    }
-    is_answered(alloc, one) && is_answered(alloc, spoken(net, alloc, address, second))
-}
-
-// What a day is told on its output, with an operator who asks for a position that isn't there, and peers that say this.
-fn served<L: Ledger + Send + Sync, R>(
-    rt: &R,
-    alloc: Global,
-    blank: Blank,
-    rounds: Rounds,
-    texts: [&'static str; 2],
-) -> Result<Vec<u8>, Fail>
-where
-    R: Threads + Wait + Net + Clock + Log + Sync,
-    R::Listener: Sync,
-    R::Stream: Send,
-    requires name { blank.name ≡ L.name }
-    requires parts { blank.parts ≡ L.parts }
-    requires seats { blank.parts ≡ rounds.sessions + 1 }
-{
-    let listener = TcpListener::bind(rt, SocketAddrV4::new(Ipv4Addr::LOCALHOST, 0))?;
-    let address = listener.local_addr()?;
-    let peers = [text("BRKA")?, text("BRKB")?];
-    let slots = Slots::new(alloc, text("MO")?, &peers)?;
-    let day = Day::read(b"20240105")?;
-    let mut lines: &[u8] = b"position\tX\tY\n";
-    let mut told = Vec::new(alloc);
-    let (served, answered) = join(
-        rt,
-        || -> Result<(), ServeFault>
-            requires { (blank.name ≡ L.name) × (blank.parts ≡ L.parts) × (blank.parts ≡ rounds.sessions + 1) }
-        {
-            serve_day::<L, _, _, _, _>(
-                rt, alloc, blank, &listener, rounds, &slots, day, &mut lines, &mut told,
-            )
-        },
-        || are_answered(rt, alloc, address, texts, rounds.sessions == 2),
-    );
-    if let Err(fault) = served {
-        return Err(Fail::new(format_args!("{fault}")));
-    }
-    if !answered {
-        return Err(Fail::new("a peer wasn't answered to the end"));
-    }
-    Ok(told)
-}
-
-#[test]
-fn two_peers_at_once(rt: HostRuntime) -> Result<(), Fail> {
-    let rounds = Rounds {
-        rounds: 1,
-        sessions: 2,
-    };
-    let told = served::<Brand, _>(&rt, rt.alloc(), Blank::new(3), rounds, [FIRST, SECOND])?;
-    let want =
-        b"none\nreport\t20240105\norder\tBRKA\tO1\tXYZ\tB\t100\t200\t1050\norder\tBRKB\tO2\tXYZ\tB\t50\t200\t550\nposition\tA1\tXYZ\t100\t1050\nposition\tB1\tXYZ\t50\t550\nend\t4\n";
-    assert_eq!(rt; told.as_slice(), want.as_slice());
-    Ok(())
-}
-
-#[test]
-fn a_peer_that_comes_back_with_its_numbers(rt: HostRuntime) -> Result<(), Fail> {
-    let rounds = Rounds {
-        rounds: 2,
-        sessions: 1,
-    };
-    let told = served::<Brand, _>(&rt, rt.alloc(), Blank::new(2), rounds, [LOST, BACK])?;
-    let want =
-        b"none\nreport\t20240105\norder\tBRKA\tO1\tXYZ\tB\t150\t150\t1600\nposition\tA1\tXYZ\t150\t1600\nend\t2\n";
-    assert_eq!(rt; told.as_slice(), want.as_slice());
-    Ok(())
-}
-
-// What is logged where BRKA's line is lost and BRKB logs out.
-fn logged<L: Ledger + Send + Sync, R: Threads + Wait + Sync>(
-    rt: &R,
-    alloc: Global,
-    blank: Blank,
-) -> Result<Lines, Fail>
-    requires name { blank.name ≡ L.name }
-    requires parts { blank.parts ≡ L.parts }
-    requires seats { blank.parts ≡ 2 }
-{
-    let (desk, seats) = Desk::<L>::new(alloc, blank, 2)?;
-    let peers = [text("BRKA")?, text("BRKB")?];
-    let slots = Slots::new(alloc, text("MO")?, &peers)?;
-    let wires = vec![in alloc;
-        MemoryWire::new(alloc, stream(alloc, LOST)?),
-        MemoryWire::new(alloc, stream(alloc, SECOND)?),
-    ]?;
-    let clocks = vec![in alloc;
-        ListClock::new(Vec::new(alloc)),
-        ListClock::new(Vec::new(alloc)),
-    ]?;
-    match serve(rt, alloc, wires, clocks, &slots, &desk, seats, &OpenGate) {
-        Ok(endings) => {
-            let log = Memory::new(alloc);
-            log_endings(&log, &endings);
-            Ok(log.into_lines())
-        }
-        Err(_) => Err(Fail::new("no memory")),
-    }
-}
-
-#[test]
-fn endings_are_logged(rt: HostRuntime) -> Result<(), Fail> {
-    let lines = logged::<Brand, _>(&rt, rt.alloc(), Blank::new(2))?;
-    let [first, second] = lines.as_slice() else {
-        return Err(Fail::new("not two lines"));
-    };
-    assert!(rt; first.as_str().ends_with("wire 0 ended 1"), "{first}");
-    assert!(rt; second.as_str().ends_with("wire 1 ended 0"), "{second}");
-    Ok(())
+    let two = spoken(net, alloc, address, second);
+    is_answered(alloc, one) && is_answered(alloc, two)
 }
 
 // The next connection.
@@ -304,7 +173,7 @@ where
         || -> Result<usize, ServeFault>
             requires { (blank.name ≡ L.name) × (blank.parts ≡ L.parts) × (blank.parts ≡ 2) }
         { settle_two::<L, _, _>(rt, alloc, blank, &listener, &slots) },
-        || are_answered(rt, alloc, address, texts, true),
+        || are_answered(rt, alloc, address, texts),
     );
     if !answered {
         return Err(Fail::new("a peer wasn't answered to the end"));

@@ -49,11 +49,6 @@ report>20240105 => report>20240105/end>0
 undo>1 => full
 ";
 
-/// The answers of a desk with 200 trades to an allocation of 200 executions and pairs, to 201 of either, to lines of
-/// 65,536, 65,537 and 200,000 bytes that allocate again, and to `fly`.
-pub const AT_LIMITS: &str =
-    "accepted>201/bad>3>7/bad>2/refused>2>DuplicateAlloc>201/bad>4/bad>4/bad>1/";
-
 /// Scripts, each after a capture of its own.
 pub fn scripts() -> &'static [Script] {
     static SCRIPTS: [Script; 3] = [

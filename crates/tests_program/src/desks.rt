@@ -2,7 +2,7 @@
 
 use crate::calls::{check_taken, push_words};
 use crate::capture_rows::{LOGON, TRADE};
-use crate::desk_rows::{AT_LIMITS, FULL, MORNING, OTHER_TRADE, REPORT, Script, scripts};
+use crate::desk_rows::{MORNING, OTHER_TRADE, REPORT, Script, scripts};
 use crate::dialogues::{Dialogue, answers_to, captured, desk, spell};
 use crate::memory::{
     AT_ONCE, BY_BYTES, BY_LINES, INTERRUPTED, Manner, cut_at, failing, reader, writer,
@@ -14,19 +14,6 @@ use std::alloc::{AllocError, Global};
 use std::process::Abort;
 use std::test::Fail;
 use tests_words::frame;
-
-// The capture of 200 trades of BRKA, E1 to E200, of 1 at 10.50 each.
-fn captured_200(alloc: Global) -> Result<Vec<u8>, AllocError> {
-    let mut bytes = frame(alloc, LOGON)?;
-    for number in 1..201 {
-        let next = number + 1;
-        let message = format!(in alloc;
-            "35=8|49=BRKA|56=MO|34={next}|52=20240105-10:00:00|37=O1|17=E{number}|150=F|39=1|1=A1|55=XYZ|54=1|38=300|32=1|31=10.50|151=299|14=1|6=10.50|75=20240105|"
-        )?;
-        bytes.extend_from_slice(frame(alloc, message.as_str())?.as_slice())?;
-    }
-    Ok(bytes)
-}
 
 // What is typed comes to its answers.
 fn check_typed(
@@ -182,64 +169,4 @@ fn a_capture_into_a_full_desk(rt: HostRuntime) -> Result<(), Fail> {
         &mut source,
         (Ok(()), full, 1),
     )
-}
-
-#[test]
-fn a_full_desk_goes_on(rt: HostRuntime) -> Result<(), Fail> {
-    let mut held = almost_full(rt.alloc())?;
-    let Dialogue { typed, answers } = spell(rt.alloc(), FULL)?;
-    check_typed(&rt, "a full desk", &mut held, &typed, &answers, BY_LINES)
-}
-
-// Puts a line with so many executions, from E1 on, and pairs behind a text.
-fn push_lists(alloc: Global, text: &mut Vec<u8>, execs: u64, pairs: u64) -> Result<(), AllocError> {
-    let head = format!(in alloc; "allocate>BRKA>AL1>XYZ>B>20240105>10.5>{execs}")?;
-    push_words(text, head.as_str())?;
-    for exec in 0..execs {
-        let number = exec + 1;
-        push_words(text, format!(in alloc; ">E{number}")?.as_str())?;
-    }
-    for _ in 0..pairs {
-        push_words(text, ">A>1")?;
-    }
-    push_words(text, "/")
-}
-
-// Puts a sound line of so many bytes behind a text: zeros before the number of executions fill it up.
-fn push_zeros(text: &mut Vec<u8>, length: usize) -> Result<(), AllocError> {
-    let head = "allocate>BRKA>AL1>XYZ>B>20240105>10.5>";
-    let end = "1>E1>A>60";
-    push_words(text, head)?;
-    for _ in 0..length.saturating_sub(head.len() + end.len()) {
-        text.push(b'0')?;
-    }
-    push_words(text, end)?;
-    push_words(text, "/")
-}
-
-#[test]
-fn lines_at_their_limits(rt: HostRuntime) -> Result<(), Fail> {
-    let mut typed = Vec::new(rt.alloc());
-    let mut answers = Vec::new(rt.alloc());
-    for (execs, pairs) in [(200, 200), (201, 200), (200, 201)] {
-        push_lists(rt.alloc(), &mut typed, execs, pairs)?;
-    }
-    for length in [65_536, 65_537, 200_000] {
-        push_zeros(&mut typed, length)?;
-    }
-    push_words(&mut typed, "fly")?;
-    push_words(&mut answers, AT_LIMITS)?;
-    let bytes = captured_200(rt.alloc())?;
-    for manner in [BY_LINES, AT_ONCE, BY_BYTES] {
-        let mut held = desk(rt.alloc(), &bytes)?;
-        check_typed(
-            &rt,
-            "lines at their limits",
-            &mut held,
-            &typed,
-            &answers,
-            manner,
-        )?;
-    }
-    Ok(())
 }

@@ -1,9 +1,0 @@
-//! What the tests compare. Each comparison stands in a small function of its own, since the text of a difference costs
-//! more proof than the comparison.
-
-use std::process::Abort;
-
-/// The text of a row is the wanted one.
-pub fn expect_text(rt: &impl Abort, row: &str, found: &str, wanted: &str) {
-    assert_eq!(rt; found, wanted, "at {row}");
-}
