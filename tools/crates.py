@@ -12,10 +12,15 @@ TOP = pathlib.Path(__file__).resolve().parent.parent
 CRATES = TOP / 'crates'
 
 
+def lines():
+    """The lines of crates.txt, by the crate that each names."""
+    named = (line.partition('#')[0] for line in (TOP / 'crates.txt').read_text().splitlines())
+    return {line.partition(':')[0].strip(): line for line in named if ':' in line}
+
+
 def listed():
-    lines = (line.partition('#')[0].partition(':') for line in (TOP / 'crates.txt').read_text().splitlines())
-    named = {name.strip(): words.split() for name, colon, words in lines if colon}
-    return {name: [word for word in words if word in named] for name, words in named.items()}
+    named = lines()
+    return {crate: [word for word in line.partition(':')[2].split() if word in named] for crate, line in named.items()}
 
 
 def below(crate, crates):
@@ -35,8 +40,9 @@ def linked(old, new):
 
 def copy_to(room, crate, libraries):
     """Copies a crate, without its wrong bodies and out/, and its libraries, each with what is proved of it."""
-    for name in ('crates.txt', 'HANDLES'):
-        shutil.copy2(TOP / name, room)
+    shutil.copy2(TOP / 'HANDLES', room)
+    named = lines()
+    (room / 'crates.txt').write_text(''.join(f'{named[it]}\n' for it in [*libraries, crate]))
     for name in libraries:
         folder = room / 'crates' / name
         shutil.copytree(CRATES / name, folder, ignore=shutil.ignore_patterns('out', 'must-fail'))
