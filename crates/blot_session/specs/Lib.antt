@@ -1,7 +1,9 @@
 pub mod States
 pub mod Outbound
 pub mod Table
+pub mod Told
 pub mod Rows
 pub mod Calls
+pub mod Met
 pub mod InTurn
 pub mod Runs

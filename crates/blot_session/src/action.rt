@@ -1,5 +1,6 @@
 //! What a session wants done.
 ghost use Rattle.std.specs.Prelude.{◌≡◌};
+ghost use Rattle.blot_session.specs.Told.{close_name, close_number};
 
 use blot_types::Command;
 use std::marker::Model;
@@ -66,4 +67,40 @@ pub enum CloseReason {
     Spent = 8,
     /// What was delivered wasn't taken.
     NotTaken = 9,
+}
+
+impl CloseReason {
+    /// The number of a reason, 1 to 9.
+    pub fn number(self) -> u8
+        ensures { result ≡ close_number self }
+    {
+        match self {
+            CloseReason::NoLogon => 1,
+            CloseReason::TooLow => 2,
+            CloseReason::CompId => 3,
+            CloseReason::LoggedOut => 4,
+            CloseReason::Silent => 5,
+            CloseReason::AlreadyOn => 6,
+            CloseReason::BadHeader => 7,
+            CloseReason::Spent => 8,
+            CloseReason::NotTaken => 9,
+        }
+    }
+
+    /// The name under which a reason is told: that of the variant.
+    pub fn name(self) -> &'static [u8]
+        ensures { result.now ≡ close_name self }
+    {
+        match self {
+            CloseReason::NoLogon => b"NoLogon",
+            CloseReason::TooLow => b"TooLow",
+            CloseReason::CompId => b"CompId",
+            CloseReason::LoggedOut => b"LoggedOut",
+            CloseReason::Silent => b"Silent",
+            CloseReason::AlreadyOn => b"AlreadyOn",
+            CloseReason::BadHeader => b"BadHeader",
+            CloseReason::Spent => b"Spent",
+            CloseReason::NotTaken => b"NotTaken",
+        }
+    }
 }

@@ -41,8 +41,8 @@ fn on_row(state: State, said: &Result<Message, FieldFault>, now: Moment) -> Row
     }
 }
 
-// The header, where it can be read.
-fn head_in(said: &Result<Message, FieldFault>) -> Option<Head>
+/// The header, where it can be read.
+pub(crate) fn head_in(said: &Result<Message, FieldFault>) -> Option<Head>
     ensures { result ≡ head_in said.now }
 {
     match said {

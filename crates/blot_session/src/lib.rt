@@ -8,6 +8,7 @@ mod carrying;
 mod expected;
 mod inbound;
 mod logons;
+mod met;
 mod outbound;
 mod replies;
 mod reports;
@@ -20,6 +21,7 @@ mod ticks;
 mod writing;
 
 pub use action::{Action, Bytes, CloseReason};
+pub use met::Met;
 pub use replies::{NotTaken, SeenReply};
 pub use session::Session;
 pub use state::Phase;

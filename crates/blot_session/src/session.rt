@@ -4,15 +4,19 @@ ghost use Rattle.blot_tag.specs.Fields.{fields_of};
 ghost use Rattle.blot_tag.specs.Views.{text_of};
 ghost use Rattle.blot_fields.specs.Decoding.{decoded};
 ghost use Rattle.blot_fields.specs.declared.TheConstants.{SEQUENCE_MAX};
+ghost use Rattle.blot_fields.specs.Numbers.{HasNumber};
 ghost use Rattle.blot_session.specs.Calls.{Awaits, DeliversAlone, on_frame, on_tick, on_reply, row_of_reply};
+ghost use Rattle.blot_session.specs.Met.{met_of};
 ghost use Rattle.blot_session.specs.Runs.{Call, AreMet, HasNoReset, IsInOrder};
 ghost use Rattle.blot_session.specs.States.{awaited_of, fresh, waiting_again, closed, phase_of, IsIdle, IsAwaiting, IsState};
 
 use crate::carrying::{go_on, take_row};
+use crate::met::met_of;
 use crate::state::{Link, Live, State};
 use crate::taking::{take_frame, take_reply};
 use crate::ticks::tick_row;
-use crate::{Action, NotTaken, Phase, SeenReply};
+use crate::{Action, Met, NotTaken, Phase, SeenReply};
+use blot_fields::{FieldFault, Message};
 use blot_tag::Frame;
 use blot_time::Moment;
 use blot_types::Text64;
@@ -99,6 +103,14 @@ impl Session {
         ensures { self.new ≡ waiting_again self.old }
     {
         self.state.link = Link::Waiting;
+    }
+
+    /// What becomes of a frame that says this, if it comes now.
+    pub fn meets(&self, said: &Result<Message, FieldFault>, now: Moment) -> Met
+        requires { HasNumber said.now }
+        ensures { result ≡ met_of self.now said.now now }
+    {
+        met_of(&self.state, said, now)
     }
 
     /// A frame came. Out of memory, the session is closed, with its number expected as before.

@@ -1,0 +1,68 @@
+-- What becomes of a frame at its session, by the row of the table that it meets. Source: this project's rule.
+use Rattle.std.specs.Prelude.{ℕ, ℤ, Bool, true, false, ◌&&◌, not, nat_lt, List, Option, Some, None, Result, Ok, Err, if◌then◌else◌}
+use Rattle.std.specs.Option.{option_map_or, option_or, unwrap_or}
+use Rattle.blot_fields.specs.declared.admin.Admin.TheVariants as admin
+use Rattle.blot_fields.specs.declared.fault.FieldFault.{FieldFault}
+use Rattle.blot_fields.specs.declared.message.Body.{Body}
+use Rattle.blot_fields.specs.declared.message.Body.TheVariants as bodies
+use Rattle.blot_fields.specs.declared.message.Message.{Message}
+use Rattle.blot_fields.specs.Numbers.{head_in}
+use Rattle.blot_session.specs.declared.action.CloseReason.TheVariants as reasons
+use Rattle.blot_session.specs.declared.met.Met.{Met}
+use Rattle.blot_session.specs.declared.met.Met.TheVariants as met
+use Rattle.blot_session.specs.declared.outbound.Outbound.{Outbound}
+use Rattle.blot_session.specs.declared.outbound.Outbound.TheVariants.{Reject, ResendRequest, Unsupported}
+use Rattle.blot_session.specs.declared.row.End.{End}
+use Rattle.blot_session.specs.declared.row.End.TheVariants.{Stays, Delivers, Closes}
+use Rattle.blot_session.specs.declared.row.Row.{Row}
+use Rattle.blot_session.specs.declared.row.Sends.{Sends}
+use Rattle.blot_session.specs.declared.row.Sends.TheVariants.{Nothing, One, Two}
+use Rattle.blot_session.specs.declared.state.State.{State}
+use Rattle.blot_session.specs.Calls.{is_spent}
+use Rattle.blot_session.specs.Rows.{frame_row}
+
+-- a Sequence Reset that isn't a gap fill goes before its number
+abbrev pub goes_before : Body → Bool
+goes_before (bodies.Admin (admin.SequenceReset new_number false)) = true
+goes_before body = false
+
+abbrev pub is_before_number : Result Message FieldFault → Bool
+is_before_number (Ok message) = goes_before message.body
+is_before_number (Err fault) = false
+
+-- whether a message bears a number below the expected one, and goes by it
+abbrev pub is_late : State → Result Message FieldFault → Bool
+is_late state said = option_map_or (λ head. nat_lt head.number state.expected) (head_in said) false && not (is_before_number said)
+
+-- a message about which nothing is done is ignored where it is late, and taken else
+abbrev pub passed_by : State → Result Message FieldFault → Met
+passed_by state said = if is_late state said then met.Late state.expected else met.Taken
+
+-- what the answer to a message says of it: that it is rejected, not supported, or that messages before it are missing
+abbrev pub met_by_answer : Outbound → Option Met
+met_by_answer (Reject number tag reason) = Some (met.Rejected tag reason)
+met_by_answer (Unsupported number kind) = Some met.Unsupported
+met_by_answer (ResendRequest begin) = Some (met.Early begin)
+met_by_answer answer = None
+
+-- by all answers, where `silent` says what becomes of a message without one
+abbrev pub met_by_sends : Met → Sends → Met
+met_by_sends silent Nothing = silent
+met_by_sends silent (One answer) = unwrap_or (met_by_answer answer) met.Taken
+met_by_sends silent (Two first second) = unwrap_or (option_or (met_by_answer first) (met_by_answer second)) met.Taken
+
+-- by how the row ends
+abbrev pub met_by_end : Met → Sends → End → Met
+met_by_end silent sends Stays = met_by_sends silent sends
+met_by_end silent sends Delivers = met.Delivered
+met_by_end silent sends (Closes reason) = met.Closed reason
+
+-- by the row, unless the numbers to send are used up, which closes the connection
+abbrev pub met_by_row : State → Result Message FieldFault → Row → Met
+met_by_row state said row =
+    if is_spent state row then met.Closed reasons.Spent
+    else met_by_end (passed_by state said) row.sends row.end
+
+-- what becomes of a frame that says this
+abbrev pub met_of : State → Result Message FieldFault → ℤ → Met
+met_of state said now = met_by_row state said (frame_row state said now)

@@ -1,0 +1,224 @@
+-- The text of an audit trail. Words are divided by tabs, and each line ends with LF. Source: this project's rule.
+use Rattle.std.specs.Prelude.{ℕ, zero, suc, ◌+◌, ◌-◌, ◌≤◌, ◌==◌, List, [], ◌∷◌, ◌++◌, length, map, filter, codes, Option, Some, None, Ok, Err, if◌then◌else◌}
+use Rattle.std.specs.List.{flat_map}
+use Rattle.blot_tag.specs.Fields.{Item, fields_of}
+use Rattle.blot_types.specs.Keys.{same_text}
+use Rattle.blot_fields.specs.declared.head.Head.{Head}
+use Rattle.blot_fields.specs.Numbers.{head_in}
+use Rattle.blot_fields.specs.Sender.{sender_of, text_in}
+use Rattle.blot_session.specs.declared.action.Action.{Action}
+use Rattle.blot_session.specs.declared.action.Action.TheVariants.{Send}
+use Rattle.blot_session.specs.declared.met.Met.{Met}
+use Rattle.blot_session.specs.declared.met.Met.TheVariants as met
+use Rattle.blot_session.specs.Runs.{said_by}
+use Rattle.blot_session.specs.Told.{close_name, close_number}
+use Rattle.blot_console.specs.Answers.{IsTold, number_line, number_text, reply_text, told, word_line}
+use Rattle.blot_desk.specs.declared.event.Reply.{Reply}
+use Rattle.blot_desk.specs.declared.event.Reply.TheVariants.{Accepted}
+use Rattle.blot_trail.specs.declared.became.Became.{Became}
+use Rattle.blot_trail.specs.declared.became.Became.TheVariants as became
+use Rattle.blot_trail.specs.declared.word.Word.{Word}
+use Rattle.blot_trail.specs.declared.word.Word.TheVariants as words
+
+-- ---- the words of a message
+
+-- a text, or `-` where there is none
+abbrev pub word_or_dash : Option (List ℕ) → List ℕ
+word_or_dash None = codes "-"
+word_or_dash (Some word) = word
+
+-- the first field of a tag that can be split off, if it is a text
+abbrev pub first_text_of : ℕ → List Item → Option (List ℕ)
+first_text_of tag [] = None
+first_text_of tag (Err fault ∷ items) = None
+first_text_of tag (Ok field ∷ items) = if field.tag == tag then text_in field.value else first_text_of tag items
+
+-- the tag of what a message is known by: ExecID(17) of an Execution Report, AllocID(70) of an Allocation Instruction
+abbrev pub id_tag_of : List ℕ → Option ℕ
+id_tag_of kind =
+    if same_text kind (codes "8") then Some 17
+    else (if same_text kind (codes "J") then Some 70 else None)
+
+-- what it is known by
+abbrev pub id_by : Option ℕ → List Item → Option (List ℕ)
+id_by None items = None
+id_by (Some tag) items = first_text_of tag items
+
+-- MsgSeqNum, MsgType and that, of a message whose header can be read
+abbrev pub head_text : Option Head → List Item → List ℕ
+head_text None items = codes "\t-\t-\t-"
+head_text (Some head) items = number_text head.number ++ told head.kind ++ told (word_or_dash (id_by (id_tag_of head.kind) items))
+
+-- ---- what became of it, to the end of its line
+
+abbrev pub met_text : Met → List ℕ
+met_text (met.Closed reason) = codes "closed" ++ number_text (close_number reason) ++ told (close_name reason) ++ 10 ∷ []
+met_text met.Delivered = word_line (codes "taken")
+met_text (met.Rejected tag reason) = codes "rejected" ++ number_text tag ++ number_text reason ++ 10 ∷ []
+met_text met.Unsupported = word_line (codes "unsupported")
+met_text (met.Early expected) = number_line (codes "early") expected
+met_text (met.Late expected) = number_line (codes "late") expected
+met_text met.Taken = word_line (codes "taken")
+
+abbrev pub became_text : Became → List ℕ
+became_text became.Passed = word_line (codes "passed")
+became_text (became.Met met) = met_text met
+became_text (became.Replied reply) = reply_text reply
+
+-- ---- lines
+
+-- SOH is shown as a bar
+abbrev pub shown_byte : ℕ → ℕ
+shown_byte byte = if byte == 1 then 124 else byte
+
+-- a message that would be sent
+abbrev pub sent_text : List ℕ → List ℕ
+sent_text text = codes "sent" ++ told (map shown_byte text) ++ 10 ∷ []
+
+-- what an action would send; one that sends nothing has no line
+abbrev pub action_text : Action → List ℕ
+action_text (Send bytes) = sent_text bytes
+action_text action = []
+
+-- what is told of a message behind its place and where it begins: its words, to the end of its line, and the lines of what is sent
+abbrev pub tail_text : List ℕ → Became → List Action → List ℕ
+tail_text frame became actions =
+    told (word_or_dash (sender_of (fields_of frame)))
+    ++ head_text (head_in (said_by frame)) (fields_of frame)
+    ++ 9 ∷ became_text became
+    ++ flat_map action_text actions
+
+-- its line and those behind it
+abbrev pub message_text : ℕ → ℕ → List ℕ → List ℕ
+message_text place offset tail = codes "message" ++ number_text place ++ number_text offset ++ tail
+
+-- bytes that are passed over, or left at the end: their first one and how many; none have no line
+unfoldable pub bytes_text : List ℕ → ℕ → ℕ → List ℕ
+bytes_text word offset zero = []
+bytes_text word offset (suc count) = word ++ number_text offset ++ number_text (suc count) ++ 10 ∷ []
+
+-- ---- sums
+
+-- the word of what became of a message
+abbrev pub word_of_met : Met → Word
+word_of_met (met.Closed reason) = words.Closed
+word_of_met met.Delivered = words.Taken
+word_of_met (met.Rejected tag reason) = words.Rejected
+word_of_met met.Unsupported = words.Unsupported
+word_of_met (met.Early expected) = words.Early
+word_of_met (met.Late expected) = words.Late
+word_of_met met.Taken = words.Taken
+
+abbrev pub word_of_reply : Reply → Word
+word_of_reply (Accepted number) = words.Accepted
+word_of_reply reply = words.Refused
+
+abbrev pub word_of : Became → Word
+word_of became.Passed = words.Passed
+word_of (became.Met met) = word_of_met met
+word_of (became.Replied reply) = word_of_reply reply
+
+-- its name
+abbrev pub word_name : Word → List ℕ
+word_name words.Accepted = codes "accepted"
+word_name words.Refused = codes "refused"
+word_name words.Rejected = codes "rejected"
+word_name words.Unsupported = codes "unsupported"
+word_name words.Taken = codes "taken"
+word_name words.Early = codes "early"
+word_name words.Late = codes "late"
+word_name words.Closed = codes "closed"
+word_name words.Passed = codes "passed"
+
+-- its place among the sums, from 0
+abbrev pub word_place : Word → ℕ
+word_place words.Accepted = 0
+word_place words.Refused = 1
+word_place words.Rejected = 2
+word_place words.Unsupported = 3
+word_place words.Taken = 4
+word_place words.Early = 5
+word_place words.Late = 6
+word_place words.Closed = 7
+word_place words.Passed = 8
+
+-- how often a word is among some
+abbrev pub times : Word → List Word → ℕ
+times word all = length (filter (λ other. word_place other == word_place word) all)
+
+-- a sum
+unfoldable pub sum_text : List ℕ → ℕ → List ℕ
+sum_text name count = codes "sum" ++ told name ++ number_text count ++ 10 ∷ []
+
+unfoldable pub word_sum : List Word → Word → List ℕ
+word_sum all word = sum_text (word_name word) (times word all)
+
+-- the sums of all words, in their order
+unfoldable pub word_sums : List Word → List ℕ
+word_sums all =
+    word_sum all words.Accepted ++ word_sum all words.Refused ++ word_sum all words.Rejected ++ word_sum all words.Unsupported
+    ++ word_sum all words.Taken ++ word_sum all words.Early ++ word_sum all words.Late ++ word_sum all words.Closed
+    ++ word_sum all words.Passed
+
+-- ---- a trail
+
+-- the last lines: what is passed over behind the last message, up to this place, and the rest that begins there; the sums; and how
+-- many messages there are
+abbrev pub last_text : List Word → ℕ → ℕ → ℕ → ℕ → List ℕ
+last_text all offset passed skipped rest =
+    bytes_text (codes "skipped") (offset - passed) passed
+    ++ bytes_text (codes "rest") offset rest
+    ++ word_sums all
+    ++ sum_text (codes "skipped") (skipped + passed)
+    ++ sum_text (codes "rest") rest
+    ++ number_line (codes "end") (length all)
+
+-- a trail in the making: its lines, and what became of each message; where the first unread byte stands; how many bytes before that are
+-- passed over since the last message, and how many were before it
+pub record Making : Type 0 where
+  pub text : List ℕ
+  pub words : List Word
+  pub offset : ℕ
+  pub passed : ℕ
+  pub skipped : ℕ
+
+-- no message
+abbrev pub none_yet : Making
+none_yet = record { text = []; words = []; offset = 0; passed = 0; skipped = 0 }
+
+-- so many bytes are passed over
+abbrev pub behind_bytes : ℕ → Making → Making
+behind_bytes count trail = record trail { offset = trail.offset + count; passed = trail.passed + count }
+
+-- what is told of a message, but its place and where it begins
+pub record Line : Type 0 where
+  pub tail : List ℕ
+  pub word : Word
+  pub length_of : ℕ
+
+-- a message more
+abbrev pub behind_line : Line → Making → Making
+behind_line line trail = record {
+  text = trail.text ++ (bytes_text (codes "skipped") (trail.offset - trail.passed) trail.passed
+      ++ message_text (length trail.words + 1) trail.offset line.tail);
+  words = trail.words ++ line.word ∷ [];
+  offset = trail.offset + line.length_of;
+  passed = 0;
+  skipped = trail.skipped + trail.passed;
+}
+
+-- the whole text, with so many bytes of an unfinished rest
+abbrev pub finished : Making → ℕ → List ℕ
+finished trail rest = trail.text ++ last_text trail.words trail.offset trail.passed trail.skipped rest
+
+-- where a trail stands: within what an input of any length has
+pub record IsMaking (trail : Making) : Type 0 where
+  pub passed : trail.passed ≤ trail.offset
+  pub skipped : trail.skipped + trail.passed ≤ trail.offset
+
+-- ---- what can be told
+
+-- a reply to a command is told without a key
+abbrev pub IsToldOf : Became → Type 0
+IsToldOf (became.Replied reply) = IsTold reply
+IsToldOf became = Unit {0}

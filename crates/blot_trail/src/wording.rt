@@ -1,0 +1,239 @@
+//! The words of a trail's lines.
+ghost use Rattle.std.specs.Prelude.{◌≡◌, ◌++◌, ◌∷◌, OnOk, IfOk, map};
+ghost use Rattle.blot_tag.specs.Fields.{fields_of};
+ghost use Rattle.blot_tag.specs.Views.{text_of};
+ghost use Rattle.blot_fields.specs.Numbers.{head_in};
+ghost use Rattle.blot_fields.specs.Sender.{sender_of, text_in};
+ghost use Rattle.blot_console.specs.Answers.{told, number_text};
+ghost use Rattle.blot_trail.specs.TrailText.{IsToldOf};
+ghost use Rattle.blot_trail.specs.TrailText.{became_text, bytes_text, first_text_of, head_text, id_by, id_tag_of, met_text, sent_text, shown_byte, sum_text, word_or_dash};
+
+use crate::became::Became;
+use blot_console::{Answer, answer_text};
+use blot_fields::{FieldFault, Head, Message, sender_of};
+use blot_session::Met;
+use blot_tag::Frame;
+use blot_types::Text64;
+use std::alloc::{AllocError as NoMemory, Global};
+
+/// Puts a word's name and its count behind a text, as a line.
+#[tactic(auto, unfolding(crate::specs::TrailText::sum_text))]
+pub(crate) fn put_sum(
+    alloc: Global,
+    text: &mut Vec<u8>,
+    name: &[u8],
+    count: u64,
+) -> Result<(), NoMemory>
+    ensures { OnOk result (text.new.items ≡ text.old.items ++ sum_text name.now count) }
+{
+    text.extend_from_slice(b"sum")?;
+    put_word(text, name)?;
+    put_number(alloc, text, count)?;
+    text.push(b'\n')?;
+    Ok(())
+}
+
+/// Puts the line of bytes that are no message behind a text: where they begin, and how many. None have no line.
+#[tactic(auto, unfolding(crate::specs::TrailText::bytes_text))]
+pub(crate) fn put_bytes(
+    alloc: Global,
+    text: &mut Vec<u8>,
+    word: &[u8],
+    offset: u64,
+    count: u64,
+) -> Result<(), NoMemory>
+    ensures { OnOk result (text.new.items ≡ text.old.items ++ bytes_text word.now offset count) }
+{
+    if count == 0 {
+        return Ok(());
+    }
+    text.extend_from_slice(word)?;
+    put_number(alloc, text, offset)?;
+    put_number(alloc, text, count)?;
+    text.push(b'\n')?;
+    Ok(())
+}
+
+/// Puts the line of a message that is sent behind a text, with a bar for each SOH.
+pub(crate) fn put_sent(text: &mut Vec<u8>, message: &[u8]) -> Result<(), NoMemory>
+    ensures { OnOk result (text.new.items ≡ text.old.items ++ sent_text message.now) }
+{
+    text.extend_from_slice(b"sent\t")?;
+    put_shown(text, message)?;
+    text.push(b'\n')?;
+    Ok(())
+}
+
+/// Puts the sender of a frame behind a text.
+pub(crate) fn put_sender(text: &mut Vec<u8>, frame: &Frame) -> Result<(), NoMemory>
+    ensures { OnOk result (text.new.items ≡ text.old.items ++ told (word_or_dash (sender_of (fields_of (text_of frame.now))))) }
+{
+    put_word_or_dash(text, sender_of(frame))
+}
+
+/// Puts a message's number, its type and what it is known by behind a text.
+pub(crate) fn put_head(
+    alloc: Global,
+    text: &mut Vec<u8>,
+    said: &Result<Message, FieldFault>,
+    frame: &Frame,
+) -> Result<(), NoMemory>
+    ensures { OnOk result (text.new.items ≡ text.old.items ++ head_text (head_in said.now) (fields_of (text_of frame.now))) }
+{
+    let Some(head) = head_in(said) else {
+        text.extend_from_slice(b"\t-\t-\t-")?;
+        return Ok(());
+    };
+    put_number(alloc, text, head.number)?;
+    put_word(text, head.kind.bytes())?;
+    put_word_or_dash(text, id_of(frame, &head.kind))
+}
+
+/// Puts what became of a message behind a text, to the end of its line.
+pub(crate) fn put_became(alloc: Global, text: &mut Vec<u8>, became: &Became) -> Result<(), NoMemory>
+    requires { IsToldOf became.now }
+    ensures { OnOk result (text.new.items ≡ text.old.items ++ became_text became.now) }
+{
+    match became {
+        Became::Passed => {
+            text.extend_from_slice(b"passed\n")?;
+            Ok(())
+        }
+        Became::Met(met) => put_met(alloc, text, *met),
+        Became::Replied(reply) => {
+            let told = answer_text(alloc, &Answer::Replied(*reply))?;
+            text.extend_from_slice(&told)?;
+            Ok(())
+        }
+    }
+}
+
+/// Puts a tab and a number behind a text.
+pub(crate) fn put_number(alloc: Global, text: &mut Vec<u8>, number: u64) -> Result<(), NoMemory>
+    ensures { OnOk result (text.new.items ≡ text.old.items ++ number_text number) }
+{
+    let word = format!(in alloc; "\t{number}")?;
+    text.extend_from_slice(word.as_bytes())?;
+    Ok(())
+}
+
+// Puts what a session made of a message behind a text, to the end of its line.
+fn put_met(alloc: Global, text: &mut Vec<u8>, met: Met) -> Result<(), NoMemory>
+    ensures { OnOk result (text.new.items ≡ text.old.items ++ met_text met) }
+{
+    match met {
+        Met::Closed(reason) => {
+            text.extend_from_slice(b"closed")?;
+            put_number(alloc, text, u64::from(reason.number()))?;
+            put_word(text, reason.name())?;
+        }
+        Met::Delivered | Met::Taken => text.extend_from_slice(b"taken")?,
+        Met::Rejected { tag, reason } => {
+            text.extend_from_slice(b"rejected")?;
+            put_number(alloc, text, u64::from(tag))?;
+            put_number(alloc, text, u64::from(reason))?;
+        }
+        Met::Unsupported => text.extend_from_slice(b"unsupported")?,
+        Met::Early(expected) => {
+            text.extend_from_slice(b"early")?;
+            put_number(alloc, text, expected)?;
+        }
+        Met::Late(expected) => {
+            text.extend_from_slice(b"late")?;
+            put_number(alloc, text, expected)?;
+        }
+    }
+    text.push(b'\n')?;
+    Ok(())
+}
+
+// Puts a tab and a word behind a text.
+fn put_word(text: &mut Vec<u8>, word: &[u8]) -> Result<(), NoMemory>
+    ensures { OnOk result (text.new.items ≡ text.old.items ++ told word.now) }
+{
+    text.push(b'\t')?;
+    text.extend_from_slice(word)?;
+    Ok(())
+}
+
+// Puts a tab and a word behind a text, `-` where there is none.
+fn put_word_or_dash(text: &mut Vec<u8>, word: Option<Text64>) -> Result<(), NoMemory>
+    ensures { OnOk result (text.new.items ≡ text.old.items ++ told (word_or_dash word)) }
+{
+    match word {
+        Some(word) => put_word(text, word.bytes()),
+        None => put_word(text, b"-"),
+    }
+}
+
+// Puts bytes behind a text, with a bar for each SOH.
+fn put_shown(text: &mut Vec<u8>, bytes: &[u8]) -> Result<(), NoMemory>
+    ensures { OnOk result (text.new.items ≡ text.old.items ++ map shown_byte bytes.now) }
+{
+    for byte in bytes {
+        text.push(shown_byte(*byte))?;
+    }
+    Ok(())
+}
+
+// A byte, or a bar for SOH.
+fn shown_byte(byte: u8) -> u8
+    ensures { result ≡ shown_byte byte }
+{
+    if byte == 1 { b'|' } else { byte }
+}
+
+// The header of a message, where it can be read.
+fn head_in(said: &Result<Message, FieldFault>) -> Option<Head>
+    ensures { result ≡ head_in said.now }
+{
+    match said {
+        Ok(message) => Some(message.head),
+        Err(fault) => fault.head,
+    }
+}
+
+// What a message of a type is known by.
+fn id_of(frame: &Frame, kind: &Text64) -> Option<Text64>
+    ensures { result ≡ id_by (id_tag_of kind.now) (fields_of (text_of frame.now)) }
+{
+    match id_tag_of(kind) {
+        Some(tag) => first_text_of(frame, tag),
+        None => None,
+    }
+}
+
+// The tag of what a message of a type is known by: ExecID(17) of an Execution Report, AllocID(70) of an Allocation Instruction.
+fn id_tag_of(kind: &Text64) -> Option<u32>
+    ensures { result ≡ id_tag_of kind.now }
+{
+    if kind.bytes() == b"8".as_slice() {
+        return Some(17);
+    }
+    if kind.bytes() == b"J".as_slice() {
+        return Some(70);
+    }
+    None
+}
+
+// The first field of a tag that can be split off, if it is a text.
+fn first_text_of(frame: &Frame, tag: u32) -> Option<Text64>
+    ensures { result ≡ first_text_of tag (fields_of (text_of frame.now)) }
+{
+    for item in frame.fields() {
+        let Ok(field) = item else {
+            return None;
+        };
+        if field.tag == tag {
+            return text_in(field.value);
+        }
+    }
+    None
+}
+
+// These bytes, if they are a text.
+fn text_in(bytes: &[u8]) -> Option<Text64>
+    ensures { result ≡ text_in bytes.now }
+{
+    Text64::read(bytes)
+}
