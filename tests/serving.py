@@ -169,7 +169,10 @@ def ask(talk, lines):
             got = talk['lines'].get(timeout=WAIT)
         except queue.Empty:
             raise TimeoutError('no answer') from None
-        differ(talk, place, spelled(wanted, b'>', b'\t') + b'\n', got or b'')
+        if got is None:
+            talk['lines'].put(None)  # for finish, which waits for it
+            raise TimeoutError('the program ended before its answer')
+        differ(talk, place, spelled(wanted, b'>', b'\t') + b'\n', got)
 
 
 def label_of(text):
