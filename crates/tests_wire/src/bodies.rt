@@ -3,9 +3,7 @@
 use std::alloc::{AllocError as NoMemory, Global};
 
 // The messages that the rows change. A row names one of them and what is changed in it: `-17`
-// takes the field out, `17=E2` gives it another value, `+17=E2` puts a field at the end, `~` turns the
-// fields behind the first round. `|` is SOH, `#65` stands for 65 letters. Behind `=>` stands the
-// answer: `ok`, or the fault's tag, its reason, and whether it has a header.
+// takes the field out, `17=E2` gives it another value, `+17=E2` puts a field at the end.
 const BASES: &str = "\
 A => 35=A|49=BRKA|56=MO|34=1|52=20240105-09:59:59|98=0|108=30
 0 => 35=0|49=BRKA|56=MO|34=2|52=20240105-10:00:00
@@ -15,12 +13,10 @@ A => 35=A|49=BRKA|56=MO|34=1|52=20240105-09:59:59|98=0|108=30
 4 => 35=4|49=BRKA|56=MO|34=2|52=20240105-10:00:00|36=9
 5 => 35=5|49=BRKA|56=MO|34=2|52=20240105-10:00:00
 F => 35=8|49=BRKA|56=MO|34=2|52=20240105-10:00:00|37=O1|17=E1|150=F|39=1|1=A1|55=XYZ|54=1|38=300|32=100|31=10.50|151=200|14=100|6=10.50|60=20240105-10:00:00|75=20240105
-P => 35=8|49=BRKA|56=MO|34=2|52=20240105-10:00:00|37=O1|17=E1|150=F|39=1|55=XYZ|54=5|32=10|31=-0.5|151=2|14=6|6=10.50
 G => 35=8|49=BRKA|56=MO|34=2|52=20240105-10:00:00|37=O1|17=E3|19=E1|150=G|39=1|55=XYZ|54=2|38=300|32=80|31=10.25|151=200|14=100|6=10.50
 H => 35=8|49=BRKA|56=MO|34=2|52=20240105-10:00:00|17=E4|19=E3|150=H
 X => 35=8|49=BRKA|56=MO|34=2|52=20240105-10:00:00|150=0
 J => 35=J|49=BRKA|56=MO|34=2|52=20240105-10:00:00|70=AL1|71=0|54=1|55=XYZ|53=100|6=10.5|75=20240105|124=1|17=E1|78=2|79=A|80=60|366=10.25|79=B|80=40
-K => 35=J|49=BRKA|56=MO|34=2|52=20240105-10:00:00|70=AL1|71=0|54=1|55=XYZ|53=100|6=10.5|75=20240105
 R => 35=J|49=BRKA|56=MO|34=2|52=20240105-10:00:00|70=AL2|71=1|72=AL1|54=2|55=XYZ|53=50|6=11|75=20240105|124=2|17=E1|17=E2|78=1|79=A|80=50
 C => 35=J|49=BRKA|56=MO|34=2|52=20240105-10:00:00|70=AL3|71=2|72=AL2
 8a => 35=8a|49=BRKA|56=MO|34=2|52=20240105-10:00:00
@@ -60,32 +56,10 @@ fn changed<'a>(row: &'a str, field: &'a str) -> Option<&'a str> {
     Some(field)
 }
 
-// The fields of a row.
-fn fields_of(alloc: Global, row: &str) -> Result<Vec<String>, NoMemory> {
-    let name = row.split(' ').next().unwrap_or(row);
-    let mut fields = Vec::new(alloc);
-    for field in base(name).split('|') {
-        let kept = changed(row, field);
-        if let Some(field) = kept {
-            fields.push(String::from_str(alloc, field)?)?;
-        }
-    }
-    for change in row.split(' ') {
-        if let Some(field) = change.strip_prefix('+') {
-            fields.push(String::from_str(alloc, field)?)?;
-        }
-    }
-    Ok(fields)
-}
-
-/// Puts a field and its SOH into a body.
+/// Puts a field and its SOH into a body. In the field `|` is SOH.
 pub fn push_field(body: &mut Vec<u8>, field: &str) -> Result<(), NoMemory> {
-    let (text, letters) = field.split_once("#").unwrap_or((field, "0"));
-    for byte in text.as_bytes() {
+    for byte in field.as_bytes() {
         body.push(if *byte == b'|' { 1 } else { *byte })?;
-    }
-    for _ in 0..letters.parse::<u16>().unwrap_or(0) {
-        body.push(b'x')?;
     }
     body.push(1)?;
     Ok(())
@@ -93,18 +67,17 @@ pub fn push_field(body: &mut Vec<u8>, field: &str) -> Result<(), NoMemory> {
 
 /// The body of a row's message.
 pub fn body_of(alloc: Global, row: &str) -> Result<Vec<u8>, NoMemory> {
-    let fields = fields_of(alloc, row)?;
+    let name = row.split(' ').next().unwrap_or(row);
     let mut body = Vec::new(alloc);
-    if row.contains("~") {
-        if let Some(first) = fields.first() {
-            push_field(&mut body, first.as_str())?;
+    for field in base(name).split('|') {
+        let kept = changed(row, field);
+        if let Some(field) = kept {
+            push_field(&mut body, field)?;
         }
-        for field in fields.iter().skip(1).rev() {
-            push_field(&mut body, field.as_str())?;
-        }
-    } else {
-        for field in &fields {
-            push_field(&mut body, field.as_str())?;
+    }
+    for change in row.split(' ') {
+        if let Some(field) = change.strip_prefix('+') {
+            push_field(&mut body, field)?;
         }
     }
     Ok(body)

@@ -12,13 +12,3 @@ pub fn expect(rt: &impl Abort, row: &str, holds: bool) {
 pub fn expect_text(rt: &impl Abort, row: &str, found: &str, wanted: &str) {
     assert_eq!(rt; found, wanted, "at {row}");
 }
-
-/// The number of a row is the wanted one.
-pub fn expect_number(rt: &impl Abort, row: &str, found: i128, wanted: i128) {
-    assert_eq!(rt; found, wanted, "at {row}");
-}
-
-/// The bytes of a row are the wanted ones.
-pub fn expect_bytes(rt: &impl Abort, row: &str, found: &[u8], wanted: &[u8]) {
-    assert_eq!(rt; found, wanted, "at {row}");
-}

@@ -1,25 +1,15 @@
-//! Tests of the byte side: exact decimals, times, the frames of a stream and their fields,
-//! messages, and sessions.
+//! Tests of the byte side that only a caller of its crates can make: callers with contracts of their own, the table of
+//! sessions, and generated calls of a session beside a plain one. Rows of single calls stand in `rows_wire`.
 #![tactic(auto)]
 
-#[cfg(test)]
-mod allocation_rows;
 #[cfg(test)]
 mod bodies;
 #[cfg(test)]
 mod callers;
 #[cfg(test)]
-mod decimals;
-#[cfg(test)]
 mod draws;
 #[cfg(test)]
 mod expect;
-#[cfg(test)]
-mod field_rows;
-#[cfg(test)]
-mod fields;
-#[cfg(test)]
-mod frames;
 #[cfg(test)]
 mod generated_sessions;
 #[cfg(test)]
@@ -29,14 +19,6 @@ mod plain_rows;
 #[cfg(test)]
 mod plain_session;
 #[cfg(test)]
-mod session_rows;
-#[cfg(test)]
 mod sessions;
 #[cfg(test)]
-mod shown;
-#[cfg(test)]
 mod slots;
-#[cfg(test)]
-mod times;
-#[cfg(test)]
-mod writing;
