@@ -9,6 +9,7 @@ mod TagLemmas
 mod OutcomeLemmas
 pub mod FrameLemmas
 pub mod WalkLemmas
+pub mod PlaceLemmas
 mod WritingLemmas
 mod FindLemmas
 mod ReadingLemmas

@@ -10,5 +10,6 @@ pub mod Writing
 pub mod Looking
 pub mod Finding
 pub mod Walking
+pub mod Places
 pub mod Reading
 pub mod Buffers

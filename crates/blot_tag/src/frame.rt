@@ -1,9 +1,10 @@
 //! One valid frame.
-ghost use Rattle.std.specs.Prelude.{◌≡◌, ◌≤◌, length, None, IsNone};
+ghost use Rattle.std.specs.Prelude.{◌≡◌, ◌≤◌, ℕ, List, length, None, IsNone};
 ghost use Rattle.std.specs.List.{All};
 ghost use Rattle.blot_tag.specs.Fields.{fields_of, fields_before_fault, fault_of};
 ghost use Rattle.blot_tag.specs.FieldText.{fields_text, BeginsWith, IsSlice, EachEnds};
 ghost use Rattle.blot_tag.specs.Frames.{IsFrame, longest_frame};
+ghost use Rattle.blot_tag.specs.Places.{ArePlaced};
 
 use crate::fields::Fields;
 
@@ -24,6 +25,16 @@ impl<'a> Frame<'a> {
         ensures { text_of result ≡ text.now }
     {
         Frame { text }
+    }
+
+    /// The whole text of the frame, its CheckSum included.
+    pub fn text(&self) -> &'a [u8]
+        ensures text { result.now ≡ text_of self.now }
+
+        // Each frame of a stream stands at its place, and the bytes between the frames are those that are passed over.
+        ensures places { (stream : List ℕ) → ArePlaced stream }
+    {
+        self.text
     }
 
     /// The fields of the frame, from left to right, 8, 9, 35 and 10 included; or those before the
