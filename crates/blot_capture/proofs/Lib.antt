@@ -1,5 +1,6 @@
-mod DeskLemmas
-mod LookupLemmas
+pub mod DeskLemmas
+pub mod LookupLemmas
 mod PeerLemmas
 mod SessionLemmas
-mod StreamLemmas
+pub mod StreamLemmas
+pub mod TraceLemmas

@@ -17,6 +17,7 @@ use Rattle.blot_slots.specs.Slots.{Slots, slot_of, with_slot, all_in, answer_of}
 use Rattle.blot_slots.proofs.SlotLemmas.{slot_of-with_slot, slot_of-all_in}
 use Rattle.blot_capture.specs.Capture.{Sessions, first_sessions, sessions_behind, commands_in, is_from, calls_of, taken_by}
 use Rattle.blot_capture.specs.Sessions.{session_among, session_of_slot, session_in, IsAt}
+use Rattle.blot_capture.specs.Trace.{session_for}
 
 -- ---- the first place of a peer
 
@@ -217,3 +218,17 @@ pub commands-strange : (sessions : Sessions) (text peer : List ℕ) → sender_o
 commands-strange sessions text peer sent none =
     ap (λ sent. option_map_or (λ state. taken_by state text) (option_and_then sessions sent) []) sent
     ∙ ap (λ found. option_map_or (λ state. taken_by state text) found []) none
+
+-- ---- the session of a frame's sender
+
+pub session-for : (peer : List ℕ) (out : List State) (slots : Slots) (place : ℕ) (session : State) (text : List ℕ)
+    → IsAt peer out place → session ≡ slice_index_or out place session → sender_of (fields_of text) ≡ Some peer → session_for (session_in out slots) text ≡ Some session
+session-for peer out slots place session text at is sent =
+    ap (option_and_then (session_in out slots)) sent ∙ session-at peer out slots place session at ∙ ap Some (sym is)
+
+pub sessions-none : (sessions : Sessions) (text : List ℕ) → session_for sessions text ≡ None → sessions_behind sessions text ≡ sessions
+sessions-none sessions text none = by-sender (sender_of (fields_of text)) refl none
+  where
+    by-sender : (sender : Option (List ℕ)) → sender_of (fields_of text) ≡ sender → option_and_then sessions sender ≡ None → sessions_behind sessions text ≡ sessions
+    by-sender None is none = sessions-unsent sessions text is
+    by-sender (Some peer) is none = sessions-strange sessions text peer is none

@@ -1,6 +1,6 @@
 -- What a frame comes to at its session.
 use Rattle.std.proofs.Common.{◌≡◌, ℕ, Bool, true, false, List, [], ◌∷◌, ◌++◌, map, Option, Some, None, Result, Ok, refl, sym, ap, subst, ◌∙◌, inl, inr}
-use Rattle.std.specs.Prelude.{ℤ, is_some, option_to_list, if◌then◌else◌}
+use Rattle.std.specs.Prelude.{ℤ, is_some, if◌then◌else◌}
 use Rattle.std.specs.List.{list_any}
 use Rattle.std.proofs.lemmas.Bool.{cond_both, cases_Bool, false≢true}
 use Rattle.std.proofs.lemmas.List.{append-nil}
@@ -10,7 +10,7 @@ use Rattle.blot_types.specs.Legal.{refusal_of}
 use Rattle.blot_types.specs.Told.{refused_number}
 use Rattle.blot_desk.specs.declared.event.Event.TheVariants.{Submit}
 use Rattle.blot_desk.specs.declared.event.Reply.{Reply as DeskReply}
-use Rattle.blot_desk.specs.Desk.{DeskBook, step_of, submit_by}
+use Rattle.blot_desk.specs.Desk.{DeskBook, Journal, step_of, submit_by}
 use Rattle.blot_session.specs.declared.action.Action.{Action}
 use Rattle.blot_session.specs.declared.action.Action.TheVariants.{Send, Deliver, Close}
 use Rattle.blot_session.specs.declared.replies.NotTaken.{NotTaken}
@@ -19,17 +19,27 @@ use Rattle.blot_session.specs.declared.replies.SeenReply.TheVariants.{Accepted, 
 use Rattle.blot_session.specs.declared.state.Awaited.{Awaited}
 use Rattle.blot_session.specs.declared.state.Awaited.TheVariants as awaits
 use Rattle.blot_session.specs.declared.state.State.{State}
-use Rattle.blot_session.specs.Calls.{Outcome, Awaits, is_deliver, is_spent, outcome_of, reply_row_by, on_frame, on_reply}
+use Rattle.blot_session.specs.Calls.{Outcome, Awaits, DeliversAlone, is_deliver, is_spent, outcome_of, reply_row_by, on_frame, on_reply}
+use Rattle.blot_session.specs.declared.met.Met.{Met}
+use Rattle.blot_session.specs.Met.{met_of}
 use Rattle.blot_session.specs.Rows.{reply_row}
-use Rattle.blot_session.specs.Runs.{Numbered, outcome, said_by, delivered_by, taken_behind}
+use Rattle.blot_session.specs.Runs.{Numbered, outcome, said_by, delivered_by, taken_behind, taken_of}
 use Rattle.blot_session.specs.States.{awaited_of, phase_of}
 use Rattle.blot_gateway.specs.Serving.{seen_by}
-use Rattle.blot_capture.specs.Capture.{frame_call, reply_calls, waiting_calls, behind_frame, behind_reply, taken_by, moment_at, is_closed_phase}
+use Rattle.blot_session.proofs.OneLemmas.{AtMostOne, one-frame}
+use Rattle.blot_capture.specs.Capture.{frame_call, reply_calls, waiting_calls, behind_frame, behind_reply, calls_of, taken_by, moment_at, is_closed_phase}
+use Rattle.blot_capture.specs.declared.handled.Handled.{Handled}
+use Rattle.blot_capture.specs.Handling.{IsHandled, delivered_in, met_at}
+use Rattle.blot_capture.specs.Trace.{actions_after, actions_at, became_at, became_of}
 
 -- ---- what is delivered
 
-abbrev pub commands : ℕ → List Action → List Command
-commands number actions = map (λ numbered. numbered.command) (delivered_by number actions)
+-- the number that they are delivered under doesn't matter
+commands-same : (number : ℕ) (actions : List Action) → map (λ numbered. numbered.command) (delivered_by number actions) ≡ delivered_in actions
+commands-same number [] = refl
+commands-same number (Send bytes ∷ actions) = commands-same number actions
+commands-same number (Deliver command ∷ actions) = ap (λ more. command ∷ more) (commands-same number actions)
+commands-same number (Close reason ∷ actions) = commands-same number actions
 
 delivered-none : (number : ℕ) (actions : List Action) → list_any is_deliver actions ≡ false → delivered_by number actions ≡ []
 delivered-none number [] is = refl
@@ -77,22 +87,70 @@ chosen : {A : Type 0} (awaiting : Bool) (items : List A) → (awaiting ≡ false
 chosen true items none = refl
 chosen false items none = sym (none refl)
 
--- a frame's calls take what the frame delivers
-calls-take : (state : State) (text : List ℕ) (command : Option Command)
-    → Awaits (behind_frame state text) (outcome state (frame_call text)).actions
-    → ((number : ℕ) → commands number (outcome state (frame_call text)).actions ≡ option_to_list command) → taken_by state text ≡ option_to_list command
-calls-take state text command awaits gives =
+-- a frame's calls take what the frame delivers, where its reply is awaited
+calls-take : (state : State) (text : List ℕ)
+    → taken_of state (calls_of state text)
+    ≡ (if is_some (awaited_of (behind_frame state text)) then delivered_by state.expected (outcome state (frame_call text)).actions else [])
+calls-take state text =
+    reply-takes (delivered_by state.expected (outcome state (frame_call text)).actions) (behind_frame state text) (behind_reply state text) (moment_at text)
+
+awaited-take : (state : State) (text : List ℕ) → Awaits (behind_frame state text) (outcome state (frame_call text)).actions
+    → taken_by state text ≡ delivered_in (outcome state (frame_call text)).actions
+awaited-take state text awaits =
     let actions = (outcome state (frame_call text)).actions in
     let last = delivered_by state.expected actions in
     ap (map (λ numbered. numbered.command))
-    (reply-takes last (behind_frame state text) (behind_reply state text) (moment_at text)
-    ∙ chosen (is_some (awaited_of (behind_frame state text))) last (λ none. delivered-none state.expected actions (awaits.awaited ∙ none)))
-    ∙ gives state.expected
+    (calls-take state text ∙ chosen (is_some (awaited_of (behind_frame state text))) last (λ none. delivered-none state.expected actions (awaits.awaited ∙ none)))
+    ∙ commands-same state.expected actions
 
-pub frame-takes : (state next : State) (text : List ℕ) (actions : List Action) (command : Option Command) (now : ℤ)
+pub frame-takes : (state next : State) (text : List ℕ) (actions : List Action) (now : ℤ)
     → now ≡ moment_at text → record { state = next; actions = actions } ≡ on_frame state (said_by text) now → Awaits next actions
-    → ((number : ℕ) → commands number actions ≡ option_to_list command) → taken_by state text ≡ option_to_list command
-frame-takes state next text actions command now at is awaits gives =
+    → taken_by state text ≡ delivered_in actions
+frame-takes state next text actions now at is awaits =
     let gave : record { state = next; actions = actions } ≡ outcome state (frame_call text) = is ∙ ap (on_frame state (said_by text)) at in
-    calls-take state text command (subst (λ (given : Outcome). Awaits given.state given.actions) gave awaits)
-    (subst (λ (given : Outcome). (number : ℕ) → commands number given.actions ≡ option_to_list command) gave gives)
+    awaited-take state text (subst (λ (given : Outcome). Awaits given.state given.actions) gave awaits)
+    ∙ ap (λ (given : Outcome). delivered_in given.actions) (sym gave)
+
+-- and what is said of what it delivers is said of what is taken
+pub handled-frame : (state next : State) (journal : Journal) (text : List ℕ) (actions : List Action) (now : ℤ) (handled : Handled)
+    → now ≡ moment_at text → record { state = next; actions = actions } ≡ on_frame state (said_by text) now → Awaits next actions
+    → ((met : Met) → IsHandled (became_of met journal (delivered_in actions)) (actions_after next journal now actions (delivered_in actions)) (Some met) handled)
+    → IsHandled (became_at state journal text) (actions_at state journal text) (met_at (Some state) text) handled
+handled-frame state next journal text actions now handled at is awaits given =
+    let gave : record { state = next; actions = actions } ≡ outcome state (frame_call text) = is ∙ ap (on_frame state (said_by text)) at in
+    let met = met_of state (said_by text) (moment_at text) in
+    let behind = behind_frame state text in
+    let all = (outcome state (frame_call text)).actions in
+    subst (λ commands. IsHandled (became_of met journal commands) (actions_after behind journal (moment_at text) all commands) (Some met) handled)
+    (sym (frame-takes state next text actions now at is awaits))
+    (subst (λ (given : Outcome). IsHandled (became_of met journal (delivered_in actions)) (actions_after given.state journal (moment_at text) given.actions (delivered_in actions)) (Some met) handled) gave
+    (subst (λ moment. IsHandled (became_of met journal (delivered_in actions)) (actions_after next journal moment actions (delivered_in actions)) (Some met) handled) at (given met)))
+
+-- where no reply is awaited, nothing is delivered
+pub delivers-none : (state : State) (actions : List Action) → Awaits state actions → is_some (awaited_of state) ≡ false → delivered_in actions ≡ []
+delivers-none state actions awaits none = ap (map (λ numbered. numbered.command)) (delivered-none 0 actions (awaits.awaited ∙ none))
+
+-- what delivers a command does nothing else
+pub delivers-one : (actions : List Action) (command : Command) → DeliversAlone actions → delivered_in actions ≡ command ∷ [] → actions ≡ Deliver command ∷ []
+delivers-one [] command alone is = absurd cc
+delivers-one (Send bytes ∷ []) command alone is = absurd cc
+delivers-one (Deliver other ∷ []) command alone is = ap (map Deliver) is
+delivers-one (Close reason ∷ []) command alone is = absurd cc
+delivers-one (action ∷ next ∷ actions) command alone is =
+    absurd (nil-cons (ap (map (λ numbered. numbered.command)) (sym (delivered-none 0 (action ∷ next ∷ actions) alone)) ∙ is))
+  where
+    nil-cons : {A : Type 0} {x : A} → [] ≡ x ∷ [] → ⊥
+    nil-cons is = cc
+
+-- a frame brings one command at most
+pub one-taken : (state : State) (text : List ℕ) → AtMostOne (taken_by state text)
+one-taken state text =
+    subst (λ (taken : List Numbered). AtMostOne (map (λ numbered. numbered.command) taken)) (sym (calls-take state text))
+    (one-chosen (is_some (awaited_of (behind_frame state text))) (delivered_by state.expected (outcome state (frame_call text)).actions)
+    (one-frame state.expected state (said_by text) (moment_at text)))
+  where
+    one-chosen : (awaiting : Bool) (taken : List Numbered) → AtMostOne taken → AtMostOne (map (λ numbered. numbered.command) (if awaiting then taken else []))
+    one-chosen false taken one = tt
+    one-chosen true [] one = tt
+    one-chosen true (numbered ∷ []) one = tt
+    one-chosen true (numbered ∷ next ∷ taken) one = absurd one

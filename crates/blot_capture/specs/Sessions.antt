@@ -1,7 +1,9 @@
 -- The sessions of a capture: those that are out, and behind them those of the table.
 use Rattle.std.specs.Prelude.{◌≡◌, ◌<◌, ℕ, List, length, take, slice_index_or, find, Option, Some, None}
 use Rattle.std.specs.Option.{option_or}
+use Rattle.blot_tag.specs.Fields.{fields_of}
 use Rattle.blot_types.specs.Keys.{same_text}
+use Rattle.blot_fields.specs.Sender.{sender_of}
 use Rattle.blot_session.specs.declared.state.State.{State}
 use Rattle.blot_slots.specs.Slots.{Slots, slot_of}
 use Rattle.blot_capture.specs.Capture.{Sessions}
@@ -32,3 +34,9 @@ pub record IsAt (peer : List ℕ) (sessions : List State) (place : ℕ) : Type 0
   pub within : place < length sessions
   pub first : session_among peer (take place sessions) ≡ None
   pub of_peer : (other : State) → (slice_index_or sessions place other).peer ≡ peer
+
+-- the session of a frame's sender stands at this place
+pub record IsPlaceFor (text : List ℕ) (sessions : List State) (place : ℕ) : Type 0 where
+  pub peer : List ℕ
+  pub sent : sender_of (fields_of text) ≡ Some peer
+  pub at : IsAt peer sessions place

@@ -1,14 +1,15 @@
 //! The frames of a byte stream, taken piece by piece.
 ghost use Rattle.std.specs.Prelude.{◌≡◌, ◌≢◌, ℕ, List, [], ◌++◌, Err, OnOk, IfErr};
+ghost use Rattle.blot_tag.specs.Views.{text_of};
 ghost use Rattle.blot_tag.specs.Walking.{frames_of};
-ghost use Rattle.blot_capture.specs.Capture.{commands_over};
-ghost use Rattle.blot_capture.specs.Replay.{Came, Stopped};
+ghost use Rattle.blot_capture.specs.Capture.{sessions_behind, commands_in, commands_over};
+ghost use Rattle.blot_capture.specs.Replay.{submitted, Came, Stopped};
 ghost use Rattle.blot_capture.specs.Sessions.{sessions_of};
 
 use crate::sessions::Sessions;
 use blot_desk::Held;
 use blot_stream::ReplayFault;
-use blot_tag::Reader;
+use blot_tag::{Frame, Reader};
 use std::alloc::Global;
 
 /// Takes the frames of a piece of the stream, with what the reader holds of the pieces before. What is left there holds no
@@ -48,10 +49,28 @@ fn take_frames(
     ensures no_write { result ≢ Err ReplayFault.Write }
 {
     while let Some(frame) = reader.next()? {
-        match sessions.take(alloc, &frame, held) {
+        match take_frame(alloc, sessions, held, &frame) {
             Ok(()) => {}
             Err(fault) => return Err(fault),
         }
     }
     Ok(())
+}
+
+// Takes a frame, whatever becomes of it.
+fn take_frame(
+    alloc: Global,
+    sessions: &mut Sessions,
+    held: &mut Held,
+    frame: &Frame,
+) -> Result<(), ReplayFault>
+    ensures sessions { OnOk result (sessions_of sessions.new ≡ sessions_behind (sessions_of sessions.old) (text_of frame.now)) }
+    ensures desk { OnOk result (held.new ≡ submitted held.old (commands_in (sessions_of sessions.old) (text_of frame.now))) }
+    ensures err { IfErr result (λ fault. Stopped fault held.old held.new (commands_in (sessions_of sessions.old) (text_of frame.now))) }
+    ensures no_write { result ≢ Err ReplayFault.Write }
+{
+    match sessions.take(alloc, frame, held) {
+        Ok(_) => Ok(()),
+        Err(fault) => Err(fault),
+    }
 }

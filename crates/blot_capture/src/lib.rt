@@ -1,14 +1,19 @@
 //! A capture: the bytes of a day's drop copies. Each frame goes to the session of its sender, and each command that a session takes
-//! to a desk; `replay` writes the report of a day of that desk.
+//! to a desk; `replay` writes the report of a day of that desk. `Sessions` says what came of each frame.
 #![tactic(auto)]
 
+mod became;
 mod capturing;
 mod driving;
+mod handled;
 mod intake;
 mod moment;
 mod replaying;
 mod sessions;
 
+pub use became::Became;
 pub use capturing::capture;
+pub use handled::Handled;
 pub use moment::first_moment;
 pub use replaying::{day_report, replay};
+pub use sessions::Sessions;

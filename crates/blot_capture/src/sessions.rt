@@ -3,15 +3,21 @@ ghost use Rattle.std.specs.Prelude.{◌≡◌, ◌≢◌, All, Err, IfOk, IfErr,
 ghost use Rattle.std.specs.List.{IsDistinct};
 ghost use Rattle.blot_tag.specs.Views.{text_of};
 ghost use Rattle.blot_types.specs.Keys.{same_text};
+ghost use Rattle.blot_fields.specs.Numbers.{HasNumber};
+ghost use Rattle.blot_session.specs.Runs.{said_by};
 ghost use Rattle.blot_session.specs.States.{IsIdle};
 ghost use Rattle.blot_capture.specs.Capture.{first_sessions, sessions_behind, commands_in};
+ghost use Rattle.blot_capture.specs.Handling.{IsHandled, met_at};
 ghost use Rattle.blot_capture.specs.Replay.{submitted, Stopped};
-ghost use Rattle.blot_capture.specs.Sessions.{session_in, sessions_of, IsAt};
+ghost use Rattle.blot_capture.specs.Sessions.{session_in, sessions_of, IsAt, IsPlaceFor};
+ghost use Rattle.blot_capture.specs.Trace.{actions_in, became_in, session_for};
 
 use crate::driving::take_frame;
+use crate::handled::Handled;
+use crate::moment::sending_of;
 use blot_desk::Held;
-use blot_fields::sender_of;
-use blot_session::Session;
+use blot_fields::{FieldFault, Message, sender_of};
+use blot_session::{Met, Session};
 use blot_slots::SlotTable;
 use blot_stream::ReplayFault;
 use blot_tag::Frame;
@@ -22,7 +28,7 @@ use std::marker::Model;
 /// The sessions of a capture's peers. A session is checked out by its peer's first frame, and stays out to the end of the
 /// capture. A contract sees the session of each peer.
 #[derive(Drop)]
-pub(crate) struct Sessions {
+pub struct Sessions {
     table: SlotTable,
     out: Vec<Session>,
 }
@@ -41,7 +47,7 @@ impl Model for Sessions {
 
 impl Sessions {
     /// The sessions of peers that were never heard of.
-    pub(crate) fn new(alloc: Global, own: Text64, peers: &[Text64]) -> Result<Sessions, NoMemory>
+    pub fn new(alloc: Global, own: Text64, peers: &[Text64]) -> Result<Sessions, NoMemory>
         requires { IsDistinct same_text peers.now }
         ensures { IfOk result (λ sessions. sessions_of sessions ≡ first_sessions own peers.now) }
     {
@@ -54,28 +60,62 @@ impl Sessions {
         }
     }
 
+    /// What the session of a frame's sender would make of it, if it came now; the frame says this. None where the sender has no
+    /// session. Each session is as it was. An error is out of memory, and what the sessions are then isn't said.
+    pub fn meets(
+        &mut self,
+        frame: &Frame,
+        said: &Result<Message, FieldFault>,
+    ) -> Result<Option<Met>, NoMemory>
+        requires said { said.now ≡ said_by (text_of frame.now) }
+        requires number { HasNumber said.now }
+        ensures same { OnOk result (sessions_of self.new ≡ sessions_of self.old) }
+        ensures met { IfOk result (λ met. met ≡ met_at (session_for (sessions_of self.old) (text_of frame.now)) (text_of frame.now)) }
+    {
+        match place_for(&mut self.table, &mut self.out, frame)? {
+            Some(place) => Ok(Some(self.out[place].meets(said, sending_of(frame)))),
+            None => Ok(None),
+        }
+    }
+
     /// Gives a frame to the session of its sender, and what that delivers to the desk. The frames of others are passed over.
-    pub(crate) fn take(
+    pub fn take(
         &mut self,
         alloc: Global,
         frame: &Frame,
         held: &mut Held,
-    ) -> Result<(), ReplayFault>
+    ) -> Result<Handled, ReplayFault>
         ensures sessions { OnOk result (sessions_of self.new ≡ sessions_behind (sessions_of self.old) (text_of frame.now)) }
         ensures desk { OnOk result (held.new ≡ submitted held.old (commands_in (sessions_of self.old) (text_of frame.now))) }
+        ensures handled { IfOk result (IsHandled (became_in (session_for (sessions_of self.old) (text_of frame.now)) held.old (text_of frame.now))
+            (actions_in (session_for (sessions_of self.old) (text_of frame.now)) held.old (text_of frame.now))
+            (met_at (session_for (sessions_of self.old) (text_of frame.now)) (text_of frame.now))) }
         ensures err { IfErr result (λ fault. Stopped fault held.old held.new (commands_in (sessions_of self.old) (text_of frame.now))) }
         ensures no_write { result ≢ Err ReplayFault.Write }
     {
-        let Some(sender) = sender_of(frame) else {
-            return Ok(());
-        };
-        let Ok(place) = place_of(&mut self.table, &mut self.out, &sender) else {
-            return Err(ReplayFault::NoMemory);
-        };
-        match place {
-            Some(place) => take_frame(alloc, &mut self.out[place], frame, held),
-            None => Ok(()),
+        match place_for(&mut self.table, &mut self.out, frame) {
+            Ok(Some(place)) => take_frame(alloc, &mut self.out[place], frame, held),
+            Ok(None) => Ok(Handled::Passed),
+            Err(_) => Err(ReplayFault::NoMemory),
         }
+    }
+}
+
+// The place of the session of a frame's sender among those that are out. None where the sender has none.
+fn place_for(
+    table: &mut SlotTable,
+    out: &mut Vec<Session>,
+    frame: &Frame,
+) -> Result<Option<usize>, NoMemory>
+    requires { All IsIdle out.old.items }
+    ensures same { OnOk result (session_in out.new.items table.new ≡ session_in out.old.items table.old) }
+    ensures idle { All IsIdle out.new.items }
+    ensures place { IfOk result (λ place. MatchOption place (session_for (session_in out.new.items table.new) (text_of frame.now) ≡ None)
+        (IsPlaceFor (text_of frame.now) out.new.items)) }
+{
+    match sender_of(frame) {
+        Some(sender) => place_of(table, out, &sender),
+        None => Ok(None),
     }
 }
 
@@ -86,7 +126,7 @@ fn place_of(
     peer: &Text64,
 ) -> Result<Option<usize>, NoMemory>
     requires { All IsIdle out.old.items }
-    ensures same { IfOk result (λ place. session_in out.new.items table.new ≡ session_in out.old.items table.old) }
+    ensures same { OnOk result (session_in out.new.items table.new ≡ session_in out.old.items table.old) }
     ensures idle { All IsIdle out.new.items }
     ensures place { IfOk result (λ place. MatchOption place (session_in out.new.items table.new peer.now ≡ None) (IsAt peer.now out.new.items)) }
 {

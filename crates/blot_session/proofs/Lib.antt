@@ -1,5 +1,6 @@
 mod DeliveryLemmas
 mod InTurnLemmas
+pub mod OneLemmas
 mod RowLemmas
 mod Rows
 mod RunLemmas

@@ -1,0 +1,2 @@
+mod AuditLemmas
+mod TurnLemmas

@@ -15,8 +15,8 @@ use Rattle.blot_session.specs.Told.{close_name, close_number}
 use Rattle.blot_console.specs.Answers.{IsTold, number_line, number_text, reply_text, told, word_line}
 use Rattle.blot_desk.specs.declared.event.Reply.{Reply}
 use Rattle.blot_desk.specs.declared.event.Reply.TheVariants.{Accepted}
-use Rattle.blot_trail.specs.declared.became.Became.{Became}
-use Rattle.blot_trail.specs.declared.became.Became.TheVariants as became
+use Rattle.blot_capture.specs.declared.became.Became.{Became}
+use Rattle.blot_capture.specs.declared.became.Became.TheVariants as became
 use Rattle.blot_trail.specs.declared.word.Word.{Word}
 use Rattle.blot_trail.specs.declared.word.Word.TheVariants as words
 

@@ -1,12 +1,14 @@
-//! The text of an audit trail: what became of each message of a capture, in the order of the stream, what a session would have sent,
-//! the bytes that are no message, and the sums. It knows no stream and no desk: who walks over a capture tells it message by message.
+//! The audit trail of a capture: what became of each message, in the order of the stream, what its session would have sent, the bytes
+//! that are no message, and the sums.
 #![tactic(auto)]
 
-mod became;
+mod auditing;
+mod noting;
+mod telling;
 mod trail;
 mod word;
 mod wording;
 
-pub use became::Became;
+pub use auditing::audit;
 pub use trail::{Noted, Trail};
 pub use word::Word;

@@ -1,13 +1,13 @@
 //! An audit trail in the making: the lines of the messages so far.
-ghost use Rattle.std.specs.Prelude.{◌≡◌, ◌+◌, ◌<◌, ◌^◌, ◌∷◌, ◌++◌, [], length, IfOk, OnOk};
+ghost use Rattle.std.specs.Prelude.{◌≡◌, ◌+◌, ◌-◌, ◌<◌, ◌≤◌, ◌^◌, ◌∷◌, ◌++◌, [], length, IfOk, OnOk};
 ghost use Rattle.std.specs.List.{flat_map};
 ghost use Rattle.blot_tag.specs.Views.{text_of};
 ghost use Rattle.blot_session.specs.Runs.{said_by};
 ghost use Rattle.blot_trail.specs.TrailText.{IsToldOf, action_text, behind_bytes, behind_line, finished, none_yet, tail_text, times, word_of, word_sum, word_sums};
 
-use crate::became::Became;
 use crate::word::Word;
 use crate::wording::{put_became, put_bytes, put_head, put_number, put_sender, put_sent, put_sum};
+use blot_capture::Became;
 use blot_fields::{FieldFault, Message};
 use blot_session::Action;
 use blot_tag::Frame;
@@ -31,12 +31,10 @@ impl Model for Noted {
 }
 
 impl Noted {
-    /// What is told of a frame of this length that says this and became this, where a session wants these actions done. An error is
-    /// out of memory.
+    /// What is told of a frame that says this and became this, where a session wants these actions done. An error is out of memory.
     pub fn new(
         alloc: Global,
         frame: &Frame,
-        length: u64,
         said: &Result<Message, FieldFault>,
         became: &Became,
         actions: &[Action],
@@ -46,7 +44,7 @@ impl Noted {
         ensures { IfOk result (λ noted. noted ≡ record {
           tail = tail_text (text_of frame.now) became.now actions.now;
           word = word_of became.now;
-          length_of = length;
+          length_of = length (text_of frame.now);
         }) }
     {
         let mut tail = Vec::new(alloc);
@@ -58,7 +56,7 @@ impl Noted {
         Ok(Noted {
             tail,
             word: Word::of(became),
-            length,
+            length: frame.text().len() as u64,
         })
     }
 }
@@ -109,13 +107,22 @@ impl Trail {
         }
     }
 
-    /// So many bytes are passed over. It takes no memory.
-    pub fn pass(&mut self, count: u64)
-        requires { self.old.offset + count < 2 ^ 63 }
-        ensures { self.new ≡ behind_bytes count self.old }
+    /// So many bytes are passed over by now. It takes no memory.
+    pub fn pass(&mut self, all: u64)
+        requires more { self.old.skipped + self.old.passed ≤ all }
+        requires within { self.old.offset + (all - (self.old.skipped + self.old.passed)) < 2 ^ 63 }
+        ensures { self.new ≡ behind_bytes (all - (self.old.skipped + self.old.passed)) self.old }
     {
+        let count = all - (self.skipped + self.passed);
         self.offset += count;
         self.passed += count;
+    }
+
+    /// Where the first byte stands that is neither told nor passed over.
+    pub fn offset(&self) -> u64
+        ensures { result ≡ self.now.offset }
+    {
+        self.offset
     }
 
     /// A message comes, behind what is passed over. An error is out of memory, and what the trail is then isn't said.

@@ -2,7 +2,7 @@
 ghost use Rattle.std.specs.Prelude.{◌≡◌};
 ghost use Rattle.blot_trail.specs.TrailText.{word_name, word_of, word_place};
 
-use crate::became::Became;
+use blot_capture::Became;
 use blot_desk::Reply;
 use blot_session::Met;
 

@@ -8,7 +8,7 @@ ghost use Rattle.blot_console.specs.Answers.{told, number_text};
 ghost use Rattle.blot_trail.specs.TrailText.{IsToldOf};
 ghost use Rattle.blot_trail.specs.TrailText.{became_text, bytes_text, first_text_of, head_text, id_by, id_tag_of, met_text, sent_text, shown_byte, sum_text, word_or_dash};
 
-use crate::became::Became;
+use blot_capture::Became;
 use blot_console::{Answer, answer_text};
 use blot_fields::{FieldFault, Head, Message, sender_of};
 use blot_session::Met;

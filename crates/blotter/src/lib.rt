@@ -12,6 +12,7 @@ mod system_clock;
 pub use blot_capture::{capture, replay};
 pub use blot_operator::{desk_lines, seat_lines};
 pub use blot_stream::{Outcome, ReplayFault, ServeFault};
+pub use blot_trail::audit;
 pub use rounds::{Rounds, log_endings};
 pub use serving::serve_day;
 pub use socket::Socket;

@@ -15,7 +15,7 @@ loop-frame-preserved c =
     let from : Taking = record { sessions = sessions_of c.args.sessions.now; journal = c.args.held.now } in
     let before : Taking = record { sessions = sessions_of c.loop-frame.sessions; journal = c.loop-frame.held } in
     λ more.
-    taken-frame from before c.args.reader.now.unread c.loop-frame.reader left frame more (sessions_of c.take.new.self) c.take.new.held takes
+    taken-frame from before c.args.reader.now.unread c.loop-frame.reader left frame more (sessions_of c.take_frame.new.sessions) c.take_frame.new.held takes
     (c.loop-frame.invariant more) c.in-Ok.ensures.sessions c.in-Ok.ensures.desk
 
 pub returns-in-Err-clause-err : goal.returns-in-Err-clause-err
@@ -27,7 +27,7 @@ returns-in-Err-clause-err c =
     let from : Taking = record { sessions = sessions_of c.args.sessions.now; journal = c.args.held.now } in
     let before : Taking = record { sessions = sessions_of c.loop-frame.sessions; journal = c.loop-frame.held } in
     λ more.
-    stopped-frame c.in-Err.fault from before c.args.reader.now.unread c.loop-frame.reader left frame more c.take.new.held takes
+    stopped-frame c.in-Err.fault from before c.args.reader.now.unread c.loop-frame.reader left frame more c.take_frame.new.held takes
     (c.loop-frame.invariant more) c.in-Err.ensures.err
 
 pub returns-clause-drained : goal.returns-clause-drained

@@ -1,0 +1,95 @@
+-- The walk over a capture, and the run of the commands that it submits.
+use Rattle.std.proofs.Common.{◌≡◌, ℕ, ◌+◌, List, [], ◌∷◌, ◌++◌, length, drop, map, fold, Option, Some, None, refl, sym, ap, ◌∙◌}
+use Rattle.std.specs.List.{flat_map}
+use Rattle.std.specs.Option.{option_map_or}
+use Rattle.std.proofs.lemmas.List.{append_assoc}
+use Rattle.blot_tag.specs.Places.{place_in, placed_in}
+use Rattle.blot_tag.specs.Walking.{frames_of}
+use Rattle.blot_types.specs.declared.command.Command.{Command}
+use Rattle.blot_session.specs.declared.met.Met.{Met}
+use Rattle.blot_session.specs.declared.state.State.{State}
+use Rattle.blot_session.specs.Met.{met_of}
+use Rattle.blot_session.specs.Runs.{said_by}
+use Rattle.blot_session.proofs.OneLemmas.{AtMostOne}
+use Rattle.blot_desk.specs.declared.event.Event.TheVariants.{Submit}
+use Rattle.blot_desk.specs.declared.event.Reply.{Reply}
+use Rattle.blot_desk.specs.Desk.{Journal, Run, empty_book, recorded_of, run_on, step_of}
+use Rattle.blot_capture.specs.Capture.{commands_in, commands_over, moment_at, sessions_behind, taken_by}
+use Rattle.blot_capture.specs.Replay.{Taking, submitted}
+use Rattle.blot_capture.specs.Trace.{Turn, IsReplayed, became_of, became_in, first_taking, reply_to, reply_told, session_for, taking_after, trace_over}
+use Rattle.blot_capture.proofs.SessionLemmas.{one-taken}
+
+-- ---- the commands
+
+-- the messages' commands are those of the frames
+trace-commands : (frames : List (List ℕ)) (text : List ℕ) (taking : Taking)
+    → flat_map (λ turn. turn.commands) (trace_over taking (placed_in frames text)) ≡ commands_over taking.sessions frames
+trace-commands [] text taking = refl
+trace-commands (frame ∷ frames) text taking =
+    ap (λ more. commands_in taking.sessions frame ++ more)
+    (trace-commands frames (drop (place_in frame text + length frame) text) (taking_after taking frame))
+
+-- ---- the replies
+
+-- the replies to some commands, each submitted
+replies_to : Journal → List Command → List Reply
+replies_to journal [] = []
+replies_to journal (command ∷ commands) = reply_to journal command ∷ replies_to (recorded_of journal (Submit command)) commands
+
+replies-append : (journal : Journal) (commands more : List Command)
+    → replies_to journal (commands ++ more) ≡ replies_to journal commands ++ replies_to (submitted journal commands) more
+unfolding replies_to
+replies-append journal [] more = refl
+replies-append journal (command ∷ commands) more =
+    ap (λ replies. reply_to journal command ∷ replies) (replies-append (recorded_of journal (Submit command)) commands more)
+
+-- they are those of the run
+run-replies : (run : Run) (journal : Journal) (commands : List Command) → run.book ≡ journal.book
+    → (fold run_on run (map Submit commands)).replies ≡ run.replies ++ replies_to journal commands
+unfolding replies_to
+run-replies run journal [] same = sym (append-none run.replies)
+  where
+    append-none : (replies : List Reply) → replies ++ [] ≡ replies
+    append-none [] = refl
+    append-none (reply ∷ replies) = ap (λ more. reply ∷ more) (append-none replies)
+run-replies run journal (command ∷ commands) same =
+    run-replies (run_on run (Submit command)) (recorded_of journal (Submit command)) commands (ap (λ book. (step_of book (Submit command)).book) same)
+    ∙ append_assoc run.replies ((step_of run.book (Submit command)).reply ∷ []) (replies_to (recorded_of journal (Submit command)) commands)
+    ∙ ap (λ book. run.replies ++ ((step_of book (Submit command)).reply ∷ replies_to (recorded_of journal (Submit command)) commands)) same
+
+-- a message is told to have got the reply to its command
+told-one : (met : Met) (journal : Journal) (commands : List Command) → AtMostOne commands → reply_told (became_of met journal commands) ≡ replies_to journal commands
+unfolding replies_to
+told-one met journal [] one = refl
+told-one met journal (command ∷ []) one = refl
+told-one met journal (command ∷ next ∷ commands) one = absurd one
+
+told-in : (session : Option State) (journal : Journal) (text : List ℕ) (commands : List Command)
+    → commands ≡ option_map_or (λ state. taken_by state text) session []
+    → reply_told (became_in session journal text) ≡ replies_to journal commands
+unfolding replies_to
+told-in None journal text commands is = ap (replies_to journal) (sym is)
+told-in (Some state) journal text commands is =
+    told-one (met_of state (said_by text) (moment_at text)) journal (taken_by state text) (one-taken state text) ∙ ap (replies_to journal) (sym is)
+
+trace-replies : (frames : List (List ℕ)) (text : List ℕ) (taking : Taking)
+    → flat_map (λ turn. reply_told turn.became) (trace_over taking (placed_in frames text)) ≡ replies_to taking.journal (commands_over taking.sessions frames)
+unfolding replies_to
+trace-replies [] text taking = refl
+trace-replies (frame ∷ frames) text taking =
+    let commands = commands_in taking.sessions frame in
+    ap (λ replies. replies ++ flat_map (λ (turn : Turn). reply_told turn.became) (trace_over (taking_after taking frame) (placed_in frames (drop (place_in frame text + length frame) text))))
+    (told-in (session_for taking.sessions frame) taking.journal frame commands refl)
+    ∙ ap (λ replies. replies_to taking.journal commands ++ replies) (trace-replies frames (drop (place_in frame text + length frame) text) (taking_after taking frame))
+    ∙ sym (replies-append taking.journal commands (commands_over (sessions_behind taking.sessions frame) frames))
+
+-- ---- the law
+
+pub is_replayed : (own : List ℕ) (peers : List (List ℕ)) (bytes : List ℕ) → IsReplayed own peers bytes
+is_replayed own peers bytes =
+    let first = first_taking own peers in
+    record {
+      commands = trace-commands (frames_of bytes) bytes first;
+      replies = trace-replies (frames_of bytes) bytes first
+          ∙ sym (run-replies (record { book = empty_book; replies = [] }) first.journal (commands_over first.sessions (frames_of bytes)) refl);
+    }

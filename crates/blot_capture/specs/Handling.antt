@@ -1,0 +1,56 @@
+-- What a capture's sessions say came of a frame.
+use Rattle.std.specs.Prelude.{◌≡◌, ℕ, List, [], ◌∷◌, map, Option, Some, None}
+use Rattle.std.specs.Option.{option_map}
+use Rattle.blot_types.specs.declared.command.Command.{Command}
+use Rattle.blot_session.specs.declared.action.Action.{Action}
+use Rattle.blot_session.specs.declared.action.Action.TheVariants.{Deliver}
+use Rattle.blot_session.specs.declared.met.Met.{Met}
+use Rattle.blot_session.specs.declared.state.State.{State}
+use Rattle.blot_session.specs.Met.{met_of}
+use Rattle.blot_session.specs.Runs.{delivered_by, said_by}
+use Rattle.blot_desk.specs.declared.event.Reply.{Reply}
+use Rattle.blot_capture.specs.declared.became.Became.{Became}
+use Rattle.blot_capture.specs.declared.became.Became.TheVariants as became
+use Rattle.blot_capture.specs.declared.handled.Handled.{Handled}
+use Rattle.blot_capture.specs.declared.handled.Handled.TheVariants as handled
+use Rattle.blot_capture.specs.Capture.{moment_at}
+
+-- the commands that some actions deliver
+abbrev pub delivered_in : List Action → List Command
+delivered_in actions = map (λ numbered. numbered.command) (delivered_by 0 actions)
+
+-- what a session would make of a frame; a sender without a session has none
+abbrev pub met_at : Option State → List ℕ → Option Met
+met_at session text = option_map (λ state. met_of state (said_by text) (moment_at text)) session
+
+-- what became of the frame
+abbrev pub became_met : Option Met → Became
+became_met None = became.Passed
+became_met (Some met) = became.Met met
+
+abbrev pub became_by : Option Met → Handled → Became
+became_by met handled.Passed = became.Passed
+became_by met (handled.Met wanted) = became_met met
+became_by met (handled.Replied reply wanted) = became.Replied reply
+
+-- what the session wants done, but for the command that it delivered
+abbrev pub wanted_of : Handled → List Action
+wanted_of handled.Passed = []
+wanted_of (handled.Met wanted) = wanted.items
+wanted_of (handled.Replied reply wanted) = wanted.items
+
+-- these are all that it wants done, where what delivers a command does nothing else
+abbrev pub Wants : List Action → Handled → Type 0
+Wants actions handled.Passed = actions ≡ []
+Wants actions (handled.Met wanted) = actions ≡ wanted.items
+Wants actions (handled.Replied reply wanted) = (command : Command) × (actions ≡ Deliver command ∷ wanted.items)
+
+-- a frame became this, where its session made this of it, and that wants these done
+pub record IsHandled (end : Became) (actions : List Action) (met : Option Met) (handled : Handled) : Type 0 where
+  pub became : became_by met handled ≡ end
+  pub wanted : Wants actions handled
+
+-- the reply to a command, and what the session wants done about it
+abbrev pub IsReplied : Reply → List Action → Handled → Type 0
+IsReplied reply actions (handled.Replied given wanted) = (given ≡ reply) × (wanted.items ≡ actions)
+IsReplied reply actions other = ⊥

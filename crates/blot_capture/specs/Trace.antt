@@ -1,0 +1,109 @@
+-- The walk over a capture, message by message. What `capture` submits, what `replay` reports on and what an audit trail tells are
+-- readings of it.
+use Rattle.std.specs.Prelude.{◌≡◌, ℕ, ℤ, List, [], ◌∷◌, ◌++◌, map, Option, Some, None, Ok}
+use Rattle.std.specs.List.{flat_map}
+use Rattle.std.specs.Option.{option_and_then}
+use Rattle.blot_tag.specs.Fields.{fields_of}
+use Rattle.blot_tag.specs.Places.{Placed, placed_of}
+use Rattle.blot_types.specs.declared.command.Command.{Command}
+use Rattle.blot_fields.specs.Sender.{sender_of}
+use Rattle.blot_session.specs.declared.action.Action.{Action}
+use Rattle.blot_session.specs.declared.met.Met.{Met}
+use Rattle.blot_session.specs.declared.state.State.{State}
+use Rattle.blot_session.specs.Calls.{on_reply}
+use Rattle.blot_session.specs.Met.{met_of}
+use Rattle.blot_session.specs.Runs.{outcome, said_by}
+use Rattle.blot_desk.specs.declared.event.Event.TheVariants.{Submit}
+use Rattle.blot_desk.specs.declared.event.Reply.{Reply}
+use Rattle.blot_desk.specs.Desk.{Journal, empty_journal, run_of, step_of}
+use Rattle.blot_gateway.specs.Serving.{seen_by}
+use Rattle.blot_capture.specs.declared.became.Became.{Became}
+use Rattle.blot_capture.specs.declared.became.Became.TheVariants as became
+use Rattle.blot_capture.specs.Capture.{Sessions, behind_frame, commands_in, commands_of, first_sessions, frame_call, moment_at, sessions_behind, taken_by}
+use Rattle.blot_capture.specs.Replay.{Taking, submitted}
+
+-- ---- a frame at its session
+
+-- the session of a frame's sender
+abbrev pub session_for : Sessions → List ℕ → Option State
+session_for sessions text = option_and_then sessions (sender_of (fields_of text))
+
+-- the book's reply to a command
+abbrev pub reply_to : Journal → Command → Reply
+reply_to journal command = (step_of journal.book (Submit command)).reply
+
+-- what became of a frame: the reply to the command that it brought, or else what its session made of it
+abbrev pub became_of : Met → Journal → List Command → Became
+became_of met journal [] = became.Met met
+became_of met journal (command ∷ commands) = became.Replied (reply_to journal command)
+
+-- all that the session wants done: about the frame, and then about the reply
+abbrev pub actions_after : State → Journal → ℤ → List Action → List Command → List Action
+actions_after state journal now actions [] = actions
+actions_after state journal now actions (command ∷ commands) = actions ++ (on_reply state (seen_by (Ok (reply_to journal command))) now).actions
+
+abbrev pub became_at : State → Journal → List ℕ → Became
+became_at state journal text = became_of (met_of state (said_by text) (moment_at text)) journal (taken_by state text)
+
+abbrev pub actions_at : State → Journal → List ℕ → List Action
+actions_at state journal text =
+    actions_after (behind_frame state text) journal (moment_at text) (outcome state (frame_call text)).actions (taken_by state text)
+
+-- the frame of a sender without a session is passed over
+abbrev pub became_in : Option State → Journal → List ℕ → Became
+became_in None journal text = became.Passed
+became_in (Some state) journal text = became_at state journal text
+
+abbrev pub actions_in : Option State → Journal → List ℕ → List Action
+actions_in None journal text = []
+actions_in (Some state) journal text = actions_at state journal text
+
+-- ---- the walk
+
+-- a message: where it stands, the commands that it brings the book, what became of it, and what its session wants done
+pub record Turn : Type 0 where
+  pub placed : Placed
+  pub commands : List Command
+  pub became : Became
+  pub actions : List Action
+
+abbrev pub turn_of : Taking → Placed → Turn
+turn_of taking placed = record {
+  placed = placed;
+  commands = commands_in taking.sessions placed.text;
+  became = became_in (session_for taking.sessions placed.text) taking.journal placed.text;
+  actions = actions_in (session_for taking.sessions placed.text) taking.journal placed.text;
+}
+
+-- the sessions and the desk behind a message
+abbrev pub taking_after : Taking → List ℕ → Taking
+taking_after taking text = record {
+  sessions = sessions_behind taking.sessions text;
+  journal = submitted taking.journal (commands_in taking.sessions text);
+}
+
+-- some messages, one after the other
+abbrev pub trace_over : Taking → List Placed → List Turn
+trace_over taking [] = []
+trace_over taking (placed ∷ more) = turn_of taking placed ∷ trace_over (taking_after taking placed.text) more
+
+-- the peers were never heard of, and the desk is empty
+abbrev pub first_taking : List ℕ → List (List ℕ) → Taking
+first_taking own peers = record { sessions = first_sessions own peers; journal = empty_journal }
+
+-- the messages of a byte stream
+abbrev pub trace_of : List ℕ → List (List ℕ) → List ℕ → List Turn
+trace_of own peers bytes = trace_over (first_taking own peers) (placed_of bytes)
+
+-- ---- the law
+
+-- the reply that a message is told to have got
+abbrev pub reply_told : Became → List Reply
+reply_told (became.Replied reply) = reply ∷ []
+reply_told other = []
+
+-- the commands of the messages are those that a capture submits, and the replies that they got are those of the run of these: so
+-- those that are accepted are the ones that the run accepts, which a report shows
+pub record IsReplayed (own : List ℕ) (peers : List (List ℕ)) (bytes : List ℕ) : Type 0 where
+  pub commands : flat_map (λ turn. turn.commands) (trace_of own peers bytes) ≡ commands_of own peers bytes
+  pub replies : flat_map (λ turn. reply_told turn.became) (trace_of own peers bytes) ≡ (run_of (map Submit (commands_of own peers bytes))).replies

@@ -1,0 +1,265 @@
+-- The trail of a stream, told as its frames are taken one by one, and its pieces one behind the other.
+use Rattle.std.proofs.Common.{◌≡◌, ℕ, ◌+◌, ◌-◌, ◌^◌, ◌<◌, ◌≤◌, List, [], ◌∷◌, ◌++◌, length, fold, min, Option, Some, None, refl, sym, ap, subst, ◌∙◌, arith}
+use Rattle.std.specs.Prelude.{Bool, true, false, IfSome, is_some}
+use Rattle.std.proofs.lemmas.Bool.{false≢true}
+use Rattle.std.specs.Io.KnownBytes.{Consumes, Keeps, IsAtEnd}
+use Rattle.std.proofs.lemmas.List.{append_assoc, append-nil, length-append, length-drop}
+use Rattle.std.proofs.lemmas.List.Sums.{sum_by-cons}
+use Rattle.blot_tag.specs.Places.{Placed, placed_in, placed_of, after_bytes, passed_by, passed_last}
+use Rattle.blot_tag.specs.Reading.{Reading, FindsNone, TakesFirst}
+use Rattle.blot_tag.specs.Walking.{Walk, frames_of, rest_of, skipped_of, stops_at, walk_of}
+use Rattle.blot_tag.proofs.FrameLemmas.{look_of-prefix}
+use Rattle.blot_tag.proofs.WalkLemmas.{look_of-nil, walk_of-prefix}
+use Rattle.blot_tag.proofs.PlaceLemmas.{passed-within, passed_by-after, placed-none, placed-taken, walk-none, walk-taken}
+use Rattle.blot_stream.specs.declared.outcome.ReplayFault.TheVariants.{NoMemory}
+use Rattle.blot_capture.specs.Capture.{commands_over}
+use Rattle.blot_capture.specs.Replay.{Came, Stopped, Taking}
+use Rattle.blot_capture.specs.Trace.{taking_after, trace_over, turn_of}
+use Rattle.blot_capture.proofs.StreamLemmas.{came-first, stopped-here, taken-frame, taken-none}
+use Rattle.blot_trail.specs.Audit.{FindsNoFrame, IsInStep, Notes, TakesNoted, Telling, TellsNext, Told, ToldOf, behind_turn, line_of, size_of, told_by, trail_from}
+use Rattle.blot_trail.specs.TrailText.{Line, Making, behind_bytes, behind_line, finished}
+
+-- ---- bytes that are passed over
+
+bytes-add : (first second : ℕ) (trail : Making) → behind_bytes second (behind_bytes first trail) ≡ behind_bytes (first + second) trail
+bytes-add first second trail =
+    let offset : trail.offset + first + second ≡ trail.offset + (first + second) = omega arith in
+    let passed : trail.passed + first + second ≡ trail.passed + (first + second) = omega arith in
+    ap (λ o. record trail { offset = o; passed = trail.passed + first + second }) offset
+    ∙ ap (λ p. record trail { offset = trail.offset + (first + second); passed = p }) passed
+
+bytes-none : (trail : Making) → behind_bytes 0 trail ≡ trail
+bytes-none trail =
+    let offset : trail.offset + 0 ≡ trail.offset = omega arith in
+    let passed : trail.passed + 0 ≡ trail.passed = omega arith in
+    ap (λ o. record trail { offset = o; passed = trail.passed + 0 }) offset ∙ ap (λ p. record trail { passed = p }) passed
+
+-- how many a call passed over, by the count of all
+pub counted-bytes : (unread skipped after passed offset : ℕ) → after ≡ min (skipped + passed) (2 ^ 64 - 1) → passed ≤ unread → skipped ≤ offset → offset + unread < 2 ^ 63
+    → after ≡ skipped + passed
+counted-bytes unread skipped after passed offset is few low within = is ∙ min-left (skipped + passed) (2 ^ 64 - 1) (omega (arith, few, low, within))
+  where
+    min-left : (n m : ℕ) → n ≤ m → min n m ≡ n
+    min-left n m below = grind arith
+
+-- ---- the whole trail
+
+-- its text, by its messages and how many bytes are passed over behind them
+text-by : Making → Taking → List Placed → ℕ → ℕ → List ℕ
+text-by trail taking placed skipped rest = finished (behind_bytes (skipped - passed_by placed) (fold behind_turn trail (trace_over taking placed))) rest
+
+-- a message more is told
+text-taken : (trail : Making) (taking : Taking) (passed : ℕ) (frame : List ℕ) (placed : List Placed) (skipped rest : ℕ)
+    → text-by trail taking (record { passed = passed; text = frame } ∷ placed) (passed + skipped) rest
+    ≡ text-by (behind_turn trail (turn_of taking (record { passed = passed; text = frame }))) (taking_after taking frame) placed skipped rest
+unfolding text-by
+text-taken trail taking passed frame placed skipped rest =
+    let first : Placed = record { passed = passed; text = frame } in
+    let last : passed + skipped - passed_by (first ∷ placed) ≡ skipped - passed_by placed = omega (arith, sum_by-cons (λ (placed : Placed). placed.passed) first placed) in
+    ap (λ count. finished (behind_bytes count (fold behind_turn (behind_turn trail (turn_of taking first)) (trace_over (taking_after taking frame) placed))) rest) last
+
+-- bytes more are passed over
+text-passed : (trail : Making) (taking : Taking) (passed : ℕ) (placed : List Placed) (skipped rest : ℕ)
+    → text-by trail taking (after_bytes passed placed) (passed + skipped) rest ≡ text-by (behind_bytes passed trail) taking placed skipped rest
+unfolding text-by
+text-passed trail taking passed [] skipped rest =
+    let last : passed + skipped - 0 ≡ passed + (skipped - 0) = omega arith in
+    ap (λ count. finished (behind_bytes count trail) rest) last ∙ ap (λ trail. finished trail rest) (sym (bytes-add passed (skipped - 0) trail))
+text-passed trail taking passed (frame ∷ placed) skipped rest =
+    let last : passed + skipped - passed_by (after_bytes passed (frame ∷ placed)) ≡ skipped - passed_by (frame ∷ placed) =
+    omega (arith, passed_by-after passed frame placed) in
+    let line = line_of (turn_of taking frame) in
+    let more = trace_over (taking_after taking frame.text) placed in
+    ap (λ count. finished (behind_bytes count (fold behind_turn (behind_line line (behind_bytes (passed + frame.passed) trail)) more)) rest) last
+    ∙ ap (λ before. finished (behind_bytes (skipped - passed_by (frame ∷ placed)) (fold behind_turn (behind_line line before) more)) rest)
+    (sym (bytes-add passed frame.passed trail))
+
+-- ---- a call of the reader
+
+-- it passed over so many bytes, and took so many behind them
+pub record Counts (old new : Reading) (passed size : ℕ) : Type 0 where
+  pub skipped : new.skipped ≡ old.skipped + passed
+  pub unread : length old.unread ≡ passed + size + length new.unread
+
+pub counts-taken : (old new : Reading) (frame : List ℕ) (offset : ℕ) (taken : TakesFirst old frame new) → old.skipped ≤ offset → offset + length old.unread < 2 ^ 63
+    → Counts old new taken.passed (length frame)
+counts-taken old new frame offset taken low within =
+    let few = passed-within taken.passed old.unread taken.early in
+    record {
+      skipped = counted-bytes (length old.unread) old.skipped new.skipped taken.passed offset taken.skipped few low within;
+      unread = omega (arith, few, length-drop taken.passed old.unread, ap length taken.bytes, length-append frame new.unread);
+    }
+
+pub counts-none : (old new : Reading) (offset : ℕ) (none : FindsNone old new) → old.skipped ≤ offset → offset + length old.unread < 2 ^ 63
+    → Counts old new none.passed 0
+counts-none old new offset none low within =
+    let few = passed-within none.passed old.unread none.early in
+    record {
+      skipped = counted-bytes (length old.unread) old.skipped new.skipped none.passed offset none.skipped few low within;
+      unread = omega (arith, few, length-drop none.passed old.unread, ap length none.bytes);
+    }
+
+-- the whole trail, where a frame is taken
+pub told-taken : (old new : Reading) (from now : Taking) (line : Line) (trail : Making) (more : List ℕ) (takes : TakesNoted old from line new now)
+    → trail_from trail from (old.unread ++ more) ≡ trail_from (behind_line line (behind_bytes takes.taken.passed trail)) now (new.unread ++ more)
+unfolding text-by
+told-taken old new from now line trail more takes =
+    let left = new.unread ++ more in
+    let walk = walk-taken old new takes.frame more takes.taken in
+    let passed = takes.taken.passed in
+    ap (λ placed. text-by trail from placed (skipped_of (old.unread ++ more)) (length (rest_of (old.unread ++ more)))) (placed-taken old new takes.frame more takes.taken)
+    ∙ ap (λ (walk : Walk). text-by trail from (record { passed = passed; text = takes.frame } ∷ placed_of left) walk.skipped (length walk.rest)) walk
+    ∙ text-taken trail from passed takes.frame (placed_of left) (skipped_of left) (length (rest_of left))
+    ∙ ap (λ line. text-by (behind_line line (behind_bytes passed trail)) (taking_after from takes.frame) (placed_of left) (skipped_of left) (length (rest_of left))) (sym (takes.told passed))
+    ∙ ap (λ taking. text-by (behind_line line (behind_bytes passed trail)) taking (placed_of left) (skipped_of left) (length (rest_of left))) (sym takes.behind)
+
+-- and where there is none
+pub told-none : (old new : Reading) (from now : Taking) (trail : Making) (more : List ℕ) (finds : FindsNoFrame old from new now)
+    → trail_from trail from (old.unread ++ more) ≡ trail_from (behind_bytes finds.none.passed trail) now (new.unread ++ more)
+unfolding text-by
+told-none old new from now trail more finds =
+    let left = new.unread ++ more in
+    let passed = finds.none.passed in
+    ap (λ placed. text-by trail from placed (skipped_of (old.unread ++ more)) (length (rest_of (old.unread ++ more)))) (placed-none old new more finds.none)
+    ∙ ap (λ (walk : Walk). text-by trail from (after_bytes passed (placed_of left)) walk.skipped (length walk.rest)) (walk-none old new more finds.none)
+    ∙ text-passed trail from passed (placed_of left) (skipped_of left) (length (rest_of left))
+    ∙ ap (λ taking. text-by (behind_bytes passed trail) taking (placed_of left) (skipped_of left) (length (rest_of left))) (sym finds.same)
+
+-- at first nothing is
+pub stops-nil : (unread : List ℕ) → unread ≡ [] → walk_of unread ≡ stops_at unread
+stops-nil unread none = subst (λ unread. walk_of unread ≡ stops_at unread) (sym none) (walk_of-prefix [] look_of-nil)
+
+-- nothing is left to take: the rest is what is unread
+told-rest : (trail : Making) (taking : Taking) (unread : List ℕ) → walk_of unread ≡ stops_at unread → trail_from trail taking unread ≡ finished trail (length unread)
+told-rest trail taking unread stops =
+    let none : placed_of unread ≡ [] = ap (λ (walk : Walk). placed_in walk.frames unread) stops in
+    let last : passed_last unread ≡ 0 =
+    let skipped : skipped_of unread ≡ 0 = ap (λ (walk : Walk). walk.skipped) stops in
+    omega (arith, skipped) in
+    ap (λ placed. finished (behind_bytes (passed_last unread) (fold behind_turn trail (trace_over taking placed))) (length (rest_of unread))) none
+    ∙ ap (λ count. finished (behind_bytes count trail) (length (rest_of unread))) last
+    ∙ ap (λ trail. finished trail (length (rest_of unread))) (bytes-none trail)
+    ∙ ap (λ (walk : Walk). finished trail (length walk.rest)) stops
+
+-- ---- one call of the reader, told
+
+-- how many bytes it passed over and took
+noted-counts : (old new : Reading) (from now : Taking) (found : Option Line) (trail : Making) → IsInStep old trail → trail.offset + length old.unread < 2 ^ 63
+    → Notes found old from new now → Counts old new (new.skipped - old.skipped) (size_of found)
+noted-counts old new from now None trail step within notes =
+    let counts = counts-none old new trail.offset notes.none step.low within in
+    let passed : new.skipped - old.skipped ≡ notes.none.passed = omega (arith, counts.skipped) in
+    subst (λ passed. Counts old new passed 0) (sym passed) counts
+noted-counts old new from now (Some line) trail step within notes =
+    let counts = counts-taken old new notes.frame trail.offset notes.taken step.low within in
+    let passed : new.skipped - old.skipped ≡ notes.taken.passed = omega (arith, counts.skipped) in
+    let size : length notes.frame ≡ line.length_of = sym (ap (λ (line : Line). line.length_of) (notes.told 0)) in
+    subst (λ passed. Counts old new passed line.length_of) (sym passed) (subst (λ size. Counts old new notes.taken.passed size) size counts)
+
+-- there is room in a trail for what was passed over and what was noted
+pub room-more : (old new : Reading) (from now : Taking) (found : Option Line) (trail : Making) → IsInStep old trail → trail.offset + length old.unread < 2 ^ 63
+    → Notes found old from new now → trail.skipped + trail.passed ≤ new.skipped
+room-more old new from now found trail step within notes =
+    let counts = noted-counts old new from now found trail step within notes in
+    omega (arith, counts.skipped, step.skipped)
+
+pub room-within : (old new : Reading) (from now : Taking) (found : Option Line) (trail : Making) → IsInStep old trail → trail.offset + length old.unread < 2 ^ 63
+    → Notes found old from new now → trail.offset + (new.skipped - (trail.skipped + trail.passed)) + size_of found < 2 ^ 63
+room-within old new from now found trail step within notes =
+    let counts = noted-counts old new from now found trail step within notes in
+    omega (arith, counts.unread, step.skipped, within)
+
+-- the whole trail stays the same
+noted-same : (old new : Reading) (from now : Taking) (found : Option Line) (trail : Making) → IsInStep old trail → trail.offset + length old.unread < 2 ^ 63
+    → Notes found old from new now → (more : List ℕ)
+    → trail_from trail from (old.unread ++ more) ≡ trail_from (told_by (new.skipped - (trail.skipped + trail.passed)) found trail) now (new.unread ++ more)
+noted-same old new from now None trail step within notes more =
+    let counts = counts-none old new trail.offset notes.none step.low within in
+    let passed : notes.none.passed ≡ new.skipped - (trail.skipped + trail.passed) = omega (arith, counts.skipped, step.skipped) in
+    told-none old new from now trail more notes ∙ ap (λ passed. trail_from (behind_bytes passed trail) now (new.unread ++ more)) passed
+noted-same old new from now (Some line) trail step within notes more =
+    let counts = counts-taken old new notes.frame trail.offset notes.taken step.low within in
+    let passed : notes.taken.passed ≡ new.skipped - (trail.skipped + trail.passed) = omega (arith, counts.skipped, step.skipped) in
+    told-taken old new from now line trail more notes ∙ ap (λ passed. trail_from (behind_line line (behind_bytes passed trail)) now (new.unread ++ more)) passed
+
+noted-came : (old new : Reading) (from now : Taking) (found : Option Line) → Notes found old from new now → (more : List ℕ)
+    → Came from (frames_of (old.unread ++ more)) now (frames_of (new.unread ++ more))
+noted-came old new from now None notes more =
+    subst (λ now. Came from (frames_of (old.unread ++ more)) now (frames_of (new.unread ++ more))) (sym notes.same)
+    (taken-none from from old.unread old new more notes.none (came-first from (frames_of (old.unread ++ more))))
+noted-came old new from now (Some line) notes more =
+    subst (λ now. Came from (frames_of (old.unread ++ more)) now (frames_of (new.unread ++ more))) (sym notes.behind)
+    (taken-frame from from old.unread old new notes.frame more (taking_after from notes.frame).sessions (taking_after from notes.frame).journal notes.taken
+    (came-first from (frames_of (old.unread ++ more))) refl refl)
+
+pub noted-stopped : (old new : Reading) (from now : Taking) (found : Option Line) → Notes found old from new now → (more : List ℕ)
+    → Stopped NoMemory from.journal now.journal (commands_over from.sessions (frames_of (old.unread ++ more)))
+noted-stopped old new from now found notes more =
+    stopped-here NoMemory from now (frames_of (old.unread ++ more)) (frames_of (new.unread ++ more)) (λ is. cc) (noted-came old new from now found notes more)
+
+noted-fewer : (old new : Reading) (from now : Taking) (found : Option Line) → Notes found old from new now → is_some found ≡ true → length new.unread < length old.unread
+noted-fewer old new from now None notes some = absurd (false≢true some)
+noted-fewer old new from now (Some line) notes some = notes.taken.shorter
+
+noted-drained : (old new : Reading) (from now : Taking) (found : Option Line) → Notes found old from new now → is_some found ≡ false → walk_of new.unread ≡ stops_at new.unread
+noted-drained old new from now None notes none = walk_of-prefix new.unread (look_of-prefix new.unread notes.none.prefix)
+noted-drained old new from now (Some line) notes none = absurd (false≢true (sym none))
+
+-- a trail behind what was noted is in step again
+noted-step : (old new : Reading) (found : Option Line) (trail : Making) (passed : ℕ) → Counts old new passed (size_of found) → IsInStep old trail → IsInStep new (told_by passed found trail)
+noted-step old new None trail passed counts step = record { skipped = omega (arith, counts.skipped, step.skipped); low = omega (arith, counts.skipped, step.low) }
+noted-step old new (Some line) trail passed counts step = record { skipped = omega (arith, counts.skipped, step.skipped); low = omega (arith, counts.skipped, step.low) }
+
+noted-read : (old new : Reading) (found : Option Line) (trail : Making) (passed : ℕ) → Counts old new passed (size_of found)
+    → (told_by passed found trail).offset + length new.unread ≡ trail.offset + length old.unread
+noted-read old new None trail passed counts = omega (arith, counts.unread)
+noted-read old new (Some line) trail passed counts = omega (arith, counts.unread)
+
+pub tells-next : (told : Bool) (old new : Reading) (from now : Taking) (found : Option Line) (trail after : Making) (skipped : ℕ) → IsInStep old trail → trail.offset + length old.unread < 2 ^ 63
+    → Notes found old from new now → skipped ≡ new.skipped → told ≡ is_some found → after ≡ told_by (skipped - (trail.skipped + trail.passed)) found trail
+    → TellsNext told old (record { trail = trail; taking = from }) new (record { trail = after; taking = now })
+tells-next told old new from now found trail after skipped step within notes all is gives =
+    let counts = noted-counts old new from now found trail step within notes in
+    let here : new.skipped - old.skipped ≡ new.skipped - (trail.skipped + trail.passed) = omega (arith, step.skipped) in
+    let known = subst (λ passed. Counts old new passed (size_of found)) here counts in
+    let trail_is : told_by (new.skipped - (trail.skipped + trail.passed)) found trail ≡ after =
+    ap (λ skipped. told_by (skipped - (trail.skipped + trail.passed)) found trail) (sym all) ∙ sym gives in
+    subst (λ after. TellsNext told old (record { trail = trail; taking = from }) new (record { trail = after; taking = now })) trail_is (record {
+      step = noted-step old new found trail (new.skipped - (trail.skipped + trail.passed)) known step;
+      read = noted-read old new found trail (new.skipped - (trail.skipped + trail.passed)) known;
+      fewer = λ yes. noted-fewer old new from now found notes (sym is ∙ yes);
+      drained = λ no. noted-drained old new from now found notes (sym is ∙ no);
+      same = noted-same old new from now found trail step within notes;
+      came = noted-came old new from now found notes;
+    })
+
+-- ---- an input whose bytes may be known
+
+-- nothing is read yet
+pub ToldOf-first : (known : Option (List ℕ)) (from now : Telling) (unread : List ℕ) → unread ≡ [] → from ≡ now → ToldOf known from known unread now
+ToldOf-first None from now unread none same = tt
+ToldOf-first (Some bytes) from now unread none same =
+    ap (λ (telling : Telling). trail_from telling.trail telling.taking bytes) same ∙ ap (λ front. trail_from now.trail now.taking (front ++ bytes)) (sym none)
+
+-- a piece is read and told
+pub ToldOf-piece : (known before after : Option (List ℕ)) (from mid now : Telling) (unread left piece : List ℕ)
+    → ToldOf known from before unread mid → Consumes before after piece
+    → ((more : List ℕ) → Told mid ((unread ++ piece) ++ more) now (left ++ more)) → ToldOf known from after left now
+ToldOf-piece None before after from mid now unread left piece so consumes told = tt
+ToldOf-piece (Some bytes) None after from mid now unread left piece so consumes told = absurd so
+ToldOf-piece (Some bytes) (Some rest) None from mid now unread left piece so consumes told = absurd consumes
+ToldOf-piece (Some bytes) (Some rest) (Some later) from mid now unread left piece so consumes told =
+    let all : unread ++ rest ≡ (unread ++ piece) ++ later = ap (λ back. unread ++ back) consumes ∙ sym (append_assoc unread piece later) in
+    so ∙ ap (trail_from mid.trail mid.taking) all ∙ told later
+
+-- the input is at its end, and no frame is left
+pub ToldOf-end : (known before after : Option (List ℕ)) (from now : Telling) (unread : List ℕ)
+    → ToldOf known from before unread now → Keeps before after → IsAtEnd after → walk_of unread ≡ stops_at unread
+    → IfSome known (λ bytes. finished now.trail (length unread) ≡ trail_from from.trail from.taking bytes)
+ToldOf-end None before after from now unread so keeps end stops = tt
+ToldOf-end (Some bytes) None after from now unread so keeps end stops = absurd so
+ToldOf-end (Some bytes) (Some rest) None from now unread so keeps end stops = absurd keeps
+ToldOf-end (Some bytes) (Some rest) (Some later) from now unread so keeps end stops =
+    let none : rest ≡ [] = sym keeps ∙ end in
+    let left : unread ++ rest ≡ unread = ap (λ back. unread ++ back) none ∙ append-nil unread in
+    sym (so ∙ ap (trail_from now.trail now.taking) left ∙ told-rest now.trail now.taking unread stops)

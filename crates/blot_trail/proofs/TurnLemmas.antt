@@ -1,0 +1,84 @@
+-- What is told of a message.
+use Rattle.std.proofs.Common.{◌≡◌, ℕ, List, [], ◌∷◌, ◌++◌, length, Option, Some, None, Result, Ok, Err, sym, ap, subst, ◌∙◌}
+use Rattle.std.specs.Prelude.{IfOk, OnOk}
+use Rattle.std.specs.List.{flat_map}
+use Rattle.blot_tag.specs.Fields.{fields_of}
+use Rattle.blot_fields.specs.Numbers.{head_in}
+use Rattle.blot_fields.specs.Sender.{sender_of}
+use Rattle.blot_types.specs.declared.command.Command.{Command}
+use Rattle.blot_types.specs.declared.refused.Refused.{Refused as Refusal}
+use Rattle.blot_types.specs.Legal.{refusal_of}
+use Rattle.blot_session.specs.declared.action.Action.{Action}
+use Rattle.blot_session.specs.declared.met.Met.{Met}
+use Rattle.blot_session.specs.declared.state.State.{State}
+use Rattle.blot_session.specs.Met.{met_of}
+use Rattle.blot_session.specs.Runs.{said_by}
+use Rattle.blot_desk.specs.Desk.{DeskBook, Journal, submit_by}
+use Rattle.blot_console.specs.Answers.{IsTold, told}
+use Rattle.blot_capture.specs.declared.became.Became.{Became}
+use Rattle.blot_capture.specs.declared.handled.Handled.{Handled}
+use Rattle.blot_capture.specs.declared.handled.Handled.TheVariants as handled
+use Rattle.blot_capture.specs.Capture.{Sessions, moment_at, taken_by}
+use Rattle.blot_capture.specs.Handling.{IsHandled, Wants, met_at, wanted_of}
+use Rattle.blot_capture.specs.Replay.{Taking}
+use Rattle.blot_capture.specs.Trace.{actions_in, became_in, became_of, session_for, turn_of}
+use Rattle.blot_trail.specs.Audit.{IsTurnOf, line_of}
+use Rattle.blot_trail.specs.TrailText.{IsToldOf, Line, action_text, became_text, head_text, tail_text, word_of, word_or_dash}
+
+-- what is sent is told, and nothing else that a session wants done
+sent-wanted : (actions : List Action) (handled : Handled) → Wants actions handled → flat_map action_text (wanted_of handled) ≡ flat_map action_text actions
+sent-wanted actions handled.Passed wants = ap (flat_map action_text) (sym wants)
+sent-wanted actions (handled.Met wanted) wants = ap (flat_map action_text) (sym wants)
+sent-wanted actions (handled.Replied reply wanted) wants = ap (flat_map action_text) (sym wants.1)
+
+-- the end of a line and those behind it, by the lines of what is sent
+abbrev tail-by : List ℕ → Became → List ℕ → List ℕ
+tail-by text became sent =
+    told (word_or_dash (sender_of (fields_of text))) ++ head_text (head_in (said_by text)) (fields_of text) ++ 9 ∷ became_text became ++ sent
+
+pub told-turn : (text : List ℕ) (met : Option Met) (handled : Handled) (line : Line) (became : Became) (actions : List Action)
+    → IsTurnOf text met handled line → IsHandled became actions met handled
+    → line ≡ record { tail = tail_text text became actions; word = word_of became; length_of = length text }
+told-turn text met handled line became actions is of =
+    is
+    ∙ ap (λ became. record { tail = tail_text text became (wanted_of handled); word = word_of became; length_of = length text }) of.became
+    ∙ ap (λ sent. record { tail = tail-by text became sent; word = word_of became; length_of = length text }) (sent-wanted actions handled of.wanted)
+
+-- the book's reply to a command is told without a key
+told-reply : (book : DeskBook) (command : Command) (refusal : Option Refusal) → IsTold (submit_by book command refusal).reply
+told-reply book command None = tt
+told-reply book command (Some refusal) = tt
+
+told-became : (met : Met) (journal : Journal) (commands : List Command) → IsToldOf (became_of met journal commands)
+told-became met journal [] = tt
+told-became met journal (command ∷ commands) = told-reply journal.book command (refusal_of journal.book.list command)
+
+told-in : (session : Option State) (journal : Journal) (text : List ℕ) → IsToldOf (became_in session journal text)
+told-in None journal text = tt
+told-in (Some state) journal text = told-became (met_of state (said_by text) (moment_at text)) journal (taken_by state text)
+
+pub can-be-told : (session : Option State) (journal : Journal) (text : List ℕ) (became : Became) → became ≡ became_in session journal text → IsToldOf became
+can-be-told session journal text became is = subst IsToldOf (sym is) (told-in session journal text)
+
+-- ---- a frame that was taken
+
+-- what is said of the sessions behind `meets` is said of those before it
+pub handled-as : (before after : Sessions) (journal : Journal) (text : List ℕ) (met : Option Met) (handled : Handled)
+    → after ≡ before → met ≡ met_at (session_for before text) text
+    → IsHandled (became_in (session_for after text) journal text) (actions_in (session_for after text) journal text) (met_at (session_for after text) text) handled
+    → IsHandled (became_in (session_for before text) journal text) (actions_in (session_for before text) journal text) met handled
+handled-as before after journal text met handled same is given =
+    subst (λ met. IsHandled (became_in (session_for before text) journal text) (actions_in (session_for before text) journal text) met handled) (sym is)
+    (subst (λ sessions. IsHandled (became_in (session_for sessions text) journal text) (actions_in (session_for sessions text) journal text) (met_at (session_for sessions text) text) handled) same given)
+
+-- so what is told of it is what is told of its turn
+pub told-taken : (taking : Taking) (text : List ℕ) (met : Option Met) (handled : Handled) (line : Line) (passed : ℕ)
+    → IsHandled (became_in (session_for taking.sessions text) taking.journal text) (actions_in (session_for taking.sessions text) taking.journal text) met handled
+    → IsTurnOf text met handled line → line ≡ line_of (turn_of taking (record { passed = passed; text = text }))
+told-taken taking text met handled line passed of is =
+    told-turn text met handled line (became_in (session_for taking.sessions text) taking.journal text) (actions_in (session_for taking.sessions text) taking.journal text) is of
+
+-- a fact of what is there where a result is Ok, and of its value
+pub if-ok-both : {T E P : Type 0} (Q R : T → Type 0) (result : Result T E) → OnOk result P → IfOk result Q → ((x : T) → P → Q x → R x) → IfOk result R
+if-ok-both Q R (Ok x) p q more = more x p q
+if-ok-both Q R (Err e) p q more = tt

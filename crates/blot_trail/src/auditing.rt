@@ -1,0 +1,119 @@
+//! `audit`: a capture taken into an empty desk, and the trail of what became of each message.
+ghost use Rattle.std.specs.Prelude.{◌≡◌, ◌≢◌, ◌<◌, List, ℕ, ◌++◌, length, Err, IfErr, IfOk, IfSome, OnOk};
+ghost use Rattle.std.specs.Io.KnownBytes.{Appends, IsAtEnd, Keeps};
+ghost use Rattle.std.specs.List.{IsDistinct};
+ghost use Rattle.blot_types.specs.Keys.{same_text};
+ghost use Rattle.blot_types.specs.declared.TheConstants.{EVENTS_MAX};
+ghost use Rattle.blot_tag.specs.Walking.{frames_of};
+ghost use Rattle.blot_capture.specs.Capture.{commands_of, commands_over};
+ghost use Rattle.blot_capture.specs.Replay.{submitted, Stopped};
+ghost use Rattle.blot_capture.specs.Sessions.{sessions_of};
+ghost use Rattle.blot_capture.specs.Trace.{IsReplayed};
+ghost use Rattle.blot_trail.specs.Audit.{trail_from, trail_of};
+ghost use Rattle.blot_trail.specs.TrailText.{none_yet};
+
+use crate::telling::tell_piece;
+use crate::trail::Trail;
+use blot_capture::Sessions;
+use blot_desk::Held;
+use blot_gateway::{READS_MAX, empty_piece};
+use blot_stream::{ReplayFault, read_piece, write_text};
+use blot_tag::Reader;
+use blot_types::Text64;
+use std::alloc::Global;
+use std::io::{Read, Write};
+
+/// Takes a capture to its end, as `replay` does, and writes its audit trail: what became of each message, in the order of the
+/// stream. Nothing is written before the end of the input. No peer may be listed twice.
+pub fn audit<R: Read, W: Write>(
+    alloc: Global,
+    input: &mut R,
+    output: &mut W,
+    own: Text64,
+    peers: &[Text64],
+) -> Result<(), ReplayFault>
+    requires { IsDistinct same_text peers.now }
+    ensures wrote { OnOk result (IfSome (R.remaining input.old) (λ bytes.
+        Appends (W.contents output.old) (W.contents output.new) (trail_of own peers.now bytes))) }
+    ensures read_to_the_end { OnOk result (IsAtEnd (R.remaining input.new)) }
+
+    // The commands that a trail shows are those that `replay` submits, and their replies those of its run.
+    ensures replayed { (bytes : List ℕ) → IsReplayed own peers.now bytes }
+
+    // Full comes only where more commands come than a day has events.
+    ensures full { result ≡ Err ReplayFault.Full
+        → IfSome (R.remaining input.old) (λ bytes. EVENTS_MAX < length (commands_of own peers.now bytes)) }
+
+    // A write fault leaves a front of the trail, every other fault nothing.
+    ensures write_fault { result ≡ Err ReplayFault.Write → IfSome (R.remaining input.old) (λ bytes. (front back : List ℕ)
+        × (front ++ back ≡ trail_of own peers.now bytes) × Appends (W.contents output.old) (W.contents output.new) front) }
+    ensures other_faults { (fault : ReplayFault) → result ≡ Err fault → fault ≢ ReplayFault.Write
+        → Keeps (W.contents output.old) (W.contents output.new) }
+{
+    match captured_trail(alloc, input, own, peers) {
+        Ok(text) => write_text(output, &text),
+        Err(fault) => Err(fault),
+    }
+}
+
+// The trail of a capture.
+fn captured_trail<R: Read>(
+    alloc: Global,
+    input: &mut R,
+    own: Text64,
+    peers: &[Text64],
+) -> Result<Vec<u8>, ReplayFault>
+    requires { IsDistinct same_text peers.now }
+    ensures text { IfOk result (λ text. IfSome (R.remaining input.old) (λ bytes. text.items ≡ trail_of own peers.now bytes)) }
+    ensures read_to_the_end { OnOk result (IsAtEnd (R.remaining input.new)) }
+    ensures full { result ≡ Err ReplayFault.Full
+        → IfSome (R.remaining input.old) (λ bytes. EVENTS_MAX < length (commands_of own peers.now bytes)) }
+    ensures no_write { result ≢ Err ReplayFault.Write }
+{
+    let mut held = Held::new(alloc);
+    match Sessions::new(alloc, own, peers) {
+        Ok(mut sessions) => tell_all(alloc, input, &mut sessions, &mut held),
+        Err(_) => Err(ReplayFault::NoMemory),
+    }
+}
+
+// The trail of an input, to its end.
+fn tell_all<R: Read>(
+    alloc: Global,
+    input: &mut R,
+    sessions: &mut Sessions,
+    held: &mut Held,
+) -> Result<Vec<u8>, ReplayFault>
+    ensures text { IfOk result (λ text. IfSome (R.remaining input.old) (λ bytes.
+        text.items ≡ trail_from none_yet (record { sessions = sessions_of sessions.old; journal = held.old }) bytes)) }
+    ensures taken { OnOk result (IfSome (R.remaining input.old) (λ bytes.
+        held.new ≡ submitted held.old (commands_over (sessions_of sessions.old) (frames_of bytes)))) }
+    ensures read_to_the_end { OnOk result (IsAtEnd (R.remaining input.new)) }
+    ensures stopped { IfErr result (λ fault. IfSome (R.remaining input.old) (λ bytes.
+        Stopped fault held.old held.new (commands_over (sessions_of sessions.old) (frames_of bytes)))) }
+    ensures no_write { result ≢ Err ReplayFault.Write }
+{
+    let mut reader = Reader::new(alloc);
+    let mut trail = Trail::new(alloc);
+    let mut buffer = empty_piece(alloc)?;
+    let mut total = 0;
+    for _ in 0..READS_MAX {
+        let Some(count) = read_piece(input, &mut buffer)? else {
+            let rest = total - trail.offset();
+            return Ok(trail.finish(alloc, rest)?);
+        };
+        total += count as u64;
+        match tell_piece(
+            alloc,
+            &mut reader,
+            sessions,
+            held,
+            &mut trail,
+            &buffer[..count],
+        ) {
+            Ok(()) => {}
+            Err(fault) => return Err(fault),
+        }
+    }
+    Err(ReplayFault::TooLong)
+}
