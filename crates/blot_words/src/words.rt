@@ -1,13 +1,13 @@
 //! The words of the command line: what they ask for.
-ghost use Rattle.std.specs.Prelude.{◌≡◌, ◌≢◌, ◌↔◌, ◌≤◌, [], ◌∷◌, Ok, Some, IfErr, IfOk, IfSome, IsOk, IsSomeAnd, IsTrue, codes, option_map};
+ghost use Rattle.std.specs.Prelude.{◌≡◌, ◌≢◌, ◌↔◌, ◌≤◌, [], ◌∷◌, Ok, Some, IfErr, IfOk, IfSome, IsOk, IsSomeAnd, IsTrue, true, codes, option_map};
 ghost use Rattle.clap.specs.Matches.{first_value, found_of, matched_of, one_text, raw_values};
 ghost use Rattle.blot_time.specs.Day.{day_of, IsDayText};
 ghost use Rattle.blot_types.specs.Text.{is_text};
-ghost use Rattle.blot_words.specs.Words.{IsCount, IsPeerList, IsReplay, IsDesk, IsServe, own_of, count_of, counts_named, day_named, capture_named, peers_of};
+ghost use Rattle.blot_words.specs.Words.{IsAudit, IsCount, IsPeerList, IsReplay, IsDesk, IsServe, is_audit, own_of, count_of, counts_named, day_named, capture_named, peers_of};
 
 use crate::command_line::{
-    CAPTURE, DAY, DESK, OWN, PEER, PORT, PORT_MAX, REPLAY, ROUNDS, ROUNDS_MAX, SERVE, SESSIONS,
-    SESSIONS_MAX, command,
+    AUDIT, CAPTURE, DAY, DESK, OWN, PEER, PORT, PORT_MAX, REPLAY, ROUNDS, ROUNDS_MAX, SERVE,
+    SESSIONS, SESSIONS_MAX, command,
 };
 use crate::peers::{read_comp_id, read_peers};
 use crate::refusal::{Refusal, refusal_of};
@@ -32,6 +32,11 @@ pub enum Words {
     Desk {
         own: Text64,
         capture: String,
+        peers: Vec<Text64>,
+    },
+    /// What became of each message of the capture on standard input.
+    Audit {
+        own: Text64,
         peers: Vec<Text64>,
     },
     /// The brokers that connect, the answers to the lines on standard input, and the report of a day.
@@ -67,6 +72,9 @@ pub fn parse<S: AsStr>(alloc: Global, words: &[S]) -> Result<Words, Refusal>
     }
     if let Some(matches) = matches.subcommand_matches(DESK) {
         return read_desk(alloc, matches);
+    }
+    if let Some(matches) = matches.subcommand_matches(AUDIT) {
+        return read_audit(alloc, matches);
     }
     match matches.subcommand_matches(SERVE) {
         Some(matches) => read_serve(alloc, matches),
@@ -117,6 +125,24 @@ fn read_desk(alloc: Global, matches: &ArgMatches<'_>) -> Result<Words, Refusal>
         capture,
         peers,
     })
+}
+
+// The words of an audit, as `clap` found them.
+fn read_audit(alloc: Global, matches: &ArgMatches<'_>) -> Result<Words, Refusal>
+    ensures audit { IfOk result (λ words. is_audit words ≡ true) }
+    ensures own { IfOk result (λ words. first_value (found_of matches.now) (codes "own") ≡ Some (own_of words)) }
+    ensures named { IfOk result (λ words. option_map raw_values (matched_of (found_of matches.now) (codes "peer")) ≡ Some (peers_of words)) }
+    ensures peers { IfOk result (λ words. IsPeerList (peers_of words)) }
+    ensures refused { IfErr result (λ refusal. refusal ≢ Refusal.NoMemory
+        → IsAudit (first_value (found_of matches.now) (codes "own"))
+        (option_map raw_values (matched_of (found_of matches.now) (codes "peer"))) → ⊥) }
+{
+    let own = read_own(alloc, matches)?;
+    let Some(named) = matches.get_strs(PEER) else {
+        return Err(Refusal::Missing(PEER));
+    };
+    let peers = read_peers(alloc, named)?;
+    Ok(Words::Audit { own, peers })
 }
 
 // The words of a server, as `clap` found them.

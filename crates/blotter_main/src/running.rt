@@ -20,7 +20,7 @@ use blot_slots::Slots;
 use blot_time::Day;
 use blot_types::Text64;
 use blot_words::{Refusal, Words, given, parse};
-use blotter::{Outcome, ReplayFault, Rounds, capture, desk_lines, replay, serve_day};
+use blotter::{Outcome, ReplayFault, Rounds, audit, capture, desk_lines, replay, serve_day};
 use log::Log;
 use std::alloc::Global;
 use std::env::Env;
@@ -97,6 +97,9 @@ where
             capture,
             peers,
         } => open_desk(alloc, files, capture, own, peers.as_slice(), input, output),
+        Words::Audit { own, peers } => {
+            audit(alloc, input, output, own, peers.as_slice()).map_err(Failure::Stopped)
+        }
         Words::Serve {
             own,
             day,
