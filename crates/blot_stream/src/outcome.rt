@@ -2,6 +2,7 @@
 ghost use Rattle.std.specs.Prelude.{◌≡◌, option_map};
 ghost use Rattle.blot_stream.specs.Outcome.{outcome_of, served_outcome, status_of, last_line_of};
 
+use blot_types::EVENTS_MAX;
 use std::alloc::{AllocError as NoMemory, AllocFailed};
 use thiserror::Error;
 
@@ -9,13 +10,13 @@ use thiserror::Error;
 #[derive(Clone, Copy, Debug, PartialEq, Eq, Error)]
 pub enum ReplayFault {
     /// The input couldn't be read.
-    #[error("the input can't be read")]
+    #[error("standard input can't be read")]
     Read = 1,
     /// The output couldn't be written.
-    #[error("the output can't be written")]
+    #[error("standard output can't be written")]
     Write = 2,
     /// As many events are recorded as a day has, and the capture brought a further command.
-    #[error("the desk has no room for the commands of the capture")]
+    #[error("the record of {EVENTS_MAX} events is full")]
     Full = 3,
     /// Memory ran out.
     #[error("no memory")]

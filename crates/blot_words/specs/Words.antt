@@ -7,7 +7,7 @@ use Rattle.blot_types.specs.Keys.{same_text}
 use Rattle.blot_types.specs.Text.{is_text}
 use Rattle.blot_words.specs.declared.command_line.TheConstants.{PORT_MAX, ROUNDS_MAX, SESSIONS_MAX}
 use Rattle.blot_words.specs.declared.words.Words.{Words}
-use Rattle.blot_words.specs.declared.words.Words.TheVariants.{Replay, Desk, Serve}
+use Rattle.blot_words.specs.declared.words.Words.TheVariants.{Replay, Desk, Audit, Serve}
 
 -- the peers of a replay: one or more texts, and no two the same
 pub record IsPeerList (peers : List (List ℕ)) : Type 0 where
@@ -25,6 +25,11 @@ pub record IsReplay (own day : Option (List ℕ)) (peers : Option (List (List �
 pub record IsDesk (own capture : Option (List ℕ)) (peers : Option (List (List ℕ))) : Type 0 where
   pub own_text : IsSomeAnd own (λ text. IsTrue (is_text text))
   pub file : IsSome capture
+  pub peer_list : IsSomeAnd peers IsPeerList
+
+-- the words of an audit: one's own CompID is a text, and the peers are as above
+pub record IsAudit (own : Option (List ℕ)) (peers : Option (List (List ℕ))) : Type 0 where
+  pub own_text : IsSomeAnd own (λ text. IsTrue (is_text text))
   pub peer_list : IsSomeAnd peers IsPeerList
 
 -- the number that the digits of a word write, a plus before them passed over
@@ -48,21 +53,25 @@ pub record IsServe (own day port sessions rounds : Option (List ℕ)) (peers : O
 abbrev pub own_of : Words → List ℕ
 own_of (Replay own day peers) = own
 own_of (Desk own capture peers) = own
+own_of (Audit own peers) = own
 own_of (Serve own day port sessions rounds peers) = own
 
 abbrev pub day_named : Words → Option ℤ
 day_named (Replay own day peers) = Some day
 day_named (Desk own capture peers) = None
+day_named (Audit own peers) = None
 day_named (Serve own day port sessions rounds peers) = Some day
 
 abbrev pub capture_named : Words → Option (List ℕ)
 capture_named (Replay own day peers) = None
 capture_named (Desk own capture peers) = Some capture.bytes.items
+capture_named (Audit own peers) = None
 capture_named (Serve own day port sessions rounds peers) = None
 
 abbrev pub peers_of : Words → List (List ℕ)
 peers_of (Replay own day peers) = peers.items
 peers_of (Desk own capture peers) = peers.items
+peers_of (Audit own peers) = peers.items
 peers_of (Serve own day port sessions rounds peers) = peers.items
 
 -- the port, and how many connections and rounds
@@ -74,3 +83,8 @@ counts_named words = []
 abbrev pub is_replay : Words → Bool
 is_replay (Replay own day peers) = true
 is_replay words = false
+
+-- whether they ask for an audit
+abbrev pub is_audit : Words → Bool
+is_audit (Audit own peers) = true
+is_audit words = false

@@ -8,6 +8,8 @@ use std::alloc::{AllocError, Global};
 pub const REPLAY: &str = "replay";
 /// The subcommand that keeps a desk for its operator.
 pub const DESK: &str = "desk";
+/// The subcommand that tells the audit trail of a capture.
+pub const AUDIT: &str = "audit";
 /// The subcommand that serves brokers as they connect.
 pub const SERVE: &str = "serve";
 /// The option with one's own CompID.
@@ -42,6 +44,7 @@ pub fn command<'a>(alloc: Global) -> Result<Command<'a>, AllocError> {
         .arg_required_else_help(true)
         .subcommand(replay_command(alloc)?)?
         .subcommand(desk_command(alloc)?)?
+        .subcommand(audit_command(alloc)?)?
         .subcommand(serve_command(alloc)?)
 }
 
@@ -68,6 +71,20 @@ fn desk_command<'a>(alloc: Global) -> Result<Command<'a>, AllocError> {
         .arg_required_else_help(true)
         .arg(own_option(alloc))?
         .arg(capture_option(alloc))?
+        .arg(peer_words(alloc))
+}
+
+// The subcommand that tells the audit trail of a capture, with its options and its help.
+fn audit_command<'a>(alloc: Global) -> Result<Command<'a>, AllocError> {
+    Command::new(alloc, AUDIT)
+        .about(
+            "Tells what became of each message of the capture on standard input: the audit trail",
+        )
+        .long_about(ABOUT_AUDIT)
+        .after_help(AUDIT_EXAMPLE)
+        .after_long_help(AFTER_AUDIT)
+        .arg_required_else_help(true)
+        .arg(own_option(alloc))?
         .arg(peer_words(alloc))
 }
 
@@ -247,6 +264,50 @@ Example:
 Exit status:
   0  done
   1  the input, the output or the capture is at fault, or the file can't be opened
+  2  the words of the command line are refused, or help was asked for
+  3  no memory is left";
+
+// What `audit --help` begins with.
+const ABOUT_AUDIT: &str = "\
+Reads a capture from standard input and, at its end, tells what became of each of its messages, in their
+order: the audit trail. So it says why a report that a broker sent isn't among the lines of its day.";
+
+// What `audit -h` ends with.
+const AUDIT_EXAMPLE: &str = "\
+Example:
+  blotter audit --own MO BRKA BRKB < examples/day_of_two_brokers.fix";
+
+// What `audit --help` ends with.
+const AFTER_AUDIT: &str = "\
+A line has these words, with a tab between two, and - for one that isn't to be had:
+  message K OFFSET PEER NUMBER KIND ID BECAME
+  sent    TEXT
+  skipped OFFSET COUNT
+  rest    OFFSET COUNT
+  sum     WORD COUNT
+  end     K
+K is a message's place, from 1, OFFSET where its first byte stands in the capture, from 0, PEER its sender,
+NUMBER its MsgSeqNum(34), KIND its MsgType(35), and ID its ExecID(17) or AllocID(70). BECAME is one of
+  accepted 7                its command is in the book, under number 7
+  refused 10 Quantity 90    the book doesn't take its command: the refusal's number, its name, and what
+                            it names
+  rejected 38 5             a Reject is sent: the tag at fault, or 0, and SessionRejectReason(373)
+  unsupported               a Business Message Reject is sent
+  taken                     its session goes by it, and the book is left alone
+  early 3                   its number is above 3, the expected one: what is missing is asked for
+  late 3                    its number is below 3, the expected one: it is ignored
+  closed 2 TooLow           its session is closed: the reason's number and its name
+  passed                    it is of no broker that is named
+Below a message stands what its session would send, with | for SOH. Skipped are bytes between messages
+that are passed over, and rest is an unfinished message at the end. The sums say how often each word
+stands, and how many bytes are skipped and rest.
+
+Example:
+  blotter audit --own MO BRKA BRKB < examples/day_of_two_brokers.fix
+
+Exit status:
+  0  done
+  1  the input, the output or the capture is at fault
   2  the words of the command line are refused, or help was asked for
   3  no memory is left";
 

@@ -1,9 +1,10 @@
 //! The peers whose messages are read.
-ghost use Rattle.std.specs.Prelude.{◌≡◌, ◌≢◌, IfErr, IfOk, map};
+ghost use Rattle.std.specs.Prelude.{◌≡◌, ◌≢◌, IfErr, IfOk, true, false, map};
+ghost use Rattle.blot_types.specs.Text.{is_text};
 ghost use Rattle.blot_words.specs.Words.{IsPeerList};
 
+use crate::command_line::PEER;
 use crate::refusal::Refusal;
-use blot_slots::are_distinct;
 use blot_types::Text64;
 use std::alloc::Global;
 
@@ -16,13 +17,26 @@ pub fn read_peers(alloc: Global, named: &[&str]) -> Result<Vec<Text64>, Refusal>
 {
     let mut peers = Vec::new(alloc);
     for word in named {
-        let Some(peer) = Text64::read(word.as_bytes()) else {
-            return Err(Refusal::BadWords);
-        };
+        let peer = read_comp_id(alloc, word)?;
+        if peers.contains(&peer) {
+            return Err(Refusal::PeerTwice(String::from_str(alloc, word)?));
+        }
         peers.push(peer)?;
     }
-    if peers.is_empty() || !are_distinct(peers.as_slice()) {
-        return Err(Refusal::BadWords);
+    if peers.is_empty() {
+        return Err(Refusal::Missing(PEER));
     }
     Ok(peers)
+}
+
+/// The CompID that a word is.
+pub fn read_comp_id(alloc: Global, word: &str) -> Result<Text64, Refusal>
+    ensures value { IfOk result (λ text. text ≡ word.now) }
+    ensures text { IfOk result (λ text. is_text text ≡ true) }
+    ensures refused { IfErr result (λ refusal. refusal ≢ Refusal.NoMemory → is_text word.now ≡ false) }
+{
+    match Text64::read(word.as_bytes()) {
+        Some(text) => Ok(text),
+        None => Err(Refusal::NoCompId(String::from_str(alloc, word)?)),
+    }
 }

@@ -1,19 +1,38 @@
 //! Why the words are refused.
 ghost use Rattle.std.specs.Prelude.{◌≡◌, option_map};
 ghost use Rattle.clap.specs.Values.{kind_of};
-ghost use Rattle.blot_words.specs.Refusal.{outcome_of, text_of};
+ghost use Rattle.blot_words.specs.Refusal.{has_sentence, outcome_of, text_of};
 
 use blot_stream::Outcome;
 use clap::error::ErrorKind;
 use std::alloc::{AllocError, AllocFailed, Global};
+use thiserror::Error;
 
-/// Why the words of the command line are refused.
-#[derive(Debug, Drop)]
+/// Why the words of the command line are refused, in a sentence.
+#[derive(Debug, Drop, Error)]
 pub enum Refusal {
     /// `clap` refuses them, or was asked for help: its text for the user.
+    #[error("{0}")]
     Usage(String),
-    /// Own or a peer is no text, the day is none, a peer is named twice, or a word isn't UTF-8.
-    BadWords,
+    /// Own or a peer is no text.
+    #[error("'{0}' is no CompID: 1 to 64 printable ASCII characters")]
+    NoCompId(String),
+    /// The day isn't one of the calendar.
+    #[error("'{0}' is no day")]
+    NoDay(String),
+    /// A peer is named twice.
+    #[error("peer {0} is named twice")]
+    PeerTwice(String),
+    /// A count is below 1, or above the most. `clap` refuses such a word itself.
+    #[error("--{0} is out of range")]
+    OutOfRange(&'static str),
+    /// There is no such word, though `clap` asks for one.
+    #[error("no {0} is named")]
+    Missing(&'static str),
+    /// A word isn't UTF-8.
+    #[error("a word isn't UTF-8")]
+    NotUtf8,
+    #[error("no memory")]
     NoMemory,
 }
 
@@ -23,18 +42,25 @@ impl Refusal {
         ensures { result ≡ outcome_of self.now }
     {
         match self {
-            Refusal::Usage(_) | Refusal::BadWords => Outcome::BadWords,
             Refusal::NoMemory => Outcome::NoMemory,
+            _ => Outcome::BadWords,
         }
     }
 
-    /// What standard error is told, without its last LF: the text of `clap`, or else the outcome's line.
+    /// Whether the sentence is told before the text: the text of `clap` says all, and nothing more is told out of memory.
+    pub fn has_sentence(&self) -> bool
+        ensures { result ≡ has_sentence self.now }
+    {
+        !matches!(self, Refusal::Usage(_) | Refusal::NoMemory)
+    }
+
+    /// What standard error is told last, without its last LF: the text of `clap`, or else the outcome's line.
     pub fn text(&self) -> Option<&str>
         ensures { option_map (λ text. text.now) result ≡ text_of self.now }
     {
         match self {
             Refusal::Usage(text) => Some(text.as_str().trim_end()),
-            Refusal::BadWords | Refusal::NoMemory => self.outcome().last_line(),
+            _ => self.outcome().last_line(),
         }
     }
 }

@@ -1,15 +1,15 @@
 //! The words of the command line: what they ask for.
-ghost use Rattle.std.specs.Prelude.{◌≡◌, ◌≢◌, ◌↔◌, ◌≤◌, [], ◌∷◌, Ok, Some, IfErr, IfOk, IfSome, IsSome, IsSomeAnd, IsTrue, codes, option_map};
+ghost use Rattle.std.specs.Prelude.{◌≡◌, ◌≢◌, ◌↔◌, ◌≤◌, [], ◌∷◌, Ok, Some, IfErr, IfOk, IfSome, IsOk, IsSomeAnd, IsTrue, true, codes, option_map};
 ghost use Rattle.clap.specs.Matches.{first_value, found_of, matched_of, one_text, raw_values};
 ghost use Rattle.blot_time.specs.Day.{day_of, IsDayText};
 ghost use Rattle.blot_types.specs.Text.{is_text};
-ghost use Rattle.blot_words.specs.Words.{IsCount, IsPeerList, IsReplay, IsDesk, IsServe, own_of, count_of, counts_named, day_named, capture_named, peers_of};
+ghost use Rattle.blot_words.specs.Words.{IsAudit, IsCount, IsPeerList, IsReplay, IsDesk, IsServe, is_audit, own_of, count_of, counts_named, day_named, capture_named, peers_of};
 
 use crate::command_line::{
-    CAPTURE, DAY, DESK, OWN, PEER, PORT, PORT_MAX, REPLAY, ROUNDS, ROUNDS_MAX, SERVE, SESSIONS,
-    SESSIONS_MAX, command,
+    AUDIT, CAPTURE, DAY, DESK, OWN, PEER, PORT, PORT_MAX, REPLAY, ROUNDS, ROUNDS_MAX, SERVE,
+    SESSIONS, SESSIONS_MAX, command,
 };
-use crate::peers::read_peers;
+use crate::peers::{read_comp_id, read_peers};
 use crate::refusal::{Refusal, refusal_of};
 use blot_time::Day;
 use blot_types::Text64;
@@ -34,6 +34,11 @@ pub enum Words {
         capture: String,
         peers: Vec<Text64>,
     },
+    /// What became of each message of the capture on standard input.
+    Audit {
+        own: Text64,
+        peers: Vec<Text64>,
+    },
     /// The brokers that connect, the answers to the lines on standard input, and the report of a day.
     Serve {
         own: Text64,
@@ -50,7 +55,7 @@ pub fn given<S: Env + AllocGlobal>(system: &S) -> Result<Vec<String>, Refusal> {
     match env::args(system) {
         Ok(words) => Ok(words.collect(system.alloc())?),
         Err(error) if error.kind() == ErrorKind::OutOfMemory => Err(Refusal::NoMemory),
-        Err(_) => Err(Refusal::BadWords),
+        Err(_) => Err(Refusal::NotUtf8),
     }
 }
 
@@ -68,9 +73,12 @@ pub fn parse<S: AsStr>(alloc: Global, words: &[S]) -> Result<Words, Refusal>
     if let Some(matches) = matches.subcommand_matches(DESK) {
         return read_desk(alloc, matches);
     }
+    if let Some(matches) = matches.subcommand_matches(AUDIT) {
+        return read_audit(alloc, matches);
+    }
     match matches.subcommand_matches(SERVE) {
         Some(matches) => read_serve(alloc, matches),
-        None => Err(Refusal::BadWords),
+        None => Err(Refusal::Missing("command")),
     }
 }
 
@@ -84,14 +92,10 @@ fn read_replay(alloc: Global, matches: &ArgMatches<'_>) -> Result<Words, Refusal
         → IsReplay (first_value (found_of matches.now) (codes "own")) (first_value (found_of matches.now) (codes "day"))
         (option_map raw_values (matched_of (found_of matches.now) (codes "peer"))) → ⊥) }
 {
-    let Some(own) = read_text(matches.get_str(OWN)) else {
-        return Err(Refusal::BadWords);
-    };
-    let Some(day) = read_day(matches.get_str(DAY)) else {
-        return Err(Refusal::BadWords);
-    };
+    let own = read_own(alloc, matches)?;
+    let day = read_day(alloc, matches)?;
     let Some(named) = matches.get_strs(PEER) else {
-        return Err(Refusal::BadWords);
+        return Err(Refusal::Missing(PEER));
     };
     let peers = read_peers(alloc, named)?;
     Ok(Words::Replay { own, day, peers })
@@ -107,14 +111,12 @@ fn read_desk(alloc: Global, matches: &ArgMatches<'_>) -> Result<Words, Refusal>
         → IsDesk (first_value (found_of matches.now) (codes "own")) (first_value (found_of matches.now) (codes "capture"))
         (option_map raw_values (matched_of (found_of matches.now) (codes "peer"))) → ⊥) }
 {
-    let Some(own) = read_text(matches.get_str(OWN)) else {
-        return Err(Refusal::BadWords);
-    };
+    let own = read_own(alloc, matches)?;
     let Some(file) = matches.get_str(CAPTURE) else {
-        return Err(Refusal::BadWords);
+        return Err(Refusal::Missing(CAPTURE));
     };
     let Some(named) = matches.get_strs(PEER) else {
-        return Err(Refusal::BadWords);
+        return Err(Refusal::Missing(PEER));
     };
     let capture = String::from_str(alloc, file)?;
     let peers = read_peers(alloc, named)?;
@@ -123,6 +125,24 @@ fn read_desk(alloc: Global, matches: &ArgMatches<'_>) -> Result<Words, Refusal>
         capture,
         peers,
     })
+}
+
+// The words of an audit, as `clap` found them.
+fn read_audit(alloc: Global, matches: &ArgMatches<'_>) -> Result<Words, Refusal>
+    ensures audit { IfOk result (λ words. is_audit words ≡ true) }
+    ensures own { IfOk result (λ words. first_value (found_of matches.now) (codes "own") ≡ Some (own_of words)) }
+    ensures named { IfOk result (λ words. option_map raw_values (matched_of (found_of matches.now) (codes "peer")) ≡ Some (peers_of words)) }
+    ensures peers { IfOk result (λ words. IsPeerList (peers_of words)) }
+    ensures refused { IfErr result (λ refusal. refusal ≢ Refusal.NoMemory
+        → IsAudit (first_value (found_of matches.now) (codes "own"))
+        (option_map raw_values (matched_of (found_of matches.now) (codes "peer"))) → ⊥) }
+{
+    let own = read_own(alloc, matches)?;
+    let Some(named) = matches.get_strs(PEER) else {
+        return Err(Refusal::Missing(PEER));
+    };
+    let peers = read_peers(alloc, named)?;
+    Ok(Words::Audit { own, peers })
 }
 
 // The words of a server, as `clap` found them.
@@ -138,23 +158,13 @@ fn read_serve(alloc: Global, matches: &ArgMatches<'_>) -> Result<Words, Refusal>
         (one_text (found_of matches.now) (codes "port")) (one_text (found_of matches.now) (codes "sessions")) (one_text (found_of matches.now) (codes "rounds"))
         (option_map raw_values (matched_of (found_of matches.now) (codes "peer"))) → ⊥) }
 {
-    let Some(own) = read_text(matches.get_str(OWN)) else {
-        return Err(Refusal::BadWords);
-    };
-    let Some(day) = read_day(matches.get_str(DAY)) else {
-        return Err(Refusal::BadWords);
-    };
-    let Some(port) = read_count(matches, PORT, PORT_MAX) else {
-        return Err(Refusal::BadWords);
-    };
-    let Some(sessions) = read_count(matches, SESSIONS, SESSIONS_MAX) else {
-        return Err(Refusal::BadWords);
-    };
-    let Some(rounds) = read_count(matches, ROUNDS, ROUNDS_MAX) else {
-        return Err(Refusal::BadWords);
-    };
+    let own = read_own(alloc, matches)?;
+    let day = read_day(alloc, matches)?;
+    let port = read_count(matches, PORT, PORT_MAX)?;
+    let sessions = read_count(matches, SESSIONS, SESSIONS_MAX)?;
+    let rounds = read_count(matches, ROUNDS, ROUNDS_MAX)?;
     let Some(named) = matches.get_strs(PEER) else {
-        return Err(Refusal::BadWords);
+        return Err(Refusal::Missing(PEER));
     };
     let peers = read_peers(alloc, named)?;
     Ok(Words::Serve {
@@ -167,30 +177,40 @@ fn read_serve(alloc: Global, matches: &ArgMatches<'_>) -> Result<Words, Refusal>
     })
 }
 
-// The count that an option's word is, if it is one from 1 to the most.
-fn read_count(matches: &ArgMatches<'_>, id: &str, most: u16) -> Option<u16>
-    ensures some { IsSome result ↔ IsSomeAnd (one_text (found_of matches.now) id.now) (IsCount most) }
-    ensures value { IfSome result (λ count. option_map count_of (one_text (found_of matches.now) id.now) ≡ Some count) }
+// One's own CompID.
+fn read_own(alloc: Global, matches: &ArgMatches<'_>) -> Result<Text64, Refusal>
+    ensures value { IfOk result (λ own. first_value (found_of matches.now) (codes "own") ≡ Some own) }
+    ensures refused { IfErr result (λ refusal. refusal ≢ Refusal.NoMemory
+        → IsSomeAnd (first_value (found_of matches.now) (codes "own")) (λ text. IsTrue (is_text text)) → ⊥) }
 {
-    let count = matches.get_one::<u16>(id)?;
-    if count < 1 || most < count {
-        return None;
+    match matches.get_str(OWN) {
+        Some(word) => read_comp_id(alloc, word),
+        None => Err(Refusal::Missing(OWN)),
     }
-    Some(count)
 }
 
-// The text of a word, if it is one.
-fn read_text(word: Option<&str>) -> Option<Text64>
-    ensures some { IsSome result ↔ IsSomeAnd word.entry (λ word. IsTrue (is_text word.now)) }
-    ensures value { IfSome result (λ text. option_map (λ word. word.now) word.entry ≡ Some text) }
+// The trading day.
+fn read_day(alloc: Global, matches: &ArgMatches<'_>) -> Result<Day, Refusal>
+    ensures value { IfOk result (λ day. IfSome (first_value (found_of matches.now) (codes "day")) (λ word. day_of word ≡ Ok day)) }
+    ensures refused { IfErr result (λ refusal. refusal ≢ Refusal.NoMemory
+        → IsSomeAnd (first_value (found_of matches.now) (codes "day")) IsDayText → ⊥) }
 {
-    Text64::read(word?.as_bytes())
+    let Some(word) = matches.get_str(DAY) else {
+        return Err(Refusal::Missing(DAY));
+    };
+    match Day::read(word.as_bytes()) {
+        Ok(day) => Ok(day),
+        Err(_) => Err(Refusal::NoDay(String::from_str(alloc, word)?)),
+    }
 }
 
-// The day of a word, if it is one.
-fn read_day(word: Option<&str>) -> Option<Day>
-    ensures some { IsSome result ↔ IsSomeAnd word.entry (λ word. IsDayText word.now) }
-    ensures value { IfSome result (λ day. IfSome word.entry (λ word. day_of word.now ≡ Ok day)) }
+// The count that an option's word is, if it is one from 1 to the most.
+fn read_count(matches: &ArgMatches<'_>, id: &'static str, most: u16) -> Result<u16, Refusal>
+    ensures some { IsOk result ↔ IsSomeAnd (one_text (found_of matches.now) id.now) (IsCount most) }
+    ensures value { IfOk result (λ count. option_map count_of (one_text (found_of matches.now) id.now) ≡ Some count) }
 {
-    Day::read(word?.as_bytes()).ok()
+    match matches.get_one::<u16>(id) {
+        Some(count) if 1 <= count && count <= most => Ok(count),
+        _ => Err(Refusal::OutOfRange(id)),
+    }
 }

@@ -1,1 +1,1 @@
-mod OutcomeLemmas
+mod ResultLemmas

@@ -6,18 +6,22 @@ use Rattle.blot_desk.specs.declared.receipt.Receipt.{Receipt}
 use Rattle.blot_capture.specs.Replay.{list_of, report_of}
 use Rattle.blot_operator.specs.Lines.{lines_of}
 use Rattle.blot_operator.specs.Operating.{told_over}
+use Rattle.blot_trail.specs.Audit.{trail_of}
 use Rattle.blotter.specs.Serving.{DayServed}
 use Rattle.blot_words.specs.declared.words.Words.{Words}
-use Rattle.blot_words.specs.declared.words.Words.TheVariants.{Replay, Desk, Serve}
+use Rattle.blot_words.specs.declared.words.Words.TheVariants.{Replay, Desk, Audit, Serve}
 
 -- what the words ask for was done, where `round` says what a round under a CompID does to the seats. Of a replay, the input is read to
 -- its end, and the report of the day stands behind what was written; of a desk, the input is read to its end, and there stand the answers
--- to its lines, of a desk as the capture left it; of a server, the input is read to its end, there stand the answers to its lines, and
--- behind them the report of a settled history, in which the brokers' seats are as so many rounds of so many connections left them
+-- to its lines, of a desk as the capture left it; of an audit, the input is read to its end, and there stands its trail; of a server,
+-- the input is read to its end, there stand the answers to its lines, and behind them the report of a settled history, in which the
+-- brokers' seats are as so many rounds of so many connections left them
 abbrev pub Did : (List ℕ → List (List Receipt) → List (List Receipt) → Type 0) → Words → Option (List ℕ) → Option (List ℕ) → Option (List ℕ) → Option (List ℕ) → Type 0
 Did round (Replay own day peers) input left before after =
     IsAtEnd left × IfSome input (λ bytes. Appends before after (report_of (list_of own peers.items bytes) day))
 Did round (Desk own capture peers) input left before after =
     IsAtEnd left × ((journal : Journal) × IfSome input (λ bytes. Appends before after (told_over journal (lines_of bytes)).text))
+Did round (Audit own peers) input left before after =
+    IsAtEnd left × IfSome input (λ bytes. Appends before after (trail_of own peers.items bytes))
 Did round (Serve own day port sessions rounds peers) input left before after =
     IsAtEnd left × DayServed (round own) rounds input sessions day before after

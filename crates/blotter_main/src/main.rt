@@ -3,6 +3,7 @@
 //! what is told on standard error, the file, the port, and `main`.
 #![tactic(auto)]
 
+mod failure;
 mod running;
 
 use running::run;

@@ -1,5 +1,5 @@
 //! One run of the program, over any words, files and streams.
-ghost use Rattle.std.specs.Prelude.{◌≡◌, ◌≢◌, ◌≤◌, ◌⊎◌, false, ℕ, List, IfOk, IfSome};
+ghost use Rattle.std.specs.Prelude.{◌≡◌, ◌≢◌, ◌≤◌, ◌⊎◌, false, ℕ, List, IfErr, IfOk, IfSome, OnOk};
 ghost use Rattle.std.specs.Io.KnownBytes.{Appends, IsAtEnd, Keeps};
 ghost use Rattle.std.specs.List.{IsDistinct};
 ghost use Rattle.blot_types.specs.Keys.{same_text};
@@ -11,14 +11,16 @@ ghost use Rattle.blot_capture.specs.Replay.{submitted};
 ghost use Rattle.blotter.specs.Serving.{DayServed, ServesRound};
 ghost use Rattle.blot_stream.specs.declared.outcome.Outcome.TheVariants.{BadWords, Done, NoMemory};
 ghost use Rattle.blot_words.specs.Words.{IsPeerList, is_replay, peers_of};
+ghost use Rattle.blotter_main.specs.Failure.{outcome_of};
 ghost use Rattle.blotter_main.specs.Running.{Did};
 
+use crate::failure::{Failure, system_words};
 use blot_desk::Held;
 use blot_slots::Slots;
 use blot_time::Day;
 use blot_types::Text64;
 use blot_words::{Refusal, Words, given, parse};
-use blotter::{Outcome, Rounds, capture, desk_lines, replay, serve_day};
+use blotter::{Outcome, ReplayFault, Rounds, audit, capture, desk_lines, replay, serve_day};
 use log::Log;
 use std::alloc::Global;
 use std::env::Env;
@@ -31,8 +33,7 @@ use std::sync::ledger::Blank;
 use std::thread::Threads;
 use std::time::Clock;
 
-/// Does what the command line asks for, and says how it ended. What the user has to know goes to `errors`;
-/// a fault in writing that is let go.
+/// Does what the command line asks for, and says how it ended. What the user has to know goes to `errors`.
 pub fn run<S: Env + AllocGlobal, F: Files, T, R: Read, W: Write, E: Write>(
     system: &S,
     files: &F,
@@ -51,15 +52,11 @@ where
     ensures unwritten { result ≡ BadWords → output.new ≡ output.old }
 {
     match words_of(system) {
-        Ok(words) => {
-            let outcome = perform(system.alloc(), files, rt, words, input, output);
-            tell(errors, outcome.last_line());
-            outcome
-        }
-        Err(refusal) => {
-            tell(errors, refusal.text());
-            refusal.outcome()
-        }
+        Ok(words) => match perform(system.alloc(), files, rt, words, input, output) {
+            Ok(()) => Outcome::Done,
+            Err(failure) => tell(errors, &failure),
+        },
+        Err(refusal) => tell(errors, &Failure::Words(refusal)),
     }
 }
 
@@ -79,34 +76,30 @@ fn perform<F: Files, T, R: Read, W: Write>(
     words: Words,
     input: &mut R,
     output: &mut W,
-) -> Outcome
+) -> Result<(), Failure>
 where
     T: Threads + Wait + Net + Clock + Log + Sync,
     T::Listener: Sync,
     T::Stream: Send,
     requires peers { IsPeerList (peers_of words) }
-    ensures did { result ≡ Done
-        → Did (ServesRound T T.Stream.remaining T.Stream.contents) words (R.remaining input.old) (R.remaining input.new) (W.contents output.old) (W.contents output.new) }
-    ensures no_memory { result ≡ NoMemory → (is_replay words ≡ false) ⊎ Keeps (W.contents output.old) (W.contents output.new) }
-    ensures words { result ≢ BadWords }
+    ensures did { OnOk result
+        (Did (ServesRound T T.Stream.remaining T.Stream.contents) words (R.remaining input.old) (R.remaining input.new) (W.contents output.old) (W.contents output.new)) }
+    ensures no_memory { IfErr result (λ failure. outcome_of failure ≡ NoMemory
+        → (is_replay words ≡ false) ⊎ Keeps (W.contents output.old) (W.contents output.new)) }
+    ensures words { IfErr result (λ failure. outcome_of failure ≢ BadWords) }
 {
     match words {
         Words::Replay { own, day, peers } => {
-            Outcome::of_replay(replay(alloc, input, output, own, peers.as_slice(), day))
+            replay(alloc, input, output, own, peers.as_slice(), day).map_err(Failure::Stopped)
         }
         Words::Desk {
             own,
             capture,
             peers,
-        } => open_desk(
-            alloc,
-            files,
-            capture.as_str(),
-            own,
-            peers.as_slice(),
-            input,
-            output,
-        ),
+        } => open_desk(alloc, files, capture, own, peers.as_slice(), input, output),
+        Words::Audit { own, peers } => {
+            audit(alloc, input, output, own, peers.as_slice()).map_err(Failure::Stopped)
+        }
         Words::Serve {
             own,
             day,
@@ -119,12 +112,12 @@ where
                 let rounds = Rounds { rounds, sessions };
                 serve_port(rt, alloc, &slots, day, port, rounds, input, output)
             }
-            Err(_) => Outcome::NoMemory,
+            Err(_) => Err(Failure::NoMemory),
         },
     }
 }
 
-// Serves a day over a port of 127.0.0.1. A port that can't be used is an input fault.
+// Serves a day over a port of 127.0.0.1.
 fn serve_port<T, R: Read, W: Write>(
     rt: &T,
     alloc: Global,
@@ -134,48 +127,59 @@ fn serve_port<T, R: Read, W: Write>(
     rounds: Rounds,
     input: &mut R,
     output: &mut W,
-) -> Outcome
+) -> Result<(), Failure>
 where
     T: Threads + Wait + Net + Clock + Log + Sync,
     T::Listener: Sync,
     T::Stream: Send,
-    ensures served { result ≡ Done → DayServed (ServesRound T T.Stream.remaining T.Stream.contents slots.now) rounds.rounds
-        (R.remaining input.old) rounds.sessions day (W.contents output.old) (W.contents output.new) }
-    ensures read_to_the_end { result ≡ Done → IsAtEnd (R.remaining input.new) }
-    ensures words { result ≢ BadWords }
+    ensures served { OnOk result (DayServed (ServesRound T T.Stream.remaining T.Stream.contents slots.now) rounds.rounds
+        (R.remaining input.old) rounds.sessions day (W.contents output.old) (W.contents output.new)) }
+    ensures read_to_the_end { OnOk result (IsAtEnd (R.remaining input.new)) }
+    ensures words { IfErr result (λ failure. outcome_of failure ≢ BadWords) }
 {
     let address = SocketAddrV4::new(Ipv4Addr::LOCALHOST, port);
     let listener = match TcpListener::bind(rt, address) {
         Ok(listener) => listener,
-        Err(error) if error.kind() == ErrorKind::OutOfMemory => return Outcome::NoMemory,
-        Err(_) => return Outcome::InputFault,
+        Err(error) => return Err(port_failure(port, error.kind())),
     };
     let blank = Blank::new(u64::from(rounds.sessions) + 1);
-    Outcome::of_served(serve_day::<Brand, _, _, _, _>(
+    serve_day::<Brand, _, _, _, _>(
         rt, alloc, blank, &listener, rounds, slots, day, input, output,
-    ))
+    )
+    .map_err(Failure::Served)
 }
 
-// Takes the capture in a file, and then answers the lines of the input. A file that can't be opened is an input fault.
+// Why a port can't be used.
+fn port_failure(port: u16, kind: ErrorKind) -> Failure
+    ensures words { outcome_of result ≢ BadWords }
+{
+    match kind {
+        ErrorKind::OutOfMemory => Failure::NoMemory,
+        ErrorKind::AddrInUse => Failure::PortTaken(port),
+        _ => Failure::NoPort(port),
+    }
+}
+
+// Takes the capture in a file, and then answers the lines of the input.
 fn open_desk<F: Files, R: Read, W: Write>(
     alloc: Global,
     files: &F,
-    path: &str,
+    path: String,
     own: Text64,
     peers: &[Text64],
     input: &mut R,
     output: &mut W,
-) -> Outcome
+) -> Result<(), Failure>
     requires { IsDistinct same_text peers.now }
-    ensures told { result ≡ Done → (journal : Journal) × IfSome (R.remaining input.old) (λ bytes.
-        Appends (W.contents output.old) (W.contents output.new) (told_over journal (lines_of bytes)).text) }
-    ensures read_to_the_end { result ≡ Done → IsAtEnd (R.remaining input.new) }
-    ensures words { result ≢ BadWords }
+    ensures told { OnOk result ((journal : Journal) × IfSome (R.remaining input.old) (λ bytes.
+        Appends (W.contents output.old) (W.contents output.new) (told_over journal (lines_of bytes)).text)) }
+    ensures read_to_the_end { OnOk result (IsAtEnd (R.remaining input.new)) }
+    ensures words { IfErr result (λ failure. outcome_of failure ≢ BadWords) }
 {
-    match File::open(files, path) {
-        Ok(mut file) => keep_desk(alloc, &mut file, own, peers, input, output),
-        Err(error) if error.kind() == ErrorKind::OutOfMemory => Outcome::NoMemory,
-        Err(_) => Outcome::InputFault,
+    match File::open(files, path.as_str()) {
+        Ok(mut file) => keep_desk(alloc, &mut file, path, own, peers, input, output),
+        Err(error) if error.kind() == ErrorKind::OutOfMemory => Err(Failure::NoMemory),
+        Err(error) => Err(Failure::NoFile(path, system_words(alloc, &error)?)),
     }
 }
 
@@ -183,32 +187,40 @@ fn open_desk<F: Files, R: Read, W: Write>(
 fn keep_desk<C: Read, R: Read, W: Write>(
     alloc: Global,
     captured: &mut C,
+    path: String,
     own: Text64,
     peers: &[Text64],
     input: &mut R,
     output: &mut W,
-) -> Outcome
+) -> Result<(), Failure>
     requires { IsDistinct same_text peers.now }
-    ensures told { result ≡ Done → (journal : Journal) × IfSome (R.remaining input.old) (λ bytes.
-        Appends (W.contents output.old) (W.contents output.new) (told_over journal (lines_of bytes)).text) }
+    ensures told { OnOk result ((journal : Journal) × IfSome (R.remaining input.old) (λ bytes.
+        Appends (W.contents output.old) (W.contents output.new) (told_over journal (lines_of bytes)).text)) }
 
     // The desk is the one that the capture leads to.
-    ensures captured { result ≡ Done → IfSome (C.remaining captured.old) (λ frames. IfSome (R.remaining input.old) (λ bytes.
+    ensures captured { OnOk result (IfSome (C.remaining captured.old) (λ frames. IfSome (R.remaining input.old) (λ bytes.
         Appends (W.contents output.old) (W.contents output.new)
-        (told_over (submitted empty_journal (commands_of own peers.now frames)) (lines_of bytes)).text)) }
-    ensures read_to_the_end { result ≡ Done → IsAtEnd (R.remaining input.new) }
-    ensures words { result ≢ BadWords }
+        (told_over (submitted empty_journal (commands_of own peers.now frames)) (lines_of bytes)).text))) }
+    ensures read_to_the_end { OnOk result (IsAtEnd (R.remaining input.new)) }
+    ensures words { IfErr result (λ failure. outcome_of failure ≢ BadWords) }
 {
     let mut held = Held::new(alloc);
     match capture(alloc, captured, own, peers, &mut held) {
-        Ok(()) => Outcome::of_replay(desk_lines(alloc, input, output, &mut held)),
-        Err(fault) => Outcome::of_replay(Err(fault)),
+        Ok(()) => desk_lines(alloc, input, output, &mut held).map_err(Failure::Stopped),
+        Err(ReplayFault::Read) => Err(Failure::Unreadable(path)),
+        Err(fault) => Err(Failure::Stopped(fault)),
     }
 }
 
-// Writes the text and an LF, where there is one.
-fn tell<E: Write>(errors: &mut E, text: Option<&str>) {
-    if let Some(text) = text {
+// Tells why a run failed, and says how it ends. A fault in telling is let go.
+fn tell<E: Write>(errors: &mut E, failure: &Failure) -> Outcome
+    ensures { result ≡ outcome_of failure.now }
+{
+    if failure.has_sentence() {
+        let _ = writeln!(errors, "blotter: {failure}");
+    }
+    if let Some(text) = failure.text() {
         let _ = writeln!(errors, "{text}");
     }
+    failure.outcome()
 }
