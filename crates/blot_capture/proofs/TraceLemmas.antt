@@ -2,10 +2,13 @@
 use Rattle.std.proofs.Common.{◌≡◌, ℕ, ◌+◌, List, [], ◌∷◌, ◌++◌, length, drop, map, fold, Option, Some, None, refl, sym, ap, ◌∙◌}
 use Rattle.std.specs.List.{flat_map}
 use Rattle.std.specs.Option.{option_map_or}
-use Rattle.std.proofs.lemmas.List.{append_assoc}
+use Rattle.std.proofs.lemmas.List.{append-nil, append_assoc}
 use Rattle.blot_tag.specs.Places.{place_in, placed_in}
 use Rattle.blot_tag.specs.Walking.{frames_of}
 use Rattle.blot_types.specs.declared.command.Command.{Command}
+use Rattle.blot_types.specs.declared.command.Entry.{Entry}
+use Rattle.blot_types.specs.declared.refused.Refused.{Refused as Reason}
+use Rattle.blot_types.specs.Legal.{refusal_of}
 use Rattle.blot_session.specs.declared.met.Met.{Met}
 use Rattle.blot_session.specs.declared.state.State.{State}
 use Rattle.blot_session.specs.Met.{met_of}
@@ -13,10 +16,11 @@ use Rattle.blot_session.specs.Runs.{said_by}
 use Rattle.blot_session.proofs.OneLemmas.{AtMostOne}
 use Rattle.blot_desk.specs.declared.event.Event.TheVariants.{Submit}
 use Rattle.blot_desk.specs.declared.event.Reply.{Reply}
-use Rattle.blot_desk.specs.Desk.{Journal, Run, empty_book, recorded_of, run_on, step_of}
+use Rattle.blot_desk.specs.Desk.{DeskBook, Journal, Run, empty_book, recorded_of, run_on, step_of, submit_by}
 use Rattle.blot_capture.specs.Capture.{commands_in, commands_over, moment_at, sessions_behind, taken_by}
 use Rattle.blot_capture.specs.Replay.{Taking, submitted}
-use Rattle.blot_capture.specs.Trace.{Turn, IsReplayed, became_of, became_in, first_taking, reply_to, reply_told, session_for, taking_after, trace_over}
+use Rattle.blot_capture.specs.declared.became.Became.TheVariants as became
+use Rattle.blot_capture.specs.Trace.{Turn, IsReplayed, accepted_by, accepted_in, became_of, became_in, first_taking, reply_to, reply_told, session_for, taking_after, trace_over}
 use Rattle.blot_capture.proofs.SessionLemmas.{one-taken}
 
 -- ---- the commands
@@ -47,11 +51,7 @@ replies-append journal (command ∷ commands) more =
 run-replies : (run : Run) (journal : Journal) (commands : List Command) → run.book ≡ journal.book
     → (fold run_on run (map Submit commands)).replies ≡ run.replies ++ replies_to journal commands
 unfolding replies_to
-run-replies run journal [] same = sym (append-none run.replies)
-  where
-    append-none : (replies : List Reply) → replies ++ [] ≡ replies
-    append-none [] = refl
-    append-none (reply ∷ replies) = ap (λ more. reply ∷ more) (append-none replies)
+run-replies run journal [] same = sym (append-nil run.replies)
 run-replies run journal (command ∷ commands) same =
     run-replies (run_on run (Submit command)) (recorded_of journal (Submit command)) commands (ap (λ book. (step_of book (Submit command)).book) same)
     ∙ append_assoc run.replies ((step_of run.book (Submit command)).reply ∷ []) (replies_to (recorded_of journal (Submit command)) commands)
@@ -83,6 +83,71 @@ trace-replies (frame ∷ frames) text taking =
     ∙ ap (λ replies. replies_to taking.journal commands ++ replies) (trace-replies frames (drop (place_in frame text + length frame) text) (taking_after taking frame))
     ∙ sym (replies-append taking.journal commands (commands_over (sessions_behind taking.sessions frame) frames))
 
+-- ---- the live list
+
+-- what some commands put into the book, each submitted
+entries_to : Journal → List Command → List Entry
+entries_to journal [] = []
+entries_to journal (command ∷ commands) =
+    accepted_by command (became.Replied (reply_to journal command)) ++ entries_to (recorded_of journal (Submit command)) commands
+
+entries-append : (journal : Journal) (commands more : List Command)
+    → entries_to journal (commands ++ more) ≡ entries_to journal commands ++ entries_to (submitted journal commands) more
+unfolding entries_to
+entries-append journal [] more = refl
+entries-append journal (command ∷ commands) more =
+    let made = accepted_by command (became.Replied (reply_to journal command)) in
+    let next = recorded_of journal (Submit command) in
+    ap (λ entries. made ++ entries) (entries-append next commands more)
+    ∙ sym (append_assoc made (entries_to next commands) (entries_to (submitted next commands) more))
+
+-- it is what the live list of the run gains
+submit-list : (book : DeskBook) (command : Command) (refused : Option Reason)
+    → (submit_by book command refused).book.list ≡ book.list ++ accepted_by command (became.Replied (submit_by book command refused).reply)
+submit-list book command None = refl
+submit-list book command (Some reason) = sym (append-nil book.list)
+
+run-list : (run : Run) (journal : Journal) (commands : List Command) → run.book ≡ journal.book
+    → (fold run_on run (map Submit commands)).book.list ≡ run.book.list ++ entries_to journal commands
+unfolding entries_to
+run-list run journal [] same = sym (append-nil run.book.list)
+run-list run journal (command ∷ commands) same =
+    let next = recorded_of journal (Submit command) in
+    run-list (run_on run (Submit command)) next commands (ap (λ book. (step_of book (Submit command)).book) same)
+    ∙ ap (λ list. list ++ entries_to next commands) (submit-list run.book command (refusal_of run.book.list command))
+    ∙ append_assoc run.book.list (accepted_by command (became.Replied (step_of run.book (Submit command)).reply)) (entries_to next commands)
+    ∙ ap (λ book. run.book.list ++ (accepted_by command (became.Replied (step_of book (Submit command)).reply) ++ entries_to next commands)) same
+
+-- a message is told to have put into the book what its command put there
+told-made : (met : Met) (journal : Journal) (commands : List Command) → AtMostOne commands
+    → flat_map (λ command. accepted_by command (became_of met journal commands)) commands ≡ entries_to journal commands
+unfolding entries_to
+told-made met journal [] one = refl
+told-made met journal (command ∷ []) one = refl
+told-made met journal (command ∷ next ∷ commands) one = absurd one
+
+told-made-in : (session : Option State) (journal : Journal) (text : List ℕ) (commands : List Command)
+    → commands ≡ option_map_or (λ state. taken_by state text) session []
+    → flat_map (λ command. accepted_by command (became_in session journal text)) commands ≡ entries_to journal commands
+unfolding entries_to
+told-made-in None journal text commands is =
+    ap (λ these. flat_map (λ command. accepted_by command became.Passed) these) is ∙ ap (entries_to journal) (sym is)
+told-made-in (Some state) journal text commands is =
+    ap (λ these. flat_map (λ command. accepted_by command (became_in (Some state) journal text)) these) is
+    ∙ told-made (met_of state (said_by text) (moment_at text)) journal (taken_by state text) (one-taken state text)
+    ∙ ap (entries_to journal) (sym is)
+
+trace-list : (frames : List (List ℕ)) (text : List ℕ) (taking : Taking)
+    → flat_map accepted_in (trace_over taking (placed_in frames text)) ≡ entries_to taking.journal (commands_over taking.sessions frames)
+unfolding entries_to
+trace-list [] text taking = refl
+trace-list (frame ∷ frames) text taking =
+    let commands = commands_in taking.sessions frame in
+    ap (λ made. made ++ flat_map accepted_in (trace_over (taking_after taking frame) (placed_in frames (drop (place_in frame text + length frame) text))))
+    (told-made-in (session_for taking.sessions frame) taking.journal frame commands refl)
+    ∙ ap (λ made. entries_to taking.journal commands ++ made) (trace-list frames (drop (place_in frame text + length frame) text) (taking_after taking frame))
+    ∙ sym (entries-append taking.journal commands (commands_over (sessions_behind taking.sessions frame) frames))
+
 -- ---- the law
 
 pub is_replayed : (own : List ℕ) (peers : List (List ℕ)) (bytes : List ℕ) → IsReplayed own peers bytes
@@ -92,4 +157,6 @@ is_replayed own peers bytes =
       commands = trace-commands (frames_of bytes) bytes first;
       replies = trace-replies (frames_of bytes) bytes first
           ∙ sym (run-replies (record { book = empty_book; replies = [] }) first.journal (commands_over first.sessions (frames_of bytes)) refl);
+      accepted = trace-list (frames_of bytes) bytes first
+          ∙ sym (run-list (record { book = empty_book; replies = [] }) first.journal (commands_over first.sessions (frames_of bytes)) refl);
     }

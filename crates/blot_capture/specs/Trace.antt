@@ -6,6 +6,7 @@ use Rattle.std.specs.Option.{option_and_then}
 use Rattle.blot_tag.specs.Fields.{fields_of}
 use Rattle.blot_tag.specs.Places.{Placed, placed_of}
 use Rattle.blot_types.specs.declared.command.Command.{Command}
+use Rattle.blot_types.specs.declared.command.Entry.{Entry}
 use Rattle.blot_fields.specs.Sender.{sender_of}
 use Rattle.blot_session.specs.declared.action.Action.{Action}
 use Rattle.blot_session.specs.declared.met.Met.{Met}
@@ -15,12 +16,13 @@ use Rattle.blot_session.specs.Met.{met_of}
 use Rattle.blot_session.specs.Runs.{outcome, said_by}
 use Rattle.blot_desk.specs.declared.event.Event.TheVariants.{Submit}
 use Rattle.blot_desk.specs.declared.event.Reply.{Reply}
+use Rattle.blot_desk.specs.declared.event.Reply.TheVariants.{Accepted}
 use Rattle.blot_desk.specs.Desk.{Journal, empty_journal, run_of, step_of}
 use Rattle.blot_gateway.specs.Serving.{seen_by}
 use Rattle.blot_capture.specs.declared.became.Became.{Became}
 use Rattle.blot_capture.specs.declared.became.Became.TheVariants as became
 use Rattle.blot_capture.specs.Capture.{Sessions, behind_frame, commands_in, commands_of, first_sessions, frame_call, moment_at, sessions_behind, taken_by}
-use Rattle.blot_capture.specs.Replay.{Taking, submitted}
+use Rattle.blot_capture.specs.Replay.{Taking, list_of, submitted}
 
 -- ---- a frame at its session
 
@@ -102,8 +104,17 @@ abbrev pub reply_told : Became → List Reply
 reply_told (became.Replied reply) = reply ∷ []
 reply_told other = []
 
--- the commands of the messages are those that a capture submits, and the replies that they got are those of the run of these: so
--- those that are accepted are the ones that the run accepts, which a report shows
+-- what a message is told to have put into the book: its command, where that was accepted, under the number that it got
+abbrev pub accepted_by : Command → Became → List Entry
+accepted_by command (became.Replied (Accepted number)) = record { number = number; command = command } ∷ []
+accepted_by command other = []
+
+abbrev pub accepted_in : Turn → List Entry
+accepted_in turn = flat_map (λ command. accepted_by command turn.became) turn.commands
+
+-- the commands of the messages are those that a capture submits, and the replies that they got are those of the run of these. So what
+-- the messages are told to have put into the book is, one by one, the live list that the report of a day is made of
 pub record IsReplayed (own : List ℕ) (peers : List (List ℕ)) (bytes : List ℕ) : Type 0 where
   pub commands : flat_map (λ turn. turn.commands) (trace_of own peers bytes) ≡ commands_of own peers bytes
   pub replies : flat_map (λ turn. reply_told turn.became) (trace_of own peers bytes) ≡ (run_of (map Submit (commands_of own peers bytes))).replies
+  pub accepted : flat_map accepted_in (trace_of own peers bytes) ≡ list_of own peers bytes

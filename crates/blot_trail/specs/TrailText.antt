@@ -51,6 +51,7 @@ head_text (Some head) items = number_text head.number ++ told head.kind ++ told 
 
 -- ---- what became of it, to the end of its line
 
+-- (a delivered command is told by the reply to it)
 abbrev pub met_text : Met → List ℕ
 met_text (met.Closed reason) = codes "closed" ++ number_text (close_number reason) ++ told (close_name reason) ++ 10 ∷ []
 met_text met.Delivered = word_line (codes "taken")

@@ -37,7 +37,8 @@ pub fn audit<R: Read, W: Write>(
         Appends (W.contents output.old) (W.contents output.new) (trail_of own peers.now bytes))) }
     ensures read_to_the_end { OnOk result (IsAtEnd (R.remaining input.new)) }
 
-    // The commands that a trail shows are those that `replay` submits, and their replies those of its run.
+    // The commands that a trail shows are those that `replay` submits, their replies those of its run, and the accepted ones are the
+    // live list that its report is made of.
     ensures replayed { (bytes : List ℕ) → IsReplayed own peers.now bytes }
 
     // Full comes only where more commands come than a day has events.

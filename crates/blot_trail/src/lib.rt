@@ -10,5 +10,3 @@ mod word;
 mod wording;
 
 pub use auditing::audit;
-pub use trail::{Noted, Trail};
-pub use word::Word;

@@ -79,10 +79,11 @@ abbrev pub counts_named : Words → List (Option ℕ)
 counts_named (Serve own day port sessions rounds peers) = Some port ∷ Some sessions ∷ Some rounds ∷ []
 counts_named words = []
 
--- whether the words ask for a replay
-abbrev pub is_replay : Words → Bool
-is_replay (Replay own day peers) = true
-is_replay words = false
+-- whether what the words ask for is written in one piece, at the end of the input
+abbrev pub is_written_last : Words → Bool
+is_written_last (Replay own day peers) = true
+is_written_last (Audit own peers) = true
+is_written_last words = false
 
 -- whether they ask for an audit
 abbrev pub is_audit : Words → Bool

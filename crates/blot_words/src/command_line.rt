@@ -289,7 +289,8 @@ A line has these words, with a tab between two, and - for one that isn't to be h
 K is a message's place, from 1, OFFSET where its first byte stands in the capture, from 0, PEER its sender,
 NUMBER its MsgSeqNum(34), KIND its MsgType(35), and ID its ExecID(17) or AllocID(70). BECAME is one of
   accepted 7                its command is in the book, under number 7
-  refused 10 Quantity 90    the book doesn't take its command: the refusal's number, its name, and what
+  refused 10 Quantity 100 90
+                            the book doesn't take its command: the refusal's number, its name, and what
                             it names
   rejected 38 5             a Reject is sent: the tag at fault, or 0, and SessionRejectReason(373)
   unsupported               a Business Message Reject is sent
@@ -297,7 +298,7 @@ NUMBER its MsgSeqNum(34), KIND its MsgType(35), and ID its ExecID(17) or AllocID
   early 3                   its number is above 3, the expected one: what is missing is asked for
   late 3                    its number is below 3, the expected one: it is ignored
   closed 2 TooLow           its session is closed: the reason's number and its name
-  passed                    it is of no broker that is named
+  passed                    its sender is no broker that is named, or can't be read
 Below a message stands what its session would send, with | for SOH. Skipped are bytes between messages
 that are passed over, and rest is an unfinished message at the end. The sums say how often each word
 stands, and how many bytes are skipped and rest.

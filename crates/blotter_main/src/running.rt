@@ -10,7 +10,7 @@ ghost use Rattle.blot_operator.specs.Operating.{told_over};
 ghost use Rattle.blot_capture.specs.Replay.{submitted};
 ghost use Rattle.blotter.specs.Serving.{DayServed, ServesRound};
 ghost use Rattle.blot_stream.specs.declared.outcome.Outcome.TheVariants.{BadWords, Done, NoMemory};
-ghost use Rattle.blot_words.specs.Words.{IsPeerList, is_replay, peers_of};
+ghost use Rattle.blot_words.specs.Words.{IsPeerList, is_written_last, peers_of};
 ghost use Rattle.blotter_main.specs.Failure.{outcome_of};
 ghost use Rattle.blotter_main.specs.Running.{Did};
 
@@ -68,7 +68,7 @@ fn words_of<S: Env + AllocGlobal>(system: &S) -> Result<Words, Refusal>
     parse(system.alloc(), words.as_slice())
 }
 
-// Does what the words ask for. Out of memory, a replay has written nothing.
+// Does what the words ask for. Out of memory, a replay and an audit have written nothing.
 fn perform<F: Files, T, R: Read, W: Write>(
     alloc: Global,
     files: &F,
@@ -85,7 +85,7 @@ where
     ensures did { OnOk result
         (Did (ServesRound T T.Stream.remaining T.Stream.contents) words (R.remaining input.old) (R.remaining input.new) (W.contents output.old) (W.contents output.new)) }
     ensures no_memory { IfErr result (λ failure. outcome_of failure ≡ NoMemory
-        → (is_replay words ≡ false) ⊎ Keeps (W.contents output.old) (W.contents output.new)) }
+        → (is_written_last words ≡ false) ⊎ Keeps (W.contents output.old) (W.contents output.new)) }
     ensures words { IfErr result (λ failure. outcome_of failure ≢ BadWords) }
 {
     match words {
