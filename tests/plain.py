@@ -1,0 +1,829 @@
+"""The blotter once more, plain and slow, to compare the real program with. It shares nothing with it but the pages under docs/.
+
+  trail(capture, own, peers)             what `blotter audit` prints
+  report(capture, own, peers, day)       what `blotter replay` prints
+  answers(capture, own, peers, lines)    what `blotter desk` prints to an operator's lines
+  Day(own, peers).take(frame)            one message, with what became of it
+
+Each rule stands once, in the order and the words of docs/FORMATS.md, docs/SESSION.md and docs/DEFINITIONS.md; where the two
+programs differ, the page says which is wrong. Nothing is kept that can be worked out: each answer is computed anew from the list
+of entries. Whatever goes in or comes out is a text with a character for each byte (latin-1); amounts are exact fractions. What a
+capture can't bring about isn't here: moments that pass, numbers to send that are used up, a desk that is full."""
+import re
+from collections import namedtuple
+from fractions import Fraction
+
+SOH = '\x01'
+
+
+# Frames
+
+LONGEST, DIGITS = 65536, 6   # of BodyLength
+
+
+class NoFrame(Exception):
+    """No frame begins here, whatever may follow."""
+
+
+class Unfinished(Exception):
+    """The capture ends within what may be a frame."""
+
+
+def behind(capture, at, text):
+    """The place behind a text that has to stand at this one."""
+    there = capture[at:at + len(text)]
+    if not text.startswith(there):
+        raise NoFrame
+    if there != text:
+        raise Unfinished
+    return at + len(text)
+
+
+def can_be_length(digits):
+    """Whether these digits are a BodyLength, or its first ones."""
+    number = int(digits or '0')
+    return any(number * 10**more <= LONGEST and (number + 1) * 10**more > 5 for more in range(DIGITS + 1 - len(digits)))
+
+
+def check_sum(text):
+    return sum(text.encode('latin-1')) % 256
+
+
+def end_of_frame(capture, start):
+    """The place behind the frame that begins at this one."""
+    at = behind(capture, start, f'8=FIX.4.4{SOH}9=')
+    digits = re.compile('[0-9]*').match(capture, at)[0][:DIGITS + 1]
+    if not can_be_length(digits):
+        raise NoFrame
+    at += len(digits)
+    if at == len(capture):
+        raise Unfinished
+    if not digits or not 5 <= int(digits) <= LONGEST:
+        raise NoFrame
+    body = behind(capture, at, SOH)
+    behind(capture, body, '35=')
+    end = body + int(digits)
+    if end > len(capture):
+        raise Unfinished
+    behind(capture, end - 1, SOH)
+    return behind(capture, end, f'10={check_sum(capture[start:end]):03}{SOH}')
+
+
+def pieces_of(capture):
+    """The walk: each frame with its place; each run of bytes passed over, and the rest, with its place and its length."""
+    at, pieces = 0, []
+    while at < len(capture):
+        try:
+            end = end_of_frame(capture, at)
+        except Unfinished:
+            return [*pieces, ('rest', at, len(capture) - at)]
+        except NoFrame:
+            begin, length = pieces.pop()[1:] if pieces and pieces[-1][0] == 'skipped' else (at, 0)
+            pieces.append(('skipped', begin, length + 1))
+            at += 1
+        else:
+            pieces.append(('message', at, capture[at:end]))
+            at = end
+    return pieces
+
+
+# Fields
+
+DATA = {90: 91, 93: 89, 95: 96, 212: 213, 348: 349, 350: 351, 352: 353, 354: 355, 356: 357, 358: 359, 360: 361, 362: 363,
+        364: 365, 445: 446, 618: 619, 621: 622}   # the data tag behind each length tag
+
+
+class Fault(Exception):
+    """What is wrong with a message: the tag and the reason of a Reject."""
+
+    def __init__(self, tag, reason):
+        super().__init__(tag, reason)
+        self.tag, self.reason = tag, reason
+
+
+def is_digits(text):
+    return re.fullmatch('[0-9]+', text) is not None
+
+
+def number_of(digits):
+    """The number that digits write. Eighteen of them are above all that is allowed anywhere, so more aren't read."""
+    return int(digits.lstrip('0')[:18] or '0')
+
+
+def field_at(frame, at, before):
+    """The tag and the value of the field at this place, and the place behind it. Before it stands the field `before`."""
+    text = frame[at:frame.index(SOH, at)]
+    found = re.match('([1-9][0-9]{0,8})=', text)
+    if not found:
+        raise Fault(0, 0)
+    tag, value = int(found[1]), text[found.end():]
+    if before and DATA.get(before[0]) == tag:
+        begin = at + found.end()
+        end = begin + number_of(before[1]) if is_digits(before[1]) else len(frame)
+        if end >= len(frame) - len('10=000|') or frame[end] != SOH:
+            raise Fault(tag, 6)
+        return tag, frame[begin:end], end + 1
+    return tag, value, at + len(text) + 1
+
+
+def fields_of(frame):
+    """The fields of a frame, each a tag and a value, and the fault that ends them, or none."""
+    at, fields = 0, []
+    while at < len(frame):
+        try:
+            tag, value, at = field_at(frame, at, fields[-1] if fields else None)
+        except Fault as fault:
+            return fields, fault
+        fields.append((tag, value))
+    return fields, None
+
+
+# Values: each form gives what a text says, or raises why it doesn't say it
+
+LARGEST = 10**16 - 1   # of a quantity in millionths, of a price in hundred-millionths
+
+
+class Wrong(Exception):
+    """What is wrong with a value: the reason of a Reject."""
+
+    def __init__(self, reason):
+        super().__init__(reason)
+        self.reason = reason
+
+
+def anything(value):
+    return value
+
+
+def text(value):
+    if not re.fullmatch('[ -~]{1,64}', value):
+        raise Wrong(5)
+    return value
+
+
+def whole(lowest, highest):
+    """The form of whole numbers between these."""
+    def form(value):
+        if not is_digits(value):
+            raise Wrong(6)
+        if not lowest <= number_of(value) <= highest:
+            raise Wrong(5)
+        return number_of(value)
+    return form
+
+
+def one_of(meanings):
+    """The form of some values and what each of them means."""
+    def form(value):
+        if value not in meanings:
+            raise Wrong(5)
+        return meanings[value]
+    return form
+
+
+def decimal(places, lowest, highest):
+    """The form of decimals between these, in units of the last place that is kept."""
+    def form(value):
+        found = re.fullmatch(r'(-?)([0-9]*)(?:\.([0-9]*))?', value)
+        if not found or not (found[2] or found[3]):
+            raise Wrong(6)
+        kept, finer = (found[3] or '')[:places], (found[3] or '')[places:]
+        units = number_of(found[2]) * 10**places + number_of(kept.ljust(places, '0'))
+        units = -units if found[1] else units
+        if finer.strip('0') or not lowest <= units <= highest:
+            raise Wrong(5)
+        return Fraction(units, 10**places)
+    return form
+
+
+sequence_number = whole(1, 999999999)
+count = whole(1, 200)
+flag = one_of({'Y': True, 'N': False})
+side = one_of({'1': 'B', '3': 'B', '2': 'S', '4': 'S', '5': 'S', '6': 'S'})
+quantity = decimal(6, 0, LARGEST)
+some_quantity = decimal(6, 1, LARGEST)
+price = decimal(8, -LARGEST, LARGEST)
+
+
+def shown(number):
+    """The shortest exact decimal."""
+    whole_part, rest = divmod(int(abs(number) * 10**14), 10**14)
+    return ('-' if number < 0 else '') + f'{whole_part}.{rest:014}'.rstrip('0').rstrip('.')
+
+
+def day(value):
+    if not re.fullmatch('[0-9]{8}', value):
+        raise Wrong(6)
+    year, month, date = int(value[:4]), int(value[4:6]), int(value[6:])
+    is_leap = year % 4 == 0 and (year % 100 != 0 or year % 400 == 0)
+    lengths = [31, 29 if is_leap else 28, 31, 30, 31, 30, 31, 31, 30, 31, 30, 31]
+    if not 1 <= month <= 12 or not 1 <= date <= lengths[month - 1]:
+        raise Wrong(5)
+    return value
+
+
+def moment(value):
+    """A moment, written with its milliseconds."""
+    found = re.fullmatch(r'([0-9]{8})-(([0-9]{2}):([0-9]{2}):)([0-9]{2})(?:\.([0-9]{3})[0-9]{0,6})?', value)
+    if not found or int(found[3]) > 23 or int(found[4]) > 59 or int(found[5]) > 60:
+        raise Wrong(6)
+    return f"{day(found[1])}-{found[2]}{'59' if found[5] == '60' else found[5]}.{found[6] or '000'}"
+
+
+# Messages
+
+Head = namedtuple('Head', 'kind sender target number sending is_duplicate')
+Fill = namedtuple('Fill', 'order account symbol side size quantity price day')   # its order is a key, its side B or S
+Line = namedtuple('Line', 'account quantity price')
+Terms = namedtuple('Terms', 'symbol side day block executions lines')
+
+# What changes the book, and, with a number, an entry of its list. A key is a peer with its ExecID, OrderID or AllocID.
+Command = namedtuple('Command', 'kind key reference fill terms number', defaults=[None, None, None, 0])
+
+
+def values_of(fields, tag):
+    return [value for there, value in fields if there == tag]
+
+
+def read(tag, form, value):
+    try:
+        return form(value)
+    except Wrong as wrong:
+        raise Fault(tag, wrong.reason) from None
+
+
+def row(fields, tag, form):
+    """What a tag says that has to stand once."""
+    values = values_of(fields, tag)
+    if len(values) != 1:
+        raise Fault(tag, 13 if values else 1)
+    return read(tag, form, values[0])
+
+
+def optional(fields, tag, form):
+    """The same of one that may stand once: none where it doesn't."""
+    return row(fields, tag, form) if values_of(fields, tag) else None
+
+
+def head_of(fields):
+    kind, sender, target = row(fields, 35, text), row(fields, 49, text), row(fields, 56, text)
+    number, sending = row(fields, 34, sequence_number), row(fields, 52, moment)
+    return Head(kind, sender, target, number, sending, bool(optional(fields, 43, flag)))
+
+
+def sound_fields(frame):
+    """The fields of a frame before its first fault, and that fault, or none."""
+    fields, fault = fields_of(frame)
+    for place, (tag, value) in enumerate(fields):
+        if place == 2000 or not value:
+            return fields[:place], Fault(tag, 6 if place == 2000 else 4)
+    return fields, fault
+
+
+def message_of(frame):
+    """The head of a message, none where it can't be read, and its body or its fault."""
+    fields, fault = sound_fields(frame)
+    try:
+        head = head_of(fields)
+    except Fault as of_head:
+        return None, fault or of_head
+    try:
+        return head, fault or body_of(head, fields)
+    except Fault as of_body:
+        return head, of_body
+
+
+def body_of(head, fields):
+    """What the rows of a message say: a command, or the values that its session goes by; none of a message that has no rows."""
+    match head.kind:
+        case 'A':
+            row(fields, 98, one_of({'0': 0}))
+            return {'heartbeat': row(fields, 108, whole(0, 86400)), 'resets': bool(optional(fields, 141, flag))}
+        case '1':
+            return {'asked': row(fields, 112, text)}
+        case '2':
+            begin = row(fields, 7, sequence_number)
+            row(fields, 16, whole(0, 999999999))
+            return {'begin': begin}
+        case '4':
+            return {'to': row(fields, 36, sequence_number), 'fills': bool(optional(fields, 123, flag))}
+        case '8':
+            return execution(head, fields)
+        case 'J':
+            return allocation(head, fields)
+    return None
+
+
+def execution(head, fields):
+    """The command of an Execution Report, none of one about no fill."""
+    kind = {'F': 'Trade', 'G': 'Correct', 'H': 'Bust'}.get(row(fields, 150, anything))
+    if kind is None:
+        return None
+    order = (head.sender, row(fields, 37, text)) if kind != 'Bust' else None
+    key = head.sender, row(fields, 17, text)
+    reference = (head.sender, row(fields, 19, text)) if kind != 'Trade' else None
+    return Command(kind, key, reference, fill_of(head, fields, order) if order else None)
+
+
+def fill_of(head, fields, order):
+    row(fields, 39, anything)
+    row(fields, 6, anything)
+    sign = row(fields, 54, side)
+    form = anything if values_of(fields, 38) else quantity
+    filled, left = row(fields, 14, form), row(fields, 151, form)
+    symbol, size_of_fill, at = row(fields, 55, text), row(fields, 32, some_quantity), row(fields, 31, price)
+    account, size = optional(fields, 1, text), optional(fields, 38, quantity)
+    transacted, dated = optional(fields, 60, moment), optional(fields, 75, day)
+    size = filled + left if size is None else size
+    return Fill(order, account, symbol, sign, size, size_of_fill, at, dated or (transacted or head.sending)[:8])
+
+
+def allocation(head, fields):
+    """The command of an Allocation Instruction."""
+    key = head.sender, row(fields, 70, text)
+    kind = row(fields, 71, one_of({'0': 'AllocNew', '1': 'AllocReplace', '2': 'AllocCancel'}))
+    reference = (head.sender, row(fields, 72, text)) if kind != 'AllocNew' else None
+    return Command(kind, key, reference, None, terms_of(head, fields) if kind != 'AllocCancel' else None)
+
+
+def terms_of(head, fields):
+    sign, symbol, block = row(fields, 54, side), row(fields, 55, text), row(fields, 53, quantity)
+    lines = lines_of(fields)
+    average = row(fields, 6, anything if all(values_of(line, 366) for line in lines) else price)
+    dated = row(fields, 75, day)
+    executions = [(head.sender, it) for it in executions_of(fields)]
+    check_lines(fields, lines)
+    return Terms(symbol, sign, dated, block, executions, [line_of(line, average) for line in lines])
+
+
+def line_of(fields, average):
+    account, amount, own = row(fields, 79, text), row(fields, 80, quantity), optional(fields, 366, price)
+    return Line(account, amount, average if own is None else own)
+
+
+def places_of(fields, *tags):
+    return [place for place, (tag, _) in enumerate(fields) if tag in tags]
+
+
+def executions_of(fields):
+    listed = row(fields, 124, count)
+    places = places_of(fields, 17)
+    if len(places) != listed or places[0] < places_of(fields, 124)[0]:
+        raise Fault(124, 16)
+    return [read(17, text, value) for value in values_of(fields, 17)]
+
+
+def lines_of(fields):
+    """The fields of each line: from a 79 behind 78 to the next, or to the end."""
+    begins = [place for place in places_of(fields, 79) if place > min(places_of(fields, 78), default=len(fields))]
+    return [fields[begin:end] for begin, end in zip(begins, [*begins[1:], len(fields)])]
+
+
+def check_lines(fields, lines):
+    listed = row(fields, 78, count)
+    parts = sum(len(places_of(line, 79, 80, 366)) for line in lines)
+    if len(lines) != listed or parts != len(places_of(fields, 79, 80, 366)):
+        raise Fault(78, 16)
+
+
+# The session with a peer
+
+REASONS = {1: 'NoLogon', 2: 'TooLow', 3: 'CompId', 4: 'LoggedOut', 7: 'BadHeader'}
+
+
+def framed(body):
+    front = f'8=FIX.4.4{SOH}9={len(body)}{SOH}{body}'
+    return f'{front}10={check_sum(front):03}{SOH}'
+
+
+class Session:
+    """One peer's session. Each call says what became of a message, in the words of the trail; `sent` is what it sends."""
+
+    def __init__(self, own, peer):
+        self.own, self.peer = own, peer
+        self.expected = self.next_number = 1
+        self.is_on, self.now, self.sent = False, '', []
+
+    def send(self, kind, *fields, in_place_of=None):
+        """Sends a message, or, in place of those from a number on, a gap fill, which uses no number up."""
+        is_fill = in_place_of is not None
+        head = [f'35={kind}', f'49={self.own}', f'56={self.peer}', f'34={in_place_of if is_fill else self.next_number}']
+        head += ['43=Y', f'52={self.now}', f'122={self.now}'] if is_fill else [f'52={self.now}']
+        self.sent.append(framed(''.join(field + SOH for field in [*head, *fields])))
+        self.next_number += not is_fill
+
+    def ask_again(self):
+        self.send('2', f'7={self.expected}', '16=0')
+
+    def fill_gap(self, begin):
+        self.send('4', '123=Y', f'36={self.next_number}', in_place_of=begin)
+
+    def reject(self, number, tag, reason):
+        self.send('3', f'45={number}', *([f'371={tag}'] if tag else []), f'373={reason}')
+        return 'rejected', tag, reason
+
+    def close(self, reason, logs_out=False):
+        if logs_out:
+            self.send('5')
+        self.is_on = False
+        return 'closed', reason, REASONS[reason]
+
+    def take(self, head, body, desk):
+        """A frame: its message as `message_of` has it."""
+        self.sent = []
+        return self.take_on(head, body, desk) if self.is_on else self.take_waiting(head, body)
+
+    def take_waiting(self, head, body):
+        if isinstance(body, Fault) or head.kind != 'A':
+            return self.close(1)
+        if (head.sender, head.target) != (self.peer, self.own):
+            return self.close(3)
+        if body['resets']:
+            self.expected = self.next_number = 1
+        if head.number < self.expected:
+            return self.close(1) if head.is_duplicate else self.close(2, logs_out=True)
+        self.is_on = True
+        self.send('A', '98=0', f"108={body['heartbeat']}", *(['141=Y'] if body['resets'] else []))
+        if head.number == self.expected:
+            self.expected += 1
+            return ('taken',)
+        self.ask_again()
+        return 'early', self.expected
+
+    def take_on(self, head, body, desk):
+        if head is None:
+            return self.close(7, logs_out=True)
+        if (head.sender, head.target) != (self.peer, self.own):
+            self.reject(head.number, 49 if head.sender != self.peer else 56, 9)
+            self.expected += head.number == self.expected
+            return self.close(3, logs_out=True)
+        kind = None if isinstance(body, Fault) else head.kind
+        if kind == 'A' and body['resets']:
+            return self.take_waiting(head, body)
+        if kind == '4' and not body['fills']:
+            return self.go_to(head, body['to'], self.expected)
+        if head.number < self.expected:
+            return ('late', self.expected) if head.is_duplicate else self.close(2, logs_out=True)
+        if head.number > self.expected:
+            return self.take_early(kind, body)
+        if kind == '4':
+            return self.go_to(head, body['to'], self.expected + 1)
+        return self.take_next(head, kind, body, desk)
+
+    def go_to(self, head, to, lowest):
+        """A SequenceReset, to a number that is at least the lowest."""
+        if to < lowest:
+            return self.reject(head.number, 36, 5)
+        self.expected = to
+        return ('taken',)
+
+    def take_early(self, kind, body):
+        if kind == '2' and body['begin'] < self.next_number:
+            self.fill_gap(body['begin'])
+        self.ask_again()
+        if kind == '5':
+            self.send('5')
+        return 'early', self.expected
+
+    def take_next(self, head, kind, body, desk):
+        """The message that is expected: whatever becomes of it, the next one is expected then."""
+        self.expected += 1
+        if kind is None:
+            return self.reject(head.number, body.tag, body.reason)
+        if isinstance(body, Command):
+            return self.deliver(body, desk)
+        if kind in ('A', '0', '3', 'j', '8'):
+            return ('taken',)
+        if kind == '1':
+            self.send('0', f"112={body['asked']}")
+            return ('taken',)
+        if kind == '2':
+            if body['begin'] >= self.next_number:
+                return self.reject(head.number, 7, 5)
+            self.fill_gap(body['begin'])
+            return ('taken',)
+        if kind == '5':
+            return self.close(4, logs_out=True)
+        self.send('j', f'45={head.number}', f'372={kind}', '380=3')
+        return ('unsupported',)
+
+    def deliver(self, command, desk):
+        became = desk.submit(command)
+        if command.kind.startswith('Alloc'):
+            code = {5: 10, 6: 10, 8: 10, 10: 1}.get(became[1], 7)
+            status = ['87=0'] if became[0] == 'accepted' else ['87=1', f'88={code}']
+            self.send('P', f'70={command.key[1]}', f'60={self.now}', *status)
+        return became
+
+
+# The book: a list of entries in rising order of number
+
+VERSIONS, EXECUTIONS = ('Trade', 'Correct'), ('Trade', 'Correct', 'Bust')
+ALLOCATIONS, ENDINGS = ('AllocNew', 'AllocReplace'), ('AllocReplace', 'AllocCancel')
+
+
+def root_of(entries, key):
+    """The Trade that the chain of a key began with, none where the key has no chain."""
+    for entry in entries:
+        if entry.key == key and entry.kind in VERSIONS:
+            return entry if entry.kind == 'Trade' else root_of(entries, entry.reference)
+    return None
+
+
+def bust_of(entries, root):
+    return next((it for it in entries if it.kind == 'Bust' and root_of(entries, it.reference) == root), None)
+
+
+def last_version(entries, root):
+    return [it for it in entries if it.kind in VERSIONS and root_of(entries, it.key) == root][-1]
+
+
+def survivors(entries):
+    """The versions that stand: of each chain that isn't busted the last."""
+    roots = [it for it in entries if it.kind == 'Trade' and not bust_of(entries, it)]
+    return sorted((last_version(entries, root) for root in roots), key=lambda it: it.number)
+
+
+def ending_of(entries, allocation_key):
+    """The entry that replaced an allocation or cancelled it."""
+    return next((it for it in entries if it.kind in ENDINGS and it.reference == allocation_key), None)
+
+
+def live_allocations(entries):
+    return [it for it in entries if it.kind in ALLOCATIONS and not ending_of(entries, it.key)]
+
+
+def named_roots(entries, terms):
+    return [root_of(entries, key) for key in terms.executions]
+
+
+def refusals_of(entries, command):
+    """Why a list refuses a command, by the reasons in their order: the first is the answer, and what follows it means nothing."""
+    family = EXECUTIONS if command.kind in EXECUTIONS else ALLOCATIONS + ENDINGS
+    for entry in entries:
+        if entry.kind in family and entry.key == command.key:
+            yield (1, 'DuplicateExec', entry.number) if family == EXECUTIONS else (2, 'DuplicateAlloc', entry.number)
+    if command.kind in ENDINGS:
+        if not any(it.kind in ALLOCATIONS and it.key == command.reference for it in entries):
+            yield 3, 'UnknownAlloc'
+        ending = ending_of(entries, command.reference)
+        if ending:
+            yield 4, 'DeadAlloc', ending.number
+    keys = command.terms.executions if command.terms else [command.reference] if command.kind in ('Correct', 'Bust') else []
+    roots = [root_of(entries, key) for key in keys]
+    for key, root in zip(keys, roots):
+        if root is None:
+            yield 5, 'UnknownExec', *key
+    for root in roots:
+        bust = bust_of(entries, root)
+        if bust:
+            yield 6, 'BustedExec', bust.number
+    if command.terms:
+        yield from refusals_of_terms(entries, command, keys, roots)
+
+
+def refusals_of_terms(entries, command, keys, roots):
+    terms = command.terms
+    for place, root in enumerate(roots):
+        if root in roots[:place]:
+            yield 7, 'RepeatedExec', *keys[place]
+    others = [it for it in live_allocations(entries) if it.key != command.reference]
+    for root in roots:
+        for other in others:
+            if root in named_roots(entries, other.terms):
+                yield 8, 'ExecTaken', other.number
+    fills = [last_version(entries, root).fill for root in roots]
+    for key, fill in zip(keys, fills):
+        if (fill.symbol, fill.side) != (terms.symbol, terms.side):
+            yield 9, 'Instrument', *key
+    wanted = sum(fill.quantity for fill in fills)
+    for found in (terms.block, sum(line.quantity for line in terms.lines)):
+        if found != wanted:
+            yield 10, 'Quantity', shown(wanted), shown(found)
+
+
+class Desk:
+    """The list of entries, which are the done steps, and the undone ones, the one undone last at the end."""
+
+    def __init__(self):
+        self.entries, self.undone, self.next_number = [], [], 1
+
+    def submit(self, command):
+        refusal = next(refusals_of(self.entries, command), None)
+        if refusal:
+            return 'refused', *refusal
+        self.entries.append(command._replace(number=self.next_number))
+        self.undone, self.next_number = [], self.next_number + 1
+        return 'accepted', self.entries[-1].number
+
+    def undo(self, number):
+        if not self.entries:
+            return 'refused', 13, 'NothingToUndo'
+        if self.entries[-1].number != number:
+            return 'refused', 14, 'Moved', self.entries[-1].number
+        self.undone.append(self.entries.pop())
+        return 'undone', number
+
+    def redo(self):
+        if not self.undone:
+            return 'refused', 15, 'NothingToRedo'
+        self.entries.append(self.undone.pop())
+        return 'redone', self.entries[-1].number
+
+
+# Orders, positions and the report of a day
+
+# What an execution, or a line of an allocation, adds to a position.
+Part = namedtuple('Part', 'account symbol day quantity value')
+
+
+def order_line(fills, order):
+    """The line of an order among some fills, none without one."""
+    own = [fill for fill in fills if fill.order == order]
+    if not own:
+        return None
+    filled, value = sum(fill.quantity for fill in own), sum(fill.quantity * fill.price for fill in own)
+    left = max(own[-1].size - filled, 0)
+    return 'order', *order, own[-1].symbol, own[-1].side, shown(filled), shown(left), shown(value)
+
+
+def part(account, symbol, dated, sign, amount, at):
+    signed = amount if sign == 'B' else -amount
+    return Part(account, symbol, dated, signed, signed * at)
+
+
+def parts_of(entries):
+    allocations = live_allocations(entries)
+    named = [root for it in allocations for root in named_roots(entries, it.terms)]
+    for entry in survivors(entries):
+        fill = entry.fill
+        account = '*' if fill.account is None or root_of(entries, entry.key) in named else fill.account
+        yield part(account, fill.symbol, fill.day, fill.side, fill.quantity, fill.price)
+    for terms in (it.terms for it in allocations):
+        for line in terms.lines:
+            yield part(line.account, terms.symbol, terms.day, terms.side, line.quantity, line.price)
+            yield part('*', terms.symbol, terms.day, terms.side, -line.quantity, line.price)
+
+
+def position_line(parts, account, symbol):
+    """The line of a position among some parts, none without one."""
+    own = [it for it in parts if (it.account, it.symbol) == (account, symbol)]
+    if not own:
+        return None
+    return 'position', account, symbol, shown(sum(it.quantity for it in own)), shown(sum(it.value for it in own))
+
+
+def report_of(entries, dated):
+    fills = [it.fill for it in survivors(entries) if it.fill.day == dated]
+    parts = [it for it in parts_of(entries) if it.day == dated]
+    lines = [order_line(fills, order) for order in sorted({fill.order for fill in fills})]
+    lines += [position_line(parts, *place) for place in sorted({(it.account, it.symbol) for it in parts})]
+    return [('report', dated), *lines, ('end', len(lines))]
+
+
+# An operator's lines
+
+class Bad(Exception):
+    """What is wrong with a line: its number, and the place where it tells one."""
+
+
+def value_at(words, place, form):
+    try:
+        return form(words[place])
+    except Wrong:
+        raise Bad(3, place) from None
+
+
+def short_number(value):
+    if not re.fullmatch('[0-9]{1,9}', value):
+        raise Wrong(6)
+    return int(value)
+
+
+def listed_in(words):
+    """How many executions an `allocate` names, by its COUNT: none where that is bad. Its words are as many as that asks for."""
+    if len(words) < 8:
+        raise Bad(2)
+    try:
+        listed = count(words[7])
+    except Wrong:
+        return None
+    pairs, odd = divmod(len(words) - 8 - listed, 2)
+    if odd or not 1 <= pairs <= 200:
+        raise Bad(2)
+    return listed
+
+
+def allocated(words):
+    """The command of an `allocate` line."""
+    listed = listed_in(words)
+    forms = [text, text, text, one_of({'B': 'B', 'S': 'S'}), day, price, count]
+    peer, identifier, symbol, sign, dated, at, _ = (value_at(words, place, form) for place, form in enumerate(forms, 1))
+    executions = [(peer, value_at(words, place, text)) for place in range(8, 8 + listed)]
+    lines = [Line(value_at(words, it, text), value_at(words, it + 1, quantity), at) for it in range(8 + listed, len(words), 2)]
+    block = sum(line.quantity for line in lines)
+    if block > Fraction(LARGEST, 10**6):
+        raise Bad(3, len(words) - 1)
+    return Command('AllocNew', (peer, identifier), None, None, Terms(symbol, sign, dated, block, executions, lines))
+
+
+def answer(desk, line):
+    """The answer to one line: the words of its lines. It may change the desk."""
+    words = line.split('\t')
+    wanted = {'undo': 2, 'redo': 1, 'order': 3, 'position': 3, 'report': 2}.get(words[0])
+    if len(line) > 65536:
+        raise Bad(4)
+    if words[0] == 'allocate':
+        return [desk.submit(allocated(words))]
+    if wanted is None:
+        raise Bad(1)
+    if len(words) != wanted:
+        raise Bad(2)
+    if words[0] == 'undo':
+        return [desk.undo(value_at(words, 1, short_number))]
+    if words[0] == 'redo':
+        return [desk.redo()]
+    if words[0] == 'report':
+        return report_of(desk.entries, value_at(words, 1, day))
+    key = value_at(words, 1, text), value_at(words, 2, text)
+    if words[0] == 'order':
+        return [order_line([it.fill for it in survivors(desk.entries)], key) or ('none',)]
+    return [position_line(list(parts_of(desk.entries)), *key) or ('none',)]
+
+
+# A capture
+
+# A message: its PEER, NUMBER, KIND and ID as the trail tells them, what became of it, and what its session sends.
+Turn = namedtuple('Turn', 'words became sent')
+
+
+class Day:
+    """The sessions with some peers, and the desk."""
+
+    def __init__(self, own, peers):
+        self.sessions, self.desk = {peer: Session(own, peer) for peer in peers}, Desk()
+
+    def take(self, frame):
+        head, body = message_of(frame)
+        fields, _ = fields_of(frame)
+        peer, named_by = first(fields, 49, text), {'8': 17, 'J': 70}.get(head.kind) if head else None
+        words = peer, head and head.number, head and head.kind, named_by and first(fields, named_by, text)
+        session = self.sessions.get(peer)
+        if not session:
+            return Turn(words, ('passed',), [])
+        session.now = first(fields, 52, moment) or '19700101-00:00:00.000'
+        became = session.take(head, body, self.desk)
+        return Turn(words, became, session.sent)
+
+
+def first(fields, tag, form):
+    """What the first field of a tag says, none where there is none, or where its value isn't of the form."""
+    try:
+        return next((form(value) for value in values_of(fields, tag)), None)
+    except Wrong:
+        return None
+
+
+BECAME = ('accepted', 'refused', 'rejected', 'unsupported', 'taken', 'early', 'late', 'closed', 'passed')
+
+
+def printed(lines):
+    return ''.join('\t'.join('-' if word is None else str(word) for word in words) + '\n' for words in lines)
+
+
+def trail(capture, own, peers):
+    lines, sums, messages, played = [], dict.fromkeys([*BECAME, 'skipped', 'rest'], 0), 0, Day(own, peers)
+    for what, offset, piece in pieces_of(capture):
+        if what != 'message':
+            lines.append((what, offset, piece))
+            sums[what] += piece
+            continue
+        turn, messages = played.take(piece), messages + 1
+        lines.append((what, messages, offset, *turn.words, *turn.became))
+        lines += [('sent', message.replace(SOH, '|')) for message in turn.sent]
+        sums[turn.became[0]] += 1
+    return printed([*lines, *(('sum', *it) for it in sums.items()), ('end', messages)])
+
+
+def day_of(capture, own, peers):
+    """Sessions and desk behind a capture."""
+    played = Day(own, peers)
+    for what, _, piece in pieces_of(capture):
+        if what == 'message':
+            played.take(piece)
+    return played
+
+
+def report(capture, own, peers, dated):
+    return printed(report_of(day_of(capture, own, peers).desk.entries, dated))
+
+
+def answers(capture, own, peers, lines):
+    """The answers to an operator's lines, of which the last needs no LF."""
+    desk, told = day_of(capture, own, peers).desk, []
+    for line in lines.removesuffix('\n').split('\n') if lines else []:
+        try:
+            told += answer(desk, line)
+        except Bad as bad:
+            told.append(('bad', *bad.args))
+    return printed(told)
