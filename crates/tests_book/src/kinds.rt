@@ -4,11 +4,21 @@ ghost use Rattle.blot_command.specs.Undoable.{IsAboveNumbers};
 ghost use Rattle.blot_command.specs.Kinds.{trade_meaning, correct_meaning, bust_meaning, alloc_new_meaning, alloc_replace_meaning, alloc_cancel_meaning};
 
 use blot_command::{ApplyFault, Tables, Undoable};
-use blot_types::{AllocCancel, AllocNew, AllocReplace, Bust, Correct, EVENTS_MAX, Refused, Trade};
+use blot_types::{
+    AllocCancel, AllocNew, AllocReplace, Bust, Correct, EVENTS_MAX, Refused, Sign, Trade,
+};
 use std::alloc::Global;
 use std::test::Fail;
 use tests_words::Filled::Buys;
-use tests_words::{FIRST, alloc_cancel, alloc_new, alloc_replace, bust, correct, trade};
+use tests_words::{Booked, alloc_cancel, alloc_new, alloc_replace, bust, correct, trade};
+
+// 100 of E1 at 10, 60 to A and 40 to B.
+const FIRST: Booked = Booked {
+    sign: Sign::Buy,
+    execs: &[b"E1"],
+    block: b"100",
+    lines: &[[b"A", b"60", b"10"], [b"B", b"40", b"10"]],
+};
 
 // A trade is taken, and its inverse hands it back.
 fn trade_and_back(tables: &mut Tables, number: u64, sent: Trade) -> Result<(), Fail>

@@ -1,11 +1,11 @@
-//! Tests of the book: the worked rows of orders and of chains of executions, each kind of command by itself, a busted
-//! chain taken out; and generated runs, compared with the plain slow program after every step.
+//! Tests of the book: each kind of command by itself, a busted chain taken out, and generated runs, compared with the plain slow
+//! program after every step; and the texts of answers that no operator's line brings about.
 #![tactic(auto)]
 
 #[cfg(test)]
 mod answers;
 #[cfg(test)]
-mod chains;
+mod console;
 #[cfg(test)]
 mod erasure;
 #[cfg(test)]
@@ -18,9 +18,3 @@ mod generated;
 mod kinds;
 #[cfg(test)]
 mod model;
-#[cfg(test)]
-mod orders;
-#[cfg(test)]
-mod rows;
-#[cfg(test)]
-mod texts;

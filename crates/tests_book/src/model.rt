@@ -163,11 +163,3 @@ pub fn expect_entry(tables: &Tables, number: u64, command: &Command) -> Result<(
     }
     Ok(())
 }
-
-/// No entry of a number is live.
-pub fn expect_no_entry(tables: &Tables, number: u64) -> Result<(), Fail> {
-    if tables.entry(number).is_some() {
-        return Err(Fail::new(format_args!("an entry under {number}")));
-    }
-    Ok(())
-}

@@ -1,4 +1,4 @@
-//! `replay` and `capture` of MO, with the peers BRKA, BRKB and BRKC, over readers and writers in memory.
+//! `replay`, `audit` and `capture` of MO, with the peers BRKA, BRKB and BRKC, over readers and writers in memory.
 ghost use Rattle.std.specs.Prelude.{IfOk};
 ghost use Rattle.std.specs.List.{IsDistinct};
 ghost use Rattle.blot_types.specs.Keys.{same_text};
@@ -8,7 +8,7 @@ use blot_desk::Held;
 use blot_slots::are_distinct;
 use blot_time::Day;
 use blot_types::Text64;
-use blotter::{ReplayFault, capture, replay};
+use blotter::{ReplayFault, audit, capture, replay};
 use std::alloc::{AllocError, Global};
 use std::process::Abort;
 use std::test::Fail;
@@ -42,6 +42,16 @@ pub fn replayed(
     let peers = peers(alloc)?;
     let day = Day::read(day.as_bytes())?;
     Ok(replay(alloc, source, sink, text("MO")?, &peers, day))
+}
+
+/// Writes the trail of a capture.
+pub fn audited(
+    alloc: Global,
+    source: &mut Source,
+    sink: &mut Sink,
+) -> Result<Result<(), ReplayFault>, Fail> {
+    let peers = peers(alloc)?;
+    Ok(audit(alloc, source, sink, text("MO")?, &peers))
 }
 
 /// Takes a capture into a desk.

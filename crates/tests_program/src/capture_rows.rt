@@ -1,24 +1,7 @@
 //! Captures, and what their reports say. `>` stands for a tab.
 
-/// A capture from its first byte on, and what is taken of it.
-pub struct Capture {
-    pub name: &'static str,
-    pub messages: &'static str,
-    /// The commands that are taken.
-    pub events: usize,
-    /// Those that the book accepts.
-    pub entries: usize,
-    /// The order and position lines of 5 January 2024.
-    pub lines: &'static str,
-}
-
 /// The Logon of BRKA.
 pub const LOGON: &str = "35=A|49=BRKA|56=MO|34=1|52=20240105-09:59:59|98=0|108=30|";
-
-/// The Logons of BRKA and BRKB.
-pub const LOGONS: &str = "\
-35=A|49=BRKA|56=MO|34=1|52=20240105-09:59:59|98=0|108=30|\n\
-35=A|49=BRKB|56=MO|34=1|52=20240105-09:59:59|98=0|108=30|\n";
 
 /// Behind it 100 of 300 at 10.50.
 pub const TRADE: &str =
@@ -27,80 +10,17 @@ pub const TRADE: &str =
 /// The order and position lines of the Logon of BRKA and the trade behind it.
 pub const LINES: &str = "order>BRKA>O1>XYZ>B>100>200>1050\nposition>A1>XYZ>100>1050\n";
 
-/// Captures of one session or more.
-pub fn captures() -> &'static [Capture] {
-    static ROWS: [Capture; 8] = [
-        Capture {
-            name: "an empty input",
-            messages: "",
-            events: 0,
-            entries: 0,
-            lines: "",
-        },
-        Capture {
-            name: "a heartbeat without its last byte",
-            messages: "\
-!8=FIX.4.4|9=45|35=0|49=BRKA|56=MO|34=2|52=20240105-10:00:00|10=179",
-            events: 0,
-            entries: 0,
-            lines: "",
-        },
-        Capture {
-            name: "a logon alone",
-            messages: "\
-35=A|49=BRKA|56=MO|34=1|52=20240105-09:59:59|98=0|108=30|",
-            events: 0,
-            entries: 0,
-            lines: "",
-        },
-        Capture {
-            name: "the first trade",
-            messages: "\
-35=A|49=BRKA|56=MO|34=1|52=20240105-09:59:59|98=0|108=30|\n\
-35=8|49=BRKA|56=MO|34=2|52=20240105-10:00:00|37=O1|17=E1|150=F|39=1|1=A1|55=XYZ|54=1|38=300|32=100|31=10.50|151=200|14=100|6=10.50|60=20240105-10:00:00|75=20240105|",
-            events: 1,
-            entries: 1,
-            lines: "order>BRKA>O1>XYZ>B>100>200>1050\nposition>A1>XYZ>100>1050\n",
-        },
-        Capture {
-            name: "a trade without a logon",
-            messages: "\
-35=8|49=BRKA|56=MO|34=2|52=20240105-10:00:00|37=O1|17=E1|150=F|39=1|1=A1|55=XYZ|54=1|38=300|32=100|31=10.50|151=200|14=100|6=10.50|60=20240105-10:00:00|75=20240105|",
-            events: 0,
-            entries: 0,
-            lines: "",
-        },
-        Capture {
-            name: "the average-price report",
-            messages: "\
-35=A|49=BRKA|56=MO|34=1|52=20240105-10:00:00|98=0|108=30|\n\
-35=8|49=BRKA|56=MO|34=2|52=20240105-10:00:00|37=O1|17=E1|150=F|39=1|1=A1|55=XYZ|54=1|38=300|32=100|31=10|151=200|14=100|6=10|75=20240105|\n\
-35=8|49=BRKA|56=MO|34=3|52=20240105-10:00:00|37=O1|17=E2|150=F|39=1|1=A1|55=XYZ|54=1|38=300|32=50|31=10.01|151=150|14=150|6=10.0033|75=20240105|\n\
-35=J|49=BRKA|56=MO|34=4|52=20240105-10:00:00|70=AL1|71=0|54=1|55=XYZ|53=150|6=10.0033|75=20240105|124=2|17=E1|17=E2|78=2|79=A|80=100|79=B|80=50|",
-            events: 3,
-            entries: 3,
-            lines: "order>BRKA>O1>XYZ>B>150>150>1500.5\nposition>*>XYZ>0>0.005\nposition>A>XYZ>100>1000.33\nposition>B>XYZ>50>500.165\n",
-        },
-        Capture {
-            name: "a gap, what was missing sent again, and a number too low",
-            messages: "\
-35=A|49=BRKA|56=MO|34=1|52=20240105-10:00:00|98=0|108=30|\n\
-35=0|49=BRKA|56=MO|34=2|52=20240105-10:00:00|\n\
-35=0|49=BRKA|56=MO|34=3|52=20240105-10:00:00|\n\
-35=0|49=BRKA|56=MO|34=4|52=20240105-10:00:00|\n\
-35=8|49=BRKA|56=MO|34=7|52=20240105-10:00:00|37=O1|17=E7|150=F|39=1|1=A1|55=XYZ|54=1|38=100|32=7|31=10|151=0|14=0|6=1|75=20240105|\n\
-35=8|49=BRKA|56=MO|34=5|52=20240105-10:00:00|43=Y|37=O1|17=E5|150=F|39=1|1=A1|55=XYZ|54=1|38=100|32=5|31=10|151=0|14=0|6=1|75=20240105|\n\
-35=8|49=BRKA|56=MO|34=6|52=20240105-10:00:00|43=Y|37=O1|17=E6|150=F|39=1|1=A1|55=XYZ|54=1|38=100|32=6|31=10|151=0|14=0|6=1|75=20240105|\n\
-35=8|49=BRKA|56=MO|34=7|52=20240105-10:00:00|43=Y|37=O1|17=E7|150=F|39=1|1=A1|55=XYZ|54=1|38=100|32=7|31=10|151=0|14=0|6=1|75=20240105|\n\
-35=8|49=BRKA|56=MO|34=5|52=20240105-10:00:00|43=Y|37=O1|17=E5|150=F|39=1|1=A1|55=XYZ|54=1|38=100|32=5|31=10|151=0|14=0|6=1|75=20240105|\n\
-35=8|49=BRKA|56=MO|34=5|52=20240105-10:00:00|37=O1|17=E5|150=F|39=1|1=A1|55=XYZ|54=1|38=100|32=5|31=10|151=0|14=0|6=1|75=20240105|",
-            events: 3,
-            entries: 3,
-            lines: "order>BRKA>O1>XYZ>B>18>82>180\nposition>A1>XYZ>18>180\n",
-        },
-        Capture {
-            name: "three peers' frames mixed, with strangers, duplicates, resets, and sessions that close and are logged on again",
-            messages: "\
+/// Their trail, with `/` for the end of a line.
+pub const TRAIL: &str = "\
+message>1>0>BRKA>1>A>->taken/\
+sent>8=FIX.4.4|9=61|35=A|49=MO|56=BRKA|34=1|52=20240105-09:59:59.000|98=0|108=30|10=188|/\
+message>2>79>BRKA>2>8>E1>accepted>1/\
+sum>accepted>1/sum>refused>0/sum>rejected>0/sum>unsupported>0/sum>taken>1/sum>early>0/sum>late>0/sum>closed>0/sum>passed>0/\
+sum>skipped>0/sum>rest>0/end>2/";
+
+/// Three peers' frames mixed, with strangers, duplicates, resets, and sessions that close and are logged on again: eight commands, of
+/// which the book accepts seven.
+pub const MIXED: &str = "\
 !noise\n\
 35=0|49=BRKA|56=MO|34=1|52=20240105-10:00:00|\n\
 35=A|49=BRKA|56=MO|34=1|52=20240105-10:00:00|98=0|108=30|\n\
@@ -129,94 +49,8 @@ pub fn captures() -> &'static [Capture] {
 35=A|49=BRKC|56=MO|34=1|52=20240105-10:00:00|98=0|108=30|\n\
 35=8|49=BRKC|56=MO|34=4|52=20240105-10:00:00|37=O2|17=E8|150=F|39=1|1=A1|55=XYZ|54=1|38=9|32=9|31=9|151=0|14=0|6=1|75=20240105|\n\
 35=A|49=BRKC|56=MO|34=1|52=20240105-10:00:00|98=0|108=30|141=Y|\n\
-35=8|49=BRKC|56=MO|34=2|52=20240105-10:00:00|37=O2|17=E3|150=F|39=1|1=A2|55=ABC|54=1|38=60|32=5|31=5|151=0|14=0|6=1|75=20240105|",
-            events: 8,
-            entries: 7,
-            lines: "order>BRKA>O1>XYZ>B>110>190>1150\norder>BRKB>O1>XYZ>B>70>180>790\norder>BRKC>O1>ABC>S>30>70>150\norder>BRKC>O2>ABC>B>45>15>225\nposition>A1>XYZ>180>1940\nposition>A2>ABC>15>75\n",
-        },
-    ];
-    &ROWS
-}
+35=8|49=BRKC|56=MO|34=2|52=20240105-10:00:00|37=O2|17=E3|150=F|39=1|1=A2|55=ABC|54=1|38=60|32=5|31=5|151=0|14=0|6=1|75=20240105|";
 
-/// Captures behind the Logons of BRKA and BRKB, and the order and position lines of their reports.
-pub fn trades() -> &'static [(&'static str, &'static str, &'static str)] {
-    static ROWS: [(&str, &str, &str); 8] = [
-        (
-            "behind garbage, and with garbage behind it",
-            "!8=FIX.4.4|9=12|35=0|garbled10=000|noise\n35=8|49=BRKA|56=MO|34=2|52=20240105-10:00:00|37=O1|17=E1|150=F|39=1|1=A1|55=XYZ|54=1|38=300|32=100|31=10.50|151=200|14=100|6=10.50|75=20240105|\n!8=FIX.4.4|9=",
-            "order>BRKA>O1>XYZ>B>100>200>1050\nposition>A1>XYZ>100>1050\n",
-        ),
-        (
-            "a heartbeat between, and an unknown peer's trade before it",
-            "35=8|49=BRKX|56=MO|34=2|52=20240105-10:00:00|37=O1|17=E1|150=F|39=1|55=XYZ|54=1|38=300|32=50|31=9|151=200|14=100|6=10.50|\n35=0|49=BRKA|56=MO|34=2|52=20240105-10:00:00|\n35=8|49=BRKA|56=MO|34=3|52=20240105-10:00:00|37=O1|17=E1|150=F|39=1|1=A1|55=XYZ|54=1|38=300|32=100|31=10.50|151=200|14=100|6=10.50|",
-            "order>BRKA>O1>XYZ>B>100>200>1050\nposition>A1>XYZ>100>1050\n",
-        ),
-        (
-            "an execution that comes twice counts once",
-            "35=8|49=BRKA|56=MO|34=2|52=20240105-10:00:00|37=O1|17=E1|150=F|39=1|55=XYZ|54=1|38=300|32=100|31=10.50|151=200|14=100|6=10.50|\n35=8|49=BRKA|56=MO|34=3|52=20240105-10:00:00|37=O1|17=E1|150=F|39=1|55=XYZ|54=1|38=300|32=50|31=11|151=200|14=100|6=10.50|",
-            "order>BRKA>O1>XYZ>B>100>200>1050\nposition>*>XYZ>100>1050\n",
-        ),
-        (
-            "frames with a fault between good trades: no ExecID, a bad quantity, side 7, an empty symbol, no side",
-            "35=8|49=BRKA|56=MO|34=2|52=20240105-10:00:00|37=O1|17=E1|150=F|39=1|55=XYZ|54=1|38=300|32=100|31=10.50|151=200|14=100|6=10.50|\n35=8|49=BRKA|56=MO|34=3|52=20240105-10:00:00|37=O1|150=F|39=1|55=XYZ|54=1|38=300|32=50|31=11|151=200|14=100|6=10.50|\n35=8|49=BRKA|56=MO|34=4|52=20240105-10:00:00|37=O1|17=E2|150=F|39=1|55=XYZ|54=1|38=300|32=abc|31=11|151=200|14=100|6=10.50|\n35=8|49=BRKA|56=MO|34=5|52=20240105-10:00:00|37=O1|17=E3|150=F|39=1|55=XYZ|54=7|38=300|32=50|31=11|151=200|14=100|6=10.50|\n35=8|49=BRKA|56=MO|34=6|52=20240105-10:00:00|37=O1|17=E4|150=F|39=1|55=|54=1|38=300|32=50|31=11|151=200|14=100|6=10.50|\n35=8|49=BRKA|56=MO|34=7|52=20240105-10:00:00|37=O1|17=E5|150=F|39=1|55=XYZ|38=300|32=50|31=11|151=200|14=100|6=10.50|\n35=8|49=BRKA|56=MO|34=8|52=20240105-10:00:00|37=O1|17=E6|150=F|39=1|55=XYZ|54=1|38=250|32=50|31=11|151=200|14=100|6=10.50|",
-            "order>BRKA>O1>XYZ>B>150>100>1600\nposition>*>XYZ>150>1600\n",
-        ),
-        (
-            "orders by peer and then by OrderID, whatever came first",
-            "35=8|49=BRKB|56=MO|34=2|52=20240105-10:00:00|37=O2|17=E1|150=F|39=1|55=XYZ|54=2|38=7|32=7|31=-0.5|151=0|14=7|6=1|\n35=8|49=BRKA|56=MO|34=2|52=20240105-10:00:00|37=O2|17=E2|150=F|39=1|55=ABC|54=3|38=10|32=0.5|31=2|151=0|14=7|6=1|\n35=8|49=BRKB|56=MO|34=3|52=20240105-10:00:00|37=O1|17=E3|150=F|39=1|55=XYZ|54=6|38=1|32=1|31=1|151=0|14=7|6=1|\n35=8|49=BRKA|56=MO|34=3|52=20240105-10:00:00|37=O10|17=E1|150=F|39=1|55=XYZ|54=1|38=3|32=1|31=1|151=0|14=7|6=1|",
-            "order>BRKA>O10>XYZ>B>1>2>1\norder>BRKA>O2>ABC>B>0.5>9.5>1\norder>BRKB>O1>XYZ>S>1>0>1\norder>BRKB>O2>XYZ>S>7>0>-3.5\nposition>*>ABC>0.5>1\nposition>*>XYZ>-7>3.5\n",
-        ),
-        (
-            "a size from CumQty and LeavesQty, where OrderQty isn't given",
-            "35=8|49=BRKA|56=MO|34=2|52=20240105-10:00:00|37=O1|17=E1|150=F|39=1|55=XYZ|54=5|32=10|31=-0.5|151=2|14=6|6=1|",
-            "order>BRKA>O1>XYZ>S>10>0>-5\nposition>*>XYZ>-10>5\n",
-        ),
-        (
-            "allocations between, one replaced, one refused and one cancelled: the order line is that of the fills",
-            "\
-35=8|49=BRKA|56=MO|34=2|52=20240105-10:00:00|37=O1|17=E1|150=F|39=1|1=A1|55=XYZ|54=1|38=300|32=100|31=10.50|151=200|14=100|6=10.50|75=20240105|\n\
-35=8|49=BRKA|56=MO|34=3|52=20240105-10:00:00|37=O1|17=E2|150=F|39=1|1=A1|55=XYZ|54=1|38=250|32=50|31=11|151=200|14=100|6=10.50|75=20240105|\n\
-35=J|49=BRKA|56=MO|34=4|52=20240105-10:00:00|70=AL1|71=0|54=1|55=XYZ|53=150|6=10.50|75=20240105|124=2|17=E1|17=E2|78=2|79=A1|80=90|366=10.60|79=A2|80=60|\n\
-35=J|49=BRKA|56=MO|34=5|52=20240105-10:00:00|70=AL2|71=1|72=AL1|54=1|55=XYZ|53=150|6=10.50|75=20240105|124=2|17=E2|17=E1|78=2|79=A1|80=100|79=A3|80=50|\n\
-35=J|49=BRKA|56=MO|34=6|52=20240105-10:00:00|70=AL1|71=0|54=1|55=XYZ|53=100|6=10.50|75=20240105|124=1|17=E1|78=1|79=A1|80=100|\n\
-35=8|49=BRKA|56=MO|34=7|52=20240105-10:00:00|37=O1|17=E3|19=E1|150=G|39=1|1=A1|55=XYZ|54=1|38=300|32=80|31=10.25|151=200|14=100|6=10.50|75=20240105|\n\
-35=J|49=BRKA|56=MO|34=8|52=20240105-10:00:00|70=AL3|71=2|72=AL2|",
-            "order>BRKA>O1>XYZ>B>130>170>1370\nposition>A1>XYZ>130>1370\n",
-        ),
-        (
-            "reports that are no trades",
-            "35=8|49=BRKA|56=MO|34=2|52=20240105-10:00:00|37=O1|17=E1|150=0|39=0|55=XYZ|54=1|38=300|\n35=D|49=BRKA|56=MO|34=3|52=20240105-10:00:00|\n35=AE|49=BRKA|56=MO|34=4|52=20240105-10:00:00|",
-            "",
-        ),
-    ];
-    &ROWS
-}
-
-/// Executions of three days, and an allocation a day behind its execution.
-pub const THREE_DAYS: &str = "\
-35=A|49=BRKA|56=MO|34=1|52=20240105-10:00:00|98=0|108=30|\n\
-35=8|49=BRKA|56=MO|34=2|52=20240105-10:00:00|37=O1|17=E1|150=F|39=1|1=A1|55=XYZ|54=1|38=300|32=100|31=10|151=0|14=0|6=1|75=20240104|\n\
-35=8|49=BRKA|56=MO|34=3|52=20240105-10:00:00|37=O1|17=E2|150=F|39=1|1=A1|55=XYZ|54=1|38=250|32=50|31=11|151=0|14=0|6=1|75=20240105|\n\
-35=8|49=BRKA|56=MO|34=4|52=20240105-10:00:00|37=O2|17=E3|150=F|39=1|1=A1|55=XYZ|54=1|38=10|32=10|31=12|151=0|14=0|6=1|75=20240106|\n\
-35=J|49=BRKA|56=MO|34=5|52=20240105-10:00:00|70=AL1|71=0|54=1|55=XYZ|53=50|6=11|75=20240106|124=1|17=E2|78=2|79=A|80=30|79=B|80=20|";
-
-/// The order and position lines of that capture, day by day.
-pub fn days() -> &'static [(&'static str, &'static str)] {
-    static ROWS: [(&str, &str); 5] = [
-        ("20240103", ""),
-        (
-            "20240104",
-            "order>BRKA>O1>XYZ>B>100>200>1000\nposition>A1>XYZ>100>1000\n",
-        ),
-        (
-            "20240105",
-            "order>BRKA>O1>XYZ>B>50>200>550\nposition>*>XYZ>50>550\n",
-        ),
-        (
-            "20240106",
-            "order>BRKA>O2>XYZ>B>10>0>120\nposition>*>XYZ>-50>-550\nposition>A>XYZ>30>330\nposition>A1>XYZ>10>120\nposition>B>XYZ>20>220\n",
-        ),
-        ("20240107", ""),
-    ];
-    &ROWS
-}
+/// Its order and position lines of 5 January 2024.
+pub const MIXED_LINES: &str =
+    "order>BRKA>O1>XYZ>B>110>190>1150\norder>BRKB>O1>XYZ>B>70>180>790\norder>BRKC>O1>ABC>S>30>70>150\norder>BRKC>O2>ABC>B>45>15>225\nposition>A1>XYZ>180>1940\nposition>A2>ABC>15>75\n";

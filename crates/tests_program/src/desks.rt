@@ -2,7 +2,7 @@
 
 use crate::calls::{check_taken, push_words};
 use crate::capture_rows::{LOGON, TRADE};
-use crate::desk_rows::{MORNING, OTHER_TRADE, REPORT, Script, scripts};
+use crate::desk_rows::{MORNING, OTHER_TRADE, REPORT};
 use crate::dialogues::{Dialogue, answers_to, captured, desk, spell};
 use crate::memory::{
     AT_ONCE, BY_BYTES, BY_LINES, INTERRUPTED, Manner, cut_at, failing, reader, writer,
@@ -31,27 +31,16 @@ fn check_typed(
     Ok(())
 }
 
-// A script comes to its answers; so it does without the LF of its last line.
-fn check_script(
-    rt: &(impl Abort + AllocGlobal),
-    script: &Script,
-    manner: Manner,
-) -> Result<(), Fail> {
-    let Dialogue { typed, answers } = spell(rt.alloc(), script.lines)?;
-    let unended = typed.as_slice().strip_suffix(b"\n").ok_or("no end")?;
-    let bytes = captured(rt.alloc(), script.captured)?;
-    for typed in [typed.as_slice(), unended] {
-        let mut held = desk(rt.alloc(), &bytes)?;
-        check_typed(rt, script.name, &mut held, typed, &answers, manner)?;
-    }
-    Ok(())
-}
-
+// The operator's morning comes to its answers; so it does without the LF of its last line.
 #[test]
-fn scripts_come_to_their_answers(rt: HostRuntime) -> Result<(), Fail> {
-    for script in scripts() {
-        for manner in [BY_LINES, AT_ONCE, BY_BYTES, INTERRUPTED] {
-            check_script(&rt, script, manner)?;
+fn a_morning_in_pieces(rt: HostRuntime) -> Result<(), Fail> {
+    let Dialogue { typed, answers } = spell(rt.alloc(), MORNING)?;
+    let unended = typed.as_slice().strip_suffix(b"\n").ok_or("no end")?;
+    let bytes = captured(rt.alloc(), TRADE)?;
+    for manner in [BY_LINES, AT_ONCE, BY_BYTES, INTERRUPTED] {
+        for typed in [typed.as_slice(), unended] {
+            let mut held = desk(rt.alloc(), &bytes)?;
+            check_typed(&rt, "a morning", &mut held, typed, &answers, manner)?;
         }
     }
     Ok(())

@@ -1,6 +1,6 @@
-//! Tests of the program's calls over readers and writers in memory: captures whole, cut, damaged and
+//! Tests of the program's calls over readers and writers in memory: captures in pieces and
 //! failing, and operators' scripts, at a desk of one's own and at a seat; and of a served day's connections, over
-//! TCP and over streams, listeners and clocks in memory.
+//! streams, listeners and clocks in memory.
 #![tactic(auto)]
 
 #[cfg(test)]
@@ -9,10 +9,6 @@ mod calls;
 mod capture_rows;
 #[cfg(test)]
 mod clocks;
-#[cfg(test)]
-mod connections;
-#[cfg(test)]
-mod correction_rows;
 #[cfg(test)]
 mod desk_rows;
 #[cfg(test)]

@@ -1,83 +1,66 @@
-//! `replay` and `capture` over captures in memory.
+//! `replay`, `audit` and `capture` over captures in memory.
 
-use crate::calls::{check_taken, replayed, report};
-use crate::capture_rows::{
-    Capture, LINES, LOGON, LOGONS, THREE_DAYS, TRADE, captures, days, trades,
+use crate::calls::{audited, check_taken, push_words, replayed, report};
+use crate::capture_rows::{LINES, LOGON, MIXED, MIXED_LINES, TRADE, TRAIL};
+use crate::memory::{
+    AT_ONCE, BY_BYTES, INTERRUPTED, Manner, Sink, Source, cut_at, failing, reader, writer,
 };
-use crate::correction_rows::corrections;
-use crate::memory::{AT_ONCE, BY_BYTES, INTERRUPTED, Manner, cut_at, failing, reader, writer};
 use blot_desk::Held;
 use blotter::ReplayFault;
+use std::alloc::Global;
 use std::process::Abort;
 use std::test::Fail;
 use tests_words::{frame, stream};
 
-// The day of nearly all reports.
+// The day of all reports.
 const DAY: &str = "20240105";
 
-// A capture comes to this report of a day.
-fn check_report(
+// A call that reads a capture to its end, and then writes what it comes to.
+#[derive(Clone, Copy, Debug)]
+enum Call {
+    Replay,
+    Audit,
+}
+
+// What a call comes to.
+fn called(
+    alloc: Global,
+    call: Call,
+    source: &mut Source,
+    sink: &mut Sink,
+) -> Result<Result<(), ReplayFault>, Fail> {
+    match call {
+        Call::Replay => replayed(alloc, source, sink, DAY),
+        Call::Audit => audited(alloc, source, sink),
+    }
+}
+
+// A capture comes to this text.
+fn check_written(
     rt: &(impl Abort + AllocGlobal),
-    name: &str,
+    call: Call,
     bytes: &[u8],
-    day: &str,
     expected: &[u8],
     manner: Manner,
 ) -> Result<(), Fail> {
-    let mut source = reader(bytes, manner);
     let mut sink = writer(rt.alloc(), manner);
-    let outcome = replayed(rt.alloc(), &mut source, &mut sink, day)?;
-    assert_eq!(rt; outcome, Ok(()), "{name}");
-    assert_eq!(rt; sink.written.as_slice(), expected, "{name}");
-    Ok(())
-}
-
-// Captures behind the Logons of BRKA and BRKB come to their reports.
-fn check_trades(rt: &(impl Abort + AllocGlobal), rows: &[(&str, &str, &str)]) -> Result<(), Fail> {
-    for (name, messages, lines) in rows {
-        let mut bytes = stream(rt.alloc(), LOGONS)?;
-        bytes.extend_from_slice(stream(rt.alloc(), messages)?.as_slice())?;
-        let expected = report(rt.alloc(), DAY, lines)?;
-        check_report(rt, name, &bytes, DAY, &expected, BY_BYTES)?;
-    }
-    Ok(())
-}
-
-// A capture comes to its report, and as much of it is taken as its row says.
-fn check_capture(
-    rt: &(impl Abort + AllocGlobal),
-    row: &Capture,
-    manner: Manner,
-) -> Result<(), Fail> {
-    let bytes = stream(rt.alloc(), row.messages)?;
-    let expected = report(rt.alloc(), DAY, row.lines)?;
-    check_report(rt, row.name, &bytes, DAY, &expected, manner)?;
-    let mut held = Held::new(rt.alloc());
-    let mut source = reader(&bytes, manner);
-    let expected = (Ok(()), row.events, row.entries);
-    check_taken(rt, row.name, &mut held, &mut source, expected)
-}
-
-// One capture comes to the reports of its days.
-fn check_days(rt: &(impl Abort + AllocGlobal)) -> Result<(), Fail> {
-    let bytes = stream(rt.alloc(), THREE_DAYS)?;
-    for (day, lines) in days() {
-        let expected = report(rt.alloc(), day, lines)?;
-        check_report(rt, day, &bytes, day, &expected, AT_ONCE)?;
-    }
+    let outcome = called(rt.alloc(), call, &mut reader(bytes, manner), &mut sink)?;
+    assert_eq!(rt; outcome, Ok(()), "{call:?}");
+    assert_eq!(rt; sink.written.as_slice(), expected, "{call:?}");
     Ok(())
 }
 
 #[test]
-fn captures_and_their_reports(rt: HostRuntime) -> Result<(), Fail> {
-    for row in captures() {
-        for manner in [AT_ONCE, BY_BYTES, INTERRUPTED] {
-            check_capture(&rt, row, manner)?;
-        }
+fn a_capture_in_pieces(rt: HostRuntime) -> Result<(), Fail> {
+    let bytes = stream(rt.alloc(), MIXED)?;
+    let expected = report(rt.alloc(), DAY, MIXED_LINES)?;
+    for manner in [AT_ONCE, BY_BYTES, INTERRUPTED] {
+        check_written(&rt, Call::Replay, &bytes, &expected, manner)?;
+        let mut held = Held::new(rt.alloc());
+        let mut source = reader(&bytes, manner);
+        check_taken(&rt, "three peers", &mut held, &mut source, (Ok(()), 8, 7))?;
     }
-    check_trades(&rt, trades())?;
-    check_trades(&rt, corrections())?;
-    check_days(&rt)
+    Ok(())
 }
 
 // Four bytes a write, and one that fails.
@@ -86,18 +69,19 @@ fn failing_write(fails_at: u64) -> Manner {
     failing(manner, fails_at)
 }
 
-// The replay of a capture comes to a fault, with this written.
+// A call comes to a fault, with this written.
 fn check_fault(
     rt: &(impl Abort + AllocGlobal),
+    call: Call,
     bytes: &[u8],
     (reads, writes): (Manner, Manner),
     fault: ReplayFault,
     written: &[u8],
 ) -> Result<(), Fail> {
     let mut sink = writer(rt.alloc(), writes);
-    let outcome = replayed(rt.alloc(), &mut reader(bytes, reads), &mut sink, DAY)?;
-    assert_eq!(rt; outcome, Err(fault));
-    assert_eq!(rt; sink.written.as_slice(), written);
+    let outcome = called(rt.alloc(), call, &mut reader(bytes, reads), &mut sink)?;
+    assert_eq!(rt; outcome, Err(fault), "{call:?}");
+    assert_eq!(rt; sink.written.as_slice(), written, "{call:?}");
     Ok(())
 }
 
@@ -106,19 +90,11 @@ fn front(text: &[u8], count: usize) -> &[u8] {
     text.get(..count).unwrap_or(text)
 }
 
-// Each cut into two pieces comes to the report.
-fn check_cuts(rt: &(impl Abort + AllocGlobal), bytes: &[u8], expected: &[u8]) -> Result<(), Fail> {
-    for cut in 1..266 {
-        check_report(rt, "a cut", bytes, DAY, expected, cut_at(cut))?;
-    }
-    Ok(())
-}
-
 // Three reads: a piece, the rest and the end. One that fails leaves nothing written.
-fn check_reads(rt: &(impl Abort + AllocGlobal), bytes: &[u8]) -> Result<(), Fail> {
+fn check_reads(rt: &(impl Abort + AllocGlobal), call: Call, bytes: &[u8]) -> Result<(), Fail> {
     for fails_at in 1..4 {
         let manner = failing(cut_at(100), fails_at);
-        check_fault(rt, bytes, (manner, AT_ONCE), ReplayFault::Read, b"")?;
+        check_fault(rt, call, bytes, (manner, AT_ONCE), ReplayFault::Read, b"")?;
     }
     Ok(())
 }
@@ -126,16 +102,32 @@ fn check_reads(rt: &(impl Abort + AllocGlobal), bytes: &[u8]) -> Result<(), Fail
 // A write that fails leaves what was written before.
 fn check_writes(
     rt: &(impl Abort + AllocGlobal),
+    call: Call,
     bytes: &[u8],
     expected: &[u8],
 ) -> Result<(), Fail> {
     for before in 0..expected.len().div_ceil(4) {
         let manner = failing_write(before as u64 + 1);
         let written = front(expected, before.saturating_mul(4));
-        check_fault(rt, bytes, (AT_ONCE, manner), ReplayFault::Write, written)?;
+        let manners = (AT_ONCE, manner);
+        check_fault(rt, call, bytes, manners, ReplayFault::Write, written)?;
     }
-    let manner = Manner { most: 0, ..AT_ONCE };
-    check_fault(rt, bytes, (AT_ONCE, manner), ReplayFault::Write, b"")
+    let manners = (AT_ONCE, Manner { most: 0, ..AT_ONCE });
+    check_fault(rt, call, bytes, manners, ReplayFault::Write, b"")
+}
+
+// What a call writes of the first trade, at every cut into two pieces and at every failure.
+fn check_call(
+    rt: &(impl Abort + AllocGlobal),
+    call: Call,
+    bytes: &[u8],
+    expected: &[u8],
+) -> Result<(), Fail> {
+    for cut in 1..266 {
+        check_written(rt, call, bytes, expected, cut_at(cut))?;
+    }
+    check_reads(rt, call, bytes)?;
+    check_writes(rt, call, bytes, expected)
 }
 
 #[test]
@@ -144,7 +136,8 @@ fn the_first_trade_at_every_cut_and_every_failure(rt: HostRuntime) -> Result<(),
     bytes.extend_from_slice(frame(rt.alloc(), TRADE)?.as_slice())?;
     assert_eq!(rt; bytes.len(), 266);
     let expected = report(rt.alloc(), DAY, LINES)?;
-    check_cuts(&rt, &bytes, &expected)?;
-    check_reads(&rt, &bytes)?;
-    check_writes(&rt, &bytes, &expected)
+    check_call(&rt, Call::Replay, &bytes, &expected)?;
+    let mut expected = Vec::new(rt.alloc());
+    push_words(&mut expected, TRAIL)?;
+    check_call(&rt, Call::Audit, &bytes, &expected)
 }

@@ -5,7 +5,7 @@ use crate::words::{expect, expect_unsettled, settle, take};
 use blot_desk::{Closed, Desk, Event, Reply, Seat, Snapshot};
 use blot_report::{day_lines, report_text};
 use blot_time::Day;
-use blot_types::{Command, OrderLine, Refused};
+use blot_types::{Command, OrderLine};
 use std::alloc::Global;
 use std::marker::Brand;
 use std::sync::Wait;
@@ -170,43 +170,6 @@ fn trade_once<L: Ledger>(
     let trade = trade(b"BRKA", id.as_bytes(), &Bought(b"1", b"10"))?;
     let reply = take(rt, desk, seat, Event::Submit(Command::Trade(trade)))?;
     expect(&reply, &Reply::Accepted(number))
-}
-
-// An undo of step 41 is refused where step 42 is the newest, which another seat did.
-fn expect_moved<L: Ledger>(
-    rt: &impl Wait,
-    alloc: Global,
-    desk: &Desk<L>,
-    one: &mut Seat<L>,
-    two: &mut Seat<L>,
-) -> Result<(), Fail> {
-    for number in 1..42u64 {
-        trade_once(rt, alloc, desk, one, number)?;
-    }
-    trade_once(rt, alloc, desk, two, 42)?;
-    let reply = take(rt, desk, one, Event::Undo { newest: 41 })?;
-    expect(&reply, &Reply::Refused(Refused::Moved(42)))?;
-    let live = desk.snapshot(rt)?.entries().len();
-    if live != 42 || one.newest() != Some(41) || two.newest() != Some(42) {
-        return Err(Fail::new(format_args!("{live} entries")));
-    }
-    Ok(())
-}
-
-// A moved undo, and how the two seats are settled.
-fn run_moved<L: Ledger>(rt: &impl Wait, alloc: Global, blank: Blank) -> Result<(), Fail>
-    requires name { blank.name ≡ L.name }
-    requires parts { blank.parts ≡ L.parts }
-    requires two { blank.parts ≡ 2 }
-{
-    let (desk, mut one, mut two) = open::<L>(alloc, blank)?;
-    expect_moved(rt, alloc, &desk, &mut one, &mut two)?;
-    settle_one_then_both(alloc, desk.close(), one, two, 43)
-}
-
-#[test]
-fn a_moved_undo(rt: HostRuntime) -> Result<(), Fail> {
-    run_moved::<Brand>(&rt, rt.alloc(), Blank::new(2))
 }
 
 // One seat submits, the other never does.

@@ -2,15 +2,15 @@
 ghost use Rattle.std.specs.Prelude.{◌≡◌};
 
 use crate::words::{expect, settle, take};
-use blot_desk::{Desk, DeskFault, Event, Receipt, Reply, Seat};
-use blot_types::{Command, EVENTS_MAX, OrderKey, Refused};
+use blot_desk::{Desk, Event, Receipt, Reply, Seat};
+use blot_types::{Command, Refused};
 use std::alloc::Global;
 use std::marker::Brand;
 use std::sync::Wait;
 use std::sync::ledger::{Blank, Ledger};
 use std::test::Fail;
 use tests_words::Filled::Bought;
-use tests_words::{bust, exec, order, trade};
+use tests_words::{bust, exec, trade};
 
 // The seat's last receipt is of this place and this reply, and its newest number is this one.
 fn expect_receipt<L: Ledger>(
@@ -100,70 +100,4 @@ fn run_receipts<L: Ledger>(
 fn one_seats_receipts(rt: HostRuntime) -> Result<(), Fail> {
     run_receipts::<Brand>(&rt, rt.alloc(), Blank::new(1), false)?;
     run_receipts::<Brand>(&rt, rt.alloc(), Blank::new(1), true)
-}
-
-// As many asks for an order without a line as a desk records.
-fn fill_up<L: Ledger>(
-    rt: &impl Wait,
-    desk: &Desk<L>,
-    seat: &mut Seat<L>,
-    unknown: &OrderKey,
-) -> Result<(), Fail> {
-    for _ in 0..EVENTS_MAX {
-        let reply = take(rt, desk, seat, Event::AskOrder(*unknown))?;
-        expect(&reply, &Reply::Order(None))?;
-    }
-    Ok(())
-}
-
-// The desk is full for this event, and the seat gets no receipt.
-fn expect_full<L: Ledger>(
-    rt: &impl Wait,
-    desk: &Desk<L>,
-    seat: &mut Seat<L>,
-    event: Event,
-) -> Result<(), Fail> {
-    match desk.submit(rt, seat, event) {
-        Err(DeskFault::Full) if seat.receipts().len() == EVENTS_MAX as usize => Ok(()),
-        Err(fault) => Err(Fail::new(format_args!("{fault:?}"))),
-        Ok(reply) => Err(Fail::new(format_args!("{reply:?}"))),
-    }
-}
-
-// A full desk takes no event, an ask neither, and shows what it did.
-fn expect_filled<L: Ledger>(
-    rt: &impl Wait,
-    desk: &Desk<L>,
-    seat: &mut Seat<L>,
-) -> Result<(), Fail> {
-    let unknown = order(b"BRKA", b"O9")?;
-    let traded = Command::Trade(trade(b"BRKA", b"E1", &Bought(b"100", b"10"))?);
-    fill_up(rt, desk, seat, &unknown)?;
-    expect_full(rt, desk, seat, Event::Submit(traded))?;
-    expect_full(rt, desk, seat, Event::Undo { newest: 1 })?;
-    expect_full(rt, desk, seat, Event::Redo)?;
-    expect_full(rt, desk, seat, Event::AskOrder(unknown))?;
-    if !desk.snapshot(rt)?.entries().is_empty() {
-        return Err(Fail::new("an entry"));
-    }
-    Ok(())
-}
-
-// A full desk, and how it is settled.
-fn run_full<L: Ledger>(rt: &impl Wait, alloc: Global, blank: Blank) -> Result<(), Fail>
-    requires name { blank.name ≡ L.name }
-    requires parts { blank.parts ≡ L.parts }
-    requires one { blank.parts ≡ 1 }
-{
-    let (desk, mut seats) = Desk::<L>::new(alloc, blank, 1)?;
-    let mut seat = seats.pop().ok_or("no seat")?;
-    expect_filled(rt, &desk, &mut seat)?;
-    seats.push(seat)?;
-    settle(desk.close(), seats, EVENTS_MAX as usize)?;
-    Ok(())
-}
-
-#[test]
-fn a_full_desk(rt: HostRuntime) -> Result<(), Fail> {
-    run_full::<Brand>(&rt, rt.alloc(), Blank::new(1))
 }

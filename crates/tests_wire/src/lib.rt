@@ -1,24 +1,25 @@
-//! Tests of the byte side that only a caller of its crates can make: callers with contracts of their own, the table of
-//! sessions, and generated calls of a session beside a plain one. Rows of single calls stand in `rows_wire`.
+//! Tests of the wire side that only a caller of its crates can make: callers with contracts of their own, the table of sessions; what a
+//! session takes, sends and answers over a wire in memory, and how it ends, whole, cut and failing; and two wires that are served at
+//! once. Rows of single calls stand in `rows_wire`.
 #![tactic(auto)]
 
 #[cfg(test)]
-mod bodies;
+mod at_once;
 #[cfg(test)]
 mod callers;
 #[cfg(test)]
-mod draws;
-#[cfg(test)]
 mod expect;
 #[cfg(test)]
-mod generated_sessions;
+mod failing;
 #[cfg(test)]
-mod plain_messages;
+mod rows;
 #[cfg(test)]
-mod plain_rows;
+mod runs;
 #[cfg(test)]
-mod plain_session;
-#[cfg(test)]
-mod sessions;
+mod serving;
 #[cfg(test)]
 mod slots;
+#[cfg(test)]
+mod streams;
+#[cfg(test)]
+mod turns;

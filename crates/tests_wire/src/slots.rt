@@ -1,9 +1,9 @@
 //! The table of sessions: who is connected, once.
 
-use crate::expect::{expect, expect_text};
-use crate::sessions::played;
+use crate::expect::expect;
 use blot_session::{Phase, Session};
 use blot_slots::{SlotFault, SlotTable, are_distinct};
+use blot_tag::Reader;
 use blot_time::Moment;
 use blot_types::Text64;
 use std::alloc::Global;
@@ -86,12 +86,32 @@ fn check_out_and_check_in(rt: HostRuntime) -> Result<(), Fail> {
     expect_waiting(&rt, &session, "BRKA", 2)
 }
 
+// BRKA's Logon, and its first execution.
+const LOGON: &[u8] =
+    b"8=FIX.4.4\x019=57\x0135=A\x0149=BRKA\x0156=MO\x0134=1\x0152=20240105-09:59:59\x0198=0\x01108=30\x0110=003\x01";
+
+const TRADE: &[u8] =
+    b"8=FIX.4.4\x019=164\x0135=8\x0149=BRKA\x0156=MO\x0134=2\x0152=20240105-10:00:00\x0137=O1\x0117=E1\x01150=F\x0139=1\x011=A1\x0155=XYZ\x0154=1\x0138=300\x0132=100\x0131=10.50\x01151=200\x0114=100\x016=10.50\x0160=20240105-10:00:00\x0175=20240105\x0110=199\x01";
+
 // A peer logs on and sends an execution, which awaits its reply: its number is expected still.
 fn deliver(rt: &impl Abort, alloc: Global, session: &mut Session) -> Result<(), Fail> {
+    take(alloc, session, LOGON)?;
+    take(alloc, session, TRADE)?;
+    expect(rt, "an execution", session.is_awaiting());
+    expect(rt, "its number", session.expected() == 2);
+    Ok(())
+}
+
+// The frame of a stream comes.
+fn take(alloc: Global, session: &mut Session, stream: &[u8]) -> Result<(), Fail> {
     let now = Moment::read(b"20240105-10:00:01.000")?;
-    played(alloc, session, now, "A")?;
-    let shown = played(alloc, session, now, "F")?;
-    expect_text(rt, "an execution", shown.as_str(), "trade E1 : 2 On");
+    let mut reader = Reader::new(alloc);
+    reader.feed(stream)?;
+    let frame = reader.next()?.ok_or("no frame")?;
+    if session.is_awaiting() {
+        return Err(Fail::new("a reply is awaited"));
+    }
+    session.on_frame(alloc, &frame, now)?;
     Ok(())
 }
 

@@ -32,8 +32,8 @@ pub fn frame(alloc: Global, body: &str) -> Result<Vec<u8>, NoMemory> {
     Ok(bytes)
 }
 
-/// The text with SOH for `|`.
-pub fn soh(alloc: Global, text: &str) -> Result<Vec<u8>, NoMemory> {
+// The text with SOH for `|`.
+fn soh(alloc: Global, text: &str) -> Result<Vec<u8>, NoMemory> {
     let mut bytes = Vec::new(alloc);
     for byte in text.as_bytes() {
         bytes.push(if *byte == b'|' { 1 } else { *byte })?;

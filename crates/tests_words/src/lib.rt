@@ -3,7 +3,6 @@
 //! frames. No contract says more than a caller's proof needs.
 #![tactic(auto)]
 
-mod bookings;
 mod draws;
 mod frames;
 mod keys;
@@ -11,13 +10,12 @@ mod shown;
 mod tally;
 mod words;
 
-pub use bookings::{ALL_TO_A, BOTH, FIRST, SECOND};
 pub use draws::{Draws, drawn_execs, drawn_orders};
-pub use frames::{frame, soh, stream};
+pub use frames::{frame, stream};
 pub use keys::{accounts, alloc_key, exec, fill, order, symbols, text};
-pub use shown::{order_text, position_text};
+pub use shown::order_text;
 pub use tally::{Tally, expect_each};
 pub use words::{
-    Booked, Filled, Step, alloc_cancel, alloc_new, alloc_replace, bust, command, correct, execs,
-    terms, trade,
+    Booked, Filled, Step, alloc_cancel, alloc_new, alloc_replace, bust, command, correct, terms,
+    trade,
 };

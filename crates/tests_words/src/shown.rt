@@ -1,6 +1,6 @@
-//! What the book shows, as text.
+//! What an order shows, as text.
 
-use blot_types::{OrderLine, PositionLine, Sign};
+use blot_types::{OrderLine, Sign};
 use std::alloc::{AllocError, Global};
 
 // What an order's executions trade.
@@ -24,10 +24,4 @@ pub fn order_text(alloc: Global, line: &OrderLine) -> Result<String, AllocError>
         ..
     } = *line;
     format!(in alloc; "{what} {cum} {leaves} {value}")
-}
-
-/// A position: quantity and value.
-pub fn position_text(alloc: Global, line: &PositionLine) -> Result<String, AllocError> {
-    let PositionLine { qty, value } = *line;
-    format!(in alloc; "{qty} {value}")
 }

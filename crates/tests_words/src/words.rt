@@ -5,7 +5,7 @@ use blot_decimal::{Price, Qty};
 use blot_time::Day;
 use blot_types::{
     AllocCancel, AllocNew, AllocReplace, Bust, Command, Correct, ExecKey, Fill, ITEMS_MAX, Items,
-    Line, Sign, Terms, Text64, Trade,
+    Line, Sign, Terms, Trade,
 };
 use std::alloc::Global;
 use std::test::Fail;
@@ -15,12 +15,8 @@ use std::test::Fail;
 pub enum Filled {
     /// XYZ, bought for account A1: the order, the quantity, the price and the order's size.
     Buys(&'static [u8], &'static [u8], &'static [u8], &'static [u8]),
-    /// ABC, sold for account A2, likewise.
-    Sells(&'static [u8], &'static [u8], &'static [u8], &'static [u8]),
     /// XYZ of O1 of size 300, bought for account A1: the quantity and the price.
     Bought(&'static [u8], &'static [u8]),
-    /// Of O1 of size 300: the account, none where it is empty, the symbol, the side, the quantity and the price.
-    Fills(&'static [u8], &'static [u8], Sign, &'static [u8], &'static [u8]),
 }
 
 /// An allocation of XYZ in words.
@@ -48,21 +44,7 @@ pub enum Step {
 fn fill_of(peer: &[u8], words: &Filled) -> Result<Fill, Fail> {
     match words {
         Filled::Buys(id, qty, price, size) => fill(order(peer, id)?, qty, price, size),
-        Filled::Sells(id, qty, price, size) => {
-            let mut sold = fill(order(peer, id)?, qty, price, size)?;
-            sold.account = Some(text(b"A2")?);
-            sold.symbol = text(b"ABC")?;
-            sold.sign = Sign::Sell;
-            Ok(sold)
-        }
         Filled::Bought(qty, price) => fill(order(peer, b"O1")?, qty, price, b"300"),
-        Filled::Fills(account, symbol, sign, qty, price) => {
-            let mut filled = fill(order(peer, b"O1")?, qty, price, b"300")?;
-            filled.account = Text64::read(account);
-            filled.symbol = text(symbol)?;
-            filled.sign = *sign;
-            Ok(filled)
-        }
     }
 }
 
@@ -115,8 +97,8 @@ pub fn terms(sign: Sign, block: Qty, execs: Vec<ExecKey>, lines: Vec<Line>) -> R
     })
 }
 
-/// A peer's executions of these ids.
-pub fn execs(alloc: Global, peer: &[u8], ids: &[&[u8]]) -> Result<Vec<ExecKey>, Fail> {
+// A peer's executions of these ids.
+fn execs(alloc: Global, peer: &[u8], ids: &[&[u8]]) -> Result<Vec<ExecKey>, Fail> {
     let mut execs = Vec::new(alloc);
     for id in ids {
         execs.push(exec(peer, id)?)?;

@@ -93,9 +93,9 @@ pub fn silence() -> &'static Row {
     &ROW
 }
 
-/// Answers of the sink, and connections that come to nothing.
+/// Answers of the sink that no broker and no operator brings about, and a refusal.
 pub fn answered() -> &'static [Row] {
-    static ROWS: [Row; 13] = [
+    static ROWS: [Row; 3] = [
         Row {
             name: "a trade that is refused",
             moments: "20240105-10:00:01.000",
@@ -111,23 +111,6 @@ pub fn answered() -> &'static [Row] {
             ],
             ended: "End",
             expected: 4,
-        },
-        Row {
-            name: "a trade at a full desk",
-            moments: "20240105-10:00:01.000",
-            stream: "\
-35=A|49=BRKA|56=MO|34=1|52=20240105-09:59:59|98=0|108=30|\n\
-35=8|49=BRKA|56=MO|34=2|52=20240105-10:00:00|37=O1|17=E1|150=F|39=1|1=A1|55=XYZ|54=1|38=300|32=100|31=10.50|151=200|14=100|6=10.50|60=20240105-10:00:00|75=20240105|\n\
-35=0|49=BRKA|56=MO|34=3|52=20240105-10:00:00|",
-            quiet: 0,
-            answer: "full",
-            taken: "trade E1; ",
-            written: &[
-                "8=FIX.4.4|9=61|35=A|49=MO|56=BRKA|34=1|52=20240105-10:00:01.000|98=0|108=30|10=153|",
-                "8=FIX.4.4|9=49|35=5|49=MO|56=BRKA|34=2|52=20240105-10:00:01.000|10=123|",
-            ],
-            ended: "Closed(NotTaken)",
-            expected: 2,
         },
         Row {
             name: "a trade, and no memory at the desk",
@@ -162,144 +145,6 @@ pub fn answered() -> &'static [Row] {
             ],
             ended: "Closed(NotTaken)",
             expected: 2,
-        },
-        Row {
-            name: "an allocation that is accepted",
-            moments: "20240105-10:00:01.000",
-            stream: "\
-35=A|49=BRKA|56=MO|34=1|52=20240105-09:59:59|98=0|108=30|\n\
-35=J|49=BRKA|56=MO|34=2|52=20240105-10:00:00|70=AL1|71=0|54=1|55=XYZ|53=100|6=10.5|75=20240105|124=1|17=E1|78=2|79=A|80=60|366=10.25|79=B|80=40|\n\
-35=0|49=BRKA|56=MO|34=3|52=20240105-10:00:00|",
-            quiet: 0,
-            answer: "accepted",
-            taken: "allocate AL1; ",
-            written: &[
-                "8=FIX.4.4|9=61|35=A|49=MO|56=BRKA|34=1|52=20240105-10:00:01.000|98=0|108=30|10=153|",
-                "8=FIX.4.4|9=86|35=P|49=MO|56=BRKA|34=2|52=20240105-10:00:01.000|70=AL1|60=20240105-10:00:01.000|87=0|10=138|",
-            ],
-            ended: "End",
-            expected: 4,
-        },
-        Row {
-            name: "an allocation that doesn't add up",
-            moments: "20240105-10:00:01.000",
-            stream: "\
-35=A|49=BRKA|56=MO|34=1|52=20240105-09:59:59|98=0|108=30|\n\
-35=J|49=BRKA|56=MO|34=2|52=20240105-10:00:00|70=AL1|71=0|54=1|55=XYZ|53=100|6=10.5|75=20240105|124=1|17=E1|78=2|79=A|80=60|366=10.25|79=B|80=40|\n\
-35=0|49=BRKA|56=MO|34=3|52=20240105-10:00:00|",
-            quiet: 0,
-            answer: "quantity",
-            taken: "allocate AL1; ",
-            written: &[
-                "8=FIX.4.4|9=61|35=A|49=MO|56=BRKA|34=1|52=20240105-10:00:01.000|98=0|108=30|10=153|",
-                "8=FIX.4.4|9=91|35=P|49=MO|56=BRKA|34=2|52=20240105-10:00:01.000|70=AL1|60=20240105-10:00:01.000|87=1|88=1|10=102|",
-            ],
-            ended: "End",
-            expected: 4,
-        },
-        Row {
-            name: "an allocation of a busted execution",
-            moments: "20240105-10:00:01.000",
-            stream: "\
-35=A|49=BRKA|56=MO|34=1|52=20240105-09:59:59|98=0|108=30|\n\
-35=J|49=BRKA|56=MO|34=2|52=20240105-10:00:00|70=AL1|71=0|54=1|55=XYZ|53=100|6=10.5|75=20240105|124=1|17=E1|78=2|79=A|80=60|366=10.25|79=B|80=40|\n\
-35=0|49=BRKA|56=MO|34=3|52=20240105-10:00:00|",
-            quiet: 0,
-            answer: "busted",
-            taken: "allocate AL1; ",
-            written: &[
-                "8=FIX.4.4|9=61|35=A|49=MO|56=BRKA|34=1|52=20240105-10:00:01.000|98=0|108=30|10=153|",
-                "8=FIX.4.4|9=92|35=P|49=MO|56=BRKA|34=2|52=20240105-10:00:01.000|70=AL1|60=20240105-10:00:01.000|87=1|88=10|10=151|",
-            ],
-            ended: "End",
-            expected: 4,
-        },
-        Row {
-            name: "an allocation refused for another reason",
-            moments: "20240105-10:00:01.000",
-            stream: "\
-35=A|49=BRKA|56=MO|34=1|52=20240105-09:59:59|98=0|108=30|\n\
-35=J|49=BRKA|56=MO|34=2|52=20240105-10:00:00|70=AL1|71=0|54=1|55=XYZ|53=100|6=10.5|75=20240105|124=1|17=E1|78=2|79=A|80=60|366=10.25|79=B|80=40|\n\
-35=0|49=BRKA|56=MO|34=3|52=20240105-10:00:00|",
-            quiet: 0,
-            answer: "dead",
-            taken: "allocate AL1; ",
-            written: &[
-                "8=FIX.4.4|9=61|35=A|49=MO|56=BRKA|34=1|52=20240105-10:00:01.000|98=0|108=30|10=153|",
-                "8=FIX.4.4|9=91|35=P|49=MO|56=BRKA|34=2|52=20240105-10:00:01.000|70=AL1|60=20240105-10:00:01.000|87=1|88=7|10=108|",
-            ],
-            ended: "End",
-            expected: 4,
-        },
-        Row {
-            name: "an allocation at a full desk",
-            moments: "20240105-10:00:01.000",
-            stream: "\
-35=A|49=BRKA|56=MO|34=1|52=20240105-09:59:59|98=0|108=30|\n\
-35=J|49=BRKA|56=MO|34=2|52=20240105-10:00:00|70=AL1|71=0|54=1|55=XYZ|53=100|6=10.5|75=20240105|124=1|17=E1|78=2|79=A|80=60|366=10.25|79=B|80=40|\n\
-35=0|49=BRKA|56=MO|34=3|52=20240105-10:00:00|",
-            quiet: 0,
-            answer: "full",
-            taken: "allocate AL1; ",
-            written: &[
-                "8=FIX.4.4|9=61|35=A|49=MO|56=BRKA|34=1|52=20240105-10:00:01.000|98=0|108=30|10=153|",
-                "8=FIX.4.4|9=49|35=5|49=MO|56=BRKA|34=2|52=20240105-10:00:01.000|10=123|",
-            ],
-            ended: "Closed(NotTaken)",
-            expected: 2,
-        },
-        Row {
-            name: "no Logon first",
-            moments: "20240105-10:00:01.000",
-            stream: "\
-35=0|49=BRKA|56=MO|34=1|52=20240105-10:00:00|",
-            quiet: 0,
-            answer: "full",
-            taken: "",
-            written: &[],
-            ended: "Closed(NoLogon)",
-            expected: 1,
-        },
-        Row {
-            name: "a Logon for another",
-            moments: "20240105-10:00:01.000",
-            stream: "\
-35=A|49=BRKA|56=MX|34=1|52=20240105-09:59:59|98=0|108=30|",
-            quiet: 0,
-            answer: "full",
-            taken: "",
-            written: &[],
-            ended: "Closed(CompId)",
-            expected: 1,
-        },
-        Row {
-            name: "a Logon, cut off",
-            moments: "20240105-10:00:01.000",
-            stream: "\
-!8=FIX.4.4|9=57|35=A|49=BRKA|56=MO|34=1|52=20240105-09:59:59|98=0|108=30|10=003",
-            quiet: 0,
-            answer: "full",
-            taken: "",
-            written: &[],
-            ended: "End",
-            expected: 1,
-        },
-        Row {
-            name: "a Logout",
-            moments: "20240105-10:00:01.000",
-            stream: "\
-35=A|49=BRKA|56=MO|34=1|52=20240105-09:59:59|98=0|108=30|\n\
-35=5|49=BRKA|56=MO|34=2|52=20240105-10:00:00|\n\
-35=0|49=BRKA|56=MO|34=3|52=20240105-10:00:00|",
-            quiet: 0,
-            answer: "full",
-            taken: "",
-            written: &[
-                "8=FIX.4.4|9=61|35=A|49=MO|56=BRKA|34=1|52=20240105-10:00:01.000|98=0|108=30|10=153|",
-                "8=FIX.4.4|9=49|35=5|49=MO|56=BRKA|34=2|52=20240105-10:00:01.000|10=123|",
-            ],
-            ended: "Closed(LoggedOut)",
-            expected: 3,
         },
     ];
     &ROWS

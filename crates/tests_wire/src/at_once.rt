@@ -2,15 +2,14 @@
 ghost use Rattle.std.specs.Prelude.{◌≡◌};
 
 use crate::streams::moments;
-use crate::turns::{Crowded, Turns, Watched};
+use crate::turns::Turns;
 use blot_desk::{Desk, Reply, Seat};
-use blot_gateway::{Ended, Gate, ListClock, MemoryWire, OpenGate, Wire, serve};
-use blot_session::{CloseReason, Phase, Session};
+use blot_gateway::{Ended, ListClock, MemoryWire, serve};
+use blot_session::{Phase, Session};
 use blot_slots::Slots;
 use std::alloc::Global;
 use std::marker::Brand;
 use std::sync::Wait;
-use std::sync::atomic::AtomicU64;
 use std::sync::ledger::{Blank, Ledger};
 use std::test::Fail;
 use std::thread::Threads;
@@ -25,9 +24,6 @@ const FIRST: &str = "\
 const SECOND: &str = "\
 35=A|49=BRKB|56=MO|34=1|52=20240105-09:59:59|98=0|108=30|\n\
 35=8|49=BRKB|56=MO|34=2|52=20240105-10:00:00|37=O2|17=E2|150=F|39=1|1=A1|55=XYZ|54=1|38=300|32=50|31=11|151=250|14=50|6=11|60=20240105-10:00:00|75=20240105|";
-
-// A Logon of a peer that isn't listed.
-const UNLISTED: &str = "35=A|49=BRKX|56=MO|34=1|52=20240105-09:59:59|98=0|108=30|";
 
 // The sessions of MO with BRKA and BRKB.
 fn table(alloc: Global) -> Result<Slots, Fail> {
@@ -56,19 +52,14 @@ fn wires(alloc: Global, streams: &[&str]) -> Result<Vec<MemoryWire>, Fail> {
 }
 
 // Serves wires at one moment.
-fn serve_all<
-    R: Threads + Wait + Sync,
-    W: Wire + Drop + Send,
-    L: Ledger + Send + Sync,
-    G: Gate + Sync,
->(
+fn serve_all<R: Threads + Wait + Sync, L: Ledger + Send + Sync>(
     rt: &R,
     alloc: Global,
-    wires: Vec<W>,
+    wires: Vec<MemoryWire>,
     slots: &Slots,
     desk: &Desk<L>,
     seats: Vec<Seat<L>>,
-    gate: &G,
+    gate: &Turns,
 ) -> Result<Vec<(Ended, Seat<L>)>, Fail> {
     let clocks = clocks(alloc, wires.len())?;
     if clocks.len() != wires.len() || seats.len() != wires.len() {
@@ -181,145 +172,31 @@ fn two_wires_served_at_once(rt: HostRuntime) -> Result<(), Fail> {
     run_two::<Brand, _>(&rt, rt.alloc(), Blank::new(2), 1)
 }
 
-// A wire of a peer that is on already, one of a peer that isn't listed, and one that fails at the first write.
-fn unserved(alloc: Global) -> Result<Vec<MemoryWire>, Fail> {
-    let mut wires = wires(alloc, &[FIRST, UNLISTED])?;
-    let mut failing = MemoryWire::new(alloc, stream(alloc, SECOND)?);
-    failing.fail_write(0);
-    wires.push(failing)?;
-    Ok(wires)
-}
-
-// How they end: nothing is submitted.
-fn expect_unserved<L: Ledger>(endings: &[(Ended, Seat<L>)]) -> Result<(), Fail> {
-    let [on, unlisted, failing] = endings else {
-        return Err(Fail::new("not three"));
-    };
-    expect_ending(on, Ended::Closed(CloseReason::AlreadyOn), None)?;
-    expect_ending(unlisted, Ended::Closed(CloseReason::CompId), None)?;
-    expect_ending(failing, Ended::WriteFault, None)
-}
-
-// Behind them the peer that is on is on still, and the session of the wire that failed is in again.
-fn run_unserved<L: Ledger + Send + Sync, R: Threads + Wait + Sync>(
+// A wire that fails at its first write: nothing is submitted, and its session is in again behind it.
+fn run_failing<L: Ledger + Send + Sync, R: Threads + Wait + Sync>(
     rt: &R,
     alloc: Global,
     blank: Blank,
 ) -> Result<(), Fail>
     requires name { blank.name ≡ L.name }
     requires parts { blank.parts ≡ L.parts }
-    requires three { blank.parts ≡ 3 }
+    requires one { blank.parts ≡ 1 }
 {
-    let (desk, seats) = Desk::<L>::new(alloc, blank, 3)?;
-    let slots = table(alloc)?;
-    let session = out(rt, &slots, b"BRKA")?;
-    let endings = serve_all(rt, alloc, unserved(alloc)?, &slots, &desk, seats, &OpenGate)?;
-    expect_unserved(&endings)?;
+    let (desk, seats) = Desk::<L>::new(alloc, blank, 1)?;
+    let (slots, gate) = (table(alloc)?, Turns::new(1));
+    let mut wire = MemoryWire::new(alloc, stream(alloc, SECOND)?);
+    wire.fail_write(0);
+    let mut wires = Vec::new(alloc);
+    wires.push(wire)?;
+    let endings = serve_all(rt, alloc, wires, &slots, &desk, seats, &gate)?;
+    for ending in &endings {
+        expect_ending(ending, Ended::WriteFault, None)?;
+    }
     expect_in(rt, &slots, b"BRKB", 2)?;
-    slots.check_in(rt, session);
-    expect_in(rt, &slots, b"BRKA", 1)?;
     settle(desk, seats_of(alloc, endings)?, 0)
 }
 
 #[test]
-fn wires_that_are_not_served(rt: HostRuntime) -> Result<(), Fail> {
-    run_unserved::<Brand, _>(&rt, rt.alloc(), Blank::new(3))
-}
-
-// The wires that give these streams, which are missed once they are gone.
-fn watched<'a>(
-    alloc: Global,
-    streams: &[&str],
-    gone: &'a AtomicU64,
-) -> Result<Vec<Watched<'a>>, Fail> {
-    let mut watched = Vec::new(alloc);
-    for wire in wires(alloc, streams)? {
-        watched.push(Watched { wire, gone })?;
-    }
-    Ok(watched)
-}
-
-// Of two wires of one peer one ends as its stream does, with the record of this number, the other because the peer is on.
-fn expect_one_on<L: Ledger>(
-    one: &(Ended, Seat<L>),
-    other: &(Ended, Seat<L>),
-    number: u64,
-) -> Result<(), Fail> {
-    let (on, turned) = if one.0 == Ended::End {
-        (one, other)
-    } else {
-        (other, one)
-    };
-    expect_ending(on, Ended::End, Some(Reply::Accepted(number)))?;
-    expect_ending(turned, Ended::Closed(CloseReason::AlreadyOn), None)
-}
-
-// Both wires were of one peer.
-fn expect_one_of_two<L: Ledger>(endings: &[(Ended, Seat<L>)]) -> Result<(), Fail> {
-    let [one, other] = endings else {
-        return Err(Fail::new("not two"));
-    };
-    expect_one_on(one, other, 1)
-}
-
-// A peer that connects twice at once. The submit of the connection that is first is held until the other is gone.
-fn run_twice<L: Ledger + Send + Sync, R: Threads + Wait + Sync>(
-    rt: &R,
-    alloc: Global,
-    blank: Blank,
-) -> Result<(), Fail>
-    requires name { blank.name ≡ L.name }
-    requires parts { blank.parts ≡ L.parts }
-    requires two { blank.parts ≡ 2 }
-{
-    let (desk, seats) = Desk::<L>::new(alloc, blank, 2)?;
-    let (slots, gone) = (table(alloc)?, AtomicU64::new(0));
-    let wires = watched(alloc, &[FIRST, FIRST], &gone)?;
-    let gate = Crowded::new(&gone, 1, None);
-    let endings = serve_all(rt, alloc, wires, &slots, &desk, seats, &gate)?;
-    gate.expect_in_time()?;
-    expect_one_of_two(&endings)?;
-    expect_in(rt, &slots, b"BRKA", 3)?;
-    settle(desk, seats_of(alloc, endings)?, 1)
-}
-
-#[test]
-fn a_peer_that_connects_twice(rt: HostRuntime) -> Result<(), Fail> {
-    run_twice::<Brand, _>(&rt, rt.alloc(), Blank::new(2))
-}
-
-// The wire in the middle ends as its stream does, and its trade is the first; the others were of one peer.
-fn expect_middle<L: Ledger>(endings: &[(Ended, Seat<L>)]) -> Result<(), Fail> {
-    let [one, middle, other] = endings else {
-        return Err(Fail::new("not three"));
-    };
-    expect_ending(middle, Ended::End, Some(Reply::Accepted(1)))?;
-    expect_one_on(one, other, 2)
-}
-
-// A peer's wire between two that name another peer. The submit of that other is held until both other wires are gone.
-fn run_between<L: Ledger + Send + Sync, R: Threads + Wait + Sync>(
-    rt: &R,
-    alloc: Global,
-    blank: Blank,
-) -> Result<(), Fail>
-    requires name { blank.name ≡ L.name }
-    requires parts { blank.parts ≡ L.parts }
-    requires three { blank.parts ≡ 3 }
-{
-    let (desk, seats) = Desk::<L>::new(alloc, blank, 3)?;
-    let (slots, gone) = (table(alloc)?, AtomicU64::new(0));
-    let wires = watched(alloc, &[FIRST, SECOND, FIRST], &gone)?;
-    let gate = Crowded::new(&gone, 2, Some(1));
-    let endings = serve_all(rt, alloc, wires, &slots, &desk, seats, &gate)?;
-    gate.expect_in_time()?;
-    expect_middle(&endings)?;
-    expect_in(rt, &slots, b"BRKA", 3)?;
-    expect_in(rt, &slots, b"BRKB", 3)?;
-    settle(desk, seats_of(alloc, endings)?, 2)
-}
-
-#[test]
-fn a_name_that_is_on_beside_another_peer(rt: HostRuntime) -> Result<(), Fail> {
-    run_between::<Brand, _>(&rt, rt.alloc(), Blank::new(3))
+fn a_wire_that_fails_at_its_first_write(rt: HostRuntime) -> Result<(), Fail> {
+    run_failing::<Brand, _>(&rt, rt.alloc(), Blank::new(1))
 }

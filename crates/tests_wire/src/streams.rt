@@ -1,6 +1,5 @@
 //! Bytes as text, and moments and answers in words.
 
-use blot_decimal::QtySum;
 use blot_desk::{DeskFault, Reply};
 use blot_time::Moment;
 use blot_types::Refused;
@@ -49,12 +48,6 @@ fn answer(word: &str) -> Result<Result<Reply, DeskFault>, Fail> {
     match word {
         "accepted" => Ok(Ok(Reply::Accepted(1))),
         "duplicate" => Ok(Ok(Reply::Refused(Refused::DuplicateExec(1)))),
-        "busted" => Ok(Ok(Reply::Refused(Refused::BustedExec(4)))),
-        "dead" => Ok(Ok(Reply::Refused(Refused::DeadAlloc(3)))),
-        "quantity" => Ok(Ok(Reply::Refused(Refused::Quantity(
-            QtySum::from_units(50_000_000),
-            QtySum::from_units(49_000_000),
-        )))),
         "undone" => Ok(Ok(Reply::Undone(1))),
         "full" => Ok(Err(DeskFault::Full)),
         "no-memory" => Ok(Err(DeskFault::NoMemory)),

@@ -1,4 +1,0 @@
-use Rattle.tests_threads.proofs.single.a_full_desk.Given as goal
-
-abbrev pub ghosts-run_full : goal.ghosts-run_full
-ghosts-run_full g a = record { name = a.blank.name; parts = a.blank.parts }
