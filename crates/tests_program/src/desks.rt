@@ -95,15 +95,20 @@ fn each_line_is_answered_before_a_call_that_fails(rt: HostRuntime) -> Result<(),
     Ok(())
 }
 
-// A desk with room for one event more.
-fn almost_full(alloc: Global) -> Result<Held, Fail> {
-    let mut held = Held::new(alloc);
-    for _ in 1..EVENTS_MAX {
-        let Ok(_) = held.step(Event::Redo) else {
-            return Err(Fail::new("no step"));
-        };
+// There is nothing to redo, which is recorded.
+fn redo(held: &mut Held) -> Result<(), Fail> {
+    match held.step(Event::Redo) {
+        Ok(_) => Ok(()),
+        Err(_) => Err(Fail::new("no step")),
     }
-    Ok(held)
+}
+
+// A desk has room for one event more.
+fn fill_almost(held: &mut Held) -> Result<(), Fail> {
+    for _ in 1..EVENTS_MAX {
+        redo(held)?;
+    }
+    Ok(())
 }
 
 // The Logon of BRKA, the first trade, and another of 50 at 11.
@@ -141,7 +146,8 @@ fn captures_into_a_desk_that_holds_events(rt: HostRuntime) -> Result<(), Fail> {
 
 #[test]
 fn a_capture_into_a_full_desk(rt: HostRuntime) -> Result<(), Fail> {
-    let mut held = almost_full(rt.alloc())?;
+    let mut held = Held::new(rt.alloc());
+    fill_almost(&mut held)?;
     let bytes = two_trades(rt.alloc())?;
     let full = EVENTS_MAX as usize;
     for _ in 0..2 {

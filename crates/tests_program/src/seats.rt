@@ -1,18 +1,19 @@
 //! `seat_lines` over terminals in memory, at the one seat of a desk.
 ghost use Rattle.std.specs.Prelude.{◌≡◌};
 
-use crate::capture_rows::TRADE;
 use crate::desk_rows::{FULL, MORNING};
-use crate::dialogues::{Dialogue, answers_to, captured, desk, spell};
+use crate::dialogues::{Dialogue, answers_to, spell};
 use crate::memory::{AT_ONCE, BY_BYTES, BY_LINES, INTERRUPTED, Manner, failing, reader, writer};
 use blot_desk::{Desk, Event, Seat};
-use blot_types::EVENTS_MAX;
+use blot_types::{Command, EVENTS_MAX};
 use blotter::{ReplayFault, seat_lines};
 use std::alloc::Global;
 use std::marker::Brand;
 use std::sync::Wait;
 use std::sync::ledger::{Blank, Ledger};
 use std::test::Fail;
+use tests_words::Filled::Buys;
+use tests_words::trade;
 
 // What is submitted before any line, how reads and calls of the screen go, and what comes of it.
 #[derive(Clone, Copy)]
@@ -35,11 +36,10 @@ report>20240105 => report>20240105/order>BRKA>O1>XYZ>B>100>200>1050/position>A1>
 report>20240106 => report>20240106/end>0
 ";
 
-// The first trade, as a capture brings it.
-fn first_trade(alloc: Global) -> Result<Event, Fail> {
-    let held = desk(alloc, &captured(alloc, TRADE)?)?;
-    let recorded = held.history().first().ok_or("no trade")?;
-    Ok(recorded.event.try_copy(alloc)?)
+// 100 of 300 at 10.50.
+fn first_trade() -> Result<Event, Fail> {
+    let trade = trade(b"BRKA", b"E1", &Buys(b"O1", b"100", b"10.50", b"300"))?;
+    Ok(Event::Submit(Command::Trade(trade)))
 }
 
 // Submits an event of a seat.
@@ -58,13 +58,12 @@ fn submit<L: Ledger>(
 // What is submitted before the lines: the first trade, or redoes.
 fn begin<L: Ledger>(
     rt: &impl Wait,
-    alloc: Global,
     desk: &Desk<L>,
     seat: &mut Seat<L>,
     redoes: u64,
 ) -> Result<(), Fail> {
     if redoes == 0 {
-        return submit(rt, desk, seat, first_trade(alloc)?);
+        return submit(rt, desk, seat, first_trade()?);
     }
     for _ in 0..redoes {
         submit(rt, desk, seat, Event::Redo)?;
@@ -110,7 +109,7 @@ fn sit<L: Ledger>(
 {
     let (desk, mut seats) = Desk::<L>::new(alloc, blank, 1)?;
     let mut seat = seats.pop().ok_or("no seat")?;
-    begin(rt, alloc, &desk, &mut seat, sitting.redoes)?;
+    begin(rt, &desk, &mut seat, sitting.redoes)?;
     check_lines(rt, alloc, &desk, &mut seat, sitting)?;
     seats.push(seat)?;
     match desk.close().settle(seats) {
