@@ -247,8 +247,8 @@ def played(command, port, body, seconds):
     try:
         converse(talk, port, body[1:] if is_taken else body)
         leave(talk)
-    except (OSError, KeyError) as error:
-        talk['differences'].append((None, b'the conversation to its end', str(error).encode()))
+    except Exception as error:
+        talk['differences'].append((None, b'the conversation to its end', f'{type(error).__name__}: {error}'.encode()))
         talk['process'].kill()
     found = finish(talk)
     alarm.cancel()
