@@ -5,7 +5,7 @@ use crate::streams::moments;
 use crate::turns::Turns;
 use blot_desk::{Desk, Reply, Seat};
 use blot_gateway::{Ended, ListClock, MemoryWire, serve};
-use blot_session::{Phase, Session};
+use blot_session::{CloseReason, Phase, Session};
 use blot_slots::Slots;
 use std::alloc::Global;
 use std::marker::Brand;
@@ -24,6 +24,9 @@ const FIRST: &str = "\
 const SECOND: &str = "\
 35=A|49=BRKB|56=MO|34=1|52=20240105-09:59:59|98=0|108=30|\n\
 35=8|49=BRKB|56=MO|34=2|52=20240105-10:00:00|37=O2|17=E2|150=F|39=1|1=A1|55=XYZ|54=1|38=300|32=50|31=11|151=250|14=50|6=11|60=20240105-10:00:00|75=20240105|";
+
+// A Logon of a peer that isn't listed.
+const UNLISTED: &str = "35=A|49=BRKX|56=MO|34=1|52=20240105-09:59:59|98=0|108=30|";
 
 // The sessions of MO with BRKA and BRKB.
 fn table(alloc: Global) -> Result<Slots, Fail> {
@@ -172,31 +175,47 @@ fn two_wires_served_at_once(rt: HostRuntime) -> Result<(), Fail> {
     run_two::<Brand, _>(&rt, rt.alloc(), Blank::new(2), 1)
 }
 
-// A wire that fails at its first write: nothing is submitted, and its session is in again behind it.
-fn run_failing<L: Ledger + Send + Sync, R: Threads + Wait + Sync>(
+// A wire of a peer that is on already, one of a peer that isn't listed, and one that fails at the first write.
+fn unserved(alloc: Global) -> Result<Vec<MemoryWire>, Fail> {
+    let mut wires = wires(alloc, &[FIRST, UNLISTED])?;
+    let mut failing = MemoryWire::new(alloc, stream(alloc, SECOND)?);
+    failing.fail_write(0);
+    wires.push(failing)?;
+    Ok(wires)
+}
+
+// How they end: nothing is submitted.
+fn expect_unserved<L: Ledger>(endings: &[(Ended, Seat<L>)]) -> Result<(), Fail> {
+    let [on, unlisted, failing] = endings else {
+        return Err(Fail::new("not three"));
+    };
+    expect_ending(on, Ended::Closed(CloseReason::AlreadyOn), None)?;
+    expect_ending(unlisted, Ended::Closed(CloseReason::CompId), None)?;
+    expect_ending(failing, Ended::WriteFault, None)
+}
+
+// Behind them the peer that is on is on still, and the session of the wire that failed is in again.
+fn run_unserved<L: Ledger + Send + Sync, R: Threads + Wait + Sync>(
     rt: &R,
     alloc: Global,
     blank: Blank,
 ) -> Result<(), Fail>
     requires name { blank.name ≡ L.name }
     requires parts { blank.parts ≡ L.parts }
-    requires one { blank.parts ≡ 1 }
+    requires three { blank.parts ≡ 3 }
 {
-    let (desk, seats) = Desk::<L>::new(alloc, blank, 1)?;
-    let (slots, gate) = (table(alloc)?, Turns::new(1));
-    let mut wire = MemoryWire::new(alloc, stream(alloc, SECOND)?);
-    wire.fail_write(0);
-    let mut wires = Vec::new(alloc);
-    wires.push(wire)?;
-    let endings = serve_all(rt, alloc, wires, &slots, &desk, seats, &gate)?;
-    for ending in &endings {
-        expect_ending(ending, Ended::WriteFault, None)?;
-    }
+    let (desk, seats) = Desk::<L>::new(alloc, blank, 3)?;
+    let (slots, gate) = (table(alloc)?, Turns::new(3));
+    let session = out(rt, &slots, b"BRKA")?;
+    let endings = serve_all(rt, alloc, unserved(alloc)?, &slots, &desk, seats, &gate)?;
+    expect_unserved(&endings)?;
     expect_in(rt, &slots, b"BRKB", 2)?;
+    slots.check_in(rt, session);
+    expect_in(rt, &slots, b"BRKA", 1)?;
     settle(desk, seats_of(alloc, endings)?, 0)
 }
 
 #[test]
-fn a_wire_that_fails_at_its_first_write(rt: HostRuntime) -> Result<(), Fail> {
-    run_failing::<Brand, _>(&rt, rt.alloc(), Blank::new(1))
+fn wires_that_are_not_served(rt: HostRuntime) -> Result<(), Fail> {
+    run_unserved::<Brand, _>(&rt, rt.alloc(), Blank::new(3))
 }
