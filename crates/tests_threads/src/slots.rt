@@ -1,6 +1,11 @@
 //! The table of sessions under its lock.
+ghost use Rattle.std.specs.Prelude.{IfOk};
+ghost use Rattle.blot_session.specs.States.{IsIdle};
 
+use blot_session::{Phase, Session};
 use blot_slots::{SlotFault, Slots};
+use blot_tag::Reader;
+use blot_time::Moment;
 use blot_types::Text64;
 use std::alloc::Global;
 use std::sync::Wait;
@@ -8,12 +13,90 @@ use std::test::Fail;
 use std::thread::{Threads, join};
 use tests_words::text;
 
+// BRKA's Logon, under number 1.
+const LOGON: &str =
+    "8=FIX.4.4|9=57|35=A|49=BRKA|56=MO|34=1|52=20240105-09:59:59|98=0|108=30|10=003|";
+
 // The table of MO with these peers.
 fn table_of(alloc: Global, peers: &[Text64]) -> Result<Slots, Fail> {
     match Slots::new(alloc, text(b"MO")?, peers) {
         Ok(slots) => Ok(slots),
         Err(fault) => Err(Fail::new(format_args!("{fault:?}"))),
     }
+}
+
+// The session of a peer, handed out.
+fn out(rt: &impl Wait, slots: &Slots, peer: &Text64) -> Result<Session, Fail>
+    ensures { IfOk result IsIdle }
+{
+    match slots.check_out(rt, peer) {
+        Ok(session) => Ok(session),
+        Err(fault) => Err(Fail::new(format_args!("{fault:?}"))),
+    }
+}
+
+// The session of a peer isn't handed out, for this reason.
+fn expect_kept(
+    rt: &impl Wait,
+    slots: &Slots,
+    peer: &Text64,
+    wanted: SlotFault,
+) -> Result<(), Fail> {
+    let found = slots.check_out(rt, peer).err();
+    if found != Some(wanted) {
+        return Err(Fail::new(format_args!("{found:?} for {wanted:?}")));
+    }
+    Ok(())
+}
+
+// A session waits for a Logon, and expects this number.
+fn expect_waiting(session: &Session, number: u64) -> Result<(), Fail> {
+    let (phase, expected) = (session.phase(), session.expected());
+    if phase != Phase::Waiting || expected != number {
+        return Err(Fail::new(format_args!("{phase:?}, number {expected}")));
+    }
+    Ok(())
+}
+
+// The peer logs on.
+fn log_on(alloc: Global, session: &mut Session) -> Result<(), Fail>
+    requires { IsIdle session.old }
+{
+    let mut bytes = Vec::new(alloc);
+    for byte in LOGON.as_bytes() {
+        bytes.push(if *byte == b'|' { 1 } else { *byte })?;
+    }
+    let mut reader = Reader::new(alloc);
+    reader.feed(&bytes)?;
+    let frame = reader.next()?.ok_or("no frame")?;
+    let now = Moment::read(b"20240105-10:00:01.000")?;
+    session.on_frame(alloc, &frame, now)?;
+    Ok(())
+}
+
+// A peer that isn't listed, and one whose session is out; the numbers outlive a connection, and a session that comes back while
+// its peer's is in is let go.
+fn check_out_and_check_in(rt: &impl Wait, alloc: Global) -> Result<(), Fail> {
+    let (brka, brkx) = (text(b"BRKA")?, text(b"BRKX")?);
+    let slots = table_of(alloc, &[brka])?;
+    if slots.own() != text(b"MO")? {
+        return Err(Fail::new("another own"));
+    }
+    expect_kept(rt, &slots, &brkx, SlotFault::UnknownPeer)?;
+    let mut session = out(rt, &slots, &brka)?;
+    expect_waiting(&session, 1)?;
+    expect_kept(rt, &slots, &brka, SlotFault::AlreadyOn)?;
+    log_on(alloc, &mut session)?;
+    slots.check_in(rt, session);
+    slots.check_in(rt, Session::new(text(b"MO")?, brka));
+    let again = out(rt, &slots, &brka)?;
+    expect_waiting(&again, 2)?;
+    expect_kept(rt, &slots, &brka, SlotFault::AlreadyOn)
+}
+
+#[test]
+fn check_out_and_check_in_under_the_lock(rt: HostRuntime) -> Result<(), Fail> {
+    check_out_and_check_in(&rt, rt.alloc())
 }
 
 // Why the session of a peer isn't handed out, if it isn't.

@@ -4,7 +4,6 @@ use blot_desk::{Closed, Desk, DeskFault, Event, Reply, Seat, Settled};
 use std::sync::Wait;
 use std::sync::ledger::Ledger;
 use std::test::Fail;
-use tests_words::{Step, command};
 
 /// Submits an event of a seat.
 pub fn take<L: Ledger>(
