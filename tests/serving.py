@@ -24,6 +24,8 @@ Played = collections.namedtuple('Played', 'differences rest wanted_rest status e
 WAIT = 10  # seconds for one thing that is awaited
 MOMENT = re.compile(rb'\x0152=(\d{8}-\d\d:\d\d:\d\d\.\d{3})\x01')
 DEED = re.compile(r'(\S+) (connects|hangs up|breaks off|is closed)')
+NOBODY = re.compile(r'nobody listens at (\S+)')
+ROOM = re.compile(r'the program has (\d+) MB')
 GETS = re.compile(r'(\S+) gets (35=.*)')
 
 
@@ -53,7 +55,10 @@ def put_lines(stream, lines):
     lines.put(None)
 
 
-def begin(command):
+def begin(command, megabytes):
+    """The program, begun. Where a number of megabytes is given, the system refuses it more."""
+    if megabytes:
+        command = ['sh', '-c', 'ulimit -v "$0" && exec "$@"', str(1024 * megabytes), *command]
     process = subprocess.Popen(command, stdin=subprocess.PIPE, stdout=subprocess.PIPE, stderr=subprocess.PIPE)
     lines, errors = queue.Queue(), []
     threads = [threading.Thread(target=put_lines, args=(process.stdout, lines)),
@@ -150,6 +155,16 @@ def expect_closed(talk, label, number):
     differ(talk, number, b'the end of the connection', b'the end of the connection' if is_closed else b'an open connection')
 
 
+def expect_nobody(talk, address, port, number):
+    """The program, which is there already, has the port at its own address alone."""
+    try:
+        socket.create_connection((address, port), WAIT).close()
+        got = b'a connection'
+    except ConnectionRefusedError:
+        got = b'nobody'
+    differ(talk, number, b'nobody', got)
+
+
 def end_wire(talk, label, deed):
     wire = talk['wires'][label]
     if deed == 'hangs up':
@@ -182,8 +197,10 @@ def label_of(text):
 
 def deed_of(talk, port, number, text):
     """What a peer does."""
-    deed, gets = DEED.fullmatch(text), GETS.fullmatch(text)
-    if gets:
+    deed, gets, nobody = DEED.fullmatch(text), GETS.fullmatch(text), NOBODY.fullmatch(text)
+    if nobody:
+        expect_nobody(talk, nobody[1], port, number)
+    elif gets:
         expect_message(talk, gets[1], number, gets[2])
     elif deed and deed[2] == 'connects':
         connect(talk, deed[1], port)
@@ -239,13 +256,14 @@ def finish(talk):
 
 def played(command, port, body, seconds):
     """Plays a body, a list of lines with their numbers and answers, to its end or until the seconds are over."""
-    is_taken = bool(body) and body[0][1] == 'the port is taken'
+    first = body[0][1] if body else ''
+    is_taken, room = first == 'the port is taken', ROOM.fullmatch(first)
     taken = take(port) if is_taken else None
-    talk = begin(command)
+    talk = begin(command, int(room[1]) if room else None)
     alarm = threading.Timer(seconds, talk['process'].kill)
     alarm.start()
     try:
-        converse(talk, port, body[1:] if is_taken else body)
+        converse(talk, port, body[1:] if is_taken or room else body)
         leave(talk)
     except Exception as error:
         talk['differences'].append((None, b'the conversation to its end', f'{type(error).__name__}: {error}'.encode()))

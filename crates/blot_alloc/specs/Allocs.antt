@@ -7,6 +7,10 @@ use Rattle.blot_types.specs.declared.keys.AllocKey.{AllocKey}
 use Rattle.blot_types.specs.declared.keys.ExecKey.{ExecKey}
 use Rattle.blot_types.specs.Instructions.{is_keyed, is_instructed, is_above_instructions}
 
+-- what a contract sees of the allocations: their instructions, newest first
+pub record Shown : Type 0 where
+  pub list : List Instruction
+
 -- the roots of the chains that the instruction which takes up a key lists
 abbrev pub roots_in : List Instruction → AllocKey → Option (List ExecKey)
 roots_in instructions key = option_map (λ instruction. instruction.roots) (find (is_keyed key) instructions)

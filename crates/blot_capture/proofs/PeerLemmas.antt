@@ -13,7 +13,7 @@ use Rattle.blot_session.specs.Runs.{Call, Numbered, outcome, behind_calls, deliv
 use Rattle.blot_session.specs.States.{fresh}
 use Rattle.blot_capture.specs.Capture.{Sessions, TakesEachPeer, first_sessions, sessions_behind, commands_in, commands_from, calls_of, calls_over, is_from, taken_by as frame_takes}
 
--- ---- calls one behind the other
+-- ---- calls one after the other
 
 -- what the last of some calls delivered
 last_of : List Numbered → State → List Call → List Numbered

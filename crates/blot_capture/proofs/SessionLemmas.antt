@@ -1,8 +1,7 @@
 -- What a frame comes to at its session.
 use Rattle.std.proofs.Common.{◌≡◌, ℕ, Bool, true, false, List, [], ◌∷◌, ◌++◌, map, Option, Some, None, Result, Ok, refl, sym, ap, subst, ◌∙◌, inl, inr}
 use Rattle.std.specs.Prelude.{ℤ, is_some, if◌then◌else◌}
-use Rattle.std.specs.List.{list_any}
-use Rattle.std.proofs.lemmas.Bool.{cond_both, cases_Bool, false≢true}
+use Rattle.std.proofs.lemmas.Bool.{cond_both, cases_Bool}
 use Rattle.std.proofs.lemmas.List.{append-nil}
 use Rattle.blot_types.specs.declared.command.Command.{Command}
 use Rattle.blot_types.specs.declared.refused.Refused.{Refused as Refusal}
@@ -19,13 +18,14 @@ use Rattle.blot_session.specs.declared.replies.SeenReply.TheVariants.{Accepted, 
 use Rattle.blot_session.specs.declared.state.Awaited.{Awaited}
 use Rattle.blot_session.specs.declared.state.Awaited.TheVariants as awaits
 use Rattle.blot_session.specs.declared.state.State.{State}
-use Rattle.blot_session.specs.Calls.{Outcome, Awaits, DeliversAlone, is_deliver, is_spent, outcome_of, reply_row_by, on_frame, on_reply}
+use Rattle.blot_session.specs.Calls.{Outcome, Awaits, DeliversAlone, is_spent, outcome_of, reply_row_by, on_frame, on_reply}
 use Rattle.blot_session.specs.declared.met.Met.{Met}
 use Rattle.blot_session.specs.Met.{met_of}
 use Rattle.blot_session.specs.Rows.{reply_row}
 use Rattle.blot_session.specs.Runs.{Numbered, outcome, said_by, delivered_by, taken_behind, taken_of}
 use Rattle.blot_session.specs.States.{awaited_of, phase_of}
 use Rattle.blot_gateway.specs.Serving.{seen_by}
+use Rattle.blot_session.proofs.ActionLemmas.{delivered-none}
 use Rattle.blot_session.proofs.OneLemmas.{AtMostOne, one-frame}
 use Rattle.blot_capture.specs.Capture.{frame_call, reply_calls, waiting_calls, behind_frame, behind_reply, calls_of, taken_by, moment_at, is_closed_phase}
 use Rattle.blot_capture.specs.declared.handled.Handled.{Handled}
@@ -40,12 +40,6 @@ commands-same number [] = refl
 commands-same number (Send bytes ∷ actions) = commands-same number actions
 commands-same number (Deliver command ∷ actions) = ap (λ more. command ∷ more) (commands-same number actions)
 commands-same number (Close reason ∷ actions) = commands-same number actions
-
-delivered-none : (number : ℕ) (actions : List Action) → list_any is_deliver actions ≡ false → delivered_by number actions ≡ []
-delivered-none number [] is = refl
-delivered-none number (Send bytes ∷ actions) is = delivered-none number actions is
-delivered-none number (Deliver command ∷ actions) is = absurd (false≢true (sym is))
-delivered-none number (Close reason ∷ actions) is = delivered-none number actions is
 
 -- ---- the reply
 
@@ -63,7 +57,7 @@ submit-seen : (book : DeskBook) (command : Command) (refused : Option Refusal) (
 submit-seen book command None state now = refl
 submit-seen book command (Some reason) state now = seen-by state (awaited_of state) (Refused (refused_number reason)) now
 
--- the session behind the desk's reply is the one behind an acceptance
+-- the session after the desk's reply is the one after an acceptance
 pub replied : (book : DeskBook) (command : Command) (reply : DeskReply) (seen : Result SeenReply NotTaken) (state : State) (now : ℤ)
     → reply ≡ (step_of book (Submit command)).reply → seen ≡ seen_by (Ok reply) → (on_reply state seen now).state ≡ (on_reply state (Ok Accepted) now).state
 replied book command reply seen state now given told =
@@ -75,7 +69,7 @@ replied book command reply seen state now given told =
 waiting-takes : (last : List Numbered) (closed state : State) → taken_behind last state (waiting_calls closed) ≡ []
 waiting-takes last closed state = cond_both (is_closed_phase (phase_of closed)) _ _ (λ calls. taken_behind last state calls ≡ []) (λ y. refl) (λ n. refl)
 
--- behind a frame, what it delivers is taken where a reply is awaited
+-- after a frame, what it delivers is taken where a reply is awaited
 reply-takes : (last : List Numbered) (state closed : State) (now : ℤ)
     → taken_behind last state (reply_calls state now ++ waiting_calls closed) ≡ (if is_some (awaited_of state) then last else [])
 reply-takes last state closed now = elim (cases_Bool (is_some (awaited_of state))) [

@@ -1,4 +1,4 @@
--- The frames of a stream, taken one by one, and its pieces, one behind the other.
+-- The frames of a stream, taken one by one, and its pieces, one after the other.
 use Rattle.std.proofs.Common.{◌≡◌, ℕ, List, [], ◌∷◌, ◌++◌, Option, Some, None, refl, sym, ap, ◌∙◌, subst}
 use Rattle.std.specs.Prelude.{IfSome}
 use Rattle.std.specs.Io.KnownBytes.{Consumes, Keeps, IsAtEnd}
@@ -16,7 +16,7 @@ use Rattle.blot_capture.proofs.DeskLemmas.{submitted-append, stopped-behind, sto
 
 -- ---- frames
 
--- a frame that is taken stands before those of what is left, whatever comes behind
+-- a frame that is taken stands before those of what is left, whatever comes after
 frames-taken : (old new : Reading) (frame more : List ℕ) → TakesFirst old frame new → frames_of (old.unread ++ more) ≡ frame ∷ frames_of (new.unread ++ more)
 frames-taken old new frame more taken =
     ap (λ walk. walk.frames) (walk_of-append old.unread more)

@@ -1,6 +1,6 @@
 -- What a capture comes to. Each frame goes to the session of its sender, with its own SendingTime as the moment; each command
 -- that a session takes goes to the desk.
-use Rattle.std.specs.Prelude.{◌≡◌, ℕ, ℤ, pos, Bool, true, false, List, [], ◌∷◌, ◌++◌, ◌==◌, map, filter, Option, Some, None, Ok, Err, is_some, if◌then◌else◌}
+use Rattle.std.specs.Prelude.{◌≡◌, ℕ, ℤ, pos, Bool, true, false, List, [], ◌∷◌, ◌++◌, map, filter, Option, Some, None, Ok, is_some, if◌then◌else◌}
 use Rattle.std.specs.List.{list_any}
 use Rattle.std.specs.Option.{option_map, option_map_or, option_and_then}
 use Rattle.std.specs.Result.{result_unwrap_or}
@@ -9,6 +9,7 @@ use Rattle.blot_tag.specs.Fields.{Item, fields_of}
 use Rattle.blot_tag.specs.Walking.{frames_of}
 use Rattle.blot_types.specs.declared.command.Command.{Command}
 use Rattle.blot_types.specs.Keys.{same_text}
+use Rattle.blot_fields.specs.First.{first_value}
 use Rattle.blot_fields.specs.Sender.{sender_of}
 use Rattle.blot_session.specs.declared.replies.SeenReply.TheVariants.{Accepted}
 use Rattle.blot_session.specs.declared.state.Phase.{Phase}
@@ -22,9 +23,7 @@ use Rattle.blot_session.specs.States.{fresh, phase_of, awaited_of}
 
 -- the moment of some fields: its first field SendingTime(52), or the first moment of 1970 where that isn't there or can't be read
 abbrev pub sending_of : List Item → ℤ
-sending_of [] = pos 0
-sending_of (Err fault ∷ items) = pos 0
-sending_of (Ok field ∷ items) = if field.tag == 52 then result_unwrap_or (moment_of field.value) (pos 0) else sending_of items
+sending_of items = option_map_or (λ value. result_unwrap_or (moment_of value) (pos 0)) (first_value 52 items) (pos 0)
 
 -- the moment of a frame
 abbrev pub moment_at : List ℕ → ℤ
@@ -34,8 +33,8 @@ moment_at text = sending_of (fields_of text)
 abbrev pub frame_call : List ℕ → Call
 frame_call text = Frame text (moment_at text) true
 
--- what it delivers is taken. The reply says that the book accepts it; a refusal leads to the same session, and only what is sent,
--- which is dropped here, would be another
+-- what it delivers is taken. The reply says that the book accepts it; after a refusal the session is the same. Only what it sends would
+-- be different, and that is dropped here
 abbrev pub reply_calls : State → ℤ → List Call
 reply_calls state now = if is_some (awaited_of state) then Reply (Ok Accepted) now true ∷ [] else []
 
@@ -47,7 +46,7 @@ is_closed_phase phase = false
 abbrev pub waiting_calls : State → List Call
 waiting_calls state = if is_closed_phase (phase_of state) then WaitAgain ∷ [] else []
 
--- a session behind the frame, and behind the reply to what that delivered
+-- a session after the frame, and after the reply to what that delivered
 abbrev pub behind_frame : State → List ℕ → State
 behind_frame state text = (outcome state (frame_call text)).state
 
@@ -64,11 +63,11 @@ taken_by state text = map (λ taken. taken.command) (taken_of state (calls_of st
 
 -- ---- the frames of all peers
 
--- the session of each peer; who isn't one has none
+-- the session of each peer; one who isn't a peer has none
 abbrev pub Sessions : Type 0
 Sessions = List ℕ → Option State
 
--- the peers were never heard of
+-- no peer was heard of yet
 abbrev pub first_sessions : List ℕ → List (List ℕ) → Sessions
 first_sessions own peers peer = if list_any (λ listed. same_text listed peer) peers then Some (fresh own peer) else None
 
@@ -76,7 +75,7 @@ first_sessions own peers peer = if list_any (λ listed. same_text listed peer) p
 abbrev pub is_from : List ℕ → List ℕ → Bool
 is_from peer text = option_map_or (λ sender. same_text sender peer) (sender_of (fields_of text)) false
 
--- the sessions behind a frame: that of its sender behind the frame's calls, the others as they were
+-- the sessions after a frame: its sender's is the one after the frame's calls, the others are as they were
 abbrev pub sessions_behind : Sessions → List ℕ → Sessions
 sessions_behind sessions text peer =
     if is_from peer text then option_map (λ state. behind_calls state (calls_of state text)) (sessions peer) else sessions peer
@@ -98,7 +97,7 @@ commands_from peer sessions [] = []
 commands_from peer sessions (text ∷ texts) =
     (if is_from peer text then commands_in sessions text else []) ++ commands_from peer (sessions_behind sessions text) texts
 
--- all calls of a session over its own frames, one behind the other
+-- all calls of a session over its own frames, one after the other
 abbrev pub calls_over : State → List (List ℕ) → List Call
 calls_over state [] = []
 calls_over state (text ∷ texts) = calls_of state text ++ calls_over (behind_calls state (calls_of state text)) texts

@@ -33,19 +33,19 @@ became_by met handled.Passed = became.Passed
 became_by met (handled.Met wanted) = became_met met
 became_by met (handled.Replied reply wanted) = became.Replied reply
 
--- what the session wants done, but for the command that it delivered
+-- what the session wants done, except for the command that it delivered
 abbrev pub wanted_of : Handled → List Action
 wanted_of handled.Passed = []
 wanted_of (handled.Met wanted) = wanted.items
 wanted_of (handled.Replied reply wanted) = wanted.items
 
--- these are all that it wants done, where what delivers a command does nothing else
+-- these are all that it wants done, where a call that delivers a command does nothing else
 abbrev pub Wants : List Action → Handled → Type 0
 Wants actions handled.Passed = actions ≡ []
 Wants actions (handled.Met wanted) = actions ≡ wanted.items
 Wants actions (handled.Replied reply wanted) = (command : Command) × (actions ≡ Deliver command ∷ wanted.items)
 
--- a frame became this, where its session made this of it, and that wants these done
+-- a frame became this: its session made this of it, and wants these actions done
 pub record IsHandled (end : Became) (actions : List Action) (met : Option Met) (handled : Handled) : Type 0 where
   pub became : became_by met handled ≡ end
   pub wanted : Wants actions handled

@@ -24,7 +24,7 @@ fault_of desk.Full = Full
 fault_of desk.NoMemory = NoMemory
 fault_of desk.Unsettled = NoMemory
 
--- a desk was submitted a front of some commands, and then a fault came. Full is answered only where as many events are recorded
+-- a front of some commands was submitted to a desk, and then a fault came. Full is answered only where as many events are recorded
 -- as a day has, and a further command came
 pub record Stopped (fault : ReplayFault) (before after : Journal) (commands : List Command) : Type 0 where
   pub front : List Command
@@ -48,13 +48,13 @@ pub record Taking : Type 0 where
   pub sessions : Sessions
   pub journal : Journal
 
--- from here to there a front of the commands of some frames was submitted, and those of the frames that are left are the rest
+-- from here to there a front of the commands of some frames was submitted; the rest are the commands of the frames that are left
 pub record Came (from : Taking) (texts : List (List ℕ)) (now : Taking) (left : List (List ℕ)) : Type 0 where
   pub front : List Command
   pub joined : front ++ commands_over now.sessions left ≡ commands_over from.sessions texts
   pub taken : now.journal ≡ submitted from.journal front
 
--- the same of an input's bytes, where they are known: some were read, and of those some are unread
+-- the same for an input's bytes, where they are known: some were read, and some of those are unread
 abbrev pub CameOf : Option (List ℕ) → Taking → Option (List ℕ) → List ℕ → Taking → Type 0
 CameOf None from rest unread now = ⊤
 CameOf (Some bytes) from None unread now = ⊥

@@ -1,4 +1,4 @@
--- The sessions of a capture: those that are out, and behind them those of the table.
+-- The sessions of a capture: those that are out, and after them those of the table.
 use Rattle.std.specs.Prelude.{◌≡◌, ◌<◌, ℕ, List, length, take, slice_index_or, find, Option, Some, None}
 use Rattle.std.specs.Option.{option_or}
 use Rattle.blot_tag.specs.Fields.{fields_of}

@@ -77,7 +77,7 @@ turn_of taking placed = record {
   actions = actions_in (session_for taking.sessions placed.text) taking.journal placed.text;
 }
 
--- the sessions and the desk behind a message
+-- the sessions and the desk after a message
 abbrev pub taking_after : Taking → List ℕ → Taking
 taking_after taking text = record {
   sessions = sessions_behind taking.sessions text;
@@ -89,7 +89,7 @@ abbrev pub trace_over : Taking → List Placed → List Turn
 trace_over taking [] = []
 trace_over taking (placed ∷ more) = turn_of taking placed ∷ trace_over (taking_after taking placed.text) more
 
--- the peers were never heard of, and the desk is empty
+-- no peer was heard of yet, and the desk is empty
 abbrev pub first_taking : List ℕ → List (List ℕ) → Taking
 first_taking own peers = record { sessions = first_sessions own peers; journal = empty_journal }
 
@@ -113,7 +113,7 @@ abbrev pub accepted_in : Turn → List Entry
 accepted_in turn = flat_map (λ command. accepted_by command turn.became) turn.commands
 
 -- the commands of the messages are those that a capture submits, and the replies that they got are those of the run of these. So what
--- the messages are told to have put into the book is, one by one, the live list that the report of a day is made of
+-- the messages are told to have put into the book is, one by one, the live list from which the report of a day is made
 pub record IsReplayed (own : List ℕ) (peers : List (List ℕ)) (bytes : List ℕ) : Type 0 where
   pub commands : flat_map (λ turn. turn.commands) (trace_of own peers bytes) ≡ commands_of own peers bytes
   pub replies : flat_map (λ turn. reply_told turn.became) (trace_of own peers bytes) ≡ (run_of (map Submit (commands_of own peers bytes))).replies

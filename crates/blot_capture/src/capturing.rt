@@ -24,7 +24,7 @@ use std::io::Read;
 /// unfinished frame at the end. No peer may be listed twice.
 ///
 /// A fault is Read, Full (as many events are recorded as a day has, and a further command came), NoMemory or TooLong (more
-/// than 2^30 reads). The desk has taken a front of the commands then.
+/// than 2^30 reads). By then the desk has taken a front of the commands.
 #[tactic(auto, using(crate::proofs::PeerLemmas::each_peer))]
 pub fn capture<R: Read>(
     alloc: Global,

@@ -18,7 +18,7 @@ pub enum Handled {
 }
 
 impl Handled {
-    /// What became of the frame, whose session made this of it.
+    /// What became of the frame, where its session made this of it.
     pub fn became(&self, met: Option<Met>) -> Became
         ensures { result ≡ became_by met self.now }
     {
@@ -29,7 +29,7 @@ impl Handled {
         }
     }
 
-    /// What the session wants done, but for the command that it delivered.
+    /// What the session wants done, except for the command that it delivered.
     pub fn wanted(&self) -> &[Action]
         ensures { result.now ≡ wanted_of self.now }
     {

@@ -13,7 +13,7 @@ use blot_tag::{Frame, Reader};
 use std::alloc::Global;
 
 /// Takes the frames of a piece of the stream, with what the reader holds of the pieces before. What is left there holds no
-/// frame, and whatever comes behind it, the commands that were taken and those to come are those of the whole.
+/// frame. Whatever comes after it, the commands that were taken and those to come are those of the whole.
 pub(crate) fn take_piece(
     alloc: Global,
     reader: &mut Reader,

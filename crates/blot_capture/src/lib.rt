@@ -1,11 +1,11 @@
 //! A capture: the bytes of a day's drop copies. Each frame goes to the session of its sender, and each command that a session takes
-//! to a desk; `replay` writes the report of a day of that desk. `Sessions` says what came of each frame.
+//! goes to a desk; `replay` writes the report of a day of that desk. `Sessions` says what came of each frame.
 #![tactic(auto)]
 
 mod became;
 mod capturing;
-mod driving;
 mod handled;
+mod handling;
 mod intake;
 mod moment;
 mod replaying;

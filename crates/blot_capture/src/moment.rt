@@ -6,6 +6,7 @@ ghost use Rattle.blot_tag.specs.Views.{text_of};
 ghost use Rattle.blot_time.specs.Moment.{moment_of};
 ghost use Rattle.blot_capture.specs.Capture.{sending_of};
 
+use blot_fields::first_value;
 use blot_tag::Frame;
 use blot_time::Moment;
 
@@ -14,15 +15,10 @@ use blot_time::Moment;
 pub(crate) fn sending_of(frame: &Frame) -> Moment
     ensures { result ≡ sending_of (fields_of (text_of frame.now)) }
 {
-    for item in frame.fields() {
-        let Ok(field) = item else {
-            return first_moment();
-        };
-        if field.tag == 52 {
-            return moment_in(field.value);
-        }
+    match first_value(frame, 52) {
+        Some(value) => moment_in(value),
+        None => first_moment(),
     }
-    first_moment()
 }
 
 // The moment of these bytes, or the first of 1970.

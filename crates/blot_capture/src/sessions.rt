@@ -12,8 +12,8 @@ ghost use Rattle.blot_capture.specs.Replay.{submitted, Stopped};
 ghost use Rattle.blot_capture.specs.Sessions.{session_in, sessions_of, IsAt, IsPlaceFor};
 ghost use Rattle.blot_capture.specs.Trace.{actions_in, became_in, session_for};
 
-use crate::driving::take_frame;
 use crate::handled::Handled;
+use crate::handling::take_frame;
 use crate::moment::sending_of;
 use blot_desk::Held;
 use blot_fields::{FieldFault, Message, sender_of};
@@ -60,8 +60,8 @@ impl Sessions {
         }
     }
 
-    /// What the session of a frame's sender would make of it, if it came now; the frame says this. None where the sender has no
-    /// session. Each session is as it was. An error is out of memory, and what the sessions are then isn't said.
+    /// What the session of a frame's sender would make of the frame, if it came now; the frame says this. None where the sender has no
+    /// session. Each session stays as it was. An error is out of memory, and what the sessions are then isn't said.
     pub fn meets(
         &mut self,
         frame: &Frame,

@@ -1,1 +1,4 @@
 pub mod ChainLemmas
+pub mod HoldsLemmas
+pub mod PlaceLemmas
+pub mod SlotLemmas

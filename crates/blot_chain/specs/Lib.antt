@@ -1,2 +1,5 @@
-pub mod Rooted
+pub mod Holds
+pub mod Index
+pub mod Places
+pub mod Slots
 pub mod Steps

@@ -3,49 +3,55 @@ ghost use Rattle.std.specs.Prelude.{◌≡◌, [], ◌∷◌, Some, None, IfSome
 ghost use Rattle.blot_types.specs.declared.link.Role.TheVariants.{Begins, Corrects, Busts};
 ghost use Rattle.blot_types.specs.Chains.{root_in, current_in, bust_in, taker_in, chain_refusal, link_refusal, is_above_links};
 ghost use Rattle.blot_types.specs.Laws.{IsOneTrade};
-ghost use Rattle.blot_chain.specs.Rooted.{chain_root};
+ghost use Rattle.blot_chain.specs.Slots.{chain_root};
 ghost use Rattle.blot_chain.specs.Steps.{IsNewest, Adds};
 
-use crate::rooted::{Rooted, bust_among, number_among, root_among, version_among};
+use crate::index::{Index, number_at, root_at};
+use crate::slots::Slot;
 use blot_types::{ExecKey, Link, Role};
 use std::alloc::{AllocError as NoMemory, Global};
 use std::marker::Model;
 
-/// The links of the executions that are taken up, in the order in which they came. A contract sees them as
-/// a list, newest first, in which each link was accepted after those before it, and the numbers fall.
+/// The links of the executions that are taken up, in the order in which they came, and where the links of a key and of the
+/// chain of a root are among them. A contract sees their list, newest first, in which each link was accepted after those
+/// before it, and the numbers fall.
 #[derive(Drop)]
 pub struct Chains {
-    links: Vec<Rooted>,
+    alloc: Global,
+    slots: Vec<Slot>,
+    index: Index,
 }
 
 impl Model for Chains {
-    ghost use Rattle.std.specs.Prelude.{List, reverse};
-    ghost use Rattle.blot_types.specs.declared.link.Link.{Link};
-    ghost use Rattle.blot_chain.specs.Rooted.{links_in, HoldsChains};
+    ghost use Rattle.std.specs.Prelude.{reverse};
+    ghost use Rattle.blot_chain.specs.Steps.{Shown};
+    ghost use Rattle.blot_chain.specs.Holds.{HoldsChains, shown_of};
 
-    ghost Value = { List Link };
+    ghost Value = { Shown };
 
-    ghost view = { λ chains. links_in (reverse chains.links.items) };
+    ghost view = { λ chains. shown_of (reverse chains.slots.items) };
 
-    ghost invariant = { λ chains. HoldsChains (reverse chains.links.items) };
+    ghost invariant = { λ chains. HoldsChains chains.index (reverse chains.slots.items) };
 }
 
 impl Chains {
     /// No chains. No memory is taken.
     pub fn new(alloc: Global) -> Chains
-        ensures { result ≡ [] }
+        ensures { result.list ≡ [] }
     {
         Chains {
-            links: Vec::new(alloc),
+            alloc,
+            slots: Vec::new(alloc),
+            index: Index::new(alloc),
         }
     }
 
     /// Adds a Trade, which begins a chain. Its key is taken up by no link so far, and its number is above
     /// theirs. An error leaves the chains as they were. FIX 4.4 volume 4, ExecType(150).
     pub fn add(&mut self, number: u64, key: &ExecKey) -> Result<(), NoMemory>
-        requires accepted { link_refusal self.old key.now Begins ≡ None }
-        requires above { IsTrue (is_above_links number self.old) }
-        ensures ok { OnOk result (self.new ≡ record { number = number; key = key.now; role = Begins } ∷ self.old) }
+        requires accepted { link_refusal self.old.list key.now Begins ≡ None }
+        requires above { IsTrue (is_above_links number self.old.list) }
+        ensures ok { OnOk result (self.new.list ≡ record { number = number; key = key.now; role = Begins } ∷ self.old.list) }
         ensures err { OnErr result (self.new ≡ self.old) }
     {
         self.push_link(number, key, Role::Begins, *key)
@@ -60,9 +66,9 @@ impl Chains {
         key: &ExecKey,
         reference: &ExecKey,
     ) -> Result<(), NoMemory>
-        requires accepted { link_refusal self.old key.now (Corrects reference.now) ≡ None }
-        requires above { IsTrue (is_above_links number self.old) }
-        ensures ok { OnOk result (self.new ≡ record { number = number; key = key.now; role = Corrects reference.now } ∷ self.old) }
+        requires accepted { link_refusal self.old.list key.now (Corrects reference.now) ≡ None }
+        requires above { IsTrue (is_above_links number self.old.list) }
+        ensures ok { OnOk result (self.new.list ≡ record { number = number; key = key.now; role = Corrects reference.now } ∷ self.old.list) }
         ensures err { OnErr result (self.new ≡ self.old) }
     {
         let root = self.chain_of(reference);
@@ -73,9 +79,9 @@ impl Chains {
     /// is above theirs, and the reference has a root, which isn't busted. An error leaves the chains as they
     /// were. FIX 4.4 volume 4, ExecRefID(19).
     pub fn bust(&mut self, number: u64, key: &ExecKey, reference: &ExecKey) -> Result<(), NoMemory>
-        requires accepted { link_refusal self.old key.now (Busts reference.now) ≡ None }
-        requires above { IsTrue (is_above_links number self.old) }
-        ensures ok { OnOk result (self.new ≡ record { number = number; key = key.now; role = Busts reference.now } ∷ self.old) }
+        requires accepted { link_refusal self.old.list key.now (Busts reference.now) ≡ None }
+        requires above { IsTrue (is_above_links number self.old.list) }
+        ensures ok { OnOk result (self.new.list ≡ record { number = number; key = key.now; role = Busts reference.now } ∷ self.old.list) }
         ensures err { OnErr result (self.new ≡ self.old) }
     {
         let root = self.chain_of(reference);
@@ -84,24 +90,24 @@ impl Chains {
 
     /// Takes back a Trade of this key, the newest link. No memory is taken. This project's rule.
     pub fn un_add(&mut self, key: &ExecKey)
-        requires newest { IsNewest key.now Begins self.old }
-        ensures { Adds key.now Begins self.new self.old }
+        requires newest { IsNewest key.now Begins self.old.list }
+        ensures { Adds key.now Begins self.new.list self.old.list }
     {
         self.pop_link(key, Role::Begins);
     }
 
     /// Takes back a Correct of this key and reference, the newest link. No memory is taken. This project's rule.
     pub fn un_correct(&mut self, key: &ExecKey, reference: &ExecKey)
-        requires newest { IsNewest key.now (Corrects reference.now) self.old }
-        ensures { Adds key.now (Corrects reference.now) self.new self.old }
+        requires newest { IsNewest key.now (Corrects reference.now) self.old.list }
+        ensures { Adds key.now (Corrects reference.now) self.new.list self.old.list }
     {
         self.pop_link(key, Role::Corrects(*reference));
     }
 
     /// Takes back a Bust of this key and reference, the newest link. No memory is taken. This project's rule.
     pub fn un_bust(&mut self, key: &ExecKey, reference: &ExecKey)
-        requires newest { IsNewest key.now (Busts reference.now) self.old }
-        ensures { Adds key.now (Busts reference.now) self.new self.old }
+        requires newest { IsNewest key.now (Busts reference.now) self.old.list }
+        ensures { Adds key.now (Busts reference.now) self.new.list self.old.list }
     {
         self.pop_link(key, Role::Busts(*reference));
     }
@@ -109,39 +115,39 @@ impl Chains {
     /// The root of a key, that of the Trade in which its references end. None where no link takes up the
     /// key, or a Bust does. FIX 4.4 volume 4, ExecRefID(19).
     pub fn root_of(&self, key: &ExecKey) -> Option<ExecKey>
-        ensures root { result ≡ root_in self.now key.now }
-        ensures one_trade { IfSome result (λ root. IsOneTrade self.now root) }
+        ensures root { result ≡ root_in self.now.list key.now }
+        ensures one_trade { IfSome result (λ root. IsOneTrade self.now.list root) }
     {
-        root_among(&self.links, key)
+        root_at(&self.slots, &self.index.takers, key)
     }
 
     /// The number of the last version of the chain of a root, busted or not. None where the key is no root.
     /// This project's rule.
     pub fn current(&self, root: &ExecKey) -> Option<u64>
-        ensures { result ≡ current_in self.now root.now }
+        ensures { result ≡ current_in self.now.list root.now }
     {
-        version_among(&self.links, root)
+        number_at(&self.slots, &self.index.versions, root)
     }
 
     /// The number of the Bust of the chain of a root. None where the chain isn't busted, or the key is no
     /// root. This project's rule.
     pub fn bust_of(&self, root: &ExecKey) -> Option<u64>
-        ensures { result ≡ bust_in self.now root.now }
+        ensures { result ≡ bust_in self.now.list root.now }
     {
-        bust_among(&self.links, root)
+        number_at(&self.slots, &self.index.busts, root)
     }
 
     /// The number of the Trade, Correct or Bust that takes up a key. This project's rule.
     pub fn number_of(&self, key: &ExecKey) -> Option<u64>
-        ensures { result ≡ taker_in self.now key.now }
+        ensures { result ≡ taker_in self.now.list key.now }
     {
-        number_among(&self.links, key)
+        number_at(&self.slots, &self.index.takers, key)
     }
 
     // The root of a reference that isn't refused.
     fn chain_of(&self, reference: &ExecKey) -> ExecKey
-        requires accepted { chain_refusal self.now reference.now (root_in self.now reference.now) ≡ None }
-        ensures { root_in self.now reference.now ≡ Some result }
+        requires accepted { chain_refusal self.now.list reference.now (root_in self.now.list reference.now) ≡ None }
+        ensures { root_in self.now.list reference.now ≡ Some result }
     {
         match self.root_of(reference) {
             Some(root) => root,
@@ -149,7 +155,7 @@ impl Chains {
         }
     }
 
-    // Puts a link behind the others, with the root of its chain.
+    // Adds a link at the end, with the root of its chain. All room is made before anything changes.
     fn push_link(
         &mut self,
         number: u64,
@@ -157,28 +163,37 @@ impl Chains {
         role: Role,
         root: ExecKey,
     ) -> Result<(), NoMemory>
-        requires accepted { link_refusal self.old key.now role ≡ None }
-        requires above { IsTrue (is_above_links number self.old) }
-        requires rooted { chain_root self.old key.now role ≡ Some root }
-        ensures ok { OnOk result (self.new ≡ record { number = number; key = key.now; role = role } ∷ self.old) }
+        requires accepted { link_refusal self.old.list key.now role ≡ None }
+        requires above { IsTrue (is_above_links number self.old.list) }
+        requires rooted { chain_root self.old.list key.now role ≡ Some root }
+        ensures ok { OnOk result (self.new.list ≡ record { number = number; key = key.now; role = role } ∷ self.old.list) }
         ensures err { OnErr result (self.new ≡ self.old) }
     {
+        self.slots.reserve(1)?;
+        self.index.make_room(self.alloc, key, &role, &root)?;
         let link = Link {
             number,
             key: *key,
             role,
         };
-        self.links.push(Rooted { link, root })?;
+        let slot = Slot {
+            link,
+            root,
+            is_live: true,
+        };
+        let place = self.slots.len();
+        self.index.push(&slot, place);
+        self.slots.push_reserved(slot);
         Ok(())
     }
 
     // Takes the newest link out. It has this key and role, so nothing is compared.
     fn pop_link(&mut self, key: &ExecKey, role: Role)
-        requires newest { IsNewest key.now role self.old }
-        ensures { Adds key.now role self.new self.old }
+        requires newest { IsNewest key.now role self.old.list }
+        ensures { Adds key.now role self.new.list self.old.list }
     {
-        match self.links.pop() {
-            Some(_newest) => {}
+        match self.slots.pop() {
+            Some(slot) => self.index.pop(&slot),
             None => unreachable!(),
         }
     }

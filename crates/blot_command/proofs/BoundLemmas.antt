@@ -11,29 +11,27 @@ use Rattle.blot_types.specs.declared.fill.Fill.{Fill}
 use Rattle.blot_types.specs.declared.fill.Sign.{Sign}
 use Rattle.blot_types.specs.declared.fill.Sign.TheVariants.{Buy, Sell}
 use Rattle.blot_types.specs.declared.lines.OrderLine.{OrderLine}
-use Rattle.blot_types.specs.declared.lines.Part.{Part}
+use Rattle.blot_types.specs.declared.part.Part.{Part}
 use Rattle.blot_types.specs.declared.lines.Version.{Version}
 use Rattle.blot_types.specs.declared.TheConstants.{EVENTS_MAX}
+use Rattle.blot_types.specs.Bounds.{BOOK_QTY}
 use Rattle.blot_types.specs.Keys.{same_order}
 use Rattle.blot_types.specs.Laws.{IsBounded, HasBoundedTotals}
 use Rattle.blot_types.specs.Legal.{is_book}
 use Rattle.blot_types.specs.Order.{total, cum_of, value_of, line_by, line_of, fills_of}
-use Rattle.blot_types.specs.Position.{signed, is_at, position_by, parts_of}
+use Rattle.blot_types.specs.Position.{signed, is_at, position_by, parts_of, FillFits}
 use Rattle.blot_types.specs.Survivors.{links_of, versions_of, stands_in, survivors}
+use Rattle.blot_types.proofs.PartLemmas.{signed-size}
 use Rattle.blot_types.proofs.SumLemmas.{total-cons, total-where}
 use Rattle.blot_position.specs.Positions.{Cells}
-use Rattle.blot_command.specs.Carried.{FillFits, ShowsPositions}
+use Rattle.blot_command.specs.Carried.{ShowsPositions}
 use Rattle.blot_command.proofs.ReadyLemmas.{few-survivors, length-filtered, light-list}
 use Rattle.blot_command.proofs.CarryLemmas.{qty_at, value_at}
 
-bounded : (amount : ℤ) → unsigned_abs amount ≤ 4 * 10 ^ 37 → IsBounded amount
+bounded : (amount : ℤ) → unsigned_abs amount ≤ BOOK_QTY * 10 ^ 16 → IsBounded amount
 bounded amount small = record { low = omega (arith, ints, small); high = omega (arith, ints, small) }
 
 -- ---- the sums of fills
-
-signed-size : (sign : Sign) (amount : ℤ) → unsigned_abs (signed sign amount) ≡ unsigned_abs amount
-signed-size Buy amount = refl
-signed-size Sell amount = omega (arith, ints)
 
 -- a fill is at most 10^16 units of quantity, and 10^32 of value
 fill-small : (fill : Fill) → FillFits fill → (fill.qty ≤ 10 ^ 16) × (unsigned_abs (pos fill.qty *ℤ fill.price) ≤ 10 ^ 32)
@@ -104,6 +102,6 @@ has-bounded-totals list cells book shows =
           let values = light.values a s in
           let qty : total (λ (p : Part). p.qty) here ≡ total (qty_at a s) (parts_of list) = total-where (λ (p : Part). p.qty) (is_at a s) (parts_of list) in
           let value : total (λ (p : Part). p.value) here ≡ total (value_at a s) (parts_of list) = total-where (λ (p : Part). p.value) (is_at a s) (parts_of list) in
-          position-bounded here (bounded (total (λ (p : Part). p.qty) here) (subst (λ sum. unsigned_abs sum ≤ 4 * 10 ^ 37) (sym qty) (omega (arith, qtys))))
-          (bounded (total (λ (p : Part). p.value) here) (subst (λ sum. unsigned_abs sum ≤ 4 * 10 ^ 37) (sym value) (omega (arith, values)))));
+          position-bounded here (bounded (total (λ (p : Part). p.qty) here) (subst (λ sum. unsigned_abs sum ≤ BOOK_QTY * 10 ^ 16) (sym qty) (omega (arith, qtys))))
+          (bounded (total (λ (p : Part). p.value) here) (subst (λ sum. unsigned_abs sum ≤ BOOK_QTY * 10 ^ 16) (sym value) (omega (arith, values)))));
     }

@@ -2,15 +2,14 @@
 use Rattle.std.proofs.Common.{◌≡◌, ℕ, ◌+◌, ◌*◌, ◌^◌, ◌<◌, ◌≤◌, pos, ◌+ℤ◌, ◌-ℤ◌, ◌≤ℤ◌, arith, Bool, true, false, List, refl, sym, ap, subst, ◌∙◌}
 use Rattle.std.specs.Prelude.{ℤ, unsigned_abs, if◌then◌else◌}
 use Rattle.std.proofs.lemmas.Int.{ints}
-use Rattle.blot_types.specs.declared.lines.Part.{Part}
-use Rattle.blot_types.specs.Position.{is_at}
+use Rattle.blot_types.specs.declared.part.Part.{Part}
+use Rattle.blot_types.specs.Position.{is_at, IsSmall}
 use Rattle.blot_position.specs.declared.sums.Sums.{Sums}
 use Rattle.blot_position.specs.Positions.{Cells, sums_at, has_cell, same_position}
 use Rattle.blot_position.specs.Sums.{with_one, without_one, FitsSum, HasRoom}
 use Rattle.blot_position.proofs.PositionLemmas.{sums_at-with_part, sums_at-without_part, same_position-refl}
 use Rattle.blot_command.specs.Booking.{put_in, taken_out, changed, CanChange}
 use Rattle.blot_command.specs.Carried.{amount_at, Carries}
-use Rattle.blot_command.specs.Sizes.{IsSmall}
 
 -- ---- the sums of parts
 

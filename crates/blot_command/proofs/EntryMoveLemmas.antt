@@ -16,15 +16,16 @@ use Rattle.blot_types.specs.declared.command.Entry.{Entry}
 use Rattle.blot_types.specs.declared.fill.Fill.{Fill}
 use Rattle.blot_types.specs.declared.keys.AllocKey.{AllocKey}
 use Rattle.blot_types.specs.declared.keys.ExecKey.{ExecKey}
-use Rattle.blot_types.specs.declared.lines.Part.{Part}
+use Rattle.blot_types.specs.declared.part.Part.{Part}
 use Rattle.blot_types.specs.declared.lines.Version.{Version}
 use Rattle.blot_types.specs.declared.link.Link.{Link}
 use Rattle.blot_types.specs.declared.TheConstants.{EVENTS_MAX}
+use Rattle.blot_types.specs.Bounds.{BOOK_PARTS, BOOK_QTY}
 use Rattle.blot_types.specs.Allocations.{Allocation, allocation_of, roots_of_terms, instruction_by, instructions_of, live_allocations}
 use Rattle.blot_types.specs.Chains.{replaced_by}
 use Rattle.blot_types.specs.Instructions.{is_keyed, alloc_taker_in, reference_of}
 use Rattle.blot_types.specs.Order.{total}
-use Rattle.blot_types.specs.Position.{account_of, is_named, part_of}
+use Rattle.blot_types.specs.Position.{account_of, is_named, part_of, IsSmall, FillFits}
 use Rattle.blot_types.specs.Refusals.{alloc_reference}
 use Rattle.blot_types.specs.Survivors.{link_by, link_of, links_in, links_of, version_by, version_of, versions_of, stands_in, survivors}
 use Rattle.blot_types.proofs.AcceptLemmas.{accepted-instruction, instructions_of-push}
@@ -39,12 +40,11 @@ use Rattle.blot_types.proofs.PartLemmas.{parts_under}
 use Rattle.blot_types.proofs.SurvivorLemmas.{without}
 use Rattle.blot_position.specs.Positions.{Cells, has_cell}
 use Rattle.blot_command.specs.Booking.{changed_all, rebooked, allocated, released}
-use Rattle.blot_command.specs.Carried.{HasFillCells, FillFits, IsReady}
-use Rattle.blot_command.specs.Sizes.{IsSmall}
+use Rattle.blot_command.specs.Carried.{HasFillCells, IsReady}
 use Rattle.blot_command.proofs.CarryLemmas.{Whole, SameWhole, IsCount, Carries-same, one_at}
 use Rattle.blot_command.proofs.HouseLemmas.{beside, count-under}
 use Rattle.blot_command.proofs.LiveLemmas.{IsNextEntry}
-use Rattle.blot_command.proofs.MoveLemmas.{COUNT_MAX, QTY_MAX, AreFew, stocked-stays, CarriesBeside, goes, comes}
+use Rattle.blot_command.proofs.MoveLemmas.{AreFew, stocked-stays, CarriesBeside, goes, comes}
 use Rattle.blot_command.proofs.ReachLemmas.{Reaches, one_low}
 use Rattle.blot_command.proofs.ReadyLemmas.{all-back, few-survivors, few-live, few-beside, booked-live, booked-beside, ready-stays, ready-less, stocked, whole_of, whole-beside, CarriesList, light-list, CanMove, swaps}
 use Rattle.blot_command.proofs.WeightLemmas.{AllBooked, moves_whole, Light-moves}
@@ -100,7 +100,7 @@ last-version P list entry all = all-back P (versions_of list) (versions_of (entr
 
 pub link-comes :
     (list : List Entry) (entry : Entry) (link : Link) (cells : Cells) → link_of entry ≡ Some link → IsNextEntry list entry → IsReady (list ++ entry ∷ []) cells → CarriesList list cells
-    → Reaches (rebooked (replaced_part list entry) (own_part list entry)) cells COUNT_MAX QTY_MAX (whole_of (list ++ entry ∷ []))
+    → Reaches (rebooked (replaced_part list entry) (own_part list entry)) cells BOOK_PARTS BOOK_QTY (whole_of (list ++ entry ∷ []))
 link-comes list entry link cells is next ready carried =
     let after = list ++ entry ∷ [] in
     let moves : (f : Part → ℤ) → LinkMoves f list entry = λ f. link-moves f list entry link is next.legal next.rise next.above next.accepted in
@@ -118,7 +118,7 @@ link-comes list entry link cells is next ready carried =
 
 pub link-goes :
     (list : List Entry) (entry : Entry) (link : Link) (cells : Cells) → link_of entry ≡ Some link → IsNextEntry list entry → IsReady (list ++ entry ∷ []) cells → CarriesList (list ++ entry ∷ []) cells
-    → Reaches (rebooked (own_part list entry) (replaced_part list entry)) cells COUNT_MAX QTY_MAX (whole_of list)
+    → Reaches (rebooked (own_part list entry) (replaced_part list entry)) cells BOOK_PARTS BOOK_QTY (whole_of list)
 link-goes list entry link cells is next ready carried =
     let after = list ++ entry ∷ [] in
     let moves : (f : Part → ℤ) → LinkMoves f list entry = λ f. link-moves f list entry link is next.legal next.rise next.above next.accepted in

@@ -8,7 +8,7 @@ use Rattle.std.proofs.lemmas.Int.{ints}
 use Rattle.std.proofs.lemmas.List.Elements.{All-nil, All-cons, All-head, All-tail, All-weaker}
 use Rattle.blot_types.specs.declared.command.Entry.{Entry}
 use Rattle.blot_types.specs.declared.keys.ExecKey.{ExecKey}
-use Rattle.blot_types.specs.declared.lines.Part.{Part}
+use Rattle.blot_types.specs.declared.part.Part.{Part}
 use Rattle.blot_types.specs.declared.lines.Version.{Version}
 use Rattle.blot_types.specs.Chains.{bust_in, current_in}
 use Rattle.blot_types.specs.Instructions.{are_apart}
@@ -16,7 +16,7 @@ use Rattle.blot_types.specs.Keys.{is_among, same_exec}
 use Rattle.blot_types.specs.Laws.{survivors_of_chain, is_of_chain}
 use Rattle.blot_types.specs.Legal.{is_book}
 use Rattle.blot_types.specs.Order.{total}
-use Rattle.blot_types.specs.Position.{house, account_of, part_of_fill}
+use Rattle.blot_types.specs.Position.{house, account_of, part_of_fill, IsSmall, FillFits}
 use Rattle.blot_types.specs.Standing.{standing}
 use Rattle.blot_types.specs.Survivors.{links_of, versions_of, survivors}
 use Rattle.blot_types.proofs.BringLemmas.{found-All}
@@ -27,8 +27,7 @@ use Rattle.blot_types.proofs.StandLemmas.{and-true, and-false}
 use Rattle.blot_types.proofs.SumLemmas.{total-cons}
 use Rattle.blot_position.specs.Positions.{Cells, has_cell}
 use Rattle.blot_command.specs.Booking.{Change, put_in, taken_out, changed, changed_all, to_house, from_house, chains_to_house, chains_from_house}
-use Rattle.blot_command.specs.Carried.{Carries, HasFillCells, FillFits}
-use Rattle.blot_command.specs.Sizes.{IsSmall}
+use Rattle.blot_command.specs.Carried.{Carries, HasFillCells}
 use Rattle.blot_command.proofs.CarryLemmas.{Whole, more, SameWhole, one_at, IsCount, Carries-same, Carries-put, Carries-take, Light, Light-put, Light-take, Light-same, IsLightEnough, can_put, can_take}
 use Rattle.blot_command.proofs.ReachLemmas.{Reaches, reach-append, reach-same, reach-nothing, less_enough, stays, one_low}
 

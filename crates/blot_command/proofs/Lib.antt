@@ -12,6 +12,8 @@ pub mod ReachLemmas
 pub mod ReadyLemmas
 pub mod RecordLemmas
 pub mod RefusalLemmas
+pub mod SearchLemmas
 pub mod ShowLemmas
 pub mod StepLemmas
+pub mod TermsLemmas
 pub mod WeightLemmas

@@ -20,7 +20,7 @@ use Rattle.blot_types.specs.Allocations.{instruction_by, instructions_in, instru
 use Rattle.blot_types.specs.Chains.{root_in, is_above_links}
 use Rattle.blot_types.specs.Instructions.{holds_in, holder_in, named_in, is_above_instructions}
 use Rattle.blot_types.specs.Keys.{is_among}
-use Rattle.blot_types.specs.Legal.{is_above_entries, numbers_rise, is_legal, is_book, refusal_of}
+use Rattle.blot_types.specs.Legal.{is_above_entries, numbers_rise, is_legal, is_book, refusal_of, HoldsList}
 use Rattle.blot_types.specs.Position.{is_named}
 use Rattle.blot_types.specs.Survivors.{link_by, link_of, links_in, links_of, version_of, versions_of}
 use Rattle.blot_types.proofs.AcceptLemmas.{accepted-instruction, instructions_of-push}
@@ -29,7 +29,7 @@ use Rattle.blot_types.proofs.ChangeLemmas.{named-held}
 use Rattle.blot_types.proofs.LegalLemmas.{is_legal-push, numbers_rise-push, is_book-front}
 use Rattle.blot_types.proofs.EntryLemmas.{link-number, version-number, refusal-link, links_of-push, is_above_links-links}
 use Rattle.blot_command.specs.Linking.{CanLinkNext, CanInstructNext, CanLink, IsLinkedLast, without_link, without_instruction}
-use Rattle.blot_command.specs.Shown.{version_numbered, HoldsList}
+use Rattle.blot_command.specs.Shown.{version_numbered}
 
 -- ---- the version of a number
 

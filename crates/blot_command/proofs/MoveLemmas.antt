@@ -10,12 +10,13 @@ use Rattle.blot_types.specs.declared.allocation.Terms.{Terms}
 use Rattle.blot_types.specs.declared.command.Entry.{Entry}
 use Rattle.blot_types.specs.declared.keys.AllocKey.{AllocKey}
 use Rattle.blot_types.specs.declared.keys.ExecKey.{ExecKey}
-use Rattle.blot_types.specs.declared.lines.Part.{Part}
+use Rattle.blot_types.specs.declared.part.Part.{Part}
 use Rattle.blot_types.specs.declared.TheConstants.{EVENTS_MAX}
 use Rattle.blot_types.specs.Allocations.{Allocation}
+use Rattle.blot_types.specs.Bounds.{BOOK_PARTS, BOOK_QTY}
 use Rattle.blot_types.specs.Keys.{is_among}
 use Rattle.blot_types.specs.Order.{total}
-use Rattle.blot_types.specs.Position.{house, moves_of, moves_of_line, part_of_line, from_house}
+use Rattle.blot_types.specs.Position.{house, moves_of, moves_of_line, part_of_line, from_house, FillFits}
 use Rattle.blot_types.specs.Survivors.{links_of, survivors}
 use Rattle.blot_types.proofs.BringLemmas.{lines_of, BringsIf, each-root, among-root, found-All}
 use Rattle.blot_types.proofs.ChangeLemmas.{allocations_in}
@@ -24,7 +25,7 @@ use Rattle.blot_types.proofs.PartLemmas.{parts_under}
 use Rattle.blot_types.proofs.StandLemmas.{and-true}
 use Rattle.blot_position.specs.Positions.{Cells, has_cell}
 use Rattle.blot_command.specs.Booking.{Change, changed_all, lines_put, lines_taken, chains_to_house, chains_from_house, allocated, allocated_by, released, released_by}
-use Rattle.blot_command.specs.Carried.{Carries, HasTermsCells, FillFits}
+use Rattle.blot_command.specs.Carried.{Carries, HasTermsCells}
 use Rattle.blot_command.proofs.CarryLemmas.{Whole, SameWhole, IsCount, Carries-same, Light-same, IsLightEnough}
 use Rattle.blot_command.proofs.HouseLemmas.{beside, IsBooked, booked-stays, AlwaysLight, Light-weaker, relight, with_roots, without_roots, reach-house, reach-home}
 use Rattle.blot_command.proofs.ReachLemmas.{Reaches, reach-append, reach-same, reach-nothing, reach-put, reach-take, sizes, stays, AreMade}
@@ -32,14 +33,8 @@ use Rattle.blot_command.proofs.WeightLemmas.{AllBooked, AreBooked, moves_whole, 
 
 -- ---- how much the cells carry, whatever chains are named
 
--- at most so many parts of a position, and so much quantity: those of EVENTS_MAX fills and as many allocations, with room
-abbrev pub COUNT_MAX : ℕ
-COUNT_MAX = 10 ^ 8
-
-abbrev pub QTY_MAX : ℕ
-QTY_MAX = 4 * 10 ^ 21
-
-pub light_enough : (count qty : ℕ) → count ≤ 10 ^ 6 → qty ≤ 10 ^ 20 → IsLightEnough (COUNT_MAX + count) (QTY_MAX + qty)
+-- what the book carries, with room for one more change
+pub light_enough : (count qty : ℕ) → count ≤ 10 ^ 6 → qty ≤ 10 ^ 20 → IsLightEnough (BOOK_PARTS + count) (BOOK_QTY + qty)
 light_enough count qty fewer smaller = record { count_fits = omega (arith, fewer); qty_fits = omega (arith, smaller) }
 
 -- a list's survivors, and allocations of it, are few
@@ -48,13 +43,13 @@ pub record AreFew (list : List Entry) (allocations : List Allocation) : Type 0 w
   pub blocks : length allocations ≤ EVENTS_MAX + 1
   pub booked : AllBooked allocations
 
-pub always-light : (list : List Entry) (allocations : List Allocation) → All (λ version. FillFits version.fill) (survivors list) → AreFew list allocations → AlwaysLight list (moves_whole allocations) COUNT_MAX QTY_MAX
+pub always-light : (list : List Entry) (allocations : List Allocation) → All (λ version. FillFits version.fill) (survivors list) → AreFew list allocations → AlwaysLight list (moves_whole allocations) BOOK_PARTS BOOK_QTY
 always-light list allocations fits few named =
     let fills = length (survivors list) in
     let blocks = length allocations in
     let one = few.fills in
     let two = few.blocks in
-    Light-weaker (beside list named (moves_whole allocations)) (fills + blocks * 400) COUNT_MAX (fills * 10 ^ 16 + blocks * (2 * 10 ^ 16)) QTY_MAX (omega (arith, one, two)) (omega (arith, one, two))
+    Light-weaker (beside list named (moves_whole allocations)) (fills + blocks * 400) BOOK_PARTS (fills * 10 ^ 16 + blocks * (2 * 10 ^ 16)) BOOK_QTY (omega (arith, one, two)) (omega (arith, one, two))
     (Light-both (λ f. total f (parts_under named (links_of list) (survivors list))) (moves_whole allocations) fills (fills * 10 ^ 16) (blocks * 400) (blocks * (2 * 10 ^ 16))
     (Light-under named (links_of list) (survivors list) fits) (Light-moves allocations few.booked))
 
@@ -121,7 +116,7 @@ abbrev pub CarriesBeside : List Entry → Cells → (ExecKey → Bool) → List 
 CarriesBeside list cells named allocations = Carries (beside list named (moves_whole allocations)) cells
 
 abbrev pub ReachesBeside : List Change → List Entry → Cells → (ExecKey → Bool) → List Allocation → Type 0
-ReachesBeside changes list cells named allocations = Reaches changes cells COUNT_MAX QTY_MAX (beside list named (moves_whole allocations))
+ReachesBeside changes list cells named allocations = Reaches changes cells BOOK_PARTS BOOK_QTY (beside list named (moves_whole allocations))
 
 pub goes :
     (list : List Entry) (cells : Cells) (key : Option AllocKey) (fewer more : ExecKey → Bool) (few many : List Allocation) → IsStocked list cells → BringsIf list key fewer more few many
@@ -129,8 +124,8 @@ pub goes :
 goes list cells None fewer more few many stocked brings little large carried =
     let same : SameWhole (beside list more (moves_whole many)) (beside list fewer (moves_whole few)) =
     λ f. named-same list more fewer (moves_whole many) brings.named f ∙ others-same list fewer few many brings.lines f in
-    reach-same [] cells COUNT_MAX QTY_MAX (beside list more (moves_whole many)) (beside list fewer (moves_whole few)) same
-    (reach-nothing cells COUNT_MAX QTY_MAX (beside list more (moves_whole many)) carried (always-light list many stocked.fits large more))
+    reach-same [] cells BOOK_PARTS BOOK_QTY (beside list more (moves_whole many)) (beside list fewer (moves_whole few)) same
+    (reach-nothing cells BOOK_PARTS BOOK_QTY (beside list more (moves_whole many)) carried (always-light list many stocked.fits large more))
 goes list cells (Some key) fewer more few many stocked brings little large carried =
     let terms = brings.allocation.terms in
     let roots = brings.instruction.roots in
@@ -139,25 +134,25 @@ goes list cells (Some key) fewer more few many stocked brings little large carri
     let own : AreBooked terms = found-All (λ a. AreBooked a.terms) (has_alloc_key key) (allocations_in list) brings.allocation stocked.lines brings.found in
     let same = lines-same list more few many terms brings.lines in
     let light_few = always-light list few stocked.fits little in
-    let enough : IsLightEnough (COUNT_MAX + length (moves_of terms)) (QTY_MAX + sizes (moves_of terms)) = light_enough (length (moves_of terms)) (sizes (moves_of terms)) (omega (arith, own.few)) (omega (arith, own.qty)) in
+    let enough : IsLightEnough (BOOK_PARTS + length (moves_of terms)) (BOOK_QTY + sizes (moves_of terms)) = light_enough (length (moves_of terms)) (sizes (moves_of terms)) (omega (arith, own.few)) (omega (arith, own.qty)) in
     let first =
-    reach-take (moves_of terms) cells COUNT_MAX QTY_MAX (beside list more (moves_whole few))
+    reach-take (moves_of terms) cells BOOK_PARTS BOOK_QTY (beside list more (moves_whole few))
     (Carries-same (beside list more (moves_whole many)) (λ f. total f (moves_of terms) +ℤ beside list more (moves_whole few) f) cells same carried)
-    (Light-same (beside list more (moves_whole many)) (λ f. total f (moves_of terms) +ℤ beside list more (moves_whole few) f) COUNT_MAX QTY_MAX same (always-light list many stocked.fits large more))
+    (Light-same (beside list more (moves_whole many)) (λ f. total f (moves_of terms) +ℤ beside list more (moves_whole few) f) BOOK_PARTS BOOK_QTY same (always-light list many stocked.fits large more))
     (light_few more).some own.small enough in
     let between = changed_all (lines_taken terms terms.lines) cells in
     let free : (root : ExecKey) → is_among roots root ≡ true → fewer root ≡ false = λ root among. among-root fewer false roots root brings.free among in
     let held : All (λ root. more root ≡ true) roots = each-root more true roots (λ root among. brings.named root ∙ or-true (is_among roots root) (fewer root) among) in
     let second =
-    reach-home list roots between COUNT_MAX QTY_MAX more (moves_whole few) (booked-stays list (lines_taken terms terms.lines) cells stocked.booked) held brings.apart first.carried light_few
+    reach-home list roots between BOOK_PARTS BOOK_QTY more (moves_whole few) (booked-stays list (lines_taken terms terms.lines) cells stocked.booked) held brings.apart first.carried light_few
     (lines_low few little.booked) (light_enough 2 (2 * 10 ^ 16) (omega arith) (omega arith)) in
     let whole =
-    reach-append (lines_taken terms terms.lines) (chains_from_house list roots) cells (COUNT_MAX + length (moves_of terms)) (QTY_MAX + sizes (moves_of terms)) COUNT_MAX QTY_MAX (beside list more (moves_whole few))
+    reach-append (lines_taken terms terms.lines) (chains_from_house list roots) cells (BOOK_PARTS + length (moves_of terms)) (BOOK_QTY + sizes (moves_of terms)) BOOK_PARTS BOOK_QTY (beside list more (moves_whole few))
     (beside list (without_roots roots more) (moves_whole few)) first second in
     let less : (root : ExecKey) → without_roots roots more root ≡ fewer root =
     λ root. ap (λ b. b && not (is_among roots root)) (brings.named root) ∙ without-free (is_among roots root) (fewer root) (free root) in
     subst (λ all. ReachesBeside all list cells fewer few) (sym changes)
-    (reach-same (lines_taken terms terms.lines ++ chains_from_house list roots) cells COUNT_MAX QTY_MAX (beside list (without_roots roots more) (moves_whole few)) (beside list fewer (moves_whole few))
+    (reach-same (lines_taken terms terms.lines ++ chains_from_house list roots) cells BOOK_PARTS BOOK_QTY (beside list (without_roots roots more) (moves_whole few)) (beside list fewer (moves_whole few))
     (named-same list (without_roots roots more) fewer (moves_whole few) less) whole)
 
 -- ---- an allocation comes
@@ -168,8 +163,8 @@ pub comes :
 comes list cells None fewer more few many stocked brings little large carried =
     let same : SameWhole (beside list fewer (moves_whole few)) (beside list more (moves_whole many)) =
     λ f. sym (named-same list more fewer (moves_whole many) brings.named f ∙ others-same list fewer few many brings.lines f) in
-    reach-same [] cells COUNT_MAX QTY_MAX (beside list fewer (moves_whole few)) (beside list more (moves_whole many)) same
-    (reach-nothing cells COUNT_MAX QTY_MAX (beside list fewer (moves_whole few)) carried (always-light list few stocked.fits little fewer))
+    reach-same [] cells BOOK_PARTS BOOK_QTY (beside list fewer (moves_whole few)) (beside list more (moves_whole many)) same
+    (reach-nothing cells BOOK_PARTS BOOK_QTY (beside list fewer (moves_whole few)) carried (always-light list few stocked.fits little fewer))
 comes list cells (Some key) fewer more few many stocked brings little large carried =
     let terms = brings.allocation.terms in
     let roots = brings.instruction.roots in
@@ -179,23 +174,23 @@ comes list cells (Some key) fewer more few many stocked brings little large carr
     let cells_own : HasTermsCells cells terms = found-All (λ a. HasTermsCells cells a.terms) (has_alloc_key key) (allocations_in list) brings.allocation stocked.made brings.found in
     let light_few = always-light list few stocked.fits little in
     let first =
-    reach-house list roots cells COUNT_MAX QTY_MAX fewer (moves_whole few) stocked.booked brings.free brings.apart carried light_few (lines_low few little.booked)
+    reach-house list roots cells BOOK_PARTS BOOK_QTY fewer (moves_whole few) stocked.booked brings.free brings.apart carried light_few (lines_low few little.booked)
     (light_enough 2 (2 * 10 ^ 16) (omega arith) (omega arith)) in
     let more_named : (root : ExecKey) → with_roots roots fewer root ≡ more root = λ root. sym (brings.named root) in
     let named =
-    reach-same (chains_to_house list roots) cells COUNT_MAX QTY_MAX (beside list (with_roots roots fewer) (moves_whole few)) (beside list more (moves_whole few))
+    reach-same (chains_to_house list roots) cells BOOK_PARTS BOOK_QTY (beside list (with_roots roots fewer) (moves_whole few)) (beside list more (moves_whole few))
     (named-same list (with_roots roots fewer) more (moves_whole few) more_named) first in
     let between = changed_all (chains_to_house list roots) cells in
     let there = terms-stay (chains_to_house list roots) cells terms cells_own in
-    let enough : IsLightEnough (COUNT_MAX + length (moves_of terms)) (QTY_MAX + sizes (moves_of terms)) = light_enough (length (moves_of terms)) (sizes (moves_of terms)) (omega (arith, own.few)) (omega (arith, own.qty)) in
+    let enough : IsLightEnough (BOOK_PARTS + length (moves_of terms)) (BOOK_QTY + sizes (moves_of terms)) = light_enough (length (moves_of terms)) (sizes (moves_of terms)) (omega (arith, own.few)) (omega (arith, own.qty)) in
     let second =
-    reach-put (moves_of terms) between COUNT_MAX QTY_MAX (beside list more (moves_whole few)) named.carried (light_few more) own.small (made-moves terms terms.lines between there.lines there.housed) enough in
+    reach-put (moves_of terms) between BOOK_PARTS BOOK_QTY (beside list more (moves_whole few)) named.carried (light_few more) own.small (made-moves terms terms.lines between there.lines there.housed) enough in
     let same : SameWhole (λ f. total f (moves_of terms) +ℤ beside list more (moves_whole few) f) (beside list more (moves_whole many)) = λ f. sym (lines-same list more few many terms brings.lines f) in
     let whole =
-    reach-append (chains_to_house list roots) (lines_put terms terms.lines) cells COUNT_MAX QTY_MAX (COUNT_MAX + length (moves_of terms)) (QTY_MAX + sizes (moves_of terms)) (beside list more (moves_whole few))
+    reach-append (chains_to_house list roots) (lines_put terms terms.lines) cells BOOK_PARTS BOOK_QTY (BOOK_PARTS + length (moves_of terms)) (BOOK_QTY + sizes (moves_of terms)) (beside list more (moves_whole few))
     (λ f. total f (moves_of terms) +ℤ beside list more (moves_whole few) f) named second in
     subst (λ all. ReachesBeside all list cells more many) (sym changes)
-    (relight (chains_to_house list roots ++ lines_put terms terms.lines) cells (COUNT_MAX + length (moves_of terms)) (QTY_MAX + sizes (moves_of terms)) COUNT_MAX QTY_MAX (beside list more (moves_whole many))
-    (reach-same (chains_to_house list roots ++ lines_put terms terms.lines) cells (COUNT_MAX + length (moves_of terms)) (QTY_MAX + sizes (moves_of terms))
+    (relight (chains_to_house list roots ++ lines_put terms terms.lines) cells (BOOK_PARTS + length (moves_of terms)) (BOOK_QTY + sizes (moves_of terms)) BOOK_PARTS BOOK_QTY (beside list more (moves_whole many))
+    (reach-same (chains_to_house list roots ++ lines_put terms terms.lines) cells (BOOK_PARTS + length (moves_of terms)) (BOOK_QTY + sizes (moves_of terms))
     (λ f. total f (moves_of terms) +ℤ beside list more (moves_whole few) f) (beside list more (moves_whole many)) same whole)
     (always-light list many stocked.fits large more))

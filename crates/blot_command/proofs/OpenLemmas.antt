@@ -6,13 +6,12 @@ use Rattle.std.proofs.lemmas.List.Elements.{All-push, All-weaker}
 use Rattle.blot_types.specs.declared.allocation.Line.{Line}
 use Rattle.blot_types.specs.declared.allocation.Terms.{Terms}
 use Rattle.blot_types.specs.declared.fill.Fill.{Fill}
-use Rattle.blot_types.specs.declared.lines.Part.{Part}
+use Rattle.blot_types.specs.declared.part.Part.{Part}
 use Rattle.blot_types.specs.declared.TheConstants.{ITEMS_MAX}
-use Rattle.blot_types.specs.Position.{house, part_of_fill, part_of_line}
+use Rattle.blot_types.specs.Position.{house, part_of_fill, part_of_line, IsSmall, TermsFit}
 use Rattle.blot_position.specs.Positions.{Cells, has_cell, with_cell}
 use Rattle.blot_position.proofs.PositionLemmas.{sums_at-with_cell, has_cell-stays_with_cell, has_cell-own_with_cell}
-use Rattle.blot_command.specs.Carried.{Opens, HasFillCells, HasTermsCells, TermsFit}
-use Rattle.blot_command.specs.Sizes.{IsSmall}
+use Rattle.blot_command.specs.Carried.{Opens, HasFillCells, HasTermsCells}
 
 -- ---- one cell is made
 

@@ -6,17 +6,17 @@ use Rattle.std.proofs.lemmas.Int.{ints}
 use Rattle.std.proofs.lemmas.List.Elements.{All-nil}
 use Rattle.std.specs.FinMap as finite
 use Rattle.blot_types.specs.declared.command.Entry.{Entry}
-use Rattle.blot_types.specs.declared.lines.Part.{Part}
+use Rattle.blot_types.specs.declared.part.Part.{Part}
 use Rattle.blot_types.specs.declared.lines.Version.{Version}
 use Rattle.blot_types.specs.Allocations.{Allocation}
 use Rattle.blot_types.specs.Order.{total}
-use Rattle.blot_types.specs.Position.{is_at, position_by, position_of, parts_of}
+use Rattle.blot_types.specs.Position.{is_at, position_by, position_of, parts_of, FillFits, TermsFit}
 use Rattle.blot_types.proofs.SumLemmas.{total-cons, total-where}
 use Rattle.blot_position.specs.declared.sums.Sums.{Sums}
 use Rattle.blot_position.specs.Positions.{Cells, sums_at}
 use Rattle.blot_position.specs.Sums.{line_by}
 use Rattle.blot_position.proofs.PositionLemmas.{sums_at-empty}
-use Rattle.blot_command.specs.Carried.{Carries, HasFillCells, HasTermsCells, FillFits, TermsFit, ShowsPositions}
+use Rattle.blot_command.specs.Carried.{Carries, HasFillCells, HasTermsCells, ShowsPositions}
 
 ones : (parts : List Part) → total (λ part. pos 1) parts ≡ pos (length parts)
 ones [] = refl

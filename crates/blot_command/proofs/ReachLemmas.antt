@@ -3,15 +3,14 @@ use Rattle.std.proofs.Common.{◌≡◌, ℕ, ◌+◌, ◌≤◌, pos, ◌+ℤ�
 use Rattle.std.specs.Prelude.{unsigned_abs, All, if◌then◌else◌}
 use Rattle.std.proofs.lemmas.Int.{ints}
 use Rattle.std.proofs.lemmas.List.Elements.{All-head, All-tail, All-weaker}
-use Rattle.blot_types.specs.declared.lines.Part.{Part}
+use Rattle.blot_types.specs.declared.part.Part.{Part}
 use Rattle.blot_types.specs.Order.{total}
-use Rattle.blot_types.specs.Position.{is_at}
+use Rattle.blot_types.specs.Position.{is_at, IsSmall}
 use Rattle.blot_types.proofs.SumLemmas.{total-cons}
 use Rattle.blot_position.specs.Positions.{Cells, has_cell}
 use Rattle.blot_position.proofs.PositionLemmas.{has_cell-stays_with_part, has_cell-stays_without_part}
 use Rattle.blot_command.specs.Booking.{Change, put_in, taken_out, changed_by, changed, changed_all, CanChangeAll}
 use Rattle.blot_command.specs.Carried.{Carries}
-use Rattle.blot_command.specs.Sizes.{IsSmall}
 use Rattle.blot_command.proofs.ChangeListLemmas.{changed_all-append, can-joined}
 use Rattle.blot_command.proofs.CarryLemmas.{Whole, more, SameWhole, one_at, IsCount, Carries-same, Carries-put, Carries-take, Light, Light-put, Light-take, Light-same, IsLightEnough, can_put, can_take}
 

@@ -11,14 +11,15 @@ use Rattle.blot_types.specs.declared.command.Command.TheVariants.{Trade, Correct
 use Rattle.blot_types.specs.declared.command.Entry.{Entry}
 use Rattle.blot_types.specs.declared.fill.Fill.{Fill}
 use Rattle.blot_types.specs.declared.keys.AllocKey.{AllocKey}
-use Rattle.blot_types.specs.declared.lines.Part.{Part}
+use Rattle.blot_types.specs.declared.part.Part.{Part}
 use Rattle.blot_types.specs.declared.lines.Version.{Version}
 use Rattle.blot_types.specs.declared.TheConstants.{EVENTS_MAX}
+use Rattle.blot_types.specs.Bounds.{BOOK_PARTS, BOOK_QTY}
 use Rattle.blot_types.specs.Allocations.{Allocation, allocation_of, instructions_of, live_allocations}
 use Rattle.blot_types.specs.Instructions.{ended_in, is_reference}
 use Rattle.blot_types.specs.Legal.{is_book}
 use Rattle.blot_types.specs.Order.{total}
-use Rattle.blot_types.specs.Position.{house, account_of, parts_of}
+use Rattle.blot_types.specs.Position.{house, account_of, parts_of, IsSmall, FillFits, TermsFit}
 use Rattle.blot_types.specs.Survivors.{links_of, version_by, version_of, versions_of, stands_in, survivors}
 use Rattle.blot_types.proofs.BookedLemmas.{books_blocks}
 use Rattle.blot_types.proofs.BringLemmas.{live_beside}
@@ -26,11 +27,10 @@ use Rattle.blot_types.proofs.ChangeLemmas.{is_named_root, allocations_in, alloca
 use Rattle.blot_types.proofs.LegalLemmas.{length_numbered}
 use Rattle.blot_position.specs.Positions.{Cells, has_cell}
 use Rattle.blot_command.specs.Booking.{Change, put_in, taken_out, changed_all, CanChangeAll, rebooked}
-use Rattle.blot_command.specs.Carried.{Carries, Opens, HasFillCells, HasTermsCells, HasEntryCells, EntryFits, FillFits, TermsFit, IsReady, ShowsPositions}
-use Rattle.blot_command.specs.Sizes.{IsSmall}
+use Rattle.blot_command.specs.Carried.{Carries, Opens, HasFillCells, HasTermsCells, HasEntryCells, EntryFits, IsReady, ShowsPositions}
 use Rattle.blot_command.proofs.CarryLemmas.{Whole, SameWhole, IsCount, Carries-same, Carries-cells, Light, Light-same, IsLightEnough}
 use Rattle.blot_command.proofs.HouseLemmas.{beside, relight}
-use Rattle.blot_command.proofs.MoveLemmas.{COUNT_MAX, QTY_MAX, light_enough, always-light, IsStocked, terms-stay, goes, comes}
+use Rattle.blot_command.proofs.MoveLemmas.{light_enough, always-light, IsStocked, terms-stay, goes, comes}
 use Rattle.blot_command.proofs.ReachLemmas.{Reaches, reach-append, reach-same, reach-put, reach-take, sizes, stays, AreMade}
 use Rattle.blot_command.proofs.WeightLemmas.{AllBooked, AreBooked, all_booked, moves_whole}
 
@@ -185,10 +185,10 @@ whole-beside list f = total-parts f list
 abbrev pub CarriesList : List Entry → Cells → Type 0
 CarriesList list cells = Carries (whole_of list) cells
 
-pub light-list : (list : List Entry) (cells : Cells) → is_book list ≡ true → IsReady list cells → Light COUNT_MAX QTY_MAX (whole_of list)
+pub light-list : (list : List Entry) (cells : Cells) → is_book list ≡ true → IsReady list cells → Light BOOK_PARTS BOOK_QTY (whole_of list)
 light-list list cells book ready =
     let stock = stocked list cells book ready in
-    Light-same (beside list (is_named_root list) (moves_whole (live_allocations list))) (whole_of list) COUNT_MAX QTY_MAX (λ f. sym (whole-beside list f))
+    Light-same (beside list (is_named_root list) (moves_whole (live_allocations list))) (whole_of list) BOOK_PARTS BOOK_QTY (λ f. sym (whole-beside list f))
     (always-light list (live_allocations list) stock.fits
     (record { fills = few-survivors list book; blocks = few-live list book; booked = booked-live list stock.lines }) (is_named_root list))
 
@@ -213,24 +213,24 @@ made-stays parts changes cells made =
 
 pub swaps :
     (gone come : Option Part) (cells : Cells) (rest before after : Whole) → SameWhole before (λ f. total f (cons_option gone []) +ℤ rest f) → SameWhole after (λ f. total f (cons_option come []) +ℤ rest f)
-    → Carries before cells → Light COUNT_MAX QTY_MAX before → Light COUNT_MAX QTY_MAX after → IsCount rest → All IsSmall (cons_option gone []) → All IsSmall (cons_option come []) → AreMade (cons_option come []) cells
-    → Reaches (rebooked gone come) cells COUNT_MAX QTY_MAX after
+    → Carries before cells → Light BOOK_PARTS BOOK_QTY before → Light BOOK_PARTS BOOK_QTY after → IsCount rest → All IsSmall (cons_option gone []) → All IsSmall (cons_option come []) → AreMade (cons_option come []) cells
+    → Reaches (rebooked gone come) cells BOOK_PARTS BOOK_QTY after
 swaps gone come cells rest before after was is carried light light_after some small_gone small_come made =
     let out = cons_option gone [] in
     let into = cons_option come [] in
     let one = few-sizes gone small_gone in
     let two = few-sizes come small_come in
     let first =
-    reach-take out cells COUNT_MAX QTY_MAX rest (Carries-same before (λ f. total f out +ℤ rest f) cells was carried) (Light-same before (λ f. total f out +ℤ rest f) COUNT_MAX QTY_MAX was light) some small_gone
+    reach-take out cells BOOK_PARTS BOOK_QTY rest (Carries-same before (λ f. total f out +ℤ rest f) cells was carried) (Light-same before (λ f. total f out +ℤ rest f) BOOK_PARTS BOOK_QTY was light) some small_gone
     (light_enough (length out) (sizes out) (omega (arith, one.0)) (omega (arith, one.1))) in
     let between = changed_all (map taken_out out) cells in
-    let enough : IsLightEnough ((COUNT_MAX + length out) + length into) ((QTY_MAX + sizes out) + sizes into) = record {
+    let enough : IsLightEnough ((BOOK_PARTS + length out) + length into) ((BOOK_QTY + sizes out) + sizes into) = record {
       count_fits = omega (arith, one.0, two.0);
       qty_fits = omega (arith, one.1, two.1);
     } in
     let second =
-    reach-put into between (COUNT_MAX + length out) (QTY_MAX + sizes out) rest first.carried first.light small_come (made-stays into (map taken_out out) cells made) enough in
-    relight (rebooked gone come) cells ((COUNT_MAX + length out) + length into) ((QTY_MAX + sizes out) + sizes into) COUNT_MAX QTY_MAX after
-    (reach-same (rebooked gone come) cells ((COUNT_MAX + length out) + length into) ((QTY_MAX + sizes out) + sizes into) (λ f. total f into +ℤ rest f) after (λ f. sym (is f))
-    (reach-append (map taken_out out) (map put_in into) cells (COUNT_MAX + length out) (QTY_MAX + sizes out) ((COUNT_MAX + length out) + length into) ((QTY_MAX + sizes out) + sizes into) rest
+    reach-put into between (BOOK_PARTS + length out) (BOOK_QTY + sizes out) rest first.carried first.light small_come (made-stays into (map taken_out out) cells made) enough in
+    relight (rebooked gone come) cells ((BOOK_PARTS + length out) + length into) ((BOOK_QTY + sizes out) + sizes into) BOOK_PARTS BOOK_QTY after
+    (reach-same (rebooked gone come) cells ((BOOK_PARTS + length out) + length into) ((BOOK_QTY + sizes out) + sizes into) (λ f. total f into +ℤ rest f) after (λ f. sym (is f))
+    (reach-append (map taken_out out) (map put_in into) cells (BOOK_PARTS + length out) (BOOK_QTY + sizes out) ((BOOK_PARTS + length out) + length into) ((BOOK_QTY + sizes out) + sizes into) rest
     (λ f. total f into +ℤ rest f) first second)) light_after

@@ -16,7 +16,7 @@ use Rattle.blot_types.specs.Survivors.{link_of, links_in, links_of, version_of, 
 use Rattle.blot_types.proofs.ChainLemmas.{clash}
 use Rattle.blot_types.proofs.EntryLemmas.{version-number}
 use Rattle.blot_types.proofs.SurvivorLemmas.{IsKnown, all_known, versions-cons, versions-known, without, without-none, survivors-push, replaced-by_entry, find-below, find-passes}
-use Rattle.blot_order.proofs.FillLemmas.{rise_from}
+use Rattle.blot_order.proofs.FillLemmas.{rise_from, held_at-with_kept_same, held_at-with_kept_other}
 use Rattle.blot_order.specs.Fills.{Fills, put_at, held_at}
 use Rattle.blot_command.specs.Shown.{version_numbered, fill_numbered, Shows, with_put, with_kept, CanPut, IsPut, IsKept}
 use Rattle.blot_command.proofs.LiveLemmas.{IsNextEntry}
@@ -140,84 +140,115 @@ versions-push list entry brought brings_it = filter_map-append version_of list (
 
 -- ---- one entry more
 
-puts_brought :
+-- the fill is kept under a number that no version has, so the book shows what it showed
+without-brought :
+    (versions : List Version) (n : ℕ) (brought : Option Version) → IsUnused n versions → IfSome brought (λ v. v.number ≡ n)
+    → without (option_map (λ v. v.number) brought) versions ≡ versions
+without-brought versions n None free numbered = without-none versions
+without-brought versions n (Some version) free numbered = without-unused version.number versions (subst (λ k. IsUnused k versions) (sym numbered) free)
+
+puts_kept : (fills : Fills) (kept : Option Version) (versions : List Version) → Puts fills versions → Puts (with_kept kept fills) (without (option_map (λ v. v.number) kept) versions)
+puts_kept fills None versions puts = subst (Puts fills) (sym (without-none versions)) puts
+puts_kept fills (Some w) versions puts = Puts-kept fills versions w puts
+
+puts_held :
     (list : List Entry) (entry : Entry) (fills : Fills) (brought : Option Version) → IsNextEntry list entry → Shows list fills → Brings entry brought
-    → Puts (with_put brought fills) (survivors list ++ cons_option brought [])
-puts_brought list entry fills None next shows brought = subst (Puts fills) (sym (append-nil (survivors list))) shows.put
-puts_brought list entry fills (Some version) next shows brought =
-    Puts-put fills (survivors list) version shows.put (subst (λ n. IsUnused n (survivors list)) (sym brought.numbered) (unused list entry next))
+    → Puts (with_kept brought fills) (survivors list)
+puts_held list entry fills brought next shows brings_it =
+    subst (Puts (with_kept brought fills)) (without-brought (survivors list) entry.number brought (unused list entry next) brings_it.numbered)
+    (puts_kept fills brought (survivors list) shows.put)
+
+held_beside :
+    (list : List Entry) (entry : Entry) (fills : Fills) (brought : Option Version) → IsNextEntry list entry → Shows list fills → Brings entry brought
+    → All (λ v. held_at (with_kept brought fills) v.number ≡ Some v.fill) (versions_of list)
+held_beside list entry fills None next shows brings_it = shows.held
+held_beside list entry fills (Some version) next shows brings_it =
+    λ k d less.
+    let held = shows.held k d less in
+    let known = versions-known entry.number list next.above k d less in
+    let numbered = brings_it.numbered in
+    held_at-with_kept_other version.number _ version.fill fills (λ same. absurd (omega (arith, known.below, same, numbered))) ∙ held
+
+pub shows-held :
+    (list : List Entry) (entry : Entry) (fills : Fills) (brought : Option Version) → IsNextEntry list entry → Shows list fills → Brings entry brought
+    → Shows list (with_kept brought fills)
+shows-held list entry fills brought next shows brings_it = record {
+  book = shows.book;
+  put = puts_held list entry fills brought next shows brings_it;
+  held = held_beside list entry fills brought next shows brings_it;
+}
 
 -- the fill of the version that is replaced is put
 pub can_take :
     (list : List Entry) (entry : Entry) (fills : Fills) (brought replaced : Option Version) → IsNextEntry list entry → Shows list fills → Brings entry brought
-    → Replaces list (link_of entry) replaced → IfSome replaced (λ version. IsPut version (with_put brought fills))
+    → Replaces list (link_of entry) replaced → IfSome replaced (λ version. IsPut version (with_kept brought fills))
 can_take list entry fills brought None next shows brings_it replaces_it = tt
 can_take list entry fills brought (Some w) next shows brings_it replaces_it =
-    puts_brought list entry fills brought next shows brings_it w.number
-    ∙ fill_numbered-append w.number (survivors list) (cons_option brought []) ∙ rw replaces_it.survives refl
-
-held_brought :
-    (list : List Entry) (entry : Entry) (fills : Fills) (brought : Option Version) → IsNextEntry list entry → Shows list fills → Brings entry brought
-    → All (λ v. held_at (with_put brought fills) v.number ≡ Some v.fill) (versions_of list)
-held_brought list entry fills None next shows brought = shows.held
-held_brought list entry fills (Some version) next shows brought =
-    λ k d less.
-    let held = shows.held k d less in
-    let known = versions-known entry.number list next.above k d less in
-    held-put fills version _ (λ same. absurd (omega (arith, known.below, same, brought.numbered))) ∙ held
-
-held_last : (fills : Fills) (brought : Option Version) → All (λ v. held_at (with_put brought fills) v.number ≡ Some v.fill) (cons_option brought [])
-held_last fills None = All-nil (λ v. held_at fills v.number ≡ Some v.fill)
-held_last fills (Some version) = All-cons (λ v. held_at (with_put (Some version) fills) v.number ≡ Some v.fill) version [] (held-own fills version) (All-nil (λ v. held_at (with_put (Some version) fills) v.number ≡ Some v.fill))
+    puts_held list entry fills brought next shows brings_it w.number ∙ ap (option_map (λ v. v.fill)) replaces_it.survives
 
 held_kept : (fills : Fills) (kept : Option Version) (versions : List Version) → IfSome kept (λ v. IsPut v fills)
     → All (λ v. held_at fills v.number ≡ Some v.fill) versions → All (λ v. held_at (with_kept kept fills) v.number ≡ Some v.fill) versions
 held_kept fills None versions put held = held
 held_kept fills (Some w) versions put held = All-weaker (λ v. held_at fills v.number ≡ Some v.fill) (λ v. held_at (with_kept (Some w) fills) v.number ≡ Some v.fill) (λ v here. held-kept fills w v.number put ∙ here) versions held
 
-puts_kept : (fills : Fills) (kept : Option Version) (versions : List Version) → Puts fills versions → Puts (with_kept kept fills) (without (option_map (λ v. v.number) kept) versions)
-puts_kept fills None versions puts = subst (Puts fills) (sym (without-none versions)) puts
-puts_kept fills (Some w) versions puts = Puts-kept fills versions w puts
+-- then its own is still kept
+kept_still : (fills : Fills) (replaced : Option Version) (version : Version) → IfSome replaced (λ v. IsPut v (with_kept (Some version) fills)) → held_at (with_kept replaced (with_kept (Some version) fills)) version.number ≡ Some version.fill
+kept_still fills None version put = held_at-with_kept_same version.number version.fill fills
+kept_still fills (Some w) version put = held-kept (with_kept (Some version) fills) w version.number put ∙ held_at-with_kept_same version.number version.fill fills
+
+pub can_put_held :
+    (list : List Entry) (entry : Entry) (fills : Fills) (brought replaced : Option Version) → IsNextEntry list entry → Shows list fills → Brings entry brought
+    → Replaces list (link_of entry) replaced → IfSome brought (λ version. IsKept version (with_kept replaced (with_kept brought fills)))
+can_put_held list entry fills None replaced next shows brings_it replaces_it = tt
+can_put_held list entry fills (Some version) replaced next shows brings_it replaces_it =
+    let number = option_map (λ v. v.number) replaced in
+    let kept = with_kept replaced (with_kept (Some version) fills) in
+    let puts : Puts kept (without number (survivors list)) = puts_kept (with_kept (Some version) fills) replaced (survivors list) (puts_held list entry fills (Some version) next shows brings_it) in
+    let free : IsUnused version.number (without number (survivors list)) =
+    subst (λ k. IsUnused k (without number (survivors list))) (sym brings_it.numbered) (unused-without entry.number number (survivors list) (unused list entry next)) in
+    kept-from_held kept version (puts version.number ∙ ap (option_map (λ v. v.fill)) free)
+    (kept_still fills replaced version (can_take list entry fills (Some version) replaced next shows brings_it replaces_it))
+
+puts_brought :
+    (fills : Fills) (versions : List Version) (n : ℕ) (brought : Option Version) → Puts fills versions → IsUnused n versions → IfSome brought (λ v. v.number ≡ n)
+    → Puts (with_put brought fills) (versions ++ cons_option brought [])
+puts_brought fills versions n None puts free numbered = subst (Puts fills) (sym (append-nil versions)) puts
+puts_brought fills versions n (Some version) puts free numbered = Puts-put fills versions version puts (subst (λ k. IsUnused k versions) (sym numbered) free)
+
+held_brought :
+    (list : List Entry) (entry : Entry) (fills : Fills) (brought : Option Version) → IsNextEntry list entry → Brings entry brought
+    → All (λ v. held_at fills v.number ≡ Some v.fill) (versions_of list) → All (λ v. held_at (with_put brought fills) v.number ≡ Some v.fill) (versions_of list)
+held_brought list entry fills None next brings_it all = all
+held_brought list entry fills (Some version) next brings_it all =
+    λ k d less.
+    let held = all k d less in
+    let known = versions-known entry.number list next.above k d less in
+    let numbered = brings_it.numbered in
+    held-put fills version _ (λ same. absurd (omega (arith, known.below, same, numbered))) ∙ held
+
+held_last : (fills : Fills) (brought : Option Version) → All (λ v. held_at (with_put brought fills) v.number ≡ Some v.fill) (cons_option brought [])
+held_last fills None = All-nil (λ v. held_at fills v.number ≡ Some v.fill)
+held_last fills (Some version) = All-cons (λ v. held_at (with_put (Some version) fills) v.number ≡ Some v.fill) version [] (held-own fills version) (All-nil (λ v. held_at (with_put (Some version) fills) v.number ≡ Some v.fill))
 
 pub shows-more :
     (list : List Entry) (entry : Entry) (fills : Fills) (brought replaced : Option Version) → IsNextEntry list entry → Shows list fills → Brings entry brought
-    → Replaces list (link_of entry) replaced → Shows (list ++ entry ∷ []) (with_kept replaced (with_put brought fills))
+    → Replaces list (link_of entry) replaced → Shows (list ++ entry ∷ []) (with_put brought (with_kept replaced (with_kept brought fills)))
 shows-more list entry fills brought replaced next shows brings_it replaces_it =
     let number = option_map (λ v. v.number) replaced in
-    let all : without number (survivors list ++ cons_option brought []) ≡ survivors (list ++ entry ∷ []) =
-    filter-append (λ v. not (is_number v.number number)) (survivors list) (cons_option brought [])
-    ∙ ap (λ back. without number (survivors list) ++ back) (kept_last entry.number replaced brought (survivors list) (unused list entry next) replaces_it.survives brings_it.numbered)
-    ∙ sym (after-entry list entry brought replaced next brings_it replaces_it) in
+    let held = with_kept brought fills in
+    let kept = with_kept replaced held in
+    let free = unused-without entry.number number (survivors list) (unused list entry next) in
+    let puts = puts_kept held replaced (survivors list) (puts_held list entry fills brought next shows brings_it) in
     let put = can_take list entry fills brought replaced next shows brings_it replaces_it in
     record {
       book = next.whole;
-      put = subst (Puts (with_kept replaced (with_put brought fills))) all (puts_kept (with_put brought fills) replaced (survivors list ++ cons_option brought []) (puts_brought list entry fills brought next shows brings_it));
-      held = subst (All (λ v. held_at (with_kept replaced (with_put brought fills)) v.number ≡ Some v.fill)) (sym (versions-push list entry brought brings_it))
-          (held_kept (with_put brought fills) replaced (versions_of list ++ cons_option brought []) put
-          (All-append (λ v. held_at (with_put brought fills) v.number ≡ Some v.fill) (versions_of list) (cons_option brought [])
-          (held_brought list entry fills brought next shows brings_it) (held_last fills brought)));
+      put = subst (Puts (with_put brought kept)) (sym (after-entry list entry brought replaced next brings_it replaces_it))
+          (puts_brought kept (without number (survivors list)) entry.number brought puts free brings_it.numbered);
+      held = subst (All (λ v. held_at (with_put brought kept) v.number ≡ Some v.fill)) (sym (versions-push list entry brought brings_it))
+          (All-append (λ v. held_at (with_put brought kept) v.number ≡ Some v.fill) (versions_of list) (cons_option brought [])
+          (held_brought list entry kept brought next brings_it (held_kept held replaced (versions_of list) put (held_beside list entry fills brought next shows brings_it)))
+          (held_last kept brought));
     }
-
--- where memory ran out, the fill that was put is kept, and the book shows what it showed
-pub put_back : (fills : Fills) (brought : Option Version) → IfSome brought (λ version. IsPut version (with_put brought fills))
-put_back fills None = tt
-put_back fills (Some version) = put-own fills version
-
-back_again :
-    (versions : List Version) (n : ℕ) (brought : Option Version) → IsUnused n versions → IfSome brought (λ v. v.number ≡ n)
-    → without (option_map (λ v. v.number) brought) (versions ++ cons_option brought []) ≡ versions
-back_again versions n None free numbered = without-none (versions ++ []) ∙ append-nil versions
-back_again versions n (Some version) free numbered = without-last version versions (subst (λ k. IsUnused k versions) (sym numbered) free)
-
-pub shows-back :
-    (list : List Entry) (entry : Entry) (fills : Fills) (brought : Option Version) → IsNextEntry list entry → Shows list fills → Brings entry brought
-    → Shows list (with_kept brought (with_put brought fills))
-shows-back list entry fills brought next shows brings_it = record {
-  book = shows.book;
-  put = subst (Puts (with_kept brought (with_put brought fills))) (back_again (survivors list) entry.number brought (unused list entry next) brings_it.numbered)
-      (puts_kept (with_put brought fills) brought (survivors list ++ cons_option brought []) (puts_brought list entry fills brought next shows brings_it));
-  held = held_kept (with_put brought fills) brought (versions_of list) (put_back fills brought) (held_brought list entry fills brought next shows brings_it);
-}
 
 -- ---- one entry less
 
@@ -242,6 +273,12 @@ can_take_last list entry fills brought replaced next shows brings_it replaces_it
     let number = option_map (λ v. v.number) replaced in
     last_put (without number (survivors list)) entry.number fills brought (unused-without entry.number number (survivors list) (unused list entry next)) brings_it.numbered
     (puts_whole list entry fills brought replaced next shows brings_it replaces_it)
+
+back_again :
+    (versions : List Version) (n : ℕ) (brought : Option Version) → IsUnused n versions → IfSome brought (λ v. v.number ≡ n)
+    → without (option_map (λ v. v.number) brought) (versions ++ cons_option brought []) ≡ versions
+back_again versions n None free numbered = without-none (versions ++ []) ∙ append-nil versions
+back_again versions n (Some version) free numbered = without-last version versions (subst (λ k. IsUnused k versions) (sym numbered) free)
 
 puts_rest :
     (list : List Entry) (entry : Entry) (fills : Fills) (brought replaced : Option Version) → IsNextEntry list entry → Shows (list ++ entry ∷ []) fills → Brings entry brought

@@ -9,19 +9,17 @@ use Rattle.blot_types.specs.declared.allocation.Terms.{Terms}
 use Rattle.blot_types.specs.declared.fill.Sign.{Sign}
 use Rattle.blot_types.specs.declared.fill.Sign.TheVariants.{Buy, Sell}
 use Rattle.blot_types.specs.declared.keys.ExecKey.{ExecKey}
-use Rattle.blot_types.specs.declared.lines.Part.{Part}
+use Rattle.blot_types.specs.declared.part.Part.{Part}
 use Rattle.blot_types.specs.declared.lines.Version.{Version}
 use Rattle.blot_types.specs.declared.link.Link.{Link}
 use Rattle.blot_types.specs.Allocations.{Allocation}
 use Rattle.blot_types.specs.Chains.{root_in}
 use Rattle.blot_types.specs.Order.{total}
-use Rattle.blot_types.specs.Position.{signed, part_of_line, from_house, moves_of_line, moves_of}
+use Rattle.blot_types.specs.Position.{signed, part_of_line, from_house, moves_of_line, moves_of, IsSmall, FillFits, TermsFit}
 use Rattle.blot_types.specs.Refusals.{booked}
 use Rattle.blot_types.proofs.BookedLemmas.{BooksBlock}
-use Rattle.blot_types.proofs.PartLemmas.{part_under, parts_under, named_at}
+use Rattle.blot_types.proofs.PartLemmas.{neg-size, signed-size, part_under, parts_under, named_at}
 use Rattle.blot_types.proofs.SumLemmas.{total-cons}
-use Rattle.blot_command.specs.Carried.{FillFits, TermsFit}
-use Rattle.blot_command.specs.Sizes.{IsSmall}
 use Rattle.blot_command.proofs.CarryLemmas.{Whole, more, SameWhole, Light, Light-put, Light-same}
 use Rattle.blot_command.proofs.ReachLemmas.{sizes}
 use Rattle.blot_command.proofs.HouseLemmas.{Light-weaker}
@@ -55,13 +53,6 @@ Light-both a b count qty count' qty' first second = record {
 
 -- ---- the moves of lines
 
-signed-size : (sign : Sign) (qty : ℕ) → unsigned_abs (signed sign (pos qty)) ≡ qty
-signed-size Buy qty = omega (arith, ints)
-signed-size Sell qty = omega (arith, ints)
-
-neg-size : (amount : ℤ) → unsigned_abs (neg_ℤ amount) ≡ unsigned_abs amount
-neg-size amount = omega (arith, ints)
-
 small-from_house : (part : Part) → IsSmall part → IsSmall (from_house part)
 small-from_house part small = record {
   qty = omega (arith, small.qty, neg-size part.qty);
@@ -86,7 +77,7 @@ sizes-moves terms [] = omega (arith, ints)
 sizes-moves terms (line ∷ lines) =
     let rest = sizes-moves terms lines in
     let sum = total-cons (λ (l : Line). pos l.qty) line lines in
-    let one = signed-size terms.sign line.qty in
+    let one = signed-size terms.sign (pos line.qty) in
     let other = neg-size (signed terms.sign (pos line.qty)) in
     omega (arith, ints, rest, sum, one, other)
 

@@ -24,21 +24,29 @@ numbers_of list = map (λ entry. entry.number) list
 abbrev pub after : List Entry → Command → ℕ → List Entry
 after list command number = list ++ record { number = number; command = command } ∷ []
 
+-- what takes a command back
+abbrev pub Inverse : Type 0
+Inverse = ℕ
+
 -- the inverse of a command: its number
-abbrev pub inverse_of : List Entry → Command → ℕ → ℕ
+abbrev pub inverse_of : List Entry → Command → ℕ → Inverse
 inverse_of list command number = number
 
 -- the list before: without the entry of that number
-abbrev pub before : List Entry → ℕ → List Entry
+abbrev pub before : List Entry → Inverse → List Entry
 before list number = filter (λ entry. not (has_number number entry)) list
 
 -- the command that stands under a number
 abbrev pub command_at : List Entry → ℕ → Option Command
 command_at list number = option_map (λ entry. entry.command) (find (has_number number) list)
 
+-- the meaning of a command on the book
+abbrev pub BookMeaning : Type 0 → Type 1
+BookMeaning C = Meaning Shown (List Entry) C Inverse ApplyFault
+
 -- what a kind of command means on the book, seen as a command by `embed` and back by `project`; an inverse needs
 -- nothing but the list
-abbrev pub meaning_by : {C : Type 0} → (C → Command) → (Command → Option C) → Meaning Shown (List Entry) C ℕ ApplyFault
+abbrev pub meaning_by : {C : Type 0} → (C → Command) → (Command → Option C) → BookMeaning C
 meaning_by embed project = record {
   list_of = λ book. book.list;
   spare = λ book. [];

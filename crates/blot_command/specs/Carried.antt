@@ -1,18 +1,16 @@
 -- What the cells of the positions carry.
-use Rattle.std.specs.Prelude.{◌≡◌, ℕ, ◌^◌, ◌≤◌, Bool, true, false, ℤ, pos, List, length, All, IfSome, if◌then◌else◌}
+use Rattle.std.specs.Prelude.{◌≡◌, ℕ, false, true, ℤ, pos, List, All, IfSome, if◌then◌else◌}
 use Rattle.std.specs.List.{filter_map}
 use Rattle.blot_types.specs.declared.allocation.Terms.{Terms}
 use Rattle.blot_types.specs.declared.command.Command.{Command}
 use Rattle.blot_types.specs.declared.command.Entry.{Entry}
 use Rattle.blot_types.specs.declared.fill.Fill.{Fill}
-use Rattle.blot_types.specs.declared.lines.Part.{Part}
-use Rattle.blot_types.specs.declared.TheConstants.{ITEMS_MAX}
+use Rattle.blot_types.specs.declared.part.Part.{Part}
 use Rattle.blot_types.specs.Allocations.{allocation_of}
 use Rattle.blot_types.specs.Order.{total}
-use Rattle.blot_types.specs.Position.{house, account_of, is_at, part_of_fill, part_of_line, parts_of}
+use Rattle.blot_types.specs.Position.{house, account_of, is_at, parts_of, FillFits, TermsFit}
 use Rattle.blot_types.specs.Survivors.{version_by, versions_of}
 use Rattle.blot_position.specs.Positions.{Cells, sums_at, has_cell}
-use Rattle.blot_command.specs.Sizes.{IsSmall}
 
 -- an amount of a part, where it is of the position of an account in a symbol
 abbrev pub amount_at : (Part → ℤ) → List ℕ → List ℕ → Part → ℤ
@@ -33,16 +31,6 @@ pub record HasFillCells (cells : Cells) (fill : Fill) : Type 0 where
 pub record HasTermsCells (cells : Cells) (terms : Terms) : Type 0 where
   pub lines : All (λ line. has_cell cells line.account terms.symbol ≡ true) terms.lines
   pub housed : has_cell cells house terms.symbol ≡ true
-
--- the amounts of a fill are in range
-abbrev pub FillFits : Fill → Type 0
-FillFits fill = (named : Bool) → IsSmall (part_of_fill named fill)
-
--- the amounts of the lines of terms are in range, and so is their block
-pub record TermsFit (terms : Terms) : Type 0 where
-  pub lines : All (λ line. IsSmall (part_of_line terms line)) terms.lines
-  pub few : length terms.lines ≤ ITEMS_MAX
-  pub block : terms.block ≤ 10 ^ 16
 
 -- the cells of what a command brings are made, and its amounts are in range
 abbrev pub HasEntryCells : Cells → Command → Type 0

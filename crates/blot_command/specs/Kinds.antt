@@ -1,5 +1,5 @@
 -- The kinds of command, each read back from the command that it is.
-use Rattle.std.specs.Prelude.{ℕ, List, Option, Some, None, refl}
+use Rattle.std.specs.Prelude.{Option, Some, None, refl}
 use Rattle.blot_types.specs.declared.command.Command.{Command}
 use Rattle.blot_types.specs.declared.command.Command.TheVariants.{Trade as TradeCommand, Correct as CorrectCommand, Bust as BustCommand, AllocNew as NewCommand, AllocReplace as ReplaceCommand, AllocCancel as CancelCommand}
 use Rattle.blot_types.specs.declared.command.AllocCancel.{AllocCancel}
@@ -8,19 +8,21 @@ use Rattle.blot_types.specs.declared.command.AllocReplace.{AllocReplace}
 use Rattle.blot_types.specs.declared.command.Bust.{Bust}
 use Rattle.blot_types.specs.declared.command.Correct.{Correct}
 use Rattle.blot_types.specs.declared.command.Trade.{Trade}
-use Rattle.blot_types.specs.declared.command.Entry.{Entry}
-use Rattle.blot_command.specs.declared.fault.ApplyFault.{ApplyFault}
-use Rattle.blot_command.specs.Book.{Shown, meaning_by}
+use Rattle.blot_command.specs.Book.{BookMeaning, meaning_by}
 use Rattle.blot_command.specs.Law.{lawful_by}
-use Rattle.blot_command.specs.Undoable.{Meaning, IsLawful}
+use Rattle.blot_command.specs.Undoable.{IsLawful}
 
 -- a Trade, where the command is one
 abbrev pub trade_of : Command → Option Trade
 trade_of (TradeCommand trade) = Some trade
-trade_of _ = None
+trade_of (CorrectCommand correct) = None
+trade_of (BustCommand bust) = None
+trade_of (NewCommand new) = None
+trade_of (ReplaceCommand replace) = None
+trade_of (CancelCommand cancel) = None
 
 -- what a Trade means on the book
-abbrev pub trade_meaning : Meaning Shown (List Entry) Trade ℕ ApplyFault
+abbrev pub trade_meaning : BookMeaning Trade
 trade_meaning = meaning_by TradeCommand trade_of
 
 -- and that it is lawful
@@ -30,10 +32,14 @@ trade_lawful = lawful_by TradeCommand trade_of (λ trade. refl)
 -- a Correct, where the command is one
 abbrev pub correct_of : Command → Option Correct
 correct_of (CorrectCommand correct) = Some correct
-correct_of _ = None
+correct_of (TradeCommand trade) = None
+correct_of (BustCommand bust) = None
+correct_of (NewCommand new) = None
+correct_of (ReplaceCommand replace) = None
+correct_of (CancelCommand cancel) = None
 
 -- what a Correct means on the book
-abbrev pub correct_meaning : Meaning Shown (List Entry) Correct ℕ ApplyFault
+abbrev pub correct_meaning : BookMeaning Correct
 correct_meaning = meaning_by CorrectCommand correct_of
 
 -- and that it is lawful
@@ -43,10 +49,14 @@ correct_lawful = lawful_by CorrectCommand correct_of (λ correct. refl)
 -- a Bust, where the command is one
 abbrev pub bust_of : Command → Option Bust
 bust_of (BustCommand bust) = Some bust
-bust_of _ = None
+bust_of (TradeCommand trade) = None
+bust_of (CorrectCommand correct) = None
+bust_of (NewCommand new) = None
+bust_of (ReplaceCommand replace) = None
+bust_of (CancelCommand cancel) = None
 
 -- what a Bust means on the book
-abbrev pub bust_meaning : Meaning Shown (List Entry) Bust ℕ ApplyFault
+abbrev pub bust_meaning : BookMeaning Bust
 bust_meaning = meaning_by BustCommand bust_of
 
 -- and that it is lawful
@@ -56,10 +66,14 @@ bust_lawful = lawful_by BustCommand bust_of (λ bust. refl)
 -- an AllocNew, where the command is one
 abbrev pub alloc_new_of : Command → Option AllocNew
 alloc_new_of (NewCommand command) = Some command
-alloc_new_of _ = None
+alloc_new_of (TradeCommand trade) = None
+alloc_new_of (CorrectCommand correct) = None
+alloc_new_of (BustCommand bust) = None
+alloc_new_of (ReplaceCommand replace) = None
+alloc_new_of (CancelCommand cancel) = None
 
 -- what an AllocNew means on the book
-abbrev pub alloc_new_meaning : Meaning Shown (List Entry) AllocNew ℕ ApplyFault
+abbrev pub alloc_new_meaning : BookMeaning AllocNew
 alloc_new_meaning = meaning_by NewCommand alloc_new_of
 
 -- and that it is lawful
@@ -69,10 +83,14 @@ alloc_new_lawful = lawful_by NewCommand alloc_new_of (λ command. refl)
 -- an AllocReplace, where the command is one
 abbrev pub alloc_replace_of : Command → Option AllocReplace
 alloc_replace_of (ReplaceCommand command) = Some command
-alloc_replace_of _ = None
+alloc_replace_of (TradeCommand trade) = None
+alloc_replace_of (CorrectCommand correct) = None
+alloc_replace_of (BustCommand bust) = None
+alloc_replace_of (NewCommand new) = None
+alloc_replace_of (CancelCommand cancel) = None
 
 -- what an AllocReplace means on the book
-abbrev pub alloc_replace_meaning : Meaning Shown (List Entry) AllocReplace ℕ ApplyFault
+abbrev pub alloc_replace_meaning : BookMeaning AllocReplace
 alloc_replace_meaning = meaning_by ReplaceCommand alloc_replace_of
 
 -- and that it is lawful
@@ -82,10 +100,14 @@ alloc_replace_lawful = lawful_by ReplaceCommand alloc_replace_of (λ command. re
 -- an AllocCancel, where the command is one
 abbrev pub alloc_cancel_of : Command → Option AllocCancel
 alloc_cancel_of (CancelCommand command) = Some command
-alloc_cancel_of _ = None
+alloc_cancel_of (TradeCommand trade) = None
+alloc_cancel_of (CorrectCommand correct) = None
+alloc_cancel_of (BustCommand bust) = None
+alloc_cancel_of (NewCommand new) = None
+alloc_cancel_of (ReplaceCommand replace) = None
 
 -- what an AllocCancel means on the book
-abbrev pub alloc_cancel_meaning : Meaning Shown (List Entry) AllocCancel ℕ ApplyFault
+abbrev pub alloc_cancel_meaning : BookMeaning AllocCancel
 alloc_cancel_meaning = meaning_by CancelCommand alloc_cancel_of
 
 -- and that it is lawful
@@ -93,7 +115,7 @@ pub alloc_cancel_lawful : IsLawful alloc_cancel_meaning
 alloc_cancel_lawful = lawful_by CancelCommand alloc_cancel_of (λ command. refl)
 
 -- what a command of any kind means on the book
-abbrev pub command_meaning : Meaning Shown (List Entry) Command ℕ ApplyFault
+abbrev pub command_meaning : BookMeaning Command
 command_meaning = meaning_by (λ command. command) (λ command. Some command)
 
 -- and that it is lawful

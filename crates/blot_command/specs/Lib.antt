@@ -6,5 +6,4 @@ pub mod Law
 pub mod Linking
 pub mod Refusing
 pub mod Shown
-pub mod Sizes
 pub mod Undoable

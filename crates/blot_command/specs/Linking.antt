@@ -42,11 +42,15 @@ abbrev pub without_link : Command → List Link → List Link
 without_link (Trade trade) links = rest_of links
 without_link (Correct correct) links = rest_of links
 without_link (Bust bust) links = rest_of links
-without_link _ links = links
+without_link (AllocNew new) links = links
+without_link (AllocReplace replace) links = links
+without_link (AllocCancel cancel) links = links
 
 -- the instructions without the newest, where a command is an instruction
 abbrev pub without_instruction : Command → List Instruction → List Instruction
+without_instruction (Trade trade) instructions = instructions
+without_instruction (Correct correct) instructions = instructions
+without_instruction (Bust bust) instructions = instructions
 without_instruction (AllocNew new) instructions = rest_of instructions
 without_instruction (AllocReplace replace) instructions = rest_of instructions
 without_instruction (AllocCancel cancel) instructions = rest_of instructions
-without_instruction _ instructions = instructions

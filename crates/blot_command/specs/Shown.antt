@@ -41,12 +41,6 @@ terms_keyed list key =
 abbrev pub roots_keyed : List Entry → AllocKey → Option (List ExecKey)
 roots_keyed list key = option_map (λ instruction. instruction.roots) (find (is_keyed key) (instructions_of list))
 
--- the live list is a book; the chains are those of its executions, the instructions those of its allocations
-pub record HoldsList (list : List Entry) (links : List Link) (instructions : List Instruction) : Type 0 where
-  pub book : is_book list ≡ true
-  pub links_are : links ≡ links_of list
-  pub instructions_are : instructions ≡ instructions_of list
-
 -- the live list is a book, the fills that are put are those of the survivors, and the fill of each version is held,
 -- so that it can be put again without memory
 pub record Shows (list : List Entry) (fills : Fills) : Type 0 where

@@ -6,10 +6,7 @@ ghost use Rattle.blot_types.specs.Legal.{is_book};
 ghost use Rattle.blot_types.specs.Position.{part_of, position_of};
 ghost use Rattle.blot_command.specs.Booking.{changed_all, CanChangeAll, chains_to_house, chains_from_house, allocated, released};
 
-use crate::booking::{
-    brought_key, ended_key, open_cells, part_of_fill, put_lines, put_part, rebook, take_lines,
-    take_part,
-};
+use crate::booking::{open_cells, put_lines, put_part, rebook, take_lines, take_part};
 use crate::live::LiveList;
 use blot_position::Positions;
 use blot_types::{AllocKey, Entry, ExecKey, Part, PositionLine, Text64, Version};
@@ -72,8 +69,8 @@ impl Accounts {
             return Err(entry);
         };
         let version = entry.version();
-        let ended = ended_key(&entry.command);
-        let brought = brought_key(&entry.command);
+        let ended = entry.command.alloc_reference();
+        let brought = entry.command.brought_key();
         let gone = part_of(&self.live, &self.live.replaced(&entry.link()));
         match self.live.push(entry) {
             Ok(()) => {
@@ -95,8 +92,8 @@ impl Accounts {
     {
         let last = self.live.last();
         let version = last.version();
-        let ended = ended_key(&last.command);
-        let brought = brought_key(&last.command);
+        let ended = last.command.alloc_reference();
+        let brought = last.command.brought_key();
         release(&mut self.positions, &self.live, &brought);
         allocate(&mut self.positions, &self.live, &ended);
         let gone = part_of(&self.live, &version);
@@ -113,7 +110,7 @@ fn part_of(live: &LiveList, version: &Option<Version>) -> Option<Part>
 {
     match version {
         None => None,
-        Some(version) => Some(part_of_fill(live.is_named(&version.key), &version.fill)),
+        Some(version) => Some(Part::of_fill(live.is_named(&version.key), &version.fill)),
     }
 }
 
@@ -149,8 +146,8 @@ fn put_to_house(positions: &mut Positions, live: &LiveList, roots: &[ExecKey])
 {
     for root in roots {
         if let Some(version) = live.standing(root) {
-            take_part(positions, &part_of_fill(false, &version.fill));
-            put_part(positions, &part_of_fill(true, &version.fill));
+            take_part(positions, &Part::of_fill(false, &version.fill));
+            put_part(positions, &Part::of_fill(true, &version.fill));
         }
     }
 }
@@ -162,8 +159,8 @@ fn take_from_house(positions: &mut Positions, live: &LiveList, roots: &[ExecKey]
 {
     for root in roots {
         if let Some(version) = live.standing(root) {
-            take_part(positions, &part_of_fill(true, &version.fill));
-            put_part(positions, &part_of_fill(false, &version.fill));
+            take_part(positions, &Part::of_fill(true, &version.fill));
+            put_part(positions, &Part::of_fill(false, &version.fill));
         }
     }
 }

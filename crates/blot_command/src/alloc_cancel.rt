@@ -41,6 +41,10 @@ fn into_alloc_cancel(command: Command) -> AllocCancel
 {
     match command {
         Command::AllocCancel(cancel) => cancel,
-        _ => unreachable!(),
+        Command::Trade(_)
+        | Command::Correct(_)
+        | Command::Bust(_)
+        | Command::AllocNew(_)
+        | Command::AllocReplace(_) => unreachable!(),
     }
 }

@@ -41,6 +41,10 @@ fn into_alloc_new(command: Command) -> AllocNew
 {
     match command {
         Command::AllocNew(allocation) => allocation,
-        _ => unreachable!(),
+        Command::Trade(_)
+        | Command::Correct(_)
+        | Command::Bust(_)
+        | Command::AllocReplace(_)
+        | Command::AllocCancel(_) => unreachable!(),
     }
 }

@@ -41,6 +41,10 @@ fn into_alloc_replace(command: Command) -> AllocReplace
 {
     match command {
         Command::AllocReplace(replacement) => replacement,
-        _ => unreachable!(),
+        Command::Trade(_)
+        | Command::Correct(_)
+        | Command::Bust(_)
+        | Command::AllocNew(_)
+        | Command::AllocCancel(_) => unreachable!(),
     }
 }

@@ -41,6 +41,10 @@ fn into_bust(command: Command) -> Bust
 {
     match command {
         Command::Bust(bust) => bust,
-        _ => unreachable!(),
+        Command::Trade(_)
+        | Command::Correct(_)
+        | Command::AllocNew(_)
+        | Command::AllocReplace(_)
+        | Command::AllocCancel(_) => unreachable!(),
     }
 }

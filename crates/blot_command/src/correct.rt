@@ -41,6 +41,10 @@ fn into_correct(command: Command) -> Correct
 {
     match command {
         Command::Correct(correct) => correct,
-        _ => unreachable!(),
+        Command::Trade(_)
+        | Command::Bust(_)
+        | Command::AllocNew(_)
+        | Command::AllocReplace(_)
+        | Command::AllocCancel(_) => unreachable!(),
     }
 }

@@ -1,8 +1,8 @@
 //! Commands and their inverses. `Undoable` is what a command of any kind promises: exactly when it is
 //! accepted, what the state is after it, and that its inverse restores the state before. `Tables` is the
 //! book: its live list of entries with the chains, the allocations and the positions, and the fills that
-//! stand; each kind of command keeps that promise on it. What an entry is to the chains and the allocations, and what
-//! a fill or a line adds to a position, is public beside them, for those that walk a list.
+//! stand; each kind of command keeps that promise on it. What an entry is to the chains and the allocations is public
+//! beside them, for those that walk a list.
 #![tactic(auto)]
 
 mod accounts;
@@ -16,12 +16,12 @@ mod correct;
 mod fault;
 mod linking;
 mod live;
+mod lookup;
 mod refusal;
 mod tables;
 mod trade;
 mod undoable;
 
-pub use booking::{from_house, part_of_fill, part_of_line};
 pub use fault::ApplyFault;
 pub use linking::link_entry;
 pub use tables::Tables;

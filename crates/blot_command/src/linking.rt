@@ -19,9 +19,9 @@ pub fn link_entry(
     allocs: &mut Allocs,
     entry: &Entry,
 ) -> Result<(), NoMemory>
-    requires { CanLink entry.now chains.old allocs.old }
-    ensures chains { OnOk result (chains.new ≡ cons_option (link_of entry.now) chains.old) }
-    ensures allocs { OnOk result (allocs.new ≡ cons_option (instruction_by chains.old entry.now.number entry.now.command) allocs.old) }
+    requires { CanLink entry.now chains.old.list allocs.old.list }
+    ensures chains { OnOk result (chains.new.list ≡ cons_option (link_of entry.now) chains.old.list) }
+    ensures allocs { OnOk result (allocs.new.list ≡ cons_option (instruction_by chains.old.list entry.now.number entry.now.command) allocs.old.list) }
     ensures same_chains { OnErr result (chains.new ≡ chains.old) }
     ensures same_allocs { OnErr result (allocs.new ≡ allocs.old) }
 {
@@ -48,7 +48,7 @@ fn roots_of(
     chains: &Chains,
     execs: &Items<ExecKey>,
 ) -> Result<Items<ExecKey>, NoMemory>
-    ensures { IfOk result (λ roots. roots ≡ filter_map (root_in chains.now) execs.now) }
+    ensures { IfOk result (λ roots. roots ≡ filter_map (root_in chains.now.list) execs.now) }
 {
     let mut roots = Vec::new(alloc);
     for key in execs.as_slice() {
@@ -61,9 +61,9 @@ fn roots_of(
 
 /// Takes back the entry that was added last.
 pub(crate) fn unlink_entry(chains: &mut Chains, allocs: &mut Allocs, entry: &Entry)
-    requires { IsLinkedLast entry.now chains.old allocs.old }
-    ensures chains { chains.new ≡ without_link entry.now.command chains.old }
-    ensures allocs { allocs.new ≡ without_instruction entry.now.command allocs.old }
+    requires { IsLinkedLast entry.now chains.old.list allocs.old.list }
+    ensures chains { chains.new.list ≡ without_link entry.now.command chains.old.list }
+    ensures allocs { allocs.new.list ≡ without_instruction entry.now.command allocs.old.list }
 {
     match &entry.command {
         Command::Trade(trade) => chains.un_add(&trade.key),

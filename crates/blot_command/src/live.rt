@@ -13,7 +13,8 @@ ghost use Rattle.blot_command.specs.Book.{has_number};
 ghost use Rattle.blot_command.specs.Shown.{version_numbered, terms_of_key, terms_keyed, roots_keyed};
 
 use crate::linking::{link_entry, unlink_entry};
-use crate::refusal::{current_version, refusal, version_numbered};
+use crate::lookup::{entry_numbered, version_numbered};
+use crate::refusal::{current_version, refusal};
 use blot_alloc::Allocs;
 use blot_chain::Chains;
 use blot_types::{AllocKey, Command, Entry, ExecKey, Link, Refused, Role, Terms, Version};
@@ -32,13 +33,13 @@ pub(crate) struct LiveList {
 impl Model for LiveList {
     ghost use Rattle.std.specs.Prelude.{List};
     ghost use Rattle.blot_types.specs.declared.command.Entry.{Entry};
-    ghost use Rattle.blot_command.specs.Shown.{HoldsList};
+    ghost use Rattle.blot_types.specs.Legal.{HoldsList};
 
     ghost Value = { List Entry };
 
     ghost view = { λ live. live.entries.items };
 
-    ghost invariant = { λ live. HoldsList live.entries.items live.chains live.allocs };
+    ghost invariant = { λ live. HoldsList live.entries.items live.chains.list live.allocs.list };
 }
 
 impl LiveList {
@@ -57,10 +58,10 @@ impl LiveList {
     pub(crate) fn entry(&self, number: u64) -> Option<&Entry>
         ensures { option_copied result ≡ find (has_number number) self.now }
     {
-        self.entries.iter().find(|entry| entry.number == number)
+        entry_numbered(&self.entries, number)
     }
 
-    /// The entries, copied.
+    /// The entries, copied: the one walk over all of them.
     pub(crate) fn entries(&self, alloc: Global) -> Result<Vec<Entry>, NoMemory>
         ensures { IfOk result (λ entries. entries.items ≡ self.now) }
     {
@@ -132,12 +133,13 @@ impl LiveList {
     pub(crate) fn terms_of(&self, key: &AllocKey) -> Option<&Terms>
         ensures { option_copied result ≡ terms_keyed self.now key.now }
     {
-        for entry in &self.entries {
-            if let Some(terms) = terms_under(&entry.command, key) {
-                return Some(terms);
-            }
+        match self.allocs.number_of(key) {
+            None => None,
+            Some(number) => match self.entry(number) {
+                None => None,
+                Some(entry) => terms_under(&entry.command, key),
+            },
         }
-        None
     }
 
     /// The roots of the chains that the allocation of a key names.
@@ -155,16 +157,14 @@ impl LiveList {
         ensures returned { IfErr result (λ back. back ≡ entry) }
     {
         let alloc = *self.entries.allocator();
-        if link_entry(alloc, &mut self.chains, &mut self.allocs, &entry).is_err() {
+        let Ok(()) = self.entries.reserve(1) else {
             return Err(entry);
-        }
-        match self.entries.push(entry) {
-            Ok(()) => Ok(()),
-            Err(failed) => {
-                unlink_entry(&mut self.chains, &mut self.allocs, &failed.value);
-                Err(failed.value)
-            }
-        }
+        };
+        let Ok(()) = link_entry(alloc, &mut self.chains, &mut self.allocs, &entry) else {
+            return Err(entry);
+        };
+        self.entries.push_reserved(entry);
+        Ok(())
     }
 
     /// Takes the last entry out.
@@ -201,6 +201,11 @@ fn terms_under<'a>(command: &'a Command, key: &AllocKey) -> Option<&'a Terms>
     match command {
         Command::AllocNew(new) if new.key == *key => Some(&new.terms),
         Command::AllocReplace(replace) if replace.key == *key => Some(&replace.terms),
-        _ => None,
+        Command::Trade(_)
+        | Command::Correct(_)
+        | Command::Bust(_)
+        | Command::AllocNew(_)
+        | Command::AllocReplace(_)
+        | Command::AllocCancel(_) => None,
     }
 }

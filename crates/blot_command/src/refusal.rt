@@ -2,23 +2,21 @@
 ghost use Rattle.std.specs.Prelude.{◌≡◌, [], pos, reverse, find, is_none, false};
 ghost use Rattle.std.specs.List.{list_any, filter_map};
 ghost use Rattle.std.specs.Option.{option_map, option_map_or, option_and_then, option_or};
-ghost use Rattle.blot_types.specs.declared.refused.Refused.TheVariants.{DuplicateExec, DuplicateAlloc, UnknownAlloc, DeadAlloc, UnknownExec, BustedExec, RepeatedExec, ExecTaken, Instrument, Quantity};
+ghost use Rattle.blot_types.specs.declared.refused.Refused.TheVariants.{DuplicateExec, DuplicateAlloc, UnknownAlloc, DeadAlloc, UnknownExec, BustedExec, RepeatedExec, ExecTaken, Instrument};
 ghost use Rattle.blot_types.specs.Allocations.{instructions_of};
 ghost use Rattle.blot_types.specs.Chains.{taker_in, root_in, current_in, bust_in, chain_refusal, link_refusal};
 ghost use Rattle.blot_types.specs.Instructions.{alloc_taker_in, is_allocation_in, ended_in};
 ghost use Rattle.blot_types.specs.Legal.{numbers_rise, refusal_of};
 ghost use Rattle.blot_types.specs.Order.{cum_of};
-ghost use Rattle.blot_types.specs.Refusals.{first_of, bust_of_key, same_chain, repeated_in, other_holder, current_fill, same_sign, differs, booked, mismatch};
+ghost use Rattle.blot_types.specs.Refusals.{first_of, bust_of_key, same_chain, repeated_in, other_holder, current_fill, differs};
 ghost use Rattle.blot_types.specs.Survivors.{links_of};
 ghost use Rattle.blot_command.specs.Refusing.{HoldsBoth, HoldsChainsOf, terms_refusal, reference_refusal};
 ghost use Rattle.blot_command.specs.Shown.{version_numbered};
 
+use crate::lookup::version_numbered;
 use blot_alloc::Allocs;
 use blot_chain::Chains;
-use blot_decimal::{Qty, QtySum};
-use blot_types::{
-    AllocKey, Command, Entry, ExecKey, Fill, Line, Refused, Role, Sign, Terms, Version,
-};
+use blot_types::{AllocKey, Command, Entry, ExecKey, Fill, Refused, Role, Terms, Version};
 
 /// Why a list of entries, with its chains and its allocations, refuses a command.
 pub(crate) fn refusal(
@@ -27,7 +25,7 @@ pub(crate) fn refusal(
     allocs: &Allocs,
     command: &Command,
 ) -> Option<Refused>
-    requires { HoldsBoth entries.now chains.now allocs.now }
+    requires { HoldsBoth entries.now chains.now.list allocs.now.list }
     ensures { result ≡ refusal_of entries.now command.now }
 {
     match command {
@@ -63,7 +61,7 @@ pub(crate) fn refusal(
 
 // Why an execution's link is refused: its key is taken up, or else what its reference is refused for.
 fn execution_refusal(chains: &Chains, key: &ExecKey, role: Role) -> Option<Refused>
-    ensures { result ≡ link_refusal chains.now key.now role }
+    ensures { result ≡ link_refusal chains.now.list key.now role }
 {
     if let Some(number) = chains.number_of(key) {
         return Some(Refused::DuplicateExec(number));
@@ -76,7 +74,7 @@ fn execution_refusal(chains: &Chains, key: &ExecKey, role: Role) -> Option<Refus
 
 // Why a reference to an execution is refused: it has no root, or its chain is busted.
 fn chain_refusal(chains: &Chains, reference: &ExecKey) -> Option<Refused>
-    ensures { result ≡ chain_refusal chains.now reference.now (root_in chains.now reference.now) }
+    ensures { result ≡ chain_refusal chains.now.list reference.now (root_in chains.now.list reference.now) }
 {
     match chains.root_of(reference) {
         None => Some(Refused::UnknownExec(*reference)),
@@ -86,14 +84,14 @@ fn chain_refusal(chains: &Chains, reference: &ExecKey) -> Option<Refused>
 
 // Whether the key of an allocation is taken up.
 fn duplicate_alloc(allocs: &Allocs, key: &AllocKey) -> Option<Refused>
-    ensures { result ≡ option_map DuplicateAlloc (alloc_taker_in allocs.now key.now) }
+    ensures { result ≡ option_map DuplicateAlloc (alloc_taker_in allocs.now.list key.now) }
 {
     allocs.number_of(key).map(Refused::DuplicateAlloc)
 }
 
 // Why a reference to an allocation is refused: there is none of that key, or it was ended.
 fn reference_refusal(allocs: &Allocs, reference: &AllocKey) -> Option<Refused>
-    ensures { result ≡ reference_refusal allocs.now reference.now }
+    ensures { result ≡ reference_refusal allocs.now.list reference.now }
 {
     if !allocs.is_allocation(reference) {
         return Some(Refused::UnknownAlloc);
@@ -109,7 +107,7 @@ fn terms_refusal(
     terms: &Terms,
     reference: &Option<AllocKey>,
 ) -> Option<Refused>
-    requires { HoldsBoth entries.now chains.now allocs.now }
+    requires { HoldsBoth entries.now chains.now.list allocs.now.list }
     ensures { result ≡ terms_refusal entries.now reference.now terms.now }
 {
     let execs = terms.execs.as_slice();
@@ -128,13 +126,12 @@ fn terms_refusal(
     if let Some(key) = other_instrument(entries, chains, terms, execs) {
         return Some(Refused::Instrument(key));
     }
-    let wanted = wanted(entries, chains, execs);
-    mismatch(wanted, terms.block, booked(terms.lines.as_slice()))
+    terms.mismatch(wanted(entries, chains, execs))
 }
 
 // The first listed execution without a root.
 fn unknown_exec(chains: &Chains, execs: &[ExecKey]) -> Option<ExecKey>
-    ensures { result ≡ find (λ key. is_none (root_in chains.now key)) execs.now }
+    ensures { result ≡ find (λ key. is_none (root_in chains.now.list key)) execs.now }
 {
     for key in execs {
         if chains.root_of(key).is_none() {
@@ -146,7 +143,7 @@ fn unknown_exec(chains: &Chains, execs: &[ExecKey]) -> Option<ExecKey>
 
 // The Bust of the first listed execution that is busted.
 fn busted_exec(chains: &Chains, execs: &[ExecKey]) -> Option<u64>
-    ensures { result ≡ first_of (bust_of_key chains.now) execs.now }
+    ensures { result ≡ first_of (bust_of_key chains.now.list) execs.now }
 {
     for key in execs {
         if let Some(number) = bust_of_key(chains, key) {
@@ -158,7 +155,7 @@ fn busted_exec(chains: &Chains, execs: &[ExecKey]) -> Option<u64>
 
 // The Bust of the chain of a key.
 fn bust_of_key(chains: &Chains, key: &ExecKey) -> Option<u64>
-    ensures { result ≡ bust_of_key chains.now key.now }
+    ensures { result ≡ bust_of_key chains.now.list key.now }
 {
     let root = chains.root_of(key)?;
     chains.bust_of(&root)
@@ -166,7 +163,7 @@ fn bust_of_key(chains: &Chains, key: &ExecKey) -> Option<u64>
 
 // The first listed execution that is of the chain of one listed before it.
 fn repeated_exec(chains: &Chains, execs: &[ExecKey]) -> Option<ExecKey>
-    ensures { result ≡ repeated_in chains.now [] execs.now }
+    ensures { result ≡ repeated_in chains.now.list [] execs.now }
 {
     for (index, key) in execs.iter().enumerate() {
         if is_repeated(chains, key, &execs[..index]) {
@@ -178,14 +175,14 @@ fn repeated_exec(chains: &Chains, execs: &[ExecKey]) -> Option<ExecKey>
 
 // Whether a key is of the chain of one of these.
 fn is_repeated(chains: &Chains, key: &ExecKey, before: &[ExecKey]) -> bool
-    ensures { result ≡ list_any (same_chain chains.now key.now) before.now }
+    ensures { result ≡ list_any (same_chain chains.now.list key.now) before.now }
 {
     before.iter().any(|other| is_same_chain(chains, key, other))
 }
 
 // Whether two keys are of one chain.
 fn is_same_chain(chains: &Chains, key: &ExecKey, other: &ExecKey) -> bool
-    ensures { result ≡ same_chain chains.now key.now other.now }
+    ensures { result ≡ same_chain chains.now.list key.now other.now }
 {
     match (chains.root_of(key), chains.root_of(other)) {
         (Some(root), Some(other)) => other == root,
@@ -200,7 +197,7 @@ fn exec_taken(
     execs: &[ExecKey],
     reference: &Option<AllocKey>,
 ) -> Option<u64>
-    ensures { result ≡ first_of (other_holder chains.now allocs.now reference.now) execs.now }
+    ensures { result ≡ first_of (other_holder chains.now.list allocs.now.list reference.now) execs.now }
 {
     for key in execs {
         if let Some(number) = other_holder(chains, allocs, key, reference) {
@@ -217,7 +214,7 @@ fn other_holder(
     key: &ExecKey,
     reference: &Option<AllocKey>,
 ) -> Option<u64>
-    ensures { result ≡ other_holder chains.now allocs.now reference.now key.now }
+    ensures { result ≡ other_holder chains.now.list allocs.now.list reference.now key.now }
 {
     let root = chains.root_of(key)?;
     allocs.other_holder_of(*reference, &root)
@@ -230,12 +227,12 @@ fn other_instrument(
     terms: &Terms,
     execs: &[ExecKey],
 ) -> Option<ExecKey>
-    requires { HoldsChainsOf entries.now chains.now }
+    requires { HoldsChainsOf entries.now chains.now.list }
     ensures { result ≡ find (λ key. option_map_or (differs terms.now) (current_fill (reverse entries.now) key) false) execs.now }
 {
     for key in execs {
         if let Some(fill) = current_fill(entries, chains, key) {
-            if differs(terms, &fill) {
+            if terms.differs(&fill) {
                 return Some(*key);
             }
         }
@@ -243,26 +240,9 @@ fn other_instrument(
     None
 }
 
-// Whether a fill is of another symbol or sign than the terms.
-fn differs(terms: &Terms, fill: &Fill) -> bool
-    ensures { result ≡ differs terms.now fill.now }
-{
-    !(fill.symbol == terms.symbol && is_same_sign(fill.sign, terms.sign))
-}
-
-// Whether two signs are one.
-fn is_same_sign(a: Sign, b: Sign) -> bool
-    ensures { result ≡ same_sign a b }
-{
-    match (a, b) {
-        (Sign::Buy, Sign::Buy) | (Sign::Sell, Sign::Sell) => true,
-        _ => false,
-    }
-}
-
 // The fill of the last version of the chain of a key.
 fn current_fill(entries: &[Entry], chains: &Chains, key: &ExecKey) -> Option<Fill>
-    requires { HoldsChainsOf entries.now chains.now }
+    requires { HoldsChainsOf entries.now chains.now.list }
     ensures { result ≡ current_fill (reverse entries.now) key.now }
 {
     match current_version(entries, chains, key) {
@@ -273,7 +253,7 @@ fn current_fill(entries: &[Entry], chains: &Chains, key: &ExecKey) -> Option<Fil
 
 /// The last version of the chain of a key.
 pub(crate) fn current_version(entries: &[Entry], chains: &Chains, key: &ExecKey) -> Option<Version>
-    requires { chains.now ≡ links_of entries.now }
+    requires { HoldsChainsOf entries.now chains.now.list }
     ensures { result ≡ option_and_then (version_numbered entries.now) (option_and_then (current_in (links_of entries.now)) (root_in (links_of entries.now) key.now)) }
 {
     let root = chains.root_of(key)?;
@@ -281,23 +261,9 @@ pub(crate) fn current_version(entries: &[Entry], chains: &Chains, key: &ExecKey)
     version_numbered(entries, number)
 }
 
-/// The version of a number.
-pub(crate) fn version_numbered(entries: &[Entry], number: u64) -> Option<Version>
-    ensures { result ≡ version_numbered entries.now number }
-{
-    for entry in entries {
-        if entry.number == number {
-            if let Some(version) = entry.version() {
-                return Some(version);
-            }
-        }
-    }
-    None
-}
-
 // The quantity of the last versions of the listed executions, in units of 10^-6.
 fn wanted(entries: &[Entry], chains: &Chains, execs: &[ExecKey]) -> i128
-    requires { HoldsChainsOf entries.now chains.now }
+    requires { HoldsChainsOf entries.now chains.now.list }
     ensures { result ≡ cum_of (filter_map (current_fill (reverse entries.now)) execs.now) }
 {
     let mut sum = 0;
@@ -307,36 +273,4 @@ fn wanted(entries: &[Entry], chains: &Chains, execs: &[ExecKey]) -> i128
         }
     }
     sum
-}
-
-// The quantity that lines book, in units of 10^-6.
-fn booked(lines: &[Line]) -> i128
-    ensures { result ≡ booked lines.now }
-{
-    let mut sum = 0;
-    for line in lines {
-        sum += i128::from(line.qty.units());
-    }
-    sum
-}
-
-// The quantity found that isn't the one wanted: the block's, else the lines'.
-fn mismatch(wanted: i128, block: Qty, booked: i128) -> Option<Refused>
-    ensures { result ≡ mismatch wanted (pos block) booked }
-{
-    let block = i128::from(block.units());
-    if block != wanted {
-        return Some(quantity(wanted, block));
-    }
-    if booked != wanted {
-        return Some(quantity(wanted, booked));
-    }
-    None
-}
-
-// The refusal of a quantity found in place of the one wanted.
-fn quantity(wanted: i128, found: i128) -> Refused
-    ensures { result ≡ Quantity wanted found }
-{
-    Refused::Quantity(QtySum::from_units(wanted), QtySum::from_units(found))
 }

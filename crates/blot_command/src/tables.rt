@@ -101,18 +101,16 @@ impl Tables {
     {
         let version = entry.version();
         let replaced = self.accounts.live().replaced(&entry.link());
-        let Ok(()) = put(&mut self.orders, &version) else {
+        let Ok(()) = hold(&mut self.orders, &version) else {
             return Err(entry);
         };
         match self.accounts.push(entry) {
             Ok(()) => {
                 take(&mut self.orders, &replaced);
+                un_take(&mut self.orders, &version);
                 Ok(())
             }
-            Err(back) => {
-                take(&mut self.orders, &version);
-                Err(back)
-            }
+            Err(back) => Err(back),
         }
     }
 
@@ -130,15 +128,15 @@ impl Tables {
     }
 }
 
-// Puts the fill of a version, if there is one.
-fn put(orders: &mut Orders, version: &Option<Version>) -> Result<(), NoMemory>
+// Makes the cell of the fill of a version, if there is one.
+fn hold(orders: &mut Orders, version: &Option<Version>) -> Result<(), NoMemory>
     requires { IfSome version.now (λ version. CanPut version orders.old) }
-    ensures ok { OnOk result (orders.new ≡ with_put version.now orders.old) }
+    ensures ok { OnOk result (orders.new ≡ with_kept version.now orders.old) }
     ensures err { OnErr result (orders.new ≡ orders.old) }
 {
     match version {
         None => Ok(()),
-        Some(version) => orders.put(version.number, &version.fill),
+        Some(version) => orders.hold(version.number, &version.fill),
     }
 }
 

@@ -41,6 +41,10 @@ fn into_trade(command: Command) -> Trade
 {
     match command {
         Command::Trade(trade) => trade,
-        _ => unreachable!(),
+        Command::Correct(_)
+        | Command::Bust(_)
+        | Command::AllocNew(_)
+        | Command::AllocReplace(_)
+        | Command::AllocCancel(_) => unreachable!(),
     }
 }

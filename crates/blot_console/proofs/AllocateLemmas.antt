@@ -1,4 +1,4 @@
--- How the lists of an allocation come to be made.
+-- How the lists of an allocation are made.
 use Rattle.std.proofs.Common.{◌≡◌, ℕ, ℤ, ◌+◌, ◌*◌, ◌^◌, ◌<◌, ◌≤◌, List, [], ◌∷◌, length, Result, Ok, Err, refl, sym, ap, subst, ◌∙◌, suc, arith}
 use Rattle.std.specs.Prelude.{IfOk, IsOkAnd}
 use Rattle.blot_time.specs.Results.{◌>>=◌}

@@ -151,7 +151,7 @@ counted-tells words rows next later = by_short (nat_lt (length words) EXECS_PLAC
     by_short false None later = later
     by_short false (Some count) later = by_pairs count (are_pairs (length words - (EXECS_PLACE + count))) later
 
--- the rows behind n are those of what it says
+-- the rows after n are those of what it says
 behind_n : {A : Type 0} (words : List (List ℕ)) (said : Option ℕ) (count : ℕ) (read : Result A Wrong) → said ≡ Some count
     → Tells words (rows_behind (Some count) words) read → Tells words (rows_behind said words) read
 behind_n words said count read is tells =

@@ -8,7 +8,7 @@ use Rattle.std.proofs.lemmas.List.Sums.{count_by-le-length}
 use Rattle.std.proofs.lemmas.List.Splits.{length-slice_split}
 use Rattle.blot_console.specs.Words.{is_tab, words_of, words_behind, word_at}
 
--- what stands behind the tab at the head of a text, if there is one
+-- what stands after the tab at the head of a text, if there is one
 abbrev pub behind_tab : List ℕ → Option (List ℕ)
 behind_tab [] = None
 behind_tab (tab ∷ rest) = Some rest
@@ -16,7 +16,7 @@ behind_tab (tab ∷ rest) = Some rest
 one_more : (k : ℕ) → 1 + k ≡ suc k
 one_more k = omega arith
 
--- the first word reaches to the first tab, and the others stand behind it
+-- the first word reaches to the first tab, and the others stand after it
 pub words_of-first : (text : List ℕ) → words_of text ≡ take (position_or_len is_tab text) text ∷ words_behind (behind_tab (drop (position_or_len is_tab text) text))
 words_of-first [] = refl
 words_of-first (byte ∷ rest) = by_tab (is_tab byte) (words_of-first rest)
@@ -64,7 +64,7 @@ take-below most count xs below = sym (take-take count most xs below)
 pub take-above : {A : Type 0} (most count : ℕ) (xs : List A) → most ≤ count → take most xs ≡ take count (take most xs)
 take-above most count xs above = sym (take_all count (take most xs) (omega (arith, length-take most xs)))
 
--- one word more is passed over
+-- one more word is passed over
 pub drop-one : (words later : List (List ℕ)) (word : List ℕ) (place : ℕ) → drop place words ≡ word ∷ later → drop (place + 1) words ≡ later
 drop-one words later word place is = sym (drop-drop 1 place words) ∙ ap (drop 1) is
 

@@ -20,13 +20,13 @@ use Rattle.blot_console.specs.Words.{word_at}
 abbrev pub are_pairs : ℕ → Bool
 are_pairs count = (count % 2 == 0) && nat_le 2 count && nat_le count (2 * ITEMS_MAX)
 
--- n, where it says how many executions follow; then pairs stand behind them
+-- n, where it says how many executions follow; then pairs stand after them
 abbrev pub counted_by : Option ℕ → List (List ℕ) → Result (Option ℕ) Wrong
 counted_by None words = Ok None
 counted_by (Some count) words =
     if are_pairs (length words - (EXECS_PLACE + count)) then Ok (Some count) else Err WrongCount
 
--- n, if it can be read, in a line of as many words as it says; else at least n itself is there
+-- n, if it can be read, in a line of as many words as it says; else the line has at least n itself
 unfoldable pub execs_counted : List (List ℕ) → Result (Option ℕ) Wrong
 execs_counted words =
     if nat_lt (length words) EXECS_PLACE then Err WrongCount else counted_by (count_form (word_at 7 words)) words

@@ -18,23 +18,23 @@ use Rattle.blot_console.specs.declared.fault.LineFault.{LineFault}
 use Rattle.blot_console.specs.declared.fault.LineFault.TheVariants.{UnknownWord, WrongCount, BadValue, TooLong, NoMemory}
 use Rattle.blot_console.specs.FaultText.{fault_number}
 
--- a word behind a tab
+-- a word after a tab
 abbrev pub told : List ℕ → List ℕ
 told word = 9 ∷ word
 
--- a number behind a tab
+-- a number after a tab
 abbrev pub number_text : ℕ → List ℕ
 number_text number = told (decimal number)
 
--- an execution behind a tab: its peer and its ExecID
+-- an execution after a tab: its peer and its ExecID
 abbrev pub exec_text : ExecKey → List ℕ
 exec_text key = told key.peer ++ told key.id
 
--- two quantities, each behind a tab
+-- two quantities, each after a tab
 abbrev pub quantities_text : ℤ → ℤ → List ℕ
 quantities_text wanted found = told (printed 6 wanted) ++ told (printed 6 found)
 
--- what a refusal tells behind its name
+-- what a refusal tells after its name
 abbrev pub values_text : Refused → List ℕ
 values_text (DuplicateExec number) = number_text number
 values_text (DuplicateAlloc number) = number_text number

@@ -6,7 +6,7 @@ use Rattle.blot_console.specs.declared.allocate.Block.{Block}
 use Rattle.blot_console.specs.declared.fault.Wrong.{Wrong}
 use Rattle.blot_console.specs.Allocate.{block_of}
 
--- a sum as a machine keeps it: the largest number of 64 bits where it is larger
+-- a sum as a machine keeps it: the largest number of 64 bits where the sum is larger
 abbrev pub kept_sum : ℕ → ℕ
 kept_sum sum = min sum (2 ^ 64 - 1)
 

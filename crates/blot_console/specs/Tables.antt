@@ -13,7 +13,7 @@ use Rattle.blot_console.specs.Words.{words_of, word_at}
 abbrev pub Row : Type 0
 Row = List (List ℕ) → Option ℕ
 
--- whether a word has a form; its place where it hasn't
+-- whether a word has a form; the word's place where it hasn't
 abbrev pub unless_read : {A : Type 0} → ℕ → Option A → Option ℕ
 unless_read place said = if is_some said then None else Some place
 
@@ -39,11 +39,11 @@ pairs_sum [] = 0
 pairs_sum (first ∷ []) = 0
 pairs_sum (first ∷ second ∷ words) = unwrap_or (qty_form second) 0 + pairs_sum words
 
--- the sum of the pairs has to be a quantity, which the last word is told for
+-- the sum of the pairs has to be a quantity; if it isn't, the last word is told
 abbrev pub block_row : List (List ℕ) → Row
 block_row pairs line = unless_read (length line - 1) (qty_units (pos (pairs_sum pairs)))
 
--- the rows behind n, where it says how many executions follow
+-- the rows after n, where it says how many executions follow
 abbrev pub rows_behind : Option ℕ → List (List ℕ) → List Row
 rows_behind None words = []
 rows_behind (Some count) words =

@@ -11,7 +11,7 @@ is_tab byte = byte == 9
 abbrev pub words_of : List ℕ → List (List ℕ)
 words_of line = slice_split is_tab line
 
--- the words behind a tab, if there is one
+-- the words after a tab, if there is one
 abbrev pub words_behind : Option (List ℕ) → List (List ℕ)
 words_behind None = []
 words_behind (Some rest) = words_of rest

@@ -20,7 +20,7 @@ use blot_types::{
 };
 use std::alloc::Global;
 
-// Where the ExecIDs begin: behind peer, AllocID, symbol, sign, day, price and n.
+// Where the ExecIDs begin: after peer, AllocID, symbol, sign, day, price and n.
 const EXECS_PLACE: usize = 8;
 
 // The lines of an allocation in the making, and the sum of their quantities.
@@ -31,8 +31,8 @@ struct Block {
     sum: u64,
 }
 
-/// `allocate peer allocid symbol sign day price n`, n ExecIDs and pairs `account qty`. Its lists take memory, which is
-/// told only where nothing is at fault.
+/// `allocate peer allocid symbol sign day price n`, n ExecIDs and pairs `account qty`. Its lists take memory; that there
+/// was none is told only where nothing is at fault.
 #[tactic(auto, unfolding(crate::specs::Allocate::allocate_line))]
 pub(crate) fn allocate_line(alloc: Global, words: &Words) -> Result<Ask, Refusal>
     ensures { Gives result (allocate_line words.now) }

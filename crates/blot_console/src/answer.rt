@@ -28,7 +28,7 @@ pub enum Answer {
     Nothing,
 }
 
-/// The text of an answer, whole lines. A reply to a question goes with the key that was asked for, as `Order` or
+/// The text of an answer, whole lines. A reply to a question has to come with the key that was asked for, as `Order` or
 /// `Position`. An error is out of memory. This project's rule.
 pub fn answer_text(alloc: Global, answer: &Answer) -> Result<Vec<u8>, NoMemory>
     requires { CanBeTold answer.now }

@@ -4,7 +4,7 @@ use std::alloc::AllocError as NoMemory;
 use std::error::Error;
 use std::fmt;
 
-/// Why a line asks nothing: of `TooLong`, `UnknownWord`, `WrongCount`, `BadValue` and `NoMemory` the first that applies.
+/// Why a line asks nothing: the first of `TooLong`, `UnknownWord`, `WrongCount`, `BadValue` and `NoMemory` that applies.
 /// This project's rule.
 #[derive(Clone, Copy, Debug, PartialEq, Eq)]
 pub enum LineFault {
@@ -12,7 +12,7 @@ pub enum LineFault {
     UnknownWord,
     /// The words are too few or too many.
     WrongCount,
-    /// The word at this place is bad, and it is the least such place; the word behind the first stands at 1.
+    /// The word at this place is bad, and no word at a lesser place is; the word after the first stands at 1.
     BadValue(usize),
     /// The line is over 65,536 bytes long.
     TooLong,

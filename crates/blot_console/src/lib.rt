@@ -1,5 +1,5 @@
-//! An operator's line to an ask, an answer to its text. A line says what is asked by its first word, and the words
-//! behind it say of what; or the answer is the line's first fault. What the desk replies is told in lines of the same
+//! An operator's line to an ask, an answer to its text. A line says what is asked by its first word, and of what by the
+//! words after it; or the answer is the line's first fault. What the desk replies is told in lines of the same
 //! kind.
 #![tactic(auto)]
 

@@ -1,4 +1,4 @@
-//! What each line asks, but for `allocate`.
+//! What each line asks, except `allocate`.
 ghost use Rattle.std.specs.Prelude.{◌≡◌};
 ghost use Rattle.blot_console.specs.Lines.{undo_line, redo_line, order_line, position_line, report_line};
 

@@ -15,8 +15,8 @@ use std::alloc::Global;
 /// The most bytes of a line, without its end. This project's rule.
 pub const LINE_MAX: usize = 65_536;
 
-/// What an operator's line asks, which is given without its end, or its first fault. `NoMemory` comes last, and only the
-/// lists of an allocation take any. This project's rule.
+/// What an operator's line asks, or its first fault. The line is given without its end. `NoMemory` comes last; only the
+/// lists of an allocation take memory. This project's rule.
 #[tactic(auto, using(crate::proofs::TableLemmas::parsed_first), unfolding(crate::specs::Parsing::parsed))]
 pub fn parse_line(alloc: Global, line: &[u8]) -> Result<Ask, LineFault>
     ensures meaning { is_out_of_memory result ≡ false → result ≡ parsed line.now }

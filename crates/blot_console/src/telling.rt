@@ -55,7 +55,7 @@ fn refused_text(alloc: Global, refused: &Refused) -> Result<Vec<u8>, NoMemory>
     Ok(text)
 }
 
-// Puts what a refusal tells behind its name behind a text.
+// Adds what a refusal tells after its name to the end of a text.
 fn put_values(alloc: Global, text: &mut Vec<u8>, refused: Refused) -> Result<(), NoMemory>
     ensures { OnOk result (text.new.items ≡ text.old.items ++ values_text refused) }
 {
@@ -74,7 +74,7 @@ fn put_values(alloc: Global, text: &mut Vec<u8>, refused: Refused) -> Result<(),
     }
 }
 
-/// Puts a tab and a number behind a text.
+/// Adds a tab and a number at the end of a text.
 pub(crate) fn put_number(alloc: Global, text: &mut Vec<u8>, number: u64) -> Result<(), NoMemory>
     ensures { OnOk result (text.new.items ≡ text.old.items ++ number_text number) }
 {
@@ -83,7 +83,7 @@ pub(crate) fn put_number(alloc: Global, text: &mut Vec<u8>, number: u64) -> Resu
     Ok(())
 }
 
-// Puts a tab and a word behind a text.
+// Adds a tab and a word at the end of a text.
 fn put_word(text: &mut Vec<u8>, word: &[u8]) -> Result<(), NoMemory>
     ensures { OnOk result (text.new.items ≡ text.old.items ++ told word.now) }
 {
@@ -92,7 +92,7 @@ fn put_word(text: &mut Vec<u8>, word: &[u8]) -> Result<(), NoMemory>
     Ok(())
 }
 
-// Puts an execution behind a text.
+// Adds an execution at the end of a text.
 fn put_exec(text: &mut Vec<u8>, key: &ExecKey) -> Result<(), NoMemory>
     ensures { OnOk result (text.new.items ≡ text.old.items ++ exec_text key.now) }
 {
@@ -100,7 +100,7 @@ fn put_exec(text: &mut Vec<u8>, key: &ExecKey) -> Result<(), NoMemory>
     put_word(text, key.id.bytes())
 }
 
-// Puts two quantities behind a text.
+// Adds two quantities at the end of a text.
 fn put_quantities(
     alloc: Global,
     text: &mut Vec<u8>,

@@ -60,7 +60,7 @@ impl<'a> Words<'a> {
         }
     }
 
-    /// The words behind the first so many.
+    /// The words after the first so many.
     pub(crate) fn behind(&self, count: usize) -> Words<'a>
         ensures { result ≡ drop count self.now }
     {
@@ -134,7 +134,7 @@ fn tab_at(text: &[u8]) -> usize
     text.iter().take_while(|byte| **byte != TAB).count()
 }
 
-// The first word, and what stands behind the tab that ends it, if one does.
+// The first word, and what stands after the tab that ends it, if one does.
 fn first_word(text: &[u8]) -> (&[u8], Option<&[u8]>)
     ensures { words_of text.now ≡ result.0.now ∷ words_behind (option_copied result.1) }
 {

@@ -18,7 +18,7 @@ use Rattle.blot_decimal.proofs.ZeroLemmas.{without_point}
 use Rattle.blot_decimal.proofs.MeaningLemmas.{reads_as, no_decimal, no_units, some_units, IsValue-unique, IsValue-kept, past-from_value, unsigned_abs-signed}
 use Rattle.blot_decimal.proofs.PrintLemmas.{fraction_digits-zero, fraction_digits-more}
 
--- ---- the digits behind the point
+-- ---- the digits after the point
 
 -- a rest of 0, or a first digit and what is left
 fraction_digits-nil : (places : ℕ) → fraction_digits places 0 ≡ []
@@ -62,7 +62,7 @@ length-fraction : (places rest : ℕ) → rest < 10 ^ places → length (fractio
 length-fraction = digits_by_steps (λ places rest digits. length digits ≤ places) (λ places. omega arith)
     (λ places rest digit left below left_below above is digits. omega (arith, digits))
 
--- behind a number they write the rest
+-- after a number they write the rest
 kept-fraction : (places rest : ℕ) → rest < 10 ^ places →
     (number : ℕ) → fold with_digit number (kept_of places (fraction_digits places rest)) ≡ number * 10 ^ places + rest
 kept-fraction = digits_by_steps (λ places rest digits. (number : ℕ) → fold with_digit number (kept_of places digits) ≡ number * 10 ^ places + rest)
@@ -171,7 +171,7 @@ no_point_in_digits (digit ∷ digits) form =
     let parts = and_parts (is_ascii_digit digit) (are_digits digits) form in
     or_from (is_point digit) (list_any is_point digits) (digit_is_no_point digit parts.0) (no_point_in_digits digits parts.1)
 
--- the parts of digits with decimals behind them
+-- the parts of digits with decimals after them
 parts_of_printed : (whole fraction : List ℕ) → are_digits whole ≡ true →
     (whole_of (whole ++ behind_point fraction) ≡ whole) × (fraction_of (whole ++ behind_point fraction) ≡ fraction)
 parts_of_printed whole [] form =

@@ -7,11 +7,11 @@ use Rattle.blot_decimal.specs.declared.fault.DecimalFault.TheVariants.{Format, T
 use Rattle.blot_decimal.specs.Text.{with_digit, number_of, are_digits, are_zeros, are_parts, whole_of, fraction_of, is_size}
 use Rattle.blot_decimal.specs.Meaning.{kept_of, size_of, limited}
 
--- one more digit: to stop at a limit before it or behind it is the same
+-- one more digit: to stop at a limit before it or after it is the same
 min-with_digit : (number digit limit : ℕ) → min (with_digit (min number limit) digit) limit ≡ min (with_digit number digit) limit
 min-with_digit number digit limit = omega arith
 
--- a run of digits: to stop at a limit before it or behind it is the same
+-- a run of digits: to stop at a limit before it or after it is the same
 pub min-fold_with_digit : (limit number : ℕ) (digits : List ℕ) → min (fold with_digit (min number limit) digits) limit ≡ min (fold with_digit number digits) limit
 min-fold_with_digit limit number [] = omega arith
 min-fold_with_digit limit number (digit ∷ digits) =
@@ -24,7 +24,7 @@ pub kept_of-nil : (places : ℕ) → kept_of places [] ≡ replicate places 48
 kept_of-nil zero = refl
 kept_of-nil (suc places) = ap (λ rest. 48 ∷ rest) (kept_of-nil places)
 
--- a fraction that fits its places is kept whole, with zeros behind it
+-- a fraction that fits its places is kept whole, with zeros after it
 pub kept_of_short : (places : ℕ) (fraction : List ℕ) → length fraction ≤ places → kept_of places fraction ≡ fraction ++ replicate (places - length fraction) 48
 kept_of_short places [] fits = kept_of-nil places ∙ ap (λ n. replicate n 48) (omega arith)
 kept_of_short zero (digit ∷ fraction) fits = absurd (omega arith)
@@ -52,7 +52,7 @@ pub are_digits-replicate : (count : ℕ) → are_digits (replicate count 48) ≡
 are_digits-replicate zero = refl
 are_digits-replicate (suc count) = are_digits-replicate count
 
--- the digits before the point, those behind it and the zeros, read one after another up to a limit
+-- the digits before the point, those after it and the zeros, read one after another up to a limit
 pub units_by_parts : (limit places : ℕ) (whole kept : List ℕ) → length kept ≤ places →
     min (fold with_digit (min (fold with_digit (min (number_of whole) limit) kept) limit) (replicate (places - length kept) 48)) limit
     ≡ min (number_of (whole ++ kept_of places kept)) limit

@@ -77,7 +77,7 @@ unfolding are_parts
 leading_zeros count places [] form = cc
 leading_zeros count places (byte ∷ rest) form = leading-cons count places byte rest (byte == 45) refl form
 
--- zeros behind a fraction
+-- zeros after a fraction
 are_zeros-append : (places count : ℕ) (fraction : List ℕ) → are_zeros (drop places (fraction ++ replicate count 48)) ≡ are_zeros (drop places fraction)
 are_zeros-append zero zero [] = refl
 are_zeros-append zero (suc count) [] = are_zeros-append zero count []
@@ -106,7 +106,7 @@ are_parts-append count whole fraction form =
     and_from _ _ (and_from _ _ digits.0 joined)
     (lt-ltb 0 (length whole + length (fraction ++ replicate count 48)) (omega (arith, ltb-true 0 (length whole + length fraction) parts.1, length-append fraction (replicate count 48))))
 
--- a size with zeros behind its fraction
+-- a size with zeros after its fraction
 trailing-size : (count places : ℕ) (size other : List ℕ) → is_size size ≡ true →
     whole_of other ≡ whole_of size → fraction_of other ≡ fraction_of size ++ replicate count 48 → size_of places other ≡ size_of places size
 trailing-size count places size other form whole fraction =
@@ -115,7 +115,7 @@ trailing-size count places size other form whole fraction =
     let kept = kept_of-append places count (fraction_of size) in
     size_of-same places other size (cc) (cc) (cc)
 
--- the parts of a text with a point, and more behind it
+-- the parts of a text with a point, and more after it
 with_point : (size tail : List ℕ) → list_any is_point size ≡ true → (whole_of (size ++ tail) ≡ whole_of size) × (fraction_of (size ++ tail) ≡ fraction_of size ++ tail)
 with_point [] tail point = absurd (cc)
 with_point (byte ∷ size) tail point = elim (cases_Bool (is_point byte)) [
@@ -131,7 +131,7 @@ with_point (byte ∷ size) tail point = elim (cases_Bool (is_point byte)) [
       )
 ]
 
--- the parts of a text with no point, and of it with a point and more behind it
+-- the parts of a text with no point, and of it with a point and more after it
 pub without_point : (size tail : List ℕ) → list_any is_point size ≡ false →
     (whole_of (size ++ 46 ∷ tail) ≡ size) × (fraction_of (size ++ 46 ∷ tail) ≡ tail) × (whole_of size ≡ size) × (fraction_of size ≡ [])
 without_point [] tail none = (refl, refl, refl, refl)
@@ -144,7 +144,7 @@ without_point (byte ∷ size) tail none =
       fraction_of-cons byte size parts.0 ∙ rest.3,
     )
 
--- what stands behind a text that isn't empty is no part of its sign
+-- what stands after a text that isn't empty is no part of its sign
 is_negative-append : (byte : ℕ) (rest tail : List ℕ) → is_negative ((byte ∷ rest) ++ tail) ≡ is_negative (byte ∷ rest)
 is_negative-append byte rest tail = refl
 
@@ -172,7 +172,7 @@ trailing-cons count places byte rest false point form =
     let parts = without_point size (replicate count 48) (list_any-unsigned byte rest ∙ point) in
     trailing-size count places size (size ++ 46 ∷ replicate count 48) form (parts.0 ∙ sym parts.2) (parts.1 ∙ ap (λ f. f ++ replicate count 48) (sym parts.3))
 
--- zeros behind a decimal
+-- zeros after a decimal
 pub trailing_zeros : (count places : ℕ) (text : List ℕ) → is_decimal text ≡ true → exact_of places (with_trailing_zeros count text) ≡ exact_of places text
 unfolding are_parts
 trailing_zeros count places [] form = cc

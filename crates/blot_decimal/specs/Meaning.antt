@@ -19,7 +19,7 @@ digits_of text =
     signed (is_negative text) (number_of (whole_of (unsigned_of text) ++ fraction_of (unsigned_of text)))
 
 -- the text is a decimal, and so many units of 10^-places are exactly what it writes:
--- units / 10^places is its digits / 10^(number of digits behind its point)
+-- units / 10^places is its digits / 10^(number of digits after its point)
 pub record IsValue (places : ℕ) (text : List ℕ) (units : ℤ) : Type 0 where
   pub decimal : IsTrue (is_decimal text)
   pub value : units *ℤ pos (10 ^ length (fraction_of (unsigned_of text))) ≡ digits_of text *ℤ pos (10 ^ places)

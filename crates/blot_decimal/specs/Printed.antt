@@ -11,7 +11,7 @@ fraction_digits zero rest = []
 fraction_digits (suc places) rest =
     if rest == 0 then [] else (48 + rest / 10 ^ places) ∷ fraction_digits places (rest % 10 ^ places)
 
--- a point and the digits behind it, or nothing where there are none
+-- a point and the digits after it, or nothing where there are none
 abbrev pub behind_point : List ℕ → List ℕ
 behind_point [] = []
 behind_point (digit ∷ digits) = 46 ∷ digit ∷ digits
@@ -40,7 +40,7 @@ pub record IsShortest (places : ℕ) (units : ℤ) (text : List ℕ) : Type 0 wh
   pub value : IsValue places text units
   -- at least one digit stands before the point
   pub whole : 0 < length (whole_of (unsigned_of text))
-  -- the last digit behind the point isn't 0
+  -- the last digit after the point isn't 0
   pub last : fraction_of (unsigned_of text) ≢ [] → last_of (fraction_of (unsigned_of text)) ≢ 48
   -- a whole number has no point
   pub no_point : fraction_of (unsigned_of text) ≡ [] → list_any is_point text ≡ false

@@ -87,7 +87,7 @@ fn write_digits<W: fmt::Write>(f: &mut fmt::Formatter<W>, rest: u64, places: u32
     write_digits(f, left, places - 1)
 }
 
-// The first digit of a rest of fewer than 10^places units, and what is left behind it.
+// The first digit of a rest of fewer than 10^places units, and what is left after it.
 #[tactic(auto, using(crate::proofs::PrintLemmas::digit_steps))]
 fn split_digit(rest: u64, places: u32) -> (u8, u64)
     requires rest { rest < 10 ^ places }

@@ -17,7 +17,7 @@ use std::marker::Model;
 
 /// A quantity: a whole number of units of 10^-6, from 0 to 10^16 - 1. A contract sees it as the
 /// number of its units. Its text is the shortest exact decimal: no point for a whole number,
-/// at least one digit before a point, and no zero at the end behind it.
+/// at least one digit before a point, and after it no zero at the end.
 #[derive(Clone, Copy, Debug, PartialEq, Eq, PartialOrd, Ord, Hash)]
 pub struct Qty(u64);
 
@@ -67,7 +67,7 @@ impl Qty {
         ensures too_large { (result ≡ Err DecimalFault.TooLarge)
             ↔ ((units : ℤ) × IsValue PLACES text.now units × (qty_units units ≡ None)) }
 
-        // Zeros in front and behind change nothing.
+        // Zeros in front and at the end change nothing.
         ensures leading_zeros { IsTrue (is_decimal text.now)
             → (count : ℕ) → qty_of (with_leading_zeros count text.now) ≡ result }
         ensures trailing_zeros { IsTrue (is_decimal text.now)

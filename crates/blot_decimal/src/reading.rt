@@ -34,7 +34,7 @@ fn point_at(size: &[u8]) -> usize
     size.iter().take_while(|byte| **byte != b'.').count()
 }
 
-// The parts of an unsigned text before and behind its point.
+// The parts of an unsigned text before and after its point.
 fn split_point(size: &[u8]) -> (&[u8], &[u8])
     ensures whole { result.0.now ≡ whole_of size.now }
     ensures fraction { result.1.now ≡ fraction_of size.now }
@@ -68,7 +68,7 @@ fn are_parts(whole: &[u8], fraction: &[u8]) -> bool
     are_digits(whole) && are_digits(fraction) && whole.len() + fraction.len() > 0
 }
 
-// The number with more digits behind it, or `SIZE_LIMIT` where it is that or more.
+// The number with more digits after it, or `SIZE_LIMIT` where it is that or more.
 fn with_digits(number: u64, digits: &[u8]) -> u64
     requires low { number ≤ SIZE_LIMIT }
     requires digits { IsTrue (are_digits digits.now) }
@@ -81,7 +81,7 @@ fn with_digits(number: u64, digits: &[u8]) -> u64
     value
 }
 
-// The units of 10^-places that digits before and behind a point write, or `SIZE_LIMIT` where they
+// The units of 10^-places that digits before and after a point write, or `SIZE_LIMIT` where they
 // are that or more.
 fn units_of(whole: &[u8], kept: &[u8], places: usize) -> u64
     requires whole_digits { IsTrue (are_digits whole.now) }

@@ -11,7 +11,7 @@ use std::marker::Model;
 
 /// A quantity times a price, or a sum of such: a whole number of units of 10^-14. A contract sees
 /// it as the number of its units. Its text is the shortest exact decimal: no point for a whole number,
-/// at least one digit before a point, and no zero at the end behind it.
+/// at least one digit before a point, and after it no zero at the end.
 #[derive(Clone, Copy, Debug, PartialEq, Eq, PartialOrd, Ord, Hash)]
 pub struct Value(i128);
 

@@ -1,4 +1,4 @@
--- How the lists of an allocation come to be made.
+-- How the lists of an allocation are made.
 use Rattle.std.proofs.Common.{◌≡◌, ℕ, List, [], ◌∷◌, Result, Ok, Err, refl, ap, subst, ◌∙◌, eq-eqb}
 use Rattle.blot_tag.specs.Fields.{TagValue}
 use Rattle.blot_tag.specs.Results.{◌>>=◌}

@@ -57,7 +57,7 @@ begun-length (field ∷ fields) = by_same (bears 79 field) (begun-length fields)
     by_same true others = ap suc others
     by_same false others = others
 
--- no more fields of a tag stand behind a field than in all
+-- no more fields of a tag stand after a field than in all
 count-drop : (tag place : ℕ) (fields : List TagValue) → count_of tag (drop place fields) ≤ count_of tag fields
 count-drop tag place fields =
     let whole = ap (λ all. length (filter (bears tag) all)) (sym (take-append-drop place fields))

@@ -98,7 +98,7 @@ no-own : (line : List TagValue) → optional 366 price_form line ≡ Ok None →
 unfolding optional only
 no-own line is = rw (values-nil-any 366 line (none-optional 366 price_form (values 366 line) is)) refl
 
--- a step behind which nothing is at fault
+-- a step after which nothing is at fault
 never : {A B : Type 0} (read : Result A Wrong) (next : A → Result B Wrong) (found : Option Wrong)
     → result_err read ≡ found → ((value : A) → read ≡ Ok value → result_err (next value) ≡ None) → result_err (read >>= next) ≡ found
 never read next found is well = step read next found None is well ∙ option_or-none found
@@ -175,7 +175,7 @@ lines-rows fields average is_average =
     by_group true = each-line-rows fields average (lines_in (behind 78 fields)) (average-none fields average is_average)
     by_group false = refl
 
--- both groups, one behind the other
+-- both groups, one after the other
 pub groups-rows : {A : Type 0} (fields : List TagValue) (average : Option ℤ) (done : List (List ℕ) → List Line → A) → average_of fields ≡ Ok average
     → result_err (executions_of fields >>= λ executions. lines_of average fields >>= λ lines. Ok (done executions lines)) ≡ first_fault fields (execution_group fields ++ line_group fields)
 groups-rows fields average done is =

@@ -28,7 +28,7 @@ together-next (Ok None) value later = refl
 together-next (Ok (Some first)) value later = refl
 together-next (Err reason) value later = refl
 
--- one tag's slot, behind a field that bears the tag or doesn't
+-- one tag's slot, after a field that bears the tag or doesn't
 slot_next : (same : Bool) (old new : Result (Option (List ℕ)) Flaw) (value : List ℕ) (later : List (List ℕ)) (all : Result (Option (List ℕ)) Flaw)
     → new ≡ (if same then with_value old value else old)
     → together old (if same then value ∷ later else later) ≡ all → together new later ≡ all
@@ -45,7 +45,7 @@ values-cons tag field fields = by_same (field.tag == tag)
     by_same true = refl
     by_same false = refl
 
--- the values of a tag behind a field that has it, or hasn't
+-- the values of a tag after a field that has it, or hasn't
 pub values-has : (tag : ℕ) (field : TagValue) (fields : List TagValue) → (field.tag == tag) ≡ true → values tag (field ∷ fields) ≡ field.value ∷ values tag fields
 values-has tag field fields has = values-cons tag field fields ∙ rw has refl
 
@@ -61,12 +61,12 @@ known_next fields later field old new known notes tag low =
 pub missing_everywhere : (count tag : ℕ) → tag < count → found_in (slice_index_or (replicate count Missing) tag Missing) ≡ Ok None
 missing_everywhere count tag low = rw (get_or-replicate count tag Missing Missing low) refl
 
--- the fields behind a sound one
+-- the fields after a sound one
 sound_behind-cons : (before : ℕ) (rest : List Item) (field : TagValue) → field_wrong before field ≡ None
     → sound_behind before (Ok field ∷ rest) ≡ field ∷ sound_behind (before + 1) rest
 sound_behind-cons before rest field sound = rw sound refl
 
--- the fault behind a sound field
+-- the fault after a sound field
 refused_behind-cons : (before : ℕ) (rest : List Item) (field : TagValue) → field_wrong before field ≡ None
     → refused_behind before (Ok field ∷ rest) ≡ refused_behind (before + 1) rest
 refused_behind-cons before rest field sound = rw sound refl

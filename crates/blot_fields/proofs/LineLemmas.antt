@@ -1,4 +1,4 @@
--- How the lines of an allocation come to be made.
+-- How the lines of an allocation are made.
 use Rattle.std.proofs.Common.{◌≡◌, ℕ, ℤ, Bool, true, false, List, [], ◌∷◌, Option, Some, None, Result, Ok, Err, refl, sym, ap, subst, ◌∙◌, suc, ◌+◌, take, arith, eq-eqb}
 use Rattle.std.proofs.lemmas.Bool.{eqb-true}
 use Rattle.std.specs.Prelude.{if◌then◌else◌, ◌==◌, not, MatchBool}
@@ -170,7 +170,7 @@ pushed_fault average (Some draft) old new rest meant wrong pushes front =
     let P : Result Line Wrong → Type 0 = λ line. IsFront old (with_line line rest) meant in
     front_faults old wrong meant (subst P pushes front)
 
--- a field more, without a fault
+-- one more field, without a fault
 pub next_front : (average : Option ℤ) (line next : Option Draft) (field : TagValue) (all later : List TagValue) (old new : Made Line) (meant : Result (List Line) Wrong)
     → all ≡ field ∷ later → NextLine average line field old (Ok next) new → LinesFront average old line all meant → LinesFront average new next later meant
 next_front average line next field all later old new meant is came front =
@@ -191,7 +191,7 @@ next_front average line next field all later old new meant is came front =
         let S : Made Line → Type 0 = λ lines. LinesFront average lines next later meant in
         subst S (sym came.1) (subst R (sym came.0) (subst Q (resumed-goes_on average line field later is) front))
 
--- a field more, which ends a line at fault
+-- one more field, which ends a line at fault
 pub next_fault : (average : Option ℤ) (line : Option Draft) (field : TagValue) (all later : List TagValue) (old new : Made Line) (wrong : Wrong) (meant : Result (List Line) Wrong)
     → all ≡ field ∷ later → NextLine average line field old (Err wrong) new → LinesFront average old line all meant → meant ≡ Err wrong
 next_fault average line field all later old new wrong meant is came front =
@@ -200,7 +200,7 @@ next_fault average line field all later old new wrong meant is came front =
     pushed_fault average line old new (resumed average (Some (begun field.value)) later) meant wrong came.1
     (subst Q (resumed-begins average line field later (eq-eqb field.tag 79 came.0)) (subst P is front))
 
--- no field more
+-- no more field
 pub end_front : (average : Option ℤ) (line : Option Draft) (all : List TagValue) (old new : Made Line) (meant : Result (List Line) Wrong)
     → all ≡ [] → Pushes average line old (Ok tt) new → LinesFront average old line all meant → Makes (Ok new) meant
 end_front average line all old new meant is pushes front =

@@ -103,7 +103,7 @@ size-row tag fields = by_has (has 38 fields)
     by_has true = then_done (there tag fields) (λ value. None) ∙ there-row tag fields
     by_has false = then_done (needed tag qty_form fields) (λ qty. Some qty) ∙ needs-row tag qty_form fields
 
--- OrderQty, behind these
+-- OrderQty, after these
 has_by : {A : Type 0} (tag : ℕ) (form : List ℕ → Result A Flaw) (all : List (List ℕ)) → is_there (one_of all) ≡ true → needed_wrong tag form all ≡ optional_wrong tag form all
 has_by tag form [] there = absurd cc
 has_by tag form (value ∷ []) there = refl

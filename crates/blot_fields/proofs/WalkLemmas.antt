@@ -17,7 +17,7 @@ pub field_wrong-few : (before : ℕ) (field : TagValue) → field_wrong before f
 unfolding field_wrong
 field_wrong-few before field sound = ltb-true before FIELDS_MAX (is_first (nat_lt before FIELDS_MAX) _ _ sound)
 
--- behind 2,000 fields each is refused
+-- after 2,000 fields each is refused
 sound_field-last : (item : Item) → sound_field FIELDS_MAX item ≡ None
 unfolding field_wrong
 sound_field-last (Ok field) = refl
@@ -39,7 +39,7 @@ sound_field-few : (before : ℕ) (item : Item) (field : TagValue) → sound_fiel
 sound_field-few before (Ok first) field some = field_wrong-few before first (is_none_then (field_wrong before first) first field some)
 sound_field-few before (Err fault) field some = absurd cc
 
--- behind so many fields there are at most 2,000 less these
+-- after so many fields at most 2,000 less that many come
 length-with_others : (before : ℕ) (item : Item) (others : List TagValue) (found : Option TagValue) → before ≤ FIELDS_MAX
     → sound_field before item ≡ found → (before < FIELDS_MAX → length others + (before + 1) ≤ FIELDS_MAX) → length (with_others found others) + before ≤ FIELDS_MAX
 length-with_others before item others None few is more = omega arith

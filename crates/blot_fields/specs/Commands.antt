@@ -73,8 +73,8 @@ terms_of peer terms = record {
   lines = terms.lines;
 }
 
--- the command of a peer's Allocation Instruction: its key is its AllocID, and the allocation that it takes the
--- place of, or ends, is the one that its RefAllocID names
+-- the command of a peer's Allocation Instruction: its key is its AllocID; it replaces or ends the allocation that its
+-- RefAllocID names
 abbrev pub command_of_allocation : List ℕ → Allocation → Command
 command_of_allocation peer (allocations.New id terms) =
     commands.AllocNew (record { key = alloc_of peer id; terms = terms_of peer terms })

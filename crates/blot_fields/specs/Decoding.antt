@@ -39,7 +39,7 @@ abbrev pub message_of : Result Head Wrong → List TagValue → Result Message F
 message_of (Ok head) fields = message_under head (body_of (kind_of head.kind) fields)
 message_of (Err wrong) fields = Err (fault_under None wrong)
 
--- a message of the fields before the one that is refused, if one is; then the header counts as far as they give it
+-- a message of the fields before the one that is refused; if one is refused, the header counts as far as these fields give it
 abbrev pub decoded_before : Option Wrong → List TagValue → Result Message FieldFault
 decoded_before None fields = message_of (head_of fields) fields
 decoded_before (Some wrong) fields = Err (fault_under (result_ok (head_of fields)) wrong)

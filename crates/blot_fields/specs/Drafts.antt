@@ -33,7 +33,7 @@ line_from average draft = do
   price ← ok_or (option_or own average) (wrong 366 RequiredTagMissing)
   Ok (record { account = account; qty = qty; price = price })
 
--- the line behind one field more
+-- the line after one field more
 abbrev pub with_field : Draft → TagValue → Draft
 with_field draft field = record {
   account = draft.account;
@@ -45,7 +45,7 @@ with_field draft field = record {
 abbrev pub begun : List ℕ → Draft
 begun account = record { account = account; qty = found_in Missing; price = found_in Missing }
 
--- the open line, if there is one, was put behind the others, or is at fault
+-- the open line, if there is one, was added after the others, or is at fault
 abbrev pub Pushes : Option ℤ → Option Draft → Made Line → Result (Unit {0}) Wrong → Made Line → Type 0
 Pushes average None old result new = (result ≡ Ok tt) × (new ≡ old)
 Pushes average (Some draft) old (Ok done) new =

@@ -18,7 +18,7 @@ bears tag field = field.tag == tag
 abbrev pub before : ℕ → List TagValue → List TagValue
 before tag fields = before_first (bears tag) fields
 
--- the fields behind the first with a tag
+-- the fields after the first with a tag
 abbrev pub behind : ℕ → List TagValue → List TagValue
 behind tag fields = after_first (bears tag) fields
 
@@ -26,7 +26,7 @@ behind tag fields = after_first (bears tag) fields
 abbrev pub count_of : ℕ → List TagValue → ℕ
 count_of tag fields = count_by (bears tag) fields
 
--- the ExecIDs are as many as NoExecs says, and all of them stand behind it
+-- the ExecIDs are as many as NoExecs says, and all of them stand after it
 abbrev pub are_executions : ℕ → List TagValue → Bool
 are_executions count fields = (count_of 17 fields == count) && (count_of 17 (behind 124 fields) == count)
 
@@ -54,7 +54,7 @@ lines_in (field ∷ fields) =
 abbrev pub is_of_line : TagValue → Bool
 is_of_line field = bears 79 field || bears 80 field || bears 366 field
 
--- the lines are as many as NoAllocs says, and nothing of them stands before it, or behind it before the first
+-- the lines are as many as NoAllocs says; no field of a line stands before NoAllocs, or between it and the first line after it
 abbrev pub are_lines : ℕ → List TagValue → Bool
 are_lines count fields =
     (count_of 79 fields == count)

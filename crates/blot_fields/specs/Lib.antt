@@ -15,4 +15,5 @@ pub mod FaultText
 pub mod Numbers
 pub mod Decoding
 pub mod Commands
+pub mod First
 pub mod Sender

@@ -82,7 +82,7 @@ order_size_of cum leaves fields = do
   qty ← needed 38 qty_form fields
   Ok (Given qty)
 
--- a fill of an order, behind its identifiers (FIX 4.4 volume 4, "Execution Report")
+-- a fill of an order, after its identifiers (FIX 4.4 volume 4, "Execution Report")
 unfoldable pub execution_of : List ℕ → List ℕ → List TagValue → Result Execution Wrong
 execution_of order id fields = do
   status ← there 39 fields

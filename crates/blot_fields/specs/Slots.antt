@@ -14,7 +14,7 @@ found_in Missing = Ok None
 found_in (Once value) = Ok (Some value.now)
 found_in Repeated = Err TagRepeated
 
--- the same, behind one field more
+-- the same, after one field more
 abbrev pub with_value : Result (Option (List ℕ)) Flaw → List ℕ → Result (Option (List ℕ)) Flaw
 with_value (Ok None) value = Ok (Some value)
 with_value (Ok (Some first)) value = Err TagRepeated

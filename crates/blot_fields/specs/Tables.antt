@@ -91,7 +91,7 @@ sequence_reset_rows = needs 36 sequence_form ∷ may_have 123 flag_form ∷ []
 unfoldable pub needs_size : ℕ → Row
 needs_size tag fields = if has 38 fields then needs tag any_form fields else needs tag qty_form fields
 
--- a fill, behind its identifiers
+-- a fill, after its identifiers
 abbrev pub execution_rows : List Row
 execution_rows =
     needs 39 any_form ∷ needs 6 any_form ∷ needs 54 side_form ∷ needs_size 14 ∷ needs_size 151
@@ -165,7 +165,7 @@ terms_rows fields =
     needs 54 side_form ∷ needs 55 text_form ∷ needs 53 qty_form ∷ needs_average ∷ needs 75 day_form
     ∷ (execution_group fields ++ line_group fields)
 
--- the rows of a type of Allocation Instruction, behind the type
+-- the rows of a type of Allocation Instruction, after the type
 abbrev pub alloc_rows : Result AllocType Flaw → List TagValue → List Row
 alloc_rows (Ok allocs.New) fields = terms_rows fields
 alloc_rows (Ok allocs.Replace) fields = needs 72 text_form ∷ terms_rows fields
@@ -190,7 +190,7 @@ body_rows kinds.Report fields = report_rows fields
 body_rows kinds.Allocation fields = allocation_rows fields
 body_rows kinds.Other fields = []
 
--- the table of a message, behind the header
+-- the table of a message, after the header
 abbrev pub message_rows : List TagValue → List Row
 message_rows fields = body_rows (kind_of (first_value 35 fields)) fields
 

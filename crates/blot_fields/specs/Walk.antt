@@ -20,13 +20,13 @@ split_flaw splits.IncorrectDataFormat = IncorrectDataFormat
 abbrev pub split_wrong : SplitFault → Wrong
 split_wrong fault = wrong fault.tag (split_flaw fault.reason)
 
--- what is wrong with a field behind so many others: it is the 2,001st (this project's rule), or empty
+-- what is wrong with a field after so many others: it is the 2,001st (this project's rule), or empty
 unfoldable pub field_wrong : ℕ → TagValue → Option Wrong
 field_wrong before field =
     if nat_lt before FIELDS_MAX then (if length field.value == 0 then Some (wrong field.tag TagWithoutValue) else None)
     else Some (wrong field.tag IncorrectDataFormat)
 
--- a field behind so many others, unless it is refused
+-- a field after so many others, unless it is refused
 abbrev pub sound_field : ℕ → Item → Option TagValue
 sound_field before (Ok field) = if is_none (field_wrong before field) then Some field else None
 sound_field before (Err fault) = None
@@ -36,12 +36,12 @@ abbrev pub with_others : Option TagValue → List TagValue → List TagValue
 with_others None others = []
 with_others (Some field) others = field ∷ others
 
--- the fields before the first that is refused, behind so many others
+-- the fields before the first that is refused, after so many others
 abbrev pub sound_behind : ℕ → List Item → List TagValue
 sound_behind before [] = []
 sound_behind before (item ∷ items) = with_others (sound_field before item) (sound_behind (before + 1) items)
 
--- the fault of the first field that is refused, behind so many others
+-- the fault of the first field that is refused, after so many others
 abbrev pub refused_behind : ℕ → List Item → Option Wrong
 refused_behind before [] = None
 refused_behind before (Err fault ∷ items) = Some (split_wrong fault)

@@ -64,7 +64,7 @@ pub struct AllocationTerms {
     pub lines: Items<Line>,
 }
 
-/// Reads an Allocation Instruction. Its lists take memory, which is told only where nothing is at
+/// Reads an Allocation Instruction. Its lists take memory; that there was none is told only where nothing is at
 /// fault.
 #[tactic(auto, unfolding(crate::specs::Allocations::allocation_of))]
 pub(crate) fn allocation_of(alloc: Global, fields: &FieldIndex) -> Result<Allocation, Refusal>
@@ -169,7 +169,7 @@ fn ids_of(alloc: Global, fields: &FieldIndex) -> Result<Making<Text64>, Wrong>
     Ok(ids)
 }
 
-// The lines among the fields behind NoAllocs.
+// The lines among the fields after NoAllocs.
 fn each_line_of(
     alloc: Global,
     average: &Option<Price>,
@@ -186,7 +186,7 @@ fn each_line_of(
     Ok(lines)
 }
 
-// The line that stays open behind a field. An AllocAccount begins one and ends the one before; any
+// The line that stays open after a field. An AllocAccount begins one and ends the one before; any
 // other field goes on with the open line, if there is one.
 fn next_line<'a>(
     average: &Option<Price>,
@@ -207,7 +207,7 @@ fn next_line<'a>(
     }
 }
 
-// Puts the open line, if there is one, behind the others.
+// Adds the open line, if there is one, after the others.
 fn push_line(
     average: &Option<Price>,
     line: Option<LineDraft>,

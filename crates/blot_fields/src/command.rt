@@ -12,7 +12,7 @@ use blot_types::{
 use std::alloc::{AllocError as NoMemory, Global};
 
 /// The command that a peer's message gives the book; none for a message that leaves the book alone. An
-/// error is out of memory, which the lists of an allocation take.
+/// error is out of memory: the lists of an allocation take memory.
 pub fn command_of(
     alloc: Global,
     message: &Message,

@@ -18,8 +18,8 @@ use crate::{Admin, Body, FieldFault, FieldReason, Message};
 use blot_tag::Frame;
 use std::alloc::Global;
 
-/// What a frame says: its message, or the first fault. `NoMemory` comes last, and only the lists of
-/// an Allocation Instruction take any. FIX 4.4 volume 2, "Reject"; the order of the faults is this
+/// What a frame says: its message, or the first fault. `NoMemory` comes last; only the lists of an
+/// Allocation Instruction take memory. FIX 4.4 volume 2, "Reject"; the order of the faults is this
 /// project's rule.
 #[tactic(auto, using(crate::proofs::DecodingLemmas::decoded_well, crate::proofs::DecodingLemmas::decoded_fault), unfolding(crate::specs::Decoding::decoded))]
 pub fn decode(alloc: Global, frame: &Frame) -> Result<Message, FieldFault>
@@ -65,7 +65,7 @@ pub fn is_out_of_memory(said: &Result<Message, FieldFault>) -> bool
     }
 }
 
-// What a message of a kind says behind its header.
+// What a message of a kind says after its header.
 fn body_of(alloc: Global, kind: Kind, fields: &FieldIndex) -> Result<Body, Refusal>
     ensures body { GivesBody result (body_of kind fields.now) }
     ensures numbers { IfOk result BodyNamesNumber }

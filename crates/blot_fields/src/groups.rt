@@ -9,15 +9,15 @@ use crate::index::FieldIndex;
 use crate::sound::SoundFields;
 use blot_tag::Field;
 
-/// Whether the ExecIDs are as many as NoExecs says, and all of them stand behind it.
+/// Whether the ExecIDs are as many as NoExecs says, and all of them stand after it.
 pub(crate) fn are_executions(count: u64, fields: &FieldIndex) -> bool
     ensures { result ≡ are_executions count fields.now }
 {
     count_of(17, fields.walk()) == count && count_of(17, behind(124, fields.walk())) == count
 }
 
-/// Whether the lines are as many as NoAllocs says, and nothing of them stands before the first
-/// that is behind NoAllocs.
+/// Whether the lines are as many as NoAllocs says, and no field of a line stands before the first line
+/// after NoAllocs.
 pub(crate) fn are_lines(count: u64, fields: &FieldIndex) -> bool
     ensures { result ≡ are_lines count fields.now }
 {
@@ -40,7 +40,7 @@ fn count_of(tag: u32, fields: SoundFields) -> u64
     count
 }
 
-/// The fields behind the first with a tag.
+/// The fields after the first with a tag.
 pub(crate) fn behind<'a>(tag: u32, fields: SoundFields<'a>) -> SoundFields<'a>
     ensures value { result ≡ behind tag fields.entry }
     ensures few { length result ≤ length fields.entry }

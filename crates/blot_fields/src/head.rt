@@ -2,11 +2,12 @@
 ghost use Rattle.std.specs.Prelude.{◌≡◌, ◌≤◌, IfOk};
 ghost use Rattle.blot_fields.specs.declared.TheConstants.{SEQUENCE_MAX};
 ghost use Rattle.blot_fields.specs.Messages.{head_of};
+ghost use Rattle.blot_fields.specs.Numbers.{head_in};
 
-use crate::SEQUENCE_MAX;
 use crate::fault::Wrong;
 use crate::index::FieldIndex;
 use crate::rows::{needed, number, optional};
+use crate::{FieldFault, Message, SEQUENCE_MAX};
 use blot_time::Moment;
 use blot_types::Text64;
 
@@ -47,4 +48,14 @@ pub(crate) fn head_of(fields: &FieldIndex) -> Result<Head, Wrong>
         dup,
         sending,
     })
+}
+
+/// The header of what a frame says, where it can be read.
+pub fn head_in(said: &Result<Message, FieldFault>) -> Option<Head>
+    ensures { result ≡ head_in said.now }
+{
+    match said {
+        Ok(message) => Some(message.head),
+        Err(fault) => fault.head,
+    }
 }

@@ -20,7 +20,7 @@ impl Message {
     }
 }
 
-/// What a message says behind its header.
+/// What a message says after its header.
 #[derive(Debug, Drop)]
 pub enum Body {
     /// A message of the session layer.

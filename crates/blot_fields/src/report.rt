@@ -21,7 +21,7 @@ pub enum Report {
         reference: Text64,
         execution: Execution,
     },
-    /// ExecType `H`: an earlier fill is no more, which ExecRefID(19) names.
+    /// ExecType `H`: the end of an earlier fill, which ExecRefID(19) names.
     Bust {
         id: Text64,
         reference: Text64,
@@ -112,7 +112,7 @@ fn bust_of(fields: &FieldIndex) -> Result<Report, Wrong>
     Ok(Report::Bust { id, reference })
 }
 
-// A fill, behind the identifiers of the order and the execution.
+// A fill, after the identifiers of the order and the execution.
 #[tactic(auto, unfolding(crate::specs::Messages::execution_of))]
 fn execution_of(order: Text64, id: Text64, fields: &FieldIndex) -> Result<Execution, Wrong>
     ensures { result ≡ execution_of order id fields.now }

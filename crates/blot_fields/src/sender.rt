@@ -2,8 +2,9 @@
 ghost use Rattle.std.specs.Prelude.{◌≡◌};
 ghost use Rattle.blot_tag.specs.Fields.{fields_of};
 ghost use Rattle.blot_tag.specs.Views.{text_of};
-ghost use Rattle.blot_fields.specs.Sender.{sender_of, text_in};
+ghost use Rattle.blot_fields.specs.Sender.{sender_of};
 
+use crate::first::first_text;
 use blot_tag::Frame;
 use blot_types::Text64;
 
@@ -12,20 +13,5 @@ use blot_types::Text64;
 pub fn sender_of(frame: &Frame) -> Option<Text64>
     ensures { result ≡ sender_of (fields_of (text_of frame.now)) }
 {
-    for item in frame.fields() {
-        let Ok(field) = item else {
-            return None;
-        };
-        if field.tag == 49 {
-            return text_in(field.value);
-        }
-    }
-    None
-}
-
-// These bytes, if they are a text.
-fn text_in(bytes: &[u8]) -> Option<Text64>
-    ensures { result ≡ text_in bytes.now }
-{
-    Text64::read(bytes)
+    first_text(frame, 49)
 }

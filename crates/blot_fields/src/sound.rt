@@ -78,7 +78,7 @@ fn sound_field<'a>(before: usize, item: Result<Field<'a>, SplitFault>) -> Option
     }
 }
 
-/// Why a field is refused that stands behind so many others.
+/// Why a field is refused that stands after so many others.
 #[tactic(auto, unfolding(crate::specs::Walk::field_wrong))]
 pub(crate) fn field_wrong(before: usize, field: Field) -> Option<Wrong>
     ensures few { IfNone result (before < FIELDS_MAX) }

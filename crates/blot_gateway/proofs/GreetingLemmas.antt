@@ -1,6 +1,6 @@
 -- The reads up to the first message.
 use Rattle.std.proofs.Common.{◌≡◌, ℕ, ◌+◌, ◌≤◌, List, [], ◌∷◌, ◌++◌, length, map, Option, Some, None, Result, Ok, Err, refl, sym, ap, subst, ◌∙◌, inl, inr, length-append}
-use Rattle.std.specs.Prelude.{slice_get}
+use Rattle.std.specs.Prelude.{IfErr, slice_get}
 use Rattle.std.proofs.lemmas.List.{append-nil, map-append}
 use Rattle.blot_tag.specs.Walking.{frames_of, rest_of}
 use Rattle.blot_tag.proofs.WalkLemmas.{walk_of-append}
@@ -89,27 +89,23 @@ reads-more does a b c unread left middle next count same one none feeds =
 
 -- ---- the answers
 
-pub greets-sender : {W : Type 0} (does : W → Did → W → Type 0) (own sender : List ℕ) (a b : W) (unread left next : List ℕ) (count : ℕ) → next ≡ left
-    → Reads does a unread count b left → PeeksBy own left (Ok (Some sender)) → Greeted does own (Ok sender) a unread b next
-greets-sender does own sender a b unread left next count same one peeks =
-    subst (λ held. Greeted does own (Ok sender) a unread b held) (sym same)
-    (record { reads = one.reads; steps = one.steps; awaits = one.awaits; holds = inl one.holds; greets = speaks-of own left (fed unread one.reads) (Ok sender) one.holds.frames peeks })
-
-greets-there : {W : Type 0} (does : W → Did → W → Type 0) (own : List ℕ) (end : Ended) (a b : W) (unread left : List ℕ) (count : ℕ)
-    → Reads does a unread count b left → PeeksBy own left (Err end) → Greeted does own (Err end) a unread b left
-greets-there does own (ended.Closed reason) a b unread left count one peeks =
+greets-there : {W : Type 0} (does : W → Did → W → Type 0) (own : List ℕ) (answer : Result (List ℕ) Ended) (a b : W) (unread left : List ℕ) (count : ℕ)
+    → Reads does a unread count b left → PeeksBy own left (Some answer) → Greeted does own answer a unread b left
+greets-there does own (Ok sender) a b unread left count one peeks =
+    record { reads = one.reads; steps = one.steps; awaits = one.awaits; holds = inl one.holds; greets = speaks-of own left (fed unread one.reads) (Ok sender) one.holds.frames peeks }
+greets-there does own (Err (ended.Closed reason)) a b unread left count one peeks =
     record { reads = one.reads; steps = one.steps; awaits = one.awaits; holds = inl one.holds; greets = speaks-of own left (fed unread one.reads) (Err reason) one.holds.frames peeks }
-greets-there does own ended.NoMemory a b unread left count one peeks =
+greets-there does own (Err ended.NoMemory) a b unread left count one peeks =
     record { reads = one.reads; steps = one.steps; awaits = one.awaits; holds = inl one.holds; greets = tt }
-greets-there does own ended.End a b unread left count one peeks = absurd cc
-greets-there does own ended.ReadFault a b unread left count one peeks = absurd cc
-greets-there does own ended.WriteFault a b unread left count one peeks = absurd cc
-greets-there does own ended.TooLong a b unread left count one peeks = absurd cc
+greets-there does own (Err ended.End) a b unread left count one peeks = absurd cc
+greets-there does own (Err ended.ReadFault) a b unread left count one peeks = absurd cc
+greets-there does own (Err ended.WriteFault) a b unread left count one peeks = absurd cc
+greets-there does own (Err ended.TooLong) a b unread left count one peeks = absurd cc
 
-pub greets-end : {W : Type 0} (does : W → Did → W → Type 0) (own : List ℕ) (end : Ended) (a b : W) (unread left next : List ℕ) (count : ℕ) → next ≡ left
-    → Reads does a unread count b left → PeeksBy own left (Err end) → Greeted does own (Err end) a unread b next
-greets-end does own end a b unread left next count same one peeks =
-    subst (λ held. Greeted does own (Err end) a unread b held) (sym same) (greets-there does own end a b unread left count one peeks)
+pub greets-by : {W : Type 0} (does : W → Did → W → Type 0) (own : List ℕ) (answer : Result (List ℕ) Ended) (a b : W) (unread left next : List ℕ) (count : ℕ) → next ≡ left
+    → Reads does a unread count b left → PeeksBy own left (Some answer) → Greeted does own answer a unread b next
+greets-by does own answer a b unread left next count same one peeks =
+    subst (λ held. Greeted does own answer a unread b held) (sym same) (greets-there does own answer a b unread left count one peeks)
 
 pub greets-long : {W : Type 0} (does : W → Did → W → Type 0) (own : List ℕ) (a b : W) (unread left next : List ℕ) → next ≡ left
     → Reads does a unread READS_MAX b left → frames_of left ≡ [] → Greeted does own (Err ended.TooLong) a unread b next
@@ -117,7 +113,7 @@ greets-long does own a b unread left next same one none =
     subst (λ held. Greeted does own (Err ended.TooLong) a unread b held) (sym same)
     (record { reads = one.reads; steps = one.steps; awaits = one.awaits; holds = inl one.holds; greets = (one.many, sym one.holds.frames ∙ none) })
 
--- no memory behind some reads
+-- no memory after some reads
 pub greets-out : {W : Type 0} (does : W → Did → W → Type 0) (own : List ℕ) (a b : W) (unread left next : List ℕ) (count : ℕ)
     → Reads does a unread count b left → Greeted does own (Err ended.NoMemory) a unread b next
 greets-out does own a b unread left next count one =
@@ -169,13 +165,15 @@ greets-last does own ended.TooLong a b c unread left middle next count same one 
 pub greets-no-memory : {W : Type 0} (does : W → Did → W → Type 0) (own : List ℕ) (a : W) (unread : List ℕ) → Greeted does own (Err ended.NoMemory) a unread a unread
 greets-no-memory does own a unread = record { reads = []; steps = refl; awaits = tt; holds = inr refl; greets = tt }
 
-pub peeks-counted : (own unread : List ℕ) (end : Ended) (before after : ℕ) → PeeksBy own unread (Err end) → before ≤ after → IsCounted end before after
-peeks-counted own unread (ended.Closed reason) before after peeks some = some
-peeks-counted own unread ended.NoMemory before after peeks some = some
-peeks-counted own unread ended.End before after peeks some = some
-peeks-counted own unread ended.ReadFault before after peeks some = absurd cc
-peeks-counted own unread ended.WriteFault before after peeks some = absurd cc
-peeks-counted own unread ended.TooLong before after peeks some = some
+pub peeks-counted : (own unread : List ℕ) (answer : Result (List ℕ) Ended) (before after : ℕ) → PeeksBy own unread (Some answer) → before ≤ after
+    → IfErr answer (λ end. IsCounted end before after)
+peeks-counted own unread (Ok sender) before after peeks some = tt
+peeks-counted own unread (Err (ended.Closed reason)) before after peeks some = some
+peeks-counted own unread (Err ended.NoMemory) before after peeks some = some
+peeks-counted own unread (Err ended.End) before after peeks some = some
+peeks-counted own unread (Err ended.ReadFault) before after peeks some = absurd cc
+peeks-counted own unread (Err ended.WriteFault) before after peeks some = absurd cc
+peeks-counted own unread (Err ended.TooLong) before after peeks some = some
 
 -- ---- no first frame
 

@@ -2,7 +2,7 @@
 use Rattle.std.proofs.Common.{◌≡◌, ℕ, ◌+◌, List, ◌++◌, take, drop, sym, ◌∙◌, ap}
 use Rattle.std.proofs.lemmas.List.{take-append-drop, drop-drop}
 
--- behind a piece that was given, the rest is left
+-- after a piece that was given, the rest is left
 pub left_given : (count given : ℕ) (bytes buffer : List ℕ) → take count buffer ≡ take count (drop given bytes)
     → drop given bytes ≡ take count buffer ++ drop (given + count) bytes
 left_given count given bytes buffer copied =

@@ -69,7 +69,7 @@ happens-one does ticks takes call now memory a b due replies dids answers is led
 sent-one : (state : State) (call : Call) → sent_of state (call ∷ []) ≡ flat_map bytes_of (outcome state call).actions
 sent-one state call = ap (flat_map bytes_of) (append-nil (outcome state call).actions)
 
--- a turn with this call, behind which the wire did this
+-- a turn with this call, after which the wire did this
 in-turn-one : (wrote : List (List ℕ) → List (List ℕ) → Type 0) (state : State) (call : Call) (dids : List Did) (due more : List Due) → due_by call ≡ due → reads_of dids ≡ []
     → wrote (written_of dids ∷ []) (sent_of state (call ∷ []) ∷ []) → InTurn wrote state (call ∷ []) dids (due ++ more) [] more
 in-turn-one wrote state call dids due more is apart written =

@@ -13,7 +13,7 @@ use Rattle.blot_gateway.specs.Sending.{Writes, WritesFront}
 
 -- ---- steps
 
--- one behind the other
+-- one after the other
 pub steps-on : {S E : Type 0} (does : S → E → S → Type 0) (first second : List E) (a b c : S) → Steps does a first b → Steps does b second c → Steps does a (first ++ second) c
 steps-on does [] second a b c one two = subst (λ start. Steps does start second c) one two
 steps-on does (event ∷ first) second a b c one two = (one.0, one.1, steps-on does first second one.0 b c one.2 two)

@@ -37,7 +37,7 @@ frames-none old new none = ap (λ walk. walk.frames) none.walk
 pub rest-none : (old new : Reading) → FindsNone old new → rest_of old.unread ≡ new.unread
 rest-none old new none = ap (λ walk. walk.rest) none.walk
 
--- what is left behind a frame
+-- what is left after a frame
 abbrev pub left_in : Reading → List Due → List Due
 left_in reading more = map Came (frames_of reading.unread) ++ more
 
@@ -66,7 +66,7 @@ pub runs-drained : {W C S : Type 0} (does : W → Did → W → Type 0) (ticks :
 runs-drained does ticks takes a b due more old new none one =
     subst (λ left. Runs does ticks takes a due [] left b) (ap (λ texts. map Came texts ++ more) (frames-none old new none)) one
 
--- ---- a moment behind the frames
+-- ---- a moment after the frames
 
 pub runs-fed : {W C S : Type 0} (does : W → Did → W → Type 0) (ticks : C → ℤ → C → Type 0) (takes : S → Answered → S → Type 0)
     (a b : Parties W C S) (unread rest : List ℕ) (more : List Read) (wire : W) (clock : C) (state : State) → rest ≡ rest_of unread → IsIdle b.session

@@ -16,7 +16,7 @@ use Rattle.blot_gateway.specs.Endings.{ended_by}
 use Rattle.blot_gateway.specs.Wires.{Did}
 use Rattle.blot_gateway.specs.Serving.{close_in}
 use Rattle.blot_gateway.specs.Sending.{Writes, Halts, Called, StopsAt, Halted, DeliversJust}
-use Rattle.blot_gateway.proofs.DeliveredLemmas.{delivered-idle}
+use Rattle.blot_session.proofs.ActionLemmas.{delivered-idle}
 
 -- ---- results
 

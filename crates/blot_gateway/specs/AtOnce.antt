@@ -21,7 +21,7 @@ use Rattle.blot_gateway.specs.Wires.{Did, Answered}
 
 -- ---- the receipts of a seat
 
--- behind the submit of a command: one more receipt, of that submit and its reply; none more behind a fault
+-- after the submit of a command: one more receipt, of that submit and its reply; after a fault none more
 abbrev pub Keeps : List Receipt → Command → Result Reply DeskFault → List Receipt → Type 0
 Keeps before command (Ok reply) after = IsOneMore before after (Submit command) reply
 Keeps before command (Err fault) after = after ≡ before
@@ -66,7 +66,7 @@ pub record ServesPeer {W C S : Type 0} (does : W → Did → W → Type 0) (tick
   pub waits : IsWaiting peer session
   pub served : Served does ticks takes end (parties before.wire before.clock before.sink session) unread (parties after.wire after.clock after.sink last)
 
--- it is refused with one of two faults, and nothing is done. Which of them, and whether it had to be, isn't said: that is behind a lock
+-- it is refused with one of two faults, and nothing is done. Which of them, and whether it had to be, isn't said: the table is under a lock
 pub record TurnsAway {W C S : Type 0} (end : Ended) (before after : Line W C S) : Type 0 where
   pub fault : SlotFault
   pub why : (fault ≡ faults.UnknownPeer) ⊎ (fault ≡ faults.AlreadyOn)

@@ -37,7 +37,7 @@ abbrev pub bytes_in : Read → List ℕ
 bytes_in (Piece bytes) = bytes
 bytes_in read = []
 
--- all the bytes behind some reads: those that were there at first, and those that came
+-- all the bytes after some reads: those that were there at first, and those that came
 abbrev pub fed : List ℕ → List Read → List ℕ
 fed unread [] = unread
 fed unread (read ∷ reads) = fed (unread ++ bytes_in read) reads
@@ -66,13 +66,13 @@ pub record Speaks (own unread : List ℕ) (answer : Result (List ℕ) CloseReaso
   pub greets : greeted_by own (said_by text) ≡ answer
 
 -- a look at the first frame, if one stands there
-abbrev pub PeeksBy : List ℕ → List ℕ → Result (Option (List ℕ)) Ended → Type 0
-PeeksBy own unread (Ok None) = frames_of unread ≡ []
-PeeksBy own unread (Ok (Some sender)) = Speaks own unread (Ok sender)
-PeeksBy own unread (Err (ended.Closed reason)) = Speaks own unread (Err reason)
-PeeksBy own unread (Err end) = end ≡ ended.NoMemory
+abbrev pub PeeksBy : List ℕ → List ℕ → Option (Result (List ℕ) Ended) → Type 0
+PeeksBy own unread None = frames_of unread ≡ []
+PeeksBy own unread (Some (Ok sender)) = Speaks own unread (Ok sender)
+PeeksBy own unread (Some (Err (ended.Closed reason))) = Speaks own unread (Err reason)
+PeeksBy own unread (Some (Err end)) = end ≡ ended.NoMemory
 
--- one read, whose bytes stand behind the unread ones then
+-- one read, whose bytes then stand after the unread ones
 pub record Feeds {W : Type 0} (does : W → Did → W → Type 0) (before : W) (unread : List ℕ) (after : W) (left : List ℕ) : Type 0 where
   pub read : Read
   pub gave : does before (Gave read) after
@@ -91,7 +91,7 @@ pub record FeedsLast {W : Type 0} (does : W → Did → W → Type 0) (end : End
   pub ends : ReadEnds end read
   pub holds : left ≡ unread
 
--- why a greeting is answered so, behind these reads, by all the bytes
+-- why a greeting is answered so, after these reads, by all the bytes
 abbrev pub GreetsBy : List ℕ → Result (List ℕ) Ended → List Read → List ℕ → Type 0
 GreetsBy own (Ok sender) reads bytes = Speaks own bytes (Ok sender)
 GreetsBy own (Err (ended.Closed reason)) reads bytes = Speaks own bytes (Err reason)
@@ -102,7 +102,7 @@ GreetsBy own (Err ended.NoMemory) reads bytes = Unit {0}
 GreetsBy own (Err ended.WriteFault) reads bytes = ⊥
 
 -- the wire gave some reads, and nothing was written; no frame stood in all the bytes before any of them; and the reader holds the frames
--- that stand there then, with what came behind them, unless memory ran out
+-- that stand there then, with what came after them, unless memory ran out
 pub record Greeted {W : Type 0} (does : W → Did → W → Type 0) (own : List ℕ) (answer : Result (List ℕ) Ended) (before : W) (unread : List ℕ) (after : W) (left : List ℕ) : Type 0 where
   pub reads : List Read
   pub steps : Steps does before (map Gave reads) after

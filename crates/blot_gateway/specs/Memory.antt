@@ -14,7 +14,7 @@ pub record InMemory : Type 0 where
   pub written : List ℕ
   pub faults : ℕ
 
--- neither bytes nor writings pass
+-- no bytes are given, and none are written
 abbrev pub PassesNothing : InMemory → InMemory → Type 0
 PassesNothing before after = (after.left ≡ before.left) × (after.written ≡ before.written)
 
@@ -26,7 +26,7 @@ MemoryDoes before (Gave read) after = PassesNothing before after
 MemoryDoes before (Took bytes) after = (after.left ≡ before.left) × (after.written ≡ before.written ++ bytes)
 MemoryDoes before Refused after = PassesNothing before after
 
--- the first of the moments that are left is told, and the last stays; 1970 begins where there is none
+-- the first of the moments that are left is told, and the last stays; where there is none, the first moment of 1970 is told
 abbrev pub ListTicks : List ℤ → ℤ → List ℤ → Type 0
 ListTicks [] now after = (now ≡ pos 0) × (after ≡ [])
 ListTicks (moment ∷ []) now after = (now ≡ moment) × (after ≡ moment ∷ [])

@@ -5,7 +5,6 @@ use Rattle.blot_types.specs.declared.command.Command.{Command}
 use Rattle.blot_desk.specs.declared.event.Reply.{Reply as DeskReply}
 use Rattle.blot_desk.specs.declared.fault.DeskFault.{DeskFault}
 use Rattle.blot_session.specs.declared.action.Action.{Action}
-use Rattle.blot_session.specs.declared.action.Action.TheVariants.{Deliver}
 use Rattle.blot_session.specs.declared.state.State.{State}
 use Rattle.blot_session.specs.Runs.{Call, outcome, bytes_of, delivered_by}
 use Rattle.blot_session.specs.Runs.Call.{Reply}
@@ -21,7 +20,7 @@ pub record Writes {W : Type 0} (does : W → Did → W → Type 0) (before : W) 
   pub read : reads_of dids ≡ []
   pub written : written_of dids ≡ text
 
--- it takes a front of them, and not the whole
+-- it takes a front of them, but not all
 pub record WritesFront {W : Type 0} (does : W → Did → W → Type 0) (before : W) (text : List ℕ) (after : W) : Type 0 where
   pub front : List ℕ
   pub writes : Writes does before front after
@@ -32,11 +31,6 @@ abbrev pub Halts : {W : Type 0} → (W → Did → W → Type 0) → Stop → W 
 Halts does (stops.Closed reason) before actions after = Writes does before (flat_map bytes_of actions) after × (close_in actions ≡ Some reason)
 Halts does stops.WriteFault before actions after = WritesFront does before (flat_map bytes_of actions) after
 Halts does stops.NoMemory before actions after = ⊥
-
--- the command that an action delivers
-abbrev pub delivered : Action → Option Command
-delivered (Deliver command) = Some command
-delivered action = None
 
 -- some actions deliver just this command, or none
 abbrev pub DeliversJust : Option Command → List Action → Type 0

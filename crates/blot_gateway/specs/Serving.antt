@@ -31,15 +31,15 @@ pub data Due : Type 0 where
   Came : List ℕ → Due
   Passed : Due
 
--- by these reads, behind bytes that hold no frame: each read, and behind it the frames of its piece, with the rest of the one before, and
--- then a moment, which passes where nothing came too. Nothing is due behind the wire's end or its failure
+-- by these reads, after bytes that hold no frame: each read, and after it the frames of its piece, with the rest of the one before, and
+-- then a moment, which also passes where nothing came. Nothing is due after the wire's end or its failure
 abbrev pub due_behind : List ℕ → List Read → List Due
 due_behind unread [] = []
 due_behind unread (Piece bytes ∷ reads) = Fed (Piece bytes) ∷ (map Came (frames_of (unread ++ bytes)) ++ (Passed ∷ due_behind (rest_of (unread ++ bytes)) reads))
 due_behind unread (Silence ∷ reads) = Fed Silence ∷ Passed ∷ due_behind unread reads
 due_behind unread (read ∷ reads) = Fed read ∷ []
 
--- behind a piece that was read, which stands with the rest of the one before
+-- after a piece that was read, which is joined to the rest of the one before
 abbrev pub due_fed : List ℕ → List Read → List Due
 due_fed unread reads = map Came (frames_of unread) ++ (Passed ∷ due_behind (rest_of unread) reads)
 
@@ -196,17 +196,17 @@ abbrev pub did_in : Turn → List Did
 did_in (Reads read) = Gave read ∷ []
 did_in (Calls call dids) = dids
 
--- what of that which is due is done in it
+-- the part of what is due that is done in it
 abbrev pub due_in : Turn → List Due
 due_in (Reads read) = Fed read ∷ []
 due_in (Calls call dids) = due_by call
 
--- the reads behind its call
+-- the reads after its call, within the turn
 abbrev pub reads_behind : Turn → List Read
 reads_behind (Reads read) = []
 reads_behind (Calls call dids) = reads_of dids
 
--- the text that is written behind its call
+-- the text that is written after its call
 abbrev pub written_in : Turn → List (List ℕ)
 written_in (Reads read) = []
 written_in (Calls call dids) = written_of dids ∷ []
@@ -217,7 +217,7 @@ texts_of state [] = []
 texts_of state (call ∷ calls) = sent_of state (call ∷ []) ∷ texts_of (outcome state call).state calls
 
 -- these calls, and what the wire did, in turn: a front of what is due is done, in its order, and this is left; the wire gave these
--- reads, none of them behind a call; and behind each call, before anything else, it took what the call sends, as far as `wrote` says
+-- reads, none of them in the turn of a call; and after each call, before anything else, it took what the call sends, as far as `wrote` says
 pub record InTurn (wrote : List (List ℕ) → List (List ℕ) → Type 0) (state : State) (calls : List Call) (dids : List Did)
     (due : List Due) (reads : List Read) (left : List Due) : Type 0 where
   pub turns : List Turn
@@ -240,8 +240,8 @@ pub record Parties (W C S : Type 0) : Type 0 where
 abbrev pub parties : {W C S : Type 0} → W → C → S → State → Parties W C S
 parties wire clock sink session = record { wire = wire; clock = clock; sink = sink; session = session }
 
--- what happens between them over some calls: each call at the clock's next moment; a reply behind each delivery, and only there, which
--- is the sink's answer
+-- what happens between them over some calls: each call comes at the clock's next moment; after each delivery, and only there, comes a
+-- reply, which is the sink's answer
 pub record Happens {W C S : Type 0} (does : W → Did → W → Type 0) (ticks : C → ℤ → C → Type 0) (takes : S → Answered → S → Type 0)
     (before : Parties W C S) (calls : List Call) (dids : List Did) (answers : List Answered) (after : Parties W C S) : Type 0 where
   pub session : after.session ≡ behind_calls before.session calls
@@ -278,12 +278,12 @@ pub record Ends {W C S : Type 0} (does : W → Did → W → Type 0) (ticks : C 
 
 -- ---- one session
 
--- a session is closed behind an end or a fault; one that ended the connection itself is
+-- after an end or a fault a session is closed; one that ended the connection itself is closed already
 abbrev pub left_by : Ended → State → State
 left_by (ended.Closed reason) state = state
 left_by end state = closed state
 
--- the wire gave some reads, and behind what the reader held they came to calls that end so
+-- the wire gave some reads; after what the reader held, they led to calls that end so
 pub record Served {W C S : Type 0} (does : W → Did → W → Type 0) (ticks : C → ℤ → C → Type 0) (takes : S → Answered → S → Type 0)
     (end : Ended) (before : Parties W C S) (unread : List ℕ) (after : Parties W C S) : Type 0 where
   pub reads : List Read

@@ -27,7 +27,7 @@ pub record Answered : Type 0 where
   pub command : Command
   pub answer : Result Reply DeskFault
 
--- a read, by its answer and the buffer behind it
+-- a read, by its answer and the buffer after it
 abbrev pub read_by : Reading → List ℕ → Read
 read_by (reading.Got count) buffer = Piece (take count buffer)
 read_by reading.Quiet buffer = Silence
@@ -62,7 +62,7 @@ abbrev pub CountsWrite : Writing → ℕ → ℕ → Type 0
 CountsWrite writing.Fault before after = Counts before after
 CountsWrite (writing.Wrote count) before after = after ≡ before
 
--- step by step these things happen, one behind the other
+-- these things happen step by step, one after the other
 abbrev pub Steps : {S E : Type 0} → (S → E → S → Type 0) → S → List E → S → Type 0
 Steps does before [] after = after ≡ before
 Steps {S = S} does before (event ∷ events) after = (between : S) × does before event between × Steps does between events after

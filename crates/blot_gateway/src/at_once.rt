@@ -11,12 +11,12 @@ use std::sync::Wait;
 use std::sync::ledger::Ledger;
 use std::thread::{Threads, for_each_mut};
 
-/// Serves wires at once, each in a thread of its own where the system gives one, else behind another: how each ended, with its seat, in
+/// Serves wires at once, each in a thread of its own where the system gives one, else after another one: how each ended, with its seat, in
 /// their order. A wire is greeted, the session of the peer that it names is checked out, served at its clock with its seat as the sink,
 /// and checked in again; then the wire is dropped. No lock is held while a wire is read or written. The gate is called round each submit.
 ///
 /// Each ends as `greet` or `serve_session` says; or, where `check_out` refuses its peer's session, Closed: with CompId at UnknownPeer, with
-/// AlreadyOn at AlreadyOn. Which of these, and whether it had to be, no clause says: the table is behind a lock. An error is out of memory
+/// AlreadyOn at AlreadyOn. Which of these, and whether it had to be, no clause says: the table is under a lock. An error is out of memory
 /// for the lists, before the first wire: nothing was read or written, and the seats are as they were.
 pub fn serve<
     R: Threads + Wait + Sync,
@@ -84,7 +84,7 @@ fn put_connections<'a, W: Drop, C: Drop, R: Wait, L: Ledger, G: Gate>(
     }
 }
 
-// Serves each connection in a thread of its own, or behind another.
+// Serves each connection in a thread of its own, or after another one.
 fn serve_each<
     R: Threads + Wait + Sync,
     W: Wire + Drop + Send,

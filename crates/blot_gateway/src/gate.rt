@@ -1,4 +1,4 @@
-//! What stands round the submits of wires that are served at once.
+//! What is called round the submits of wires that are served at once.
 
 /// Called round each submit, with the wire's place among those that are served, from 0.
 pub trait Gate {

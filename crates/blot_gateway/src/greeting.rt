@@ -30,10 +30,8 @@ pub fn greet<W: Wire>(
         return Err(Ended::NoMemory);
     };
     for _ in 0..READS_MAX {
-        match peek_sender(alloc, reader, own) {
-            Ok(None) => {}
-            Ok(Some(sender)) => return Ok(sender),
-            Err(ended) => return Err(ended),
+        if let Some(answer) = peek(alloc, reader, own) {
+            return answer;
         }
         let Ok(()) = pass_over(reader) else {
             return Err(Ended::NoMemory);
@@ -43,31 +41,30 @@ pub fn greet<W: Wire>(
             Err(ended) => return Err(ended),
         }
     }
-    match peek_sender(alloc, reader, own) {
-        Ok(None) => Err(Ended::TooLong),
-        Ok(Some(sender)) => Ok(sender),
-        Err(ended) => Err(ended),
+    match peek(alloc, reader, own) {
+        Some(answer) => answer,
+        None => Err(Ended::TooLong),
     }
 }
 
-// Who sent the first frame of the reader, if one stands there.
-fn peek_sender(alloc: Global, reader: &mut Reader, own: Text64) -> Result<Option<Text64>, Ended>
+// The answer by the first frame of the reader, if one stands there, or that memory ran out.
+fn peek(alloc: Global, reader: &mut Reader, own: Text64) -> Option<Result<Text64, Ended>>
     ensures peeks { PeeksBy own reader.old.unread result }
     ensures kept { reader.new ≡ reader.old }
 {
     let Ok(found) = reader.peek() else {
-        return Err(Ended::NoMemory);
+        return Some(Err(Ended::NoMemory));
     };
     let Some(frame) = found else {
-        return Ok(None);
+        return None;
     };
     let said = decode(alloc, &frame);
     if is_out_of_memory(&said) {
-        return Err(Ended::NoMemory);
+        return Some(Err(Ended::NoMemory));
     }
     match sender_by(&said, own) {
-        Ok(sender) => Ok(Some(sender)),
-        Err(reason) => Err(Ended::Closed(reason)),
+        Ok(sender) => Some(Ok(sender)),
+        Err(reason) => Some(Err(Ended::Closed(reason))),
     }
 }
 

@@ -1,12 +1,12 @@
 //! Live connections. A wire is greeted, and then one session is served over it: what the wire gives comes to the session frame by
 //! frame, what the session sends is written, what it delivers goes to a sink. Wire, clock and sink are the caller's. Wires of a
-//! desk are served at once, each with a seat. `delivered` and `seen_by` are for those who give frames to a session without a
-//! wire; `MemoryWire`, `ListClock` and `ListSink` serve tests.
+//! desk are served at once, each with a seat. `seen_by` is for those who give frames to a session without a wire; `MemoryWire`,
+//! `ListClock` and `ListSink` serve tests.
 #![tactic(auto)]
 
 mod at_once;
+mod calling;
 mod connection;
-mod driving;
 mod ended;
 mod gate;
 mod greeting;
@@ -20,7 +20,7 @@ mod wire;
 mod writing;
 
 pub use at_once::serve;
-pub use driving::{delivered, seen_by};
+pub use calling::seen_by;
 pub use ended::{Ended, READS_MAX};
 pub use gate::{Gate, OpenGate};
 pub use greeting::greet;

@@ -8,7 +8,7 @@ use blot_types::Command;
 use std::alloc::Global;
 use std::marker::Model;
 
-/// A sink that keeps the commands it is handed, and answers them by a list, one by one: for tests. Behind the last answer it is Full;
+/// A sink that keeps the commands it is handed, and answers them by a list, one by one: for tests. After the last answer it answers Full;
 /// out of memory it answers NoMemory, and keeps nothing.
 #[derive(Drop)]
 pub struct ListSink {

@@ -57,7 +57,7 @@ impl MemoryWire {
         }
     }
 
-    /// The most bytes of its first reads, from the very first on. At 0 nothing comes in time, even where no byte is left; behind the last
+    /// The most bytes of its first reads, from the very first on. At 0 nothing comes in time, even where no byte is left; after the last
     /// of them a read gives what the buffer has room for.
     pub fn set_reads(&mut self, sizes: Vec<usize>)
         ensures { self.new ≡ self.old }

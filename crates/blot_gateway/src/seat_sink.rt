@@ -9,7 +9,7 @@ use std::sync::Wait;
 use std::sync::ledger::Ledger;
 
 /// A seat at a desk, as the sink of the session that is served at this place among those that are served at once: each command is a
-/// submit, before and behind which the gate is called. A contract sees the receipts of the seat.
+/// submit, before and after which the gate is called. A contract sees the receipts of the seat.
 #[derive(Drop)]
 pub struct SeatSink<'a, R: Wait, L: Ledger, G: Gate> {
     rt: &'a R,

@@ -8,7 +8,7 @@ ghost use Rattle.blot_gateway.specs.Wires.{Counts, Read};
 ghost use Rattle.blot_gateway.specs.Serving.{Due, Runs, Ends, Served, IsCounted, due_behind, due_fed, due_of, left_by, parties};
 ghost use Rattle.blot_gateway.specs.Serving.Due.{Came};
 
-use crate::driving::{pass_moment, take_frame};
+use crate::calling::{pass_moment, take_frame};
 use crate::ended::Stop;
 use crate::{Clock, Ended, READS_MAX, Reading, Sink, Wire, empty_piece};
 use blot_session::Session;
@@ -16,8 +16,8 @@ use blot_tag::Reader;
 use std::alloc::Global;
 
 /// Serves a session over a wire, until one of them ends. The frames of the reader, and then of what the wire gives, come to the session in
-/// their order, and a moment passes behind each read. What the session sends is written; what it delivers goes to the sink,
-/// whose answer the session is told.
+/// their order, and a moment passes after each read. What the session sends is written. What it delivers goes to the sink, and the session
+/// is told the answer.
 ///
 /// Closed: the session ended the connection, for this reason. End: the wire is at its end. ReadFault, WriteFault: it failed,
 /// and counted that. TooLong: 2^30 reads were made. NoMemory: memory ran out. The session is closed then.

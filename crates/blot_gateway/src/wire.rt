@@ -31,7 +31,7 @@ pub enum Writing {
 
 /// A connection to a peer.
 pub trait Wire {
-    /// A wire, something that it does, and the wire behind that.
+    /// A wire, something that it does, and the wire after that.
     ghost does: { Self → Did → Self → Type 0 };
 
     /// How many of its reads and writes failed so far.
@@ -58,7 +58,7 @@ pub trait Wire {
 
 /// What tells the moments.
 pub trait Clock {
-    /// A clock, a moment that it tells, and the clock behind that.
+    /// A clock, a moment that it tells, and the clock after that.
     ghost ticks: { Self → ℤ → Self → Type 0 };
 
     /// The moment.
@@ -68,7 +68,7 @@ pub trait Clock {
 
 /// What takes the commands that a session delivers.
 pub trait Sink {
-    /// A sink, a command with the answer to it, and the sink behind that.
+    /// A sink, a command with the answer to it, and the sink after that.
     ghost takes: { Self → Answered → Self → Type 0 };
 
     /// Takes a command.

@@ -1,6 +1,6 @@
 -- The sums of the parts of a position, joined piece by piece.
-use Rattle.std.proofs.Common.{◌≡◌, ℕ, ◌+◌, ◌<◌, ◌≤◌, pos, ◌+ℤ◌, arith, List, [], ◌∷◌, ◌++◌, take, get_or, length, Option, Some, None, refl, sym, ap, subst, ◌∙◌}
-use Rattle.std.specs.Prelude.{filter, is_none}
+use Rattle.std.proofs.Common.{◌≡◌, ℕ, ◌+◌, ◌*◌, ◌^◌, ◌<◌, ◌≤◌, pos, ◌+ℤ◌, arith, List, [], ◌∷◌, ◌++◌, take, get_or, length, Option, Some, None, refl, sym, ap, subst, ◌∙◌}
+use Rattle.std.specs.Prelude.{filter, is_none, unsigned_abs}
 use Rattle.std.specs.List.{flat_map, filter_map}
 use Rattle.std.proofs.lemmas.Int.{ints}
 use Rattle.std.proofs.lemmas.List.{take_more, append-nil}
@@ -10,14 +10,15 @@ use Rattle.blot_types.specs.declared.allocation.Instruction.{Instruction}
 use Rattle.blot_types.specs.declared.allocation.Line.{Line}
 use Rattle.blot_types.specs.declared.allocation.Terms.{Terms}
 use Rattle.blot_types.specs.declared.command.Entry.{Entry}
-use Rattle.blot_types.specs.declared.lines.Part.{Part}
+use Rattle.blot_types.specs.declared.part.Part.{Part}
 use Rattle.blot_types.specs.declared.lines.PositionLine.{PositionLine}
 use Rattle.blot_types.specs.Allocations.{Allocation, allocation_of}
 use Rattle.blot_types.specs.Instructions.{ended_in}
-use Rattle.blot_types.specs.Position.{from_house, part_of_line, moves_of_line, moves_of, is_at, position_by}
+use Rattle.blot_types.specs.Position.{IsSmall, from_house, part_of_line, moves_of_line, moves_of, is_at, position_by}
 use Rattle.blot_types.specs.Refusals.{booked}
+use Rattle.blot_types.proofs.PartLemmas.{neg-size, signed-size}
 use Rattle.blot_types.proofs.SumLemmas.{total-append, total-cons}
-use Rattle.blot_model.specs.Sums.{sums_at, joined, live_moves, units_of, AreUpTo}
+use Rattle.blot_model.specs.Sums.{sums_at, joined, live_moves, units_of, IsUpTo, AreUpTo}
 use Rattle.blot_model.proofs.ListLemmas.{flat-append}
 
 -- ---- sums
@@ -48,6 +49,31 @@ sums-more parts split account symbol items index item before more within is so_f
     let next : take (index + 1) items ≡ take index items ++ item ∷ [] = rw is (take_more items index item within) in
     ap (λ sums. joined sums more) so_far ∙ ap (joined (sums_at account symbol (parts (take index items)))) one
     ∙ sym (ap (sums_at account symbol) (ap parts next ∙ split (take index items) (item ∷ [])) ∙ sums-append account symbol (parts (take index items)) (parts (item ∷ [])))
+
+-- the part of a line is of the line's quantity, and so is what it takes from the house account
+line-size : (terms : Terms) (line : Line) (part : Part) → part ≡ part_of_line terms line → unsigned_abs part.qty ≡ line.qty
+line-size terms line part is = ap (λ p. unsigned_abs p.qty) is ∙ signed-size terms.sign (pos line.qty)
+
+pub line-range : (terms : Terms) (line : Line) (part : Part) → part ≡ part_of_line terms line → IsSmall part → line.qty ≤ 10 ^ 16
+line-range terms line part is small = (let size = line-size terms line part is in let qty = small.qty in omega (arith, size, qty))
+
+pub line-up_to : (terms : Terms) (line : Line) (part : Part) → part ≡ part_of_line terms line → IsSmall part → IsUpTo line.qty part.qty part.value
+line-up_to terms line part is small =
+    let size = line-size terms line part is in
+    let value = small.value in
+    record { qty = omega (arith, size); value = subst (λ units. unsigned_abs part.value ≤ units * 10 ^ 16) size value }
+
+pub house-up_to : (units : ℕ) (part taken : Part) → taken ≡ from_house part → IsUpTo units part.qty part.value → IsUpTo units taken.qty taken.value
+house-up_to units part taken is up =
+    let qty = ap (λ p. unsigned_abs p.qty) is ∙ neg-size part.qty in
+    let value = ap (λ p. unsigned_abs p.value) is ∙ neg-size part.value in
+    let first = up.qty in
+    let second = up.value in
+    record { qty = omega (arith, qty, first); value = omega (arith, value, second) }
+
+-- the amounts of any part are those of at most 10^16 units
+pub small-up_to : (part : Part) → IsSmall part → IsUpTo (10 ^ 16) part.qty part.value
+small-up_to part small = (let qty = small.qty in let value = small.value in record { qty = qty; value = omega (arith, qty, value) })
 
 -- the moves of a line
 pub sums-line :

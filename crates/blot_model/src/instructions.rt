@@ -48,7 +48,7 @@ fn instruction(
             let none = Items::new(Vec::new(alloc));
             (cancel.key, AllocRole::Cancels(cancel.reference), none)
         }
-        _ => return Ok(None),
+        Command::Trade(_) | Command::Correct(_) | Command::Bust(_) => return Ok(None),
     };
     Ok(Some(Instruction {
         number: entry.number,

@@ -5,7 +5,6 @@
 mod allocations;
 mod amounts;
 mod chains;
-mod commands;
 mod executions;
 mod instructions;
 mod orders;

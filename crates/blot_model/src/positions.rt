@@ -2,6 +2,7 @@
 ghost use Rattle.std.specs.Prelude.{◌≡◌, ◌*◌, ◌^◌, [], ◌∷◌, map, false, IfOk, IfSome, IsTrue};
 ghost use Rattle.std.specs.List.{cons_option, filter_map};
 ghost use Rattle.std.specs.Option.{option_map_or};
+ghost use Rattle.blot_types.specs.Bounds.{BOOK_FILLED, BOOK_MOVED};
 ghost use Rattle.blot_types.specs.Allocations.{allocation_of};
 ghost use Rattle.blot_types.specs.Keys.{is_among};
 ghost use Rattle.blot_types.specs.Laws.{IsConserving};
@@ -14,8 +15,10 @@ use crate::allocations::{ended_by, named_roots};
 use crate::chains::root_of;
 use crate::executions::survivors;
 use crate::instructions::instructions;
-use crate::parts::{joined, moves_of_line, part_of_fill, shown};
-use blot_types::{AllocKey, Command, Entry, ExecKey, Instruction, PositionLine, Terms, Text64};
+use crate::parts::{joined, moves_of_line, shown};
+use blot_types::{
+    AllocKey, Command, Entry, ExecKey, Instruction, Part, PositionLine, Terms, Text64,
+};
 use std::alloc::{AllocError as NoMemory, Global};
 
 /// The position of an account in a symbol, or none where no part is of it: what the survivors that sit there add,
@@ -46,12 +49,12 @@ fn survivors_at(
 ) -> Result<Option<PositionLine>, NoMemory>
     requires { IsTrue (is_book list.now) }
     ensures sums { IfOk result (λ sums. sums ≡ sums_at account.now symbol.now (map (part_of list.now) (survivors list.now))) }
-    ensures few { IfOk result (AreUpTo (2 * 10 ^ 21)) }
+    ensures few { IfOk result (AreUpTo BOOK_FILLED) }
 {
     let named = named_roots(alloc, list)?;
     let mut sums = None;
     for version in &survivors(alloc, list)? {
-        let part = part_of_fill(is_named(list, &named, &version.key), &version.fill);
+        let part = Part::of_fill(is_named(list, &named, &version.key), &version.fill);
         sums = joined(sums, shown(&part, account, symbol));
     }
     Ok(sums)
@@ -83,7 +86,7 @@ fn moves_at(
 ) -> Option<PositionLine>
     requires { IsTrue (is_book list.now) }
     ensures sums { result ≡ sums_at account.now symbol.now (live_moves instructions.now (filter_map (λ entry. allocation_of entry.command) list.now)) }
-    ensures few { AreUpTo (4 * 10 ^ 21) result }
+    ensures few { AreUpTo BOOK_MOVED result }
 {
     let mut sums = None;
     for entry in list {
@@ -110,7 +113,8 @@ fn moves_of_entry(
         Command::AllocReplace(replace) => {
             live_moves(instructions, &replace.key, &replace.terms, account, symbol)
         }
-        _ => None,
+        Command::Trade(_) | Command::Correct(_) | Command::Bust(_) | Command::AllocCancel(_) =>
+            None,
     }
 }
 

@@ -8,16 +8,15 @@ ghost use Rattle.blot_types.specs.Refusals.{duplicate_exec, duplicate_alloc, unk
 ghost use Rattle.blot_types.specs.Survivors.{links_of};
 
 use crate::allocations::{ended_by, is_allocation, other_holder_of, taker_of};
-use crate::amounts::{booked, current_fill, differs, mismatch, wanted};
+use crate::amounts::{current_fill, wanted};
 use crate::chains::{bust_of, number_of, root_of};
-use crate::commands::{alloc_key, alloc_reference, exec_key, exec_references, listed_by, terms_of};
 use blot_types::{AllocKey, Command, Entry, ExecKey, Instruction, Refused, Terms};
 
 /// Its execution is taken up.
 pub(crate) fn duplicate_exec(list: &[Entry], command: &Command) -> Option<Refused>
     ensures { result ≡ duplicate_exec (reverse list.now) command.now }
 {
-    let key = exec_key(command)?;
+    let key = command.exec_key()?;
     number_of(list, &key).map(Refused::DuplicateExec)
 }
 
@@ -30,7 +29,7 @@ pub(crate) fn duplicate_alloc(
     requires { instructions.now ≡ instructions_of list.now }
     ensures { result ≡ duplicate_alloc (reverse list.now) command.now }
 {
-    let key = alloc_key(command)?;
+    let key = command.alloc_key()?;
     taker_of(instructions, &key).map(Refused::DuplicateAlloc)
 }
 
@@ -43,7 +42,7 @@ pub(crate) fn unknown_alloc(
     requires { instructions.now ≡ instructions_of list.now }
     ensures { result ≡ unknown_alloc (reverse list.now) command.now }
 {
-    let reference = alloc_reference(command)?;
+    let reference = command.alloc_reference()?;
     if is_allocation(instructions, &reference) {
         return None;
     }
@@ -59,7 +58,7 @@ pub(crate) fn dead_alloc(
     requires { instructions.now ≡ instructions_of list.now }
     ensures { result ≡ dead_alloc (reverse list.now) command.now }
 {
-    let reference = alloc_reference(command)?;
+    let reference = command.alloc_reference()?;
     ended_by(instructions, &reference).map(Refused::DeadAlloc)
 }
 
@@ -67,7 +66,7 @@ pub(crate) fn dead_alloc(
 pub(crate) fn unknown_exec(list: &[Entry], command: &Command) -> Option<Refused>
     ensures { result ≡ unknown_exec (reverse list.now) command.now }
 {
-    first_unknown(list, exec_references(command)).map(Refused::UnknownExec)
+    first_unknown(list, command.exec_references()).map(Refused::UnknownExec)
 }
 
 // The first of some executions without a root.
@@ -86,7 +85,7 @@ fn first_unknown(list: &[Entry], keys: &[ExecKey]) -> Option<ExecKey>
 pub(crate) fn busted_exec(list: &[Entry], command: &Command) -> Option<Refused>
     ensures { result ≡ busted_exec (reverse list.now) command.now }
 {
-    first_bust(list, exec_references(command)).map(Refused::BustedExec)
+    first_bust(list, command.exec_references()).map(Refused::BustedExec)
 }
 
 // The Bust of the first of some executions that is busted.
@@ -113,7 +112,7 @@ fn bust_of_key(list: &[Entry], key: &ExecKey) -> Option<u64>
 pub(crate) fn repeated_exec(list: &[Entry], command: &Command) -> Option<Refused>
     ensures { result ≡ repeated_exec (reverse list.now) command.now }
 {
-    first_repeated(list, listed_by(command)).map(Refused::RepeatedExec)
+    first_repeated(list, command.listed()).map(Refused::RepeatedExec)
 }
 
 // The first of some executions that is of the chain of one before it.
@@ -154,8 +153,8 @@ pub(crate) fn exec_taken(
     requires { instructions.now ≡ instructions_of list.now }
     ensures { result ≡ exec_taken (reverse list.now) command.now }
 {
-    let reference = alloc_reference(command);
-    first_holder(list, instructions, &reference, listed_by(command)).map(Refused::ExecTaken)
+    let reference = command.alloc_reference();
+    first_holder(list, instructions, &reference, command.listed()).map(Refused::ExecTaken)
 }
 
 // The live allocation, other than the one referred to, that names the first chain so named.
@@ -192,7 +191,7 @@ fn other_holder(
 pub(crate) fn instrument(list: &[Entry], command: &Command) -> Option<Refused>
     ensures { result ≡ instrument (reverse list.now) command.now }
 {
-    let terms = terms_of(command)?;
+    let terms = command.terms()?;
     first_other(list, terms).map(Refused::Instrument)
 }
 
@@ -214,7 +213,7 @@ fn is_other(list: &[Entry], terms: &Terms, key: &ExecKey) -> bool
 {
     match current_fill(list, key) {
         None => false,
-        Some(fill) => differs(terms, &fill),
+        Some(fill) => terms.differs(&fill),
     }
 }
 
@@ -222,7 +221,6 @@ fn is_other(list: &[Entry], terms: &Terms, key: &ExecKey) -> bool
 pub(crate) fn quantity(list: &[Entry], command: &Command) -> Option<Refused>
     ensures { result ≡ quantity (reverse list.now) command.now }
 {
-    let terms = terms_of(command)?;
-    let wanted = wanted(list, terms.execs.as_slice());
-    mismatch(wanted, terms.block, booked(terms.lines.as_slice()))
+    let terms = command.terms()?;
+    terms.mismatch(wanted(list, terms.execs.as_slice()))
 }

@@ -112,7 +112,7 @@ module _ {S : Type 0} {ways : Ways S} where
   tells-none : (start : S) (contents : Option (List ℕ)) → TellsLines ways start [] start contents contents
   tells-none start contents = record { told = []; answered = refl; written = Appends-nil contents }
 
-  -- one line more
+  -- one more line
   tells-line : (start : S) (lines : List (List ℕ)) (between : S) (line : List ℕ) (after : S) (old mid new : Option (List ℕ))
       → TellsLines ways start lines between old mid → TellsLine ways between line after mid new
       → TellsLines ways start (lines ++ line ∷ []) after old new

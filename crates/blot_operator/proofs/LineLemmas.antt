@@ -76,7 +76,7 @@ lines_of-ended text more =
 pub lines_of-last : (text : List ℕ) → lines_of text ≡ (split_of text).ended ++ last_line (split_of text).begun
 lines_of-last text = ap lines_of (sym (append-nil text)) ∙ lines_of-append text []
 
--- one byte more
+-- one more byte
 pub split_of-byte : (text : List ℕ) (byte : ℕ) → split_of (text ++ byte ∷ []) ≡ split_on (split_of text) byte
 split_of-byte text byte = fold-append split_on (record { ended = []; begun = [] }) text (byte ∷ [])
 
@@ -107,7 +107,7 @@ kept-long : (line more : List ℕ) → LINE_MAX < length line → kept (line ++ 
 unfolding kept
 kept-long line more long = take-append-le (LINE_MAX + 1) line more (omega arith)
 
--- a byte more of what is kept
+-- one more byte of what is kept
 pub kept-byte : (line : List ℕ) (byte : ℕ)
     → (if nat_le (length (kept line)) LINE_MAX then kept line ++ byte ∷ [] else kept line) ≡ kept (line ++ byte ∷ [])
 kept-byte line byte = elim (cases_Bool (nat_le (length line) LINE_MAX)) [
@@ -119,7 +119,7 @@ kept-byte line byte = elim (cases_Bool (nat_le (length line) LINE_MAX)) [
       rw (lt-leb (length (kept line)) LINE_MAX (omega (arith, length-kept line over))) (sym (kept-long line (byte ∷ []) over))
 ]
 
--- of a line with a byte something is kept
+-- something is kept of a line with a byte
 taken_none : (count : ℕ) (line : List ℕ) → 0 < count → take count line ≡ [] → line ≡ []
 taken_none count [] some none = refl
 taken_none zero (byte ∷ line) some none = absurd (omega arith)

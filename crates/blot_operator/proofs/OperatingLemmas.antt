@@ -57,7 +57,7 @@ own-line : (old new : Journal) (line : List ℕ) (answer : Answer) → AnswersLi
 unfolding answer_to
 own-line old new line answer answered = own-ask old new (parsed line) answer answered.ask
 
--- lines, behind some text
+-- lines, after some text
 own-lines : (old new : Journal) (lines : List (List ℕ)) (told : List Answer) (text : List ℕ) → AnswersLines own_ways old lines told new
     → fold told_on (record { journal = old; text = text }) lines ≡ record { journal = new; text = text ++ flat_map answer_text told }
 own-lines old new [] [] text same = rw (same, append-nil text) refl
@@ -76,7 +76,7 @@ own-told old new lines before after tells =
       subst (Appends before after) (sym (ap (λ told. told.text) is)) tells.written,
     )
 
--- one line more
+-- one more line
 told_over-line : (start : Journal) (lines : List (List ℕ)) (line : List ℕ) → told_over start (lines ++ line ∷ []) ≡ told_on (told_over start lines) line
 told_over-line start lines line = fold-append told_on (record { journal = start; text = [] }) lines (line ∷ [])
 

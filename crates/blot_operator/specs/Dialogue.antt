@@ -26,7 +26,7 @@ use Rattle.blot_operator.specs.Operating.{asked_by, with_key}
 
 -- the ways of a desk, as far as an operator sees them
 pub record Ways (S : Type 0) : Type 1 where
-  -- what is there before an event, the reply to it, and what is there behind it
+  -- what is there before an event, the reply to it, and what is there after it
   pub steps : S → Event → Result Reply DeskFault → S → Type 0
   -- a list that it may show
   pub shows : S → List Entry → Type 0
@@ -83,7 +83,7 @@ pub record TellsFront {S : Type 0} (ways : Ways S) (before : S) (line : List ℕ
   pub text_is : front ++ back ≡ answer_text answer
   pub written : Appends old new front
 
--- the lines stop: no line more is taken, or this one is
+-- the lines stop: no more line is taken, or this one is taken
 abbrev pub Stops : {S : Type 0} → Ways S → S → Option (List ℕ) → S → Option (List ℕ) → Option (List ℕ) → Type 0
 Stops ways before None after old new = (after ≡ before) × Keeps old new
 Stops ways before (Some line) after old new = TellsFront ways before line after old new

@@ -17,7 +17,7 @@ pub record Split : Type 0 where
   pub ended : List (List ℕ)
   pub begun : List ℕ
 
--- one byte more
+-- one more byte
 abbrev pub split_on : Split → ℕ → Split
 split_on split byte =
     if byte == 10 then (record { ended = split.ended ++ split.begun ∷ []; begun = [] })

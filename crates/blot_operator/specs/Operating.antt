@@ -57,7 +57,7 @@ told_ask journal (Err fault) = telling journal (answers.Bad fault)
 unfoldable pub answer_to : Journal → List ℕ → Told
 answer_to journal line = told_ask journal (parsed line)
 
--- one line more
+-- one more line
 abbrev pub told_on : Told → List ℕ → Told
 told_on told line = record { journal = (answer_to told.journal line).journal; text = told.text ++ (answer_to told.journal line).text }
 

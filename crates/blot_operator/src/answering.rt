@@ -9,7 +9,7 @@ use crate::operated::Operated;
 use blot_console::{Answer, Ask, LineFault, answer_text, parse_line};
 use blot_desk::{DeskFault, Event, Reply};
 use blot_report::day_lines;
-use blot_stream::{ReplayFault, flush, write_text};
+use blot_stream::{ReplayFault, write_text};
 use blot_time::Day;
 use blot_types::{OrderKey, Text64};
 use std::alloc::{AllocError as NoMemory, Global};
@@ -37,11 +37,10 @@ pub(crate) fn answer_line<D: Operated, W: Write>(
 {
     let answer = answer_to(alloc, desk, state, line)?;
     let text = answer_text(alloc, &answer)?;
-    write_text(output, &text)?;
-    flush(output)
+    write_text(output, &text)
 }
 
-// What a line comes to: an event is taken, a report is made, and a fault is told. An error is out of memory, and comes
+// What a line comes to: an event is taken, a report is made, or a fault is told. An error is out of memory, and comes
 // only where the line asks something.
 fn answer_to<D: Operated>(
     alloc: Global,

@@ -11,7 +11,7 @@ use blot_stream::ReplayFault;
 use std::alloc::{AllocError as NoMemory, Global};
 use std::io::Write;
 
-/// Takes a piece of an input behind the line that has begun: each line that it ends is answered.
+/// Takes a piece of an input after the line that has begun: each line that the piece ends is answered.
 pub(crate) fn answer_piece<D: Operated, W: Write>(
     alloc: Global,
     desk: &D,
@@ -56,7 +56,7 @@ pub(crate) fn answer_last<D: Operated, W: Write>(
     answer_line(alloc, desk, state, output, line)
 }
 
-// Takes a byte behind the line that has begun: LF ends it, and it is answered.
+// Takes a byte after the line that has begun: LF ends it, and it is answered.
 fn take_byte<D: Operated, W: Write>(
     alloc: Global,
     desk: &D,
@@ -82,7 +82,7 @@ fn take_byte<D: Operated, W: Write>(
     Ok(())
 }
 
-// Puts a byte behind a line, unless the line is too long without it.
+// Adds a byte at the end of a line, unless the line is too long without it.
 fn keep_byte(line: &mut Vec<u8>, byte: u8) -> Result<(), NoMemory>
     ensures { OnOk result (line.new.items ≡ (if nat_le (length line.old.items) LINE_MAX then line.old.items ++ byte ∷ [] else line.old.items)) }
 {

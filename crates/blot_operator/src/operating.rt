@@ -18,7 +18,7 @@ use std::sync::ledger::Ledger;
 /// Answers an operator's lines to the end of the input. Each line's answer is written and flushed before the next line
 /// is taken. A line that asks nothing is answered by its fault, and an event that the desk has no room for by `full`;
 /// both leave what the desk holds as it is, and the next line is taken. It ends early where a read, a write or a flush
-/// fails, where memory runs out, and behind 2^30 reads; never as `Full`.
+/// fails, where memory runs out, and after 2^30 reads; never as `Full`.
 pub fn desk_lines<R: Read, W: Write>(
     alloc: Global,
     input: &mut R,
@@ -30,7 +30,7 @@ pub fn desk_lines<R: Read, W: Write>(
         Appends (W.contents output.old) (W.contents output.new) (told_over held.old (lines_of bytes)).text)) }
     ensures read_to_the_end { OnOk result (IsAtEnd (R.remaining input.new)) }
 
-    // After a fault the lines of a front were taken, and of the last answer a front was written.
+    // After a fault the lines of a front were taken, and a front of the last answer was written.
     ensures fault { OnErr result (IfSome (R.remaining input.old) (λ bytes.
         StoppedIn held.old (lines_of bytes) held.new (W.contents output.old) (W.contents output.new))) }
     ensures never_full { result ≢ Err ReplayFault.Full }
@@ -38,8 +38,8 @@ pub fn desk_lines<R: Read, W: Write>(
     answer_lines(alloc, input, output, &Own, held)
 }
 
-/// The same for a seat at a desk of many. Each event of the lines is submitted once, and the seat gets the receipt of its
-/// reply, by which the line is answered; an event that is answered by `full` has none, and no other line has one. A report
+/// The same for a seat at a desk of many. Each event of the lines is submitted once. The seat gets a receipt of the reply, and the
+/// line is answered by that reply; an event that is answered by `full` has no receipt, and no other line has one. A report
 /// shows the desk as it is when its line is taken.
 pub fn seat_lines<R: Read, W: Write, L: Ledger>(
     rt: &impl Wait,
@@ -53,7 +53,7 @@ pub fn seat_lines<R: Read, W: Write, L: Ledger>(
         TellsLines seat_ways seat.old (lines_of bytes) seat.new (W.contents output.old) (W.contents output.new))) }
     ensures read_to_the_end { OnOk result (IsAtEnd (R.remaining input.new)) }
 
-    // After a fault the lines of a front were taken, and of the last answer a front was written.
+    // After a fault the lines of a front were taken, and a front of the last answer was written.
     ensures fault { OnErr result (IfSome (R.remaining input.old) (λ bytes.
         StopsAmong seat_ways seat.old (lines_of bytes) seat.new (W.contents output.old) (W.contents output.new))) }
     ensures never_full { result ≢ Err ReplayFault.Full }

@@ -58,6 +58,20 @@ impl Orders {
         Ok(())
     }
 
+    /// Makes the cell of a fill under a number that has none put: the fill is kept there, so that it is put without memory.
+    /// Out of memory is the only error, and then nothing has changed.
+    pub fn hold(&mut self, number: u64, fill: &Fill) -> Result<(), NoMemory>
+        requires unput { put_at self.old number ≡ None }
+        requires within { number ≤ EVENTS_MAX }
+        ensures ok { OnOk result (self.new ≡ with_kept number fill.now self.old) }
+        ensures err { OnErr result (self.new ≡ self.old) }
+    {
+        let index = number as usize;
+        reach(&mut self.slots, index)?;
+        self.slots[index] = Some(Held::Kept(*fill));
+        Ok(())
+    }
+
     /// Takes the fill that is put under a number, and keeps it there. It needs no memory.
     pub fn take(&mut self, number: u64, fill: &Fill)
         requires { put_at self.old number ≡ Some fill.now }

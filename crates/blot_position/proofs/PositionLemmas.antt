@@ -1,18 +1,18 @@
 -- The positions after a change: the sums and the cell of the same position, and of another one.
 use Rattle.std.proofs.Common.{◌≡◌, ℕ, ◌+◌, ◌-◌, ◌<◌, ℤ, ◌+ℤ◌, ◌-ℤ◌, List, Option, Some, None, Bool, true, false, ◌||◌, refl, sym, ap, ◌∙◌, arith, inl, inr}
 use Rattle.std.specs.Prelude.{if◌then◌else◌, is_some}
-use Rattle.std.specs.Cmp.{IsTotalOrder, on_total, then_total, tied_then}
-use Rattle.std.specs.Cmp.Lexicographic.{slice_cmp, nat_list_cmp_total, nat_list_eq_equiv, texts_ties, same_text as text_told}
+use Rattle.std.specs.Cmp.{tied_then}
+use Rattle.std.specs.Cmp.Lexicographic.{slice_cmp, nat_list_eq_equiv, texts_ties, same_text as text_told}
 use Rattle.std.specs.FinMap as finite
 use Rattle.std.specs.Option.{unwrap_or}
 use Rattle.std.specs.Ordering.{nat_cmp, eq_by_cmp}
 use Rattle.std.proofs.lemmas.Bool.{cases_Bool, and_from, and_parts}
 use Rattle.std.proofs.lemmas.Int.{ints}
-use Rattle.std.proofs.lemmas.Map.Lookups.{exact_bytes, exact_pairs}
-use Rattle.blot_types.specs.Keys.{same_text}
+use Rattle.blot_types.specs.Keys.{same_text, position_at, position_cmp}
+use Rattle.blot_types.proofs.KeyLemmas.{position_cmp-total, position_cmp-exact}
 use Rattle.blot_position.specs.declared.sums.Sums.{Sums}
 use Rattle.blot_position.specs.Sums.{no_parts, with_one, without_one}
-use Rattle.blot_position.specs.Positions.{PositionKey, Cells, same_position, position_cmp, sums_at, has_cell, with_cell, with_part, without_part}
+use Rattle.blot_position.specs.Positions.{Cells, same_position, sums_at, has_cell, with_cell, with_part, without_part}
 
 -- ---- when two positions are one
 
@@ -27,52 +27,44 @@ same_position-true a s a' s' same =
     let parts : (same_text a a' ≡ true) × (same_text s s' ≡ true) = and_parts _ _ same in
     (text_told a a' (sym parts.0), text_told s s' (sym parts.1))
 
--- ---- the order of positions is total, and ties no two of them
-
-pub position_cmp_total : IsTotalOrder position_cmp
-position_cmp_total = then_total (on_total (λ (key : PositionKey). key.0) nat_list_cmp_total) (on_total (λ (key : PositionKey). key.1) nat_list_cmp_total)
-
-pub position_cmp-IsAntisymmetric : finite.IsAntisymmetric position_cmp
-position_cmp-IsAntisymmetric = exact_pairs (slice_cmp nat_cmp) (slice_cmp nat_cmp) exact_bytes exact_bytes
-
 -- the order ties two positions where they are one
-pub tied-same_position : (a s a' s' : List ℕ) → eq_by_cmp position_cmp (a, s) (a', s') ≡ same_position a s a' s'
+pub tied-same_position : (a s a' s' : List ℕ) → eq_by_cmp position_cmp (position_at a s) (position_at a' s') ≡ same_position a s a' s'
 tied-same_position a s a' s' =
     sym (tied_then (slice_cmp nat_cmp a a') (slice_cmp nat_cmp s s'))
     ∙ sym (rw (texts_ties a a', texts_ties s s') refl)
 
 -- ---- what a map with one more entry has for a position
 
-pub get-insert : (cells : Cells) (a s a' s' : List ℕ) (sums : Sums) → finite.get (finite.insert cells (a, s) sums) (a', s') ≡ (if same_position a s a' s' then Some sums else finite.get cells (a', s'))
+pub get-insert : (cells : Cells) (a s a' s' : List ℕ) (sums : Sums) → finite.get (finite.insert cells (position_at a s) sums) (position_at a' s') ≡ (if same_position a s a' s' then Some sums else finite.get cells (position_at a' s'))
 get-insert cells a s a' s' sums =
-    finite.get-insert position_cmp_total cells (a, s) sums (a', s')
-    ∙ ap (λ test. if test then Some sums else finite.get cells (a', s')) (tied-same_position a' s' a s ∙ same_position-sym a' s' a s)
+    finite.get-insert position_cmp-total cells (position_at a s) sums (position_at a' s')
+    ∙ ap (λ test. if test then Some sums else finite.get cells (position_at a' s')) (tied-same_position a' s' a s ∙ same_position-sym a' s' a s)
 
 -- a choice is handed through what reads it
 through : {A B : Type 0} (f : A → B) (test : Bool) (a b : A) → f (if test then a else b) ≡ (if test then f a else f b)
 through f true a b = refl
 through f false a b = refl
 
-sums_at-insert : (cells : Cells) (a s a' s' : List ℕ) (sums : Sums) → sums_at (finite.insert cells (a, s) sums) a' s' ≡ (if same_position a s a' s' then sums else sums_at cells a' s')
+sums_at-insert : (cells : Cells) (a s a' s' : List ℕ) (sums : Sums) → sums_at (finite.insert cells (position_at a s) sums) a' s' ≡ (if same_position a s a' s' then sums else sums_at cells a' s')
 sums_at-insert cells a s a' s' sums =
     ap (λ found. unwrap_or found no_parts) (get-insert cells a s a' s' sums)
-    ∙ through (λ found. unwrap_or found no_parts) (same_position a s a' s') (Some sums) (finite.get cells (a', s'))
+    ∙ through (λ found. unwrap_or found no_parts) (same_position a s a' s') (Some sums) (finite.get cells (position_at a' s'))
 
 some_or : (test : Bool) (sums : Sums) (found : Option Sums) → is_some (if test then Some sums else found) ≡ (test || is_some found)
 some_or true sums found = refl
 some_or false sums found = refl
 
-has_cell-insert : (cells : Cells) (a s a' s' : List ℕ) (sums : Sums) → has_cell (finite.insert cells (a, s) sums) a' s' ≡ (same_position a s a' s' || has_cell cells a' s')
+has_cell-insert : (cells : Cells) (a s a' s' : List ℕ) (sums : Sums) → has_cell (finite.insert cells (position_at a s) sums) a' s' ≡ (same_position a s a' s' || has_cell cells a' s')
 has_cell-insert cells a s a' s' sums =
-    ap is_some (get-insert cells a s a' s' sums) ∙ some_or (same_position a s a' s') sums (finite.get cells (a', s'))
+    ap is_some (get-insert cells a s a' s' sums) ∙ some_or (same_position a s a' s') sums (finite.get cells (position_at a' s'))
 
 -- ---- no cells
 
 pub sums_at-empty : (a s : List ℕ) → sums_at finite.empty a s ≡ no_parts
-sums_at-empty a s = ap (λ found. unwrap_or found no_parts) (finite.get-empty {X = Sums} position_cmp (a, s))
+sums_at-empty a s = ap (λ found. unwrap_or found no_parts) (finite.get-empty {X = Sums} position_cmp (position_at a s))
 
 pub has_cell-empty : (a s : List ℕ) → has_cell finite.empty a s ≡ false
-has_cell-empty a s = ap is_some (finite.get-empty {X = Sums} position_cmp (a, s))
+has_cell-empty a s = ap is_some (finite.get-empty {X = Sums} position_cmp (position_at a s))
 
 -- ---- the sums after a change
 
@@ -184,19 +176,19 @@ found_with_part None some = absurd (omega arith)
 found_with_part (Some sums) some = refl
 
 pub has_cell-of_part : (a s : List ℕ) (cells : Cells) → 0 < (sums_at cells a s).parts → has_cell cells a s ≡ true
-has_cell-of_part a s cells some = found_with_part (finite.get cells (a, s)) some
+has_cell-of_part a s cells some = found_with_part (finite.get cells (position_at a s)) some
 
 -- ---- changes one after the other
 
 -- maps that answer alike are equal
-pub same_cells : (one two : Cells) → ((a s : List ℕ) → finite.get one (a, s) ≡ finite.get two (a, s)) → one ≡ two
-same_cells one two same = finite.same_map position_cmp_total position_cmp-IsAntisymmetric one two (λ key. same key.0 key.1)
+pub same_cells : (one two : Cells) → ((a s : List ℕ) → finite.get one (position_at a s) ≡ finite.get two (position_at a s)) → one ≡ two
+same_cells one two same = finite.same_map position_cmp-total position_cmp-exact one two (λ key. same key.account key.symbol)
 
 -- the second of two entries of one position counts
-pub insert-insert : (a s : List ℕ) (first second : Sums) (cells : Cells) → finite.insert (finite.insert cells (a, s) first) (a, s) second ≡ finite.insert cells (a, s) second
+pub insert-insert : (a s : List ℕ) (first second : Sums) (cells : Cells) → finite.insert (finite.insert cells (position_at a s) first) (position_at a s) second ≡ finite.insert cells (position_at a s) second
 insert-insert a s first second cells =
-    same_cells (finite.insert (finite.insert cells (a, s) first) (a, s) second) (finite.insert cells (a, s) second) (λ a' s'.
-    get-insert (finite.insert cells (a, s) first) a s a' s' second
+    same_cells (finite.insert (finite.insert cells (position_at a s) first) (position_at a s) second) (finite.insert cells (position_at a s) second) (λ a' s'.
+    get-insert (finite.insert cells (position_at a s) first) a s a' s' second
     ∙ elim (cases_Bool (same_position a s a' s')) [
       | inl same ↦ rw same (sym (get-insert cells a s a' s' second ∙ chosen (same_position a s a' s') (Some second) _ same))
       | inr other ↦
@@ -209,7 +201,7 @@ insert-insert a s first second cells =
 pub with_part-with_cell : (a s : List ℕ) (qty value : ℤ) (cells : Cells) → with_part a s qty value (with_cell a s cells) ≡ with_part a s qty value cells
 with_part-with_cell a s qty value cells =
     insert-insert a s (sums_at cells a s) (with_one qty value (sums_at (with_cell a s cells) a s)) cells
-    ∙ ap (λ sums. finite.insert cells (a, s) (with_one qty value sums)) (sums_at-with_cell a s a s cells)
+    ∙ ap (λ sums. finite.insert cells (position_at a s) (with_one qty value sums)) (sums_at-with_cell a s a s cells)
 
 -- ---- one part more, and the same part less
 

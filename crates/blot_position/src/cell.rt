@@ -1,108 +1,66 @@
-//! The cells in which the sums are stored, each with its account and symbol.
-ghost use Rattle.std.specs.Prelude.{◌≡◌, Some, IsTrue, IfOk, OnOk, OnErr, position};
+//! The cells in which the sums are stored, by position.
+ghost use Rattle.std.specs.Prelude.{◌≡◌, IsTrue, OnOk, OnErr};
 ghost use Rattle.std.specs.FinMap as map;
-ghost use Rattle.blot_position.specs.Cells.{is_of, cells_in};
+ghost use Rattle.blot_position.specs.Cells.{cells_in};
 ghost use Rattle.blot_position.specs.Positions.{has_cell, with_cell, with_part, without_part, sums_at};
 ghost use Rattle.blot_position.specs.Sums.{HasRoom, HasPart};
 
 use crate::Sums;
 use blot_decimal::{QtySum, Value};
-use blot_types::Text64;
+use blot_types::PositionKey;
+use indexmap::IndexMap;
 use std::alloc::AllocError as NoMemory;
 
-/// The sums of a position, with its account and symbol.
-#[derive(Clone, Copy)]
-pub(crate) struct Cell {
-    pub(crate) account: Text64,
-    pub(crate) symbol: Text64,
-    pub(crate) sums: Sums,
-}
-
-// The index of the cell of a position, if one was made.
-fn index_of(cells: &[Cell], account: &Text64, symbol: &Text64) -> Option<usize>
-    ensures { result ≡ position (is_of account.now symbol.now) cells.now }
-{
-    cells
-        .iter()
-        .position(|cell| cell.account == *account && cell.symbol == *symbol)
-}
+/// The sums of the positions for which a cell was made. A cell that was made stays.
+pub(crate) type Cells = IndexMap<PositionKey, Sums>;
 
 /// The sums of a position; without a cell those of no parts.
-pub(crate) fn sums_of(cells: &[Cell], account: &Text64, symbol: &Text64) -> Sums
-    ensures { result ≡ sums_at (cells_in cells.now) account.now symbol.now }
+pub(crate) fn sums_of(cells: &Cells, position: &PositionKey) -> Sums
+    ensures { result ≡ sums_at (cells_in cells.now.entries) position.now.account position.now.symbol }
 {
-    match index_of(cells, account, symbol) {
-        Some(index) => cells[index].sums,
+    match cells.get(position) {
+        Some(sums) => *sums,
         None => Sums::none(),
     }
 }
 
 /// Makes a cell for a position that has none. An error leaves the cells as they were.
-pub(crate) fn make_cell(
-    cells: &mut Vec<Cell>,
-    account: &Text64,
-    symbol: &Text64,
-) -> Result<(), NoMemory>
-    ensures ok { OnOk result (cells_in cells.new.items ≡ with_cell account.now symbol.now (cells_in cells.old.items)) }
-    ensures err { OnErr result (cells.new.items ≡ cells.old.items) }
+pub(crate) fn make_cell(cells: &mut Cells, position: &PositionKey) -> Result<(), NoMemory>
+    ensures ok { OnOk result (cells_in cells.new.entries ≡ with_cell position.now.account position.now.symbol (cells_in cells.old.entries)) }
+    ensures err { OnErr result (cells_in cells.new.entries ≡ cells_in cells.old.entries) }
 {
-    match index_of(cells, account, symbol) {
-        Some(_) => Ok(()),
-        None => {
-            cells.push(Cell {
-                account: *account,
-                symbol: *symbol,
-                sums: Sums::none(),
-            })?;
-            Ok(())
-        }
+    if cells.get(position).is_none() {
+        cells.insert(*position, Sums::none())?;
     }
+    Ok(())
 }
 
 /// Adds a part to a position for which a cell was made.
-pub(crate) fn add_part(
-    cells: &mut [Cell],
-    account: &Text64,
-    symbol: &Text64,
-    qty: QtySum,
-    value: Value,
-)
-    requires made { IsTrue (has_cell (cells_in cells.old) account.now symbol.now) }
-    requires room { HasRoom (sums_at (cells_in cells.old) account.now symbol.now) qty value }
-    ensures { cells_in cells.new ≡ with_part account.now symbol.now qty value (cells_in cells.old) }
+pub(crate) fn add_part(cells: &mut Cells, position: &PositionKey, qty: QtySum, value: Value)
+    requires made { IsTrue (has_cell (cells_in cells.old.entries) position.now.account position.now.symbol) }
+    requires room { HasRoom (sums_at (cells_in cells.old.entries) position.now.account position.now.symbol) qty value }
+    ensures { cells_in cells.new.entries ≡ with_part position.now.account position.now.symbol qty value (cells_in cells.old.entries) }
 {
-    let sums = sums_of(cells, account, symbol).with_part(qty, value);
-    set_sums(cells, account, symbol, sums);
+    let sums = sums_of(cells, position).with_part(qty, value);
+    set_sums(cells, position, sums);
 }
 
 /// Takes a part of a position away. Its cell stays.
-pub(crate) fn sub_part(
-    cells: &mut [Cell],
-    account: &Text64,
-    symbol: &Text64,
-    qty: QtySum,
-    value: Value,
-)
-    requires { HasPart (sums_at (cells_in cells.old) account.now symbol.now) qty value }
-    ensures { cells_in cells.new ≡ without_part account.now symbol.now qty value (cells_in cells.old) }
+pub(crate) fn sub_part(cells: &mut Cells, position: &PositionKey, qty: QtySum, value: Value)
+    requires { HasPart (sums_at (cells_in cells.old.entries) position.now.account position.now.symbol) qty value }
+    ensures { cells_in cells.new.entries ≡ without_part position.now.account position.now.symbol qty value (cells_in cells.old.entries) }
 {
-    let sums = sums_of(cells, account, symbol).without_part(qty, value);
-    set_sums(cells, account, symbol, sums);
+    let sums = sums_of(cells, position).without_part(qty, value);
+    set_sums(cells, position, sums);
 }
 
 // Gives a position for which a cell was made other sums.
-fn set_sums(cells: &mut [Cell], account: &Text64, symbol: &Text64, sums: Sums)
-    requires { IsTrue (has_cell (cells_in cells.old) account.now symbol.now) }
-    ensures { cells_in cells.new ≡ map.insert (cells_in cells.old) (account.now, symbol.now) sums }
+fn set_sums(cells: &mut Cells, position: &PositionKey, sums: Sums)
+    requires { IsTrue (has_cell (cells_in cells.old.entries) position.now.account position.now.symbol) }
+    ensures { cells_in cells.new.entries ≡ map.insert (cells_in cells.old.entries) position.now sums }
 {
-    match index_of(cells, account, symbol) {
-        Some(index) => {
-            cells[index] = Cell {
-                account: *account,
-                symbol: *symbol,
-                sums,
-            };
-        }
+    match cells.get_mut(position) {
+        Some(cell) => *cell = sums,
         None => unreachable!(),
     }
 }

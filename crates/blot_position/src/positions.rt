@@ -1,12 +1,14 @@
 //! The positions: opened, changed, shown.
 ghost use Rattle.std.specs.Prelude.{◌≡◌, IsTrue, OnOk, OnErr};
 ghost use Rattle.std.specs.FinMap as map;
+ghost use Rattle.blot_types.specs.Keys.{position_at};
 ghost use Rattle.blot_position.specs.Positions.{sums_at, has_cell, with_cell, with_part, without_part};
 ghost use Rattle.blot_position.specs.Sums.{line_by, HasRoom, HasPart};
 
-use crate::cell::{Cell, add_part, make_cell, sub_part, sums_of};
+use crate::cell::{Cells, add_part, make_cell, sub_part, sums_of};
 use blot_decimal::{QtySum, Value};
-use blot_types::{PositionLine, Text64};
+use blot_types::{PositionKey, PositionLine, Text64};
+use indexmap::IndexMap;
 use std::alloc::{AllocError as NoMemory, Global};
 use std::marker::Model;
 
@@ -14,7 +16,7 @@ use std::marker::Model;
 /// number and the sums of the parts, with an entry for each position for which a cell was made.
 #[derive(Drop)]
 pub struct Positions {
-    cells: Vec<Cell>,
+    cells: Cells,
 }
 
 impl Model for Positions {
@@ -25,7 +27,7 @@ impl Model for Positions {
 
     ghost coded = { cells_code };
 
-    ghost view = { λ positions. cells_in positions.cells.items };
+    ghost view = { λ positions. cells_in positions.cells.entries };
 }
 
 impl Positions {
@@ -34,7 +36,7 @@ impl Positions {
         ensures { result ≡ map.empty }
     {
         Positions {
-            cells: Vec::new(alloc),
+            cells: IndexMap::new(alloc),
         }
     }
 
@@ -44,7 +46,7 @@ impl Positions {
         ensures ok { OnOk result (self.new ≡ with_cell account.now symbol.now self.old) }
         ensures err { OnErr result (self.new ≡ self.old) }
     {
-        make_cell(&mut self.cells, account, symbol)
+        make_cell(&mut self.cells, &position_at(account, symbol))
     }
 
     /// Adds a part to a position. Out of memory is the only error, and then nothing has changed.
@@ -69,7 +71,7 @@ impl Positions {
         requires part { HasPart (sums_at self.old account.now symbol.now) qty value }
         ensures { self.new ≡ without_part account.now symbol.now qty value self.old }
     {
-        sub_part(&mut self.cells, account, symbol, qty, value);
+        sub_part(&mut self.cells, &position_at(account, symbol), qty, value);
     }
 
     /// Adds a part to a position for which a cell was made. It needs no memory.
@@ -78,13 +80,23 @@ impl Positions {
         requires room { HasRoom (sums_at self.old account.now symbol.now) qty value }
         ensures { self.new ≡ with_part account.now symbol.now qty value self.old }
     {
-        add_part(&mut self.cells, account, symbol, qty, value);
+        add_part(&mut self.cells, &position_at(account, symbol), qty, value);
     }
 
     /// The line of a position: the sums of its parts, or none without a part.
     pub fn get(&self, account: &Text64, symbol: &Text64) -> Option<PositionLine>
         ensures { result ≡ line_by (sums_at self.now account.now symbol.now) }
     {
-        sums_of(&self.cells, account, symbol).line()
+        sums_of(&self.cells, &position_at(account, symbol)).line()
+    }
+}
+
+// The position of an account in a symbol.
+fn position_at(account: &Text64, symbol: &Text64) -> PositionKey
+    ensures { result ≡ position_at account.now symbol.now }
+{
+    PositionKey {
+        account: *account,
+        symbol: *symbol,
     }
 }

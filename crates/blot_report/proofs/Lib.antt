@@ -2,6 +2,7 @@ mod DayLawLemmas
 mod DayRows
 mod LinkedLemmas
 mod ListLemmas
+mod OrderLemmas
 mod PartLemmas
 mod RowLemmas
 mod ShowLemmas

@@ -10,13 +10,12 @@ use Rattle.blot_types.specs.declared.lines.Version.{Version}
 use Rattle.blot_types.specs.declared.link.Link.{Link}
 use Rattle.blot_types.specs.Allocations.{Allocation, allocation_of, instruction_by, instructions_of}
 use Rattle.blot_types.specs.Instructions.{ended_in}
-use Rattle.blot_types.specs.Legal.{is_book}
+use Rattle.blot_types.specs.Legal.{is_book, HoldsList}
 use Rattle.blot_types.specs.Survivors.{link_of, links_of, version_of, stands_in}
 use Rattle.blot_types.proofs.AcceptLemmas.{instructions_of-push}
 use Rattle.blot_types.proofs.EntryLemmas.{links_of-push}
 use Rattle.blot_types.proofs.LegalLemmas.{is_book-front}
 use Rattle.blot_command.specs.Linking.{CanLink}
-use Rattle.blot_command.specs.Shown.{HoldsList}
 use Rattle.blot_command.proofs.LiveLemmas.{can-link}
 use Rattle.blot_report.specs.Day.{is_on, is_allocated_on}
 use Rattle.blot_report.specs.Linked.{survivor_by, terms_by}

@@ -8,14 +8,12 @@ use Rattle.blot_types.specs.declared.allocation.Instruction.{Instruction}
 use Rattle.blot_types.specs.declared.allocation.Line.{Line}
 use Rattle.blot_types.specs.declared.allocation.Terms.{Terms}
 use Rattle.blot_types.specs.declared.command.Entry.{Entry}
-use Rattle.blot_types.specs.declared.lines.Part.{Part}
+use Rattle.blot_types.specs.declared.part.Part.{Part}
 use Rattle.blot_types.specs.declared.lines.Version.{Version}
 use Rattle.blot_types.specs.declared.link.Link.{Link}
 use Rattle.blot_types.specs.Allocations.{Allocation, allocation_of}
-use Rattle.blot_types.specs.Position.{part_of_line, from_house, moves_of_line, moves_of, part_of}
-use Rattle.blot_command.specs.Carried.{TermsFit}
-use Rattle.blot_command.specs.Shown.{HoldsList}
-use Rattle.blot_command.specs.Sizes.{IsSmall}
+use Rattle.blot_types.specs.Position.{part_of_line, from_house, moves_of_line, moves_of, part_of, IsSmall, TermsFit}
+use Rattle.blot_types.specs.Legal.{HoldsList}
 use Rattle.blot_report.specs.Day.{survivors_on, allocations_on, day_parts_of}
 use Rattle.blot_report.specs.Linked.{part_by, terms_by}
 use Rattle.blot_report.specs.Sums.{IsLight}

@@ -14,20 +14,21 @@ use Rattle.blot_types.specs.declared.command.Entry.{Entry}
 use Rattle.blot_types.specs.declared.fill.Fill.{Fill}
 use Rattle.blot_types.specs.declared.keys.OrderKey.{OrderKey}
 use Rattle.blot_types.specs.declared.lines.OrderLine.{OrderLine}
-use Rattle.blot_types.specs.declared.lines.Part.{Part}
+use Rattle.blot_types.specs.declared.part.Part.{Part}
 use Rattle.blot_types.specs.declared.lines.PositionLine.{PositionLine}
 use Rattle.blot_types.specs.declared.lines.Version.{Version}
-use Rattle.blot_types.specs.Keys.{same_order, same_text}
+use Rattle.blot_types.specs.Keys.{same_order, same_text, position_cmp}
+use Rattle.blot_types.proofs.KeyLemmas.{position_cmp-exact}
 use Rattle.blot_types.specs.Order.{line_of, fills_of}
 use Rattle.blot_types.specs.Position.{is_at, position_by}
 use Rattle.blot_position.proofs.PositionLemmas.{same_position-true}
 use Rattle.blot_report.specs.declared.lines.DayLines.{DayLines}
 use Rattle.blot_report.specs.declared.lines.OrderRow.{OrderRow}
-use Rattle.blot_report.specs.declared.lines.PositionKey.{PositionKey}
+use Rattle.blot_types.specs.declared.keys.PositionKey.{PositionKey}
 use Rattle.blot_report.specs.declared.lines.PositionRow.{PositionRow}
 use Rattle.blot_report.specs.Day.{survivors_on, fills_on, day_parts_of}
 use Rattle.blot_report.specs.Laws.{ShowsDay, order_line_in, position_line_in}
-use Rattle.blot_report.specs.Lines.{order_cmp, orders_among, order_rows, position_cmp, position_key, positions_among, position_rows, day_lines_of}
+use Rattle.blot_report.specs.Lines.{order_cmp, orders_among, order_rows, position_key, positions_among, position_rows, day_lines_of}
 
 -- ---- what is among sorted keys
 
@@ -175,11 +176,6 @@ orders-found fills order =
     ∙ all-shown (list_any test (orders_among fills)) (line order) (no-line fills order)
 
 -- ---- positions
-
-position_cmp-exact : IsExact position_cmp
-position_cmp-exact a b tied =
-    let both : (a.account, a.symbol) ≡ (b.account, b.symbol) = exact_pairs (slice_cmp nat_cmp) (slice_cmp nat_cmp) exact_bytes exact_bytes (a.account, a.symbol) (b.account, b.symbol) tied in
-    λ i. record { account = (both i).0; symbol = (both i).1 }
 
 -- whether a position is that of an account in a symbol
 abbrev is_position : List ℕ → List ℕ → PositionKey → Bool

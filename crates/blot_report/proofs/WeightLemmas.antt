@@ -7,17 +7,15 @@ use Rattle.std.proofs.lemmas.List.{length-append, length-map}
 use Rattle.std.proofs.lemmas.List.Elements.{All-nil, All-head, All-tail, All-append, All-filter}
 use Rattle.std.proofs.lemmas.List.Sums.{sum_by-cons}
 use Rattle.blot_types.specs.declared.command.Entry.{Entry}
-use Rattle.blot_types.specs.declared.lines.Part.{Part}
+use Rattle.blot_types.specs.declared.part.Part.{Part}
 use Rattle.blot_types.specs.declared.TheConstants.{EVENTS_MAX}
 use Rattle.blot_types.specs.Allocations.{Allocation, instructions_of, live_allocations}
 use Rattle.blot_types.specs.Instructions.{ended_in}
 use Rattle.blot_types.specs.Legal.{is_book}
-use Rattle.blot_types.specs.Position.{moves_of, part_of}
+use Rattle.blot_types.specs.Position.{moves_of, part_of, IsSmall, TermsFit}
 use Rattle.blot_types.specs.Survivors.{survivors}
 use Rattle.blot_types.proofs.BookedLemmas.{BooksBlock, books_blocks}
 use Rattle.blot_types.proofs.ChangeLemmas.{allocations_in}
-use Rattle.blot_command.specs.Carried.{TermsFit}
-use Rattle.blot_command.specs.Sizes.{IsSmall}
 use Rattle.blot_command.proofs.ReadyLemmas.{few-live, few-survivors, length-filtered}
 use Rattle.blot_command.proofs.ReachLemmas.{sizes}
 use Rattle.blot_command.proofs.WeightLemmas.{AreBooked, AllBooked, all_booked}

@@ -2,5 +2,6 @@ pub mod Day
 pub mod Laws
 pub mod Lines
 pub mod Linked
+pub mod Orders
 pub mod Sums
 pub mod Text

@@ -9,12 +9,13 @@ use Rattle.std.specs.declared.cmp.Ordering.{Ordering}
 use Rattle.blot_types.specs.declared.command.Entry.{Entry}
 use Rattle.blot_types.specs.declared.fill.Fill.{Fill}
 use Rattle.blot_types.specs.declared.keys.OrderKey.{OrderKey}
-use Rattle.blot_types.specs.declared.lines.Part.{Part}
+use Rattle.blot_types.specs.declared.part.Part.{Part}
+use Rattle.blot_types.specs.Keys.{position_at, position_cmp}
 use Rattle.blot_types.specs.Order.{line_of, fills_of}
 use Rattle.blot_types.specs.Position.{is_at, position_by}
 use Rattle.blot_report.specs.declared.lines.DayLines.{DayLines}
 use Rattle.blot_report.specs.declared.lines.OrderRow.{OrderRow}
-use Rattle.blot_report.specs.declared.lines.PositionKey.{PositionKey}
+use Rattle.blot_types.specs.declared.keys.PositionKey.{PositionKey}
 use Rattle.blot_report.specs.declared.lines.PositionRow.{PositionRow}
 use Rattle.blot_report.specs.Day.{fills_on, day_parts_of}
 
@@ -38,17 +39,13 @@ order_row fills order = option_map (λ line. record { order = order; line = line
 abbrev pub order_rows : List Fill → List OrderRow
 order_rows fills = filter_map (order_row fills) (orders_among fills)
 
--- positions by account, and then by symbol, each by its bytes
-abbrev pub position_cmp : PositionKey → PositionKey → Ordering
-position_cmp a b = ordering_then (slice_cmp nat_cmp a.account b.account) (slice_cmp nat_cmp a.symbol b.symbol)
-
 -- positions in that order, each once
 abbrev pub sorted_positions : List PositionKey → List PositionKey
 sorted_positions positions = fold (insert_key position_cmp) [] positions
 
 -- the position that a part is of
 abbrev pub position_key : Part → PositionKey
-position_key part = record { account = part.account; symbol = part.symbol }
+position_key part = position_at part.account part.symbol
 
 -- the positions that parts are of, sorted
 abbrev pub positions_among : List Part → List PositionKey

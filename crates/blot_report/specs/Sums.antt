@@ -1,12 +1,13 @@
 -- How the parts of a day are summed, and how much they come to.
-use Rattle.std.specs.Prelude.{ℕ, ◌*◌, ◌^◌, ◌≤◌, List, length, All, Option, unsigned_abs}
+use Rattle.std.specs.Prelude.{ℕ, ◌≤◌, List, length, All, Option, unsigned_abs}
 use Rattle.std.specs.List.{sum_by}
 use Rattle.std.specs.Option.{option_map}
-use Rattle.blot_types.specs.declared.lines.Part.{Part}
+use Rattle.blot_types.specs.declared.part.Part.{Part}
 use Rattle.blot_position.specs.Positions.{Cells, sums_at}
 use Rattle.blot_position.specs.Sums.{line_by}
-use Rattle.blot_command.specs.Sizes.{IsSmall}
-use Rattle.blot_report.specs.declared.lines.PositionKey.{PositionKey}
+use Rattle.blot_types.specs.Bounds.{BOOK_PARTS, BOOK_QTY}
+use Rattle.blot_types.specs.Position.{IsSmall}
+use Rattle.blot_types.specs.declared.keys.PositionKey.{PositionKey}
 use Rattle.blot_report.specs.declared.lines.PositionRow.{PositionRow}
 
 -- the quantities of parts in all, whatever their sign
@@ -16,8 +17,8 @@ weight parts = sum_by (λ part. unsigned_abs part.qty) parts
 -- parts are small, few, and of a bounded quantity in all, so that no sum of theirs leaves an `i128`
 pub record IsLight (parts : List Part) : Type 0 where
   pub small : All IsSmall parts
-  pub few : length parts ≤ 10 ^ 8
-  pub light : weight parts ≤ 4 * 10 ^ 21
+  pub few : length parts ≤ BOOK_PARTS
+  pub light : weight parts ≤ BOOK_QTY
 
 -- the row of a position whose sums stand in a cell; none without a part
 abbrev pub cell_row : Cells → PositionKey → Option PositionRow

@@ -1,7 +1,7 @@
 //! The executions that stand on a day.
 ghost use Rattle.std.specs.Prelude.{◌≡◌, IfOk};
 ghost use Rattle.blot_types.specs.Survivors.{version_of};
-ghost use Rattle.blot_command.specs.Shown.{HoldsList};
+ghost use Rattle.blot_types.specs.Legal.{HoldsList};
 ghost use Rattle.blot_report.specs.Day.{survivors_on};
 ghost use Rattle.blot_report.specs.Linked.{survivor_by};
 
@@ -17,7 +17,7 @@ pub(crate) fn survivors_on(
     linked: &Linked,
     day: Day,
 ) -> Result<Vec<Version>, NoMemory>
-    requires { HoldsList entries.now linked.now.chains linked.now.allocs }
+    requires { HoldsList entries.now linked.now.chains.list linked.now.allocs.list }
     ensures { IfOk result (λ versions. versions.items ≡ survivors_on entries.now day) }
 {
     let mut versions = Vec::new(alloc);
@@ -31,7 +31,7 @@ pub(crate) fn survivors_on(
 
 // The version that an entry brings, where it is of the day and stands.
 fn survivor(linked: &Linked, entry: &Entry, day: Day) -> Option<Version>
-    ensures { result ≡ survivor_by linked.now.chains day (version_of entry.now) }
+    ensures { result ≡ survivor_by linked.now.chains.list day (version_of entry.now) }
 {
     match entry.version() {
         Some(version) if version.fill.day == day && linked.stands(&version) => Some(version),

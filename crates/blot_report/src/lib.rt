@@ -12,5 +12,5 @@ mod positions;
 mod text;
 
 pub use day::day_lines;
-pub use lines::{DayLines, OrderRow, PositionKey, PositionRow, Rows};
+pub use lines::{DayLines, OrderRow, PositionRow, Rows};
 pub use text::{put_order_line, put_position_line, report_text};

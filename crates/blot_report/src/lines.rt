@@ -3,7 +3,7 @@ ghost use Rattle.std.specs.Prelude.{◌≡◌};
 ghost use Rattle.std.specs.Cmp.Lexicographic.{pointwise, lists_equiv, lists_per};
 
 use blot_time::Day;
-use blot_types::{OrderKey, OrderLine, PositionLine, Text64};
+use blot_types::{OrderKey, OrderLine, PositionKey, PositionLine};
 use std::marker::Model;
 
 /// The lines of a day: those of the executions that stand and of the live allocations of that day alone.
@@ -28,13 +28,6 @@ pub struct OrderRow {
 pub struct PositionRow {
     pub position: PositionKey,
     pub line: PositionLine,
-}
-
-/// An account, `*` the house account, and a symbol.
-#[derive(Clone, Copy, Debug, PartialEq, Eq, PartialOrd, Ord)]
-pub struct PositionKey {
-    pub account: Text64,
-    pub symbol: Text64,
 }
 
 /// The rows of a report, in their order. A contract sees them as a list.

@@ -1,35 +1,58 @@
 //! The rows of orders.
-ghost use Rattle.std.specs.Prelude.{◌≡◌, ◌+◌, ◌≤◌, length, map, IfOk};
+ghost use Rattle.std.specs.Prelude.{◌≡◌, ℕ, ◌+◌, ◌≤◌, length, map, IfOk, OnOk};
 ghost use Rattle.std.specs.List.{filter_map};
-ghost use Rattle.blot_order.specs.Fills.{fills_put};
-ghost use Rattle.blot_report.specs.Lines.{orders_among, order_row, order_rows};
+ghost use Rattle.blot_types.specs.declared.keys.OrderKey.{OrderKey};
+ghost use Rattle.blot_types.specs.Order.{IsWithin};
+ghost use Rattle.blot_report.specs.Lines.{orders_among, order_rows};
+ghost use Rattle.blot_report.specs.Orders.{line_at, line_row, with_line, AreLinesOf};
 
 use crate::OrderRow;
-use blot_order::Orders;
-use blot_types::{EVENTS_MAX, OrderKey, Version};
+use blot_types::{EVENTS_MAX, Fill, OrderKey, OrderLine, Version};
+use indexmap::IndexMap;
 use std::alloc::{AllocError as NoMemory, Global};
 use std::collections::BTreeSet;
+
+// The line of each order, as far as its fills have come.
+type Lines = IndexMap<OrderKey, OrderLine>;
 
 /// The rows of the orders that versions fill, by peer and then by OrderID. An error is out of memory.
 pub(crate) fn order_rows(alloc: Global, versions: &[Version]) -> Result<Vec<OrderRow>, NoMemory>
     requires { length versions.now ≤ EVENTS_MAX + 1 }
     ensures { IfOk result (λ rows. rows.items ≡ order_rows (map (λ version. version.fill) versions.now)) }
 {
-    let orders = orders_of(alloc, versions)?;
+    let lines = lines_of(alloc, versions)?;
     let keys = orders_among(alloc, versions)?;
-    rows_of(alloc, &orders, &keys)
+    rows_of(alloc, &lines, &keys)
 }
 
-// The fills of versions, put. The place of a version serves as the number of its fill.
-fn orders_of(alloc: Global, versions: &[Version]) -> Result<Orders, NoMemory>
+// The lines of the orders that versions fill.
+fn lines_of(alloc: Global, versions: &[Version]) -> Result<Lines, NoMemory>
     requires { length versions.now ≤ EVENTS_MAX + 1 }
-    ensures { IfOk result (λ orders. fills_put orders ≡ map (λ version. version.fill) versions.now) }
+    ensures { IfOk result (λ lines. AreLinesOf lines.entries (map (λ version. version.fill) versions.now)) }
 {
-    let mut orders = Orders::new(alloc);
-    for (place, version) in versions.iter().enumerate() {
-        orders.put(place as u64, &version.fill)?;
+    let mut lines = IndexMap::new(alloc);
+    for version in versions {
+        add_fill(&mut lines, &version.fill)?;
     }
-    Ok(orders)
+    Ok(lines)
+}
+
+// Adds a fill to the line of its order.
+fn add_fill(lines: &mut Lines, fill: &Fill) -> Result<(), NoMemory>
+    requires { IsWithin EVENTS_MAX (line_at lines.old.entries fill.now.order) }
+    ensures lines { OnOk result ((order : OrderKey) → line_at lines.new.entries order ≡ with_line fill.now lines.old.entries order) }
+    ensures grows { (n : ℕ) → IsWithin n (line_at lines.old.entries fill.now.order) → IsWithin (n + 1) (with_line fill.now lines.old.entries fill.now.order) }
+{
+    let line = OrderLine::with_fill(line_of(lines, &fill.order), fill);
+    lines.insert(fill.order, line)?;
+    Ok(())
+}
+
+// The line of an order, if a fill of it has come.
+fn line_of(lines: &Lines, order: &OrderKey) -> Option<OrderLine>
+    ensures { result ≡ line_at lines.now.entries order.now }
+{
+    lines.get(order).copied()
 }
 
 // The orders that versions fill, sorted, each once.
@@ -50,24 +73,24 @@ fn keys_of(alloc: Global, keys: &BTreeSet<OrderKey>) -> Result<Vec<OrderKey>, No
     keys.iter().copied().collect(alloc)
 }
 
-// The rows of some orders: one for each that has a fill.
-fn rows_of(alloc: Global, orders: &Orders, keys: &[OrderKey]) -> Result<Vec<OrderRow>, NoMemory>
-    ensures { IfOk result (λ rows. rows.items ≡ filter_map (order_row (fills_put orders.now)) keys.now) }
+// The rows of some orders: one for each that has a line.
+fn rows_of(alloc: Global, lines: &Lines, keys: &[OrderKey]) -> Result<Vec<OrderRow>, NoMemory>
+    ensures { IfOk result (λ rows. rows.items ≡ filter_map (line_row lines.now.entries) keys.now) }
 {
     let mut rows = Vec::new(alloc);
     for order in keys {
-        if let Some(row) = row_of(orders, order) {
+        if let Some(row) = row_of(lines, order) {
             rows.push(row)?;
         }
     }
     Ok(rows)
 }
 
-// The row of an order, if it has a fill.
-fn row_of(orders: &Orders, order: &OrderKey) -> Option<OrderRow>
-    ensures { result ≡ order_row (fills_put orders.now) order.now }
+// The row of an order, if it has a line.
+fn row_of(lines: &Lines, order: &OrderKey) -> Option<OrderRow>
+    ensures { result ≡ line_row lines.now.entries order.now }
 {
-    match orders.get(order) {
+    match line_of(lines, order) {
         None => None,
         Some(line) => Some(OrderRow {
             order: *order,

@@ -3,16 +3,13 @@ ghost use Rattle.std.specs.Prelude.{◌≡◌, ◌++◌, map, All, IfOk, OnOk};
 ghost use Rattle.std.specs.List.{filter_map, flat_map};
 ghost use Rattle.std.specs.Option.{option_copied};
 ghost use Rattle.blot_types.specs.Allocations.{allocation_of};
-ghost use Rattle.blot_types.specs.Position.{moves_of};
-ghost use Rattle.blot_command.specs.Carried.{TermsFit};
-ghost use Rattle.blot_command.specs.Shown.{HoldsList};
-ghost use Rattle.blot_command.specs.Sizes.{IsSmall};
+ghost use Rattle.blot_types.specs.Position.{moves_of, IsSmall, TermsFit};
+ghost use Rattle.blot_types.specs.Legal.{HoldsList};
 ghost use Rattle.blot_report.specs.Day.{survivors_on, day_parts_of};
 ghost use Rattle.blot_report.specs.Linked.{part_by, is_live_on, terms_by};
 ghost use Rattle.blot_report.specs.Sums.{IsLight};
 
 use crate::linked::Linked;
-use blot_command::{from_house, part_of_line};
 use blot_time::Day;
 use blot_types::{AllocKey, Command, Entry, Part, Terms, Version};
 use std::alloc::{AllocError as NoMemory, Global};
@@ -26,7 +23,7 @@ pub(crate) fn parts_on(
     versions: &[Version],
     day: Day,
 ) -> Result<Vec<Part>, NoMemory>
-    requires book { HoldsList entries.now linked.now.chains linked.now.allocs }
+    requires book { HoldsList entries.now linked.now.chains.list linked.now.allocs.list }
     requires survivors { versions.now ≡ survivors_on entries.now day }
     ensures parts { IfOk result (λ parts. parts.items ≡ day_parts_of entries.now day) }
     ensures light { IfOk result (λ parts. IsLight parts.items) }
@@ -39,8 +36,8 @@ pub(crate) fn parts_on(
 
 // Puts what versions add behind other parts.
 fn put_fills(parts: &mut Vec<Part>, linked: &Linked, versions: &[Version]) -> Result<(), NoMemory>
-    ensures parts { OnOk result (parts.new.items ≡ parts.old.items ++ map (part_by linked.now.chains linked.now.allocs) versions.now) }
-    ensures small { OnOk result (All IsSmall (map (part_by linked.now.chains linked.now.allocs) versions.now)) }
+    ensures parts { OnOk result (parts.new.items ≡ parts.old.items ++ map (part_by linked.now.chains.list linked.now.allocs.list) versions.now) }
+    ensures small { OnOk result (All IsSmall (map (part_by linked.now.chains.list linked.now.allocs.list) versions.now)) }
 {
     for version in versions {
         parts.push(linked.part_of(version))?;
@@ -56,8 +53,8 @@ fn put_allocations(
     day: Day,
 ) -> Result<(), NoMemory>
     ensures parts { OnOk result (parts.new.items ≡ parts.old.items
-        ++ flat_map moves_of (filter_map (λ entry. terms_by linked.now.allocs day (allocation_of entry.command)) entries.now)) }
-    ensures fit { OnOk result (All TermsFit (filter_map (λ entry. terms_by linked.now.allocs day (allocation_of entry.command)) entries.now)) }
+        ++ flat_map moves_of (filter_map (λ entry. terms_by linked.now.allocs.list day (allocation_of entry.command)) entries.now)) }
+    ensures fit { OnOk result (All TermsFit (filter_map (λ entry. terms_by linked.now.allocs.list day (allocation_of entry.command)) entries.now)) }
 {
     for entry in entries {
         if let Some(terms) = terms_on(linked, entry, day) {
@@ -69,20 +66,25 @@ fn put_allocations(
 
 // The terms of the allocation that an entry brings, where it is of the day and live.
 fn terms_on<'a>(linked: &Linked, entry: &'a Entry, day: Day) -> Option<&'a Terms>
-    ensures { option_copied result ≡ terms_by linked.now.allocs day (allocation_of entry.now.command) }
+    ensures { option_copied result ≡ terms_by linked.now.allocs.list day (allocation_of entry.now.command) }
 {
     match &entry.command {
         Command::AllocNew(new) if is_live_on(linked, &new.key, &new.terms, day) => Some(&new.terms),
         Command::AllocReplace(replace) if is_live_on(linked, &replace.key, &replace.terms, day) => {
             Some(&replace.terms)
         }
-        _ => None,
+        Command::Trade(_)
+        | Command::Correct(_)
+        | Command::Bust(_)
+        | Command::AllocNew(_)
+        | Command::AllocReplace(_)
+        | Command::AllocCancel(_) => None,
     }
 }
 
 // Whether an allocation is of a day and live.
 fn is_live_on(linked: &Linked, key: &AllocKey, terms: &Terms, day: Day) -> bool
-    ensures { result ≡ is_live_on linked.now.allocs day key.now terms.now }
+    ensures { result ≡ is_live_on linked.now.allocs.list day key.now terms.now }
 {
     terms.day == day && linked.is_live(key)
 }
@@ -95,9 +97,9 @@ fn put_moves(parts: &mut Vec<Part>, terms: &Terms) -> Result<(), NoMemory>
     // The range of a quantity is known once its units are read.
     let _block = terms.block.units();
     for line in terms.lines.as_slice() {
-        let part = part_of_line(terms, line);
+        let part = Part::of_line(terms, line);
         parts.push(part)?;
-        parts.push(from_house(&part))?;
+        parts.push(part.from_house())?;
     }
     Ok(())
 }

@@ -6,9 +6,9 @@ ghost use Rattle.blot_command.specs.Carried.{Carries};
 ghost use Rattle.blot_report.specs.Lines.{position_key, positions_among, position_rows};
 ghost use Rattle.blot_report.specs.Sums.{IsLight, cell_row};
 
-use crate::{PositionKey, PositionRow};
+use crate::PositionRow;
 use blot_position::Positions;
-use blot_types::Part;
+use blot_types::{Part, PositionKey};
 use std::alloc::{AllocError as NoMemory, Global};
 use std::collections::BTreeSet;
 

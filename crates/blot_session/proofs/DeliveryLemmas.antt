@@ -149,7 +149,7 @@ awaits_after_reply state next actions reply now awaiting is =
     let settled = settles state reply awaiting in
     subst (λ (outcome : Outcome). Awaits outcome.state outcome.actions) (sym is) (rests-awaits (row_of_reply state reply) state now settled.idle settled.end)
 
--- ---- the session behind a call
+-- ---- the session after a call
 
 -- nothing awaits a reply
 rests-idle : (row : Row) (state : State) (now : ℤ) → IsIdle row.state → IsIdle (outcome_of state row None now).state
@@ -195,7 +195,7 @@ row-peer state reply awaiting = (settles state reply awaiting).of_peer
 pub reply-peer : (state : State) (reply : Result SeenReply NotTaken) (now : ℤ) → IsAwaiting state → (on_reply state reply now).state.peer ≡ state.peer
 reply-peer state reply now awaiting = outcome-peer (row_of_reply state reply) state None now (row-peer state reply awaiting)
 
--- what holds of the session that a call gives, and of the closed one, holds of the session behind it
+-- what holds of the session that a call gives, and of the closed one, holds of the session after the call
 pub behind-call : {V E : Type 0} (P : State → Type 0) (items : V → List Action) (given : Outcome) (result : Result V E) (done : Result (State × V) E) (next shut : State)
     → IfOk result (λ actions. done ≡ Ok (next, actions)) → OnErr result (next ≡ shut)
     → IfOk done (λ done. record { state = done.0; actions = items done.1 } ≡ given) → P given.state → P shut → P next

@@ -1,3 +1,4 @@
+pub mod ActionLemmas
 mod DeliveryLemmas
 mod InTurnLemmas
 pub mod OneLemmas

@@ -42,7 +42,7 @@ abbrev pub Names : ℕ → ℕ → Result Message FieldFault → Type 0
 Names number expected (Ok message) = NamesBy number expected (Ok message) message.body
 Names number expected (Err fault) = ⊥
 
--- the number that is expected stays, or goes up by one behind a frame that bears it, or is set to a higher one
+-- the number that is expected stays, or goes up by one after a frame that bears it, or is set to a higher one
 abbrev pub Steps : ℕ → Result Message FieldFault → ℕ → Type 0
 Steps expected said next =
     (next ≡ expected) ⊎ (((next ≡ expected + 1) × Bears expected said) ⊎ ((expected ≤ next) × Names next expected said))
@@ -195,7 +195,7 @@ number-moves s live head said idle is =
     (λ high. high-moves s live said idle)
     (λ nothigh. expected-moves s live head said idle is (omega (arith, ltb-false _ _ notlow, ltb-false _ _ nothigh))))
 
--- ---- what goes before the number
+-- ---- what is looked at before the number
 
 reset-moves : (s : State) (live : Live) (head : Head) (number new_number : ℕ) → live.awaited ≡ None
     → Moves s.peer s.next s.expected (message head (bodies.Admin (admin.SequenceReset new_number false))) (reset_row (with_live s live) number new_number)

@@ -1,4 +1,4 @@
--- Over any calls without a reset the numbers of what is taken rise, and none is lost unseen.
+-- Over any calls without a reset the numbers of what is taken rise, and each number that isn't taken was passed by a message.
 use Rattle.std.proofs.Common.{◌≡◌, ◌⊎◌, ℕ, ◌+◌, ◌≤◌, ◌<◌, Bool, true, false, ◌&&◌, List, [], ◌∷◌, ◌++◌, Option, Some, None, Result, Ok, Err, refl, sym, ap, subst, ◌∙◌, arith, inl, inr}
 use Rattle.std.specs.Prelude.{nat_lt, ℤ, is_some}
 use Rattle.std.proofs.lemmas.Bool.{cond_both, cond-false, cases_Bool, ltb-true, ltb-false, false≢true}
@@ -53,7 +53,7 @@ delivered-none number (Closes reason) command none = refl
 abbrev pub Holds : List Numbered → State → Type 0
 Holds last state = IsAwaiting state → (state.next ≤ LAST_NUMBER) × (command : Command) × (last ≡ record { number = state.expected; command = command } ∷ [])
 
--- a frame bears a number, or covers it, where the session goes by it
+-- a frame bears a number, or covers it, where the session passes that number
 abbrev pub GoesBy : ℕ → State → Call → Type 0
 GoesBy number state (Frame text now memory) =
     ((number ≡ state.expected) × Bears number (said_by text)) ⊎ Covers number state.expected (said_by text)
@@ -66,7 +66,7 @@ passes number state (Tick now memory) by high = absurd by
 passes number state Closing by high = absurd by
 passes number state WaitAgain by high = absurd by
 
--- a call takes nothing, and goes by each number up to the one that is expected then
+-- a call takes nothing, and passes each number up to the one that is expected after it
 record Aside (state : State) (call : Call) (next : Outcome) : Type 0 where
   pub grows : state.expected ≤ next.state.expected
   pub passed : (number : ℕ) → state.expected ≤ number → number < next.state.expected → GoesBy number state call
@@ -183,12 +183,12 @@ rests-aside state call row now rests =
 
 -- ---- what comes over a list of calls
 
--- numbers that rise from one on rise from any before it
+-- numbers that rise from one number on also rise from any number before it
 rise-lower : (low high : ℕ) (taken : List Numbered) → low ≤ high → RiseFrom high taken → RiseFrom low taken
 rise-lower low high [] below rise = tt
 rise-lower low high (first ∷ later) below rise = (omega (arith, below, rise.0), rise.1)
 
--- the law, behind a call that delivered what is held
+-- the law, after a call that delivered what is held
 record InOrder (last : List Numbered) (state : State) (calls : List Call) : Type 0 where
   pub grows : state.expected ≤ (behind_calls state calls).expected
   pub rise : RiseFrom state.expected (taken_behind last state calls)

@@ -1,4 +1,4 @@
--- What each call of a session gives: the session behind it, and what is to be done.
+-- What each call of a session gives: the session after it, and what is to be done.
 use Rattle.std.specs.Prelude.{◌≡◌, ℕ, Bool, true, false, nat_lt, ◌&&◌, ℤ, List, [], ◌∷◌, ◌++◌, Option, Some, None, Result, Ok, Err, is_some, if◌then◌else◌}
 use Rattle.std.specs.List.{list_any}
 use Rattle.blot_fields.specs.Commands.{command_of}
@@ -22,12 +22,12 @@ use Rattle.blot_session.specs.Rows.{frame_row, tick_row, reply_row}
 use Rattle.blot_session.specs.States.{spoken, closed, awaited_of}
 use Rattle.blot_session.specs.Table.{acts, messages_of, silent}
 
--- a session behind a call, and what is to be done
+-- a session after a call, and what is to be done
 pub record Outcome : Type 0 where
   pub state : State
   pub actions : List Action
 
--- a session behind a message that was sent
+-- a session after a message that was sent
 abbrev pub behind : State → Outbound → ℤ → State
 behind state message now = spoken now (record state { next = next_behind message state.next })
 

@@ -1,5 +1,5 @@
 -- What becomes of a frame at its session, by the row of the table that it meets. Source: this project's rule.
-use Rattle.std.specs.Prelude.{ℕ, ℤ, Bool, true, false, ◌&&◌, not, nat_lt, List, Option, Some, None, Result, Ok, Err, if◌then◌else◌}
+use Rattle.std.specs.Prelude.{ℤ, Bool, true, false, ◌&&◌, not, nat_lt, Option, Some, None, Result, Ok, Err, if◌then◌else◌}
 use Rattle.std.specs.Option.{option_map_or, option_or, unwrap_or}
 use Rattle.blot_fields.specs.declared.admin.Admin.TheVariants as admin
 use Rattle.blot_fields.specs.declared.fault.FieldFault.{FieldFault}
@@ -21,7 +21,7 @@ use Rattle.blot_session.specs.declared.state.State.{State}
 use Rattle.blot_session.specs.Calls.{is_spent}
 use Rattle.blot_session.specs.Rows.{frame_row}
 
--- a Sequence Reset that isn't a gap fill goes before its number
+-- a Sequence Reset that isn't a gap fill is looked at before its number
 abbrev pub goes_before : Body → Bool
 goes_before (bodies.Admin (admin.SequenceReset new_number false)) = true
 goes_before body = false
@@ -30,11 +30,11 @@ abbrev pub is_before_number : Result Message FieldFault → Bool
 is_before_number (Ok message) = goes_before message.body
 is_before_number (Err fault) = false
 
--- whether a message bears a number below the expected one, and goes by it
+-- whether a message bears a number below the expected one, and is judged by that number
 abbrev pub is_late : State → Result Message FieldFault → Bool
 is_late state said = option_map_or (λ head. nat_lt head.number state.expected) (head_in said) false && not (is_before_number said)
 
--- a message about which nothing is done is ignored where it is late, and taken else
+-- a message about which nothing is done is ignored where it is late, and else taken
 abbrev pub passed_by : State → Result Message FieldFault → Met
 passed_by state said = if is_late state said then met.Late state.expected else met.Taken
 

@@ -5,6 +5,7 @@ use Rattle.std.specs.Fmt.{decimal}
 use Rattle.blot_tag.specs.Fields.{TagValue}
 use Rattle.blot_tag.specs.Writing.{Written, frame_of, is_data_tag, is_own_tag}
 use Rattle.blot_time.specs.Moment.{moment_text}
+use Rattle.blot_types.specs.Told.{reject_code}
 use Rattle.blot_session.specs.declared.outbound.Outbound.{Outbound}
 use Rattle.blot_session.specs.declared.outbound.Outbound.TheVariants.{Logon, Heartbeat, TestRequest, ResendRequest, Reject, GapFill, Logout, Unsupported, AllocationAck}
 use Rattle.blot_session.specs.declared.replies.SeenReply.{SeenReply}
@@ -28,7 +29,7 @@ abbrev pub number_of : Outbound → ℕ → ℕ
 number_of (GapFill begin) next = begin
 number_of message next = next
 
--- the next number to send behind it: a gap fill uses none up
+-- the next number to send after it: a gap fill uses none up
 abbrev pub next_behind : Outbound → ℕ → ℕ
 next_behind (GapFill begin) next = next
 next_behind message next = next + 1
@@ -46,19 +47,12 @@ abbrev pub id_fields : Option (List ℕ) → List TagValue
 id_fields (Some id) = field 112 id ∷ []
 id_fields None = []
 
--- the code of a refusal by its number: 10 where an execution isn't there to allocate, 1 where quantities differ, and 7 for
--- any other (AllocRejCode; which number stands for what is this project's rule)
-abbrev pub reject_code : ℕ → ℕ
-reject_code refusal =
-    if refusal == 5 || refusal == 6 || refusal == 8 then 10
-    else (if refusal == 10 then 1 else 7)
-
--- AllocStatus, and AllocRejCode behind a refusal
+-- AllocStatus, and AllocRejCode for a refusal
 abbrev pub status_fields : SeenReply → List TagValue
 status_fields Accepted = field 87 (codes "0") ∷ []
 status_fields (Refused refusal) = field 87 (codes "1") ∷ field 88 (decimal (reject_code refusal)) ∷ []
 
--- what stands behind the header: of a Logon
+-- what stands after the header: of a Logon
 abbrev pub logon_fields : ℕ → Bool → List TagValue
 logon_fields heartbeat reset = field 98 (codes "0") ∷ field 108 (decimal heartbeat) ∷ field_if reset 141 (codes "Y")
 
@@ -119,6 +113,6 @@ text_of state message now = frame_of (record {
 abbrev pub with_fields : Written → List TagValue → Written
 with_fields written fields = record { kind = written.kind; fields = written.fields ++ fields }
 
--- a tag that a message has behind its kind, and that isn't data
+-- a tag that a message has after its kind, and that isn't data
 abbrev pub is_plain_tag : ℕ → Bool
 is_plain_tag tag = nat_lt 0 tag && nat_lt tag 1000 && not (is_own_tag tag) && not (is_data_tag tag)

@@ -1,6 +1,5 @@
 -- The table of a session: what it does about a frame, a moment that passes and a reply, a word for each row or
--- choice between rows (FIX 4.4 volume 2,
--- "Session protocol"; docs/SESSION.md has the rows that are this project's rule).
+-- choice between rows (FIX 4.4 volume 2, "Session protocol"; docs/SESSION.md has the rows that are this project's rule).
 use Rattle.std.specs.Prelude.{ℕ, ◌+◌, ◌*◌, ◌/◌, Bool, true, false, ◌&&◌, ◌==◌, nat_lt, nat_le, int_le, ℤ, pos, ◌+ℤ◌, List, codes, Option, Some, None, Result, Ok, Err, if◌then◌else◌}
 use Rattle.blot_fields.specs.declared.admin.Admin.{Admin}
 use Rattle.blot_fields.specs.declared.admin.Admin.TheVariants as admin
@@ -159,7 +158,7 @@ number_row state head said =
     else (if nat_lt state.expected head.number then high_row state said
     else expected_row state head said)
 
--- ---- phase On: what goes before the number
+-- ---- phase On: what is looked at before the number
 
 -- a Sequence Reset that isn't a gap fill sets the expected number, and never to a lower one
 unfoldable pub reset_row : State → ℕ → ℕ → Row
@@ -167,7 +166,7 @@ reset_row state number new_number =
     if nat_lt new_number state.expected then sends (Reject number 36 5) state
     else silent (expecting new_number state)
 
--- a Logon that resets the numbers, and a Sequence Reset, go before their numbers
+-- a Logon that resets the numbers, and a Sequence Reset, are looked at before their numbers
 unfoldable pub message_row : State → Head → Body → Result Message FieldFault → ℤ → Row
 message_row state head (bodies.Admin (admin.Logon heartbeat true)) said now =
     logon_row (restarted state) head.number heartbeat true now

@@ -1,5 +1,5 @@
 -- Lists of calls of a session, and what is delivered, taken and sent over them.
-use Rattle.std.specs.Prelude.{◌≡◌, ℕ, ◌+◌, ◌<◌, ◌≤◌, Bool, true, false, ℤ, List, [], ◌∷◌, ◌++◌, Some, Result, Ok, Err, ◌⊎◌}
+use Rattle.std.specs.Prelude.{◌≡◌, ℕ, ◌+◌, ◌<◌, ◌≤◌, Bool, true, false, ℤ, List, [], ◌∷◌, ◌++◌, Option, Some, None, Result, Ok, Err, ◌⊎◌}
 use Rattle.std.specs.List.{flat_map}
 use Rattle.std.specs.Option.{option_map}
 use Rattle.blot_tag.specs.Fields.{fields_of}
@@ -47,7 +47,7 @@ outcome state (Tick now false) = quiet (closed state)
 outcome state Closing = quiet (closed state)
 outcome state WaitAgain = quiet (waiting_again state)
 
--- the session behind some calls
+-- the session after some calls
 abbrev pub behind_calls : State → List Call → State
 behind_calls state [] = state
 behind_calls state (call ∷ calls) = behind_calls (outcome state call).state calls
@@ -61,6 +61,11 @@ actions_of state (call ∷ calls) = (outcome state call).actions ++ actions_of (
 pub record Numbered : Type 0 where
   pub number : ℕ
   pub command : Command
+
+-- the command that an action delivers
+abbrev pub delivered : Action → Option Command
+delivered (Deliver command) = Some command
+delivered action = None
 
 -- the commands that some actions deliver, under a number
 abbrev pub delivered_by : ℕ → List Action → List Numbered
@@ -78,7 +83,7 @@ abbrev pub taken_by : List Numbered → Call → List Numbered
 taken_by last (Reply (Ok reply) now memory) = last
 taken_by last call = []
 
--- what is taken over some calls behind the call that delivered this
+-- what is taken over some calls after the call that delivered this
 abbrev pub taken_behind : List Numbered → State → List Call → List Numbered
 taken_behind last state [] = []
 taken_behind last state (call ∷ calls) =
@@ -155,8 +160,8 @@ abbrev pub Covers : ℕ → ℕ → Result Message FieldFault → Type 0
 Covers number expected (Ok message) = CoversBy number expected (Ok message) message.body
 Covers number expected (Err fault) = ⊥
 
--- a call passes a number without a command that is taken: the session expects a higher one behind it, and its frame bears
--- the number, or covers it
+-- a call passes a number without a command that is taken: after the call the session expects a higher number, and the frame
+-- bears the number, or covers it
 abbrev pub Passes : ℕ → State → Call → Type 0
 Passes number state (Frame text now memory) =
     (number < (outcome state (Frame text now memory)).state.expected)
@@ -173,8 +178,8 @@ abbrev pub IsTaken : ℕ → List Numbered → Type 0
 IsTaken number [] = ⊥
 IsTaken number (taken ∷ later) = (taken.number ≡ number) ⊎ IsTaken number later
 
--- the numbers of what is taken rise from the expected one on to the one that is expected then, and each number between that
--- isn't taken was passed
+-- the numbers of what is taken rise from the one expected at first to the one expected at the end, and each number between
+-- that isn't taken was passed
 pub record IsInOrder (state : State) (calls : List Call) : Type 0 where
   pub rise : RiseFrom state.expected (taken_of state calls)
   pub below : AreBelow (behind_calls state calls).expected (taken_of state calls)

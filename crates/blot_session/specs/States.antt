@@ -92,8 +92,8 @@ IsIdle state = awaited_of state ≡ None
 abbrev pub IsAwaiting : State → Type 0
 IsAwaiting state = is_some (awaited_of state) ≡ true
 
--- the numbers of a session: past the last of all no number is expected, and a number is left to expect behind the one
--- that a delivered command bore
+-- the numbers of a session: no number past the last of all is expected, and after the number that a delivered command
+-- bore there is still one to expect
 pub record IsState (state : State) : Type 0 where
   pub first : 1 ≤ state.expected
   pub expected : state.expected ≤ SEQUENCE_MAX + 1

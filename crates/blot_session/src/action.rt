@@ -5,7 +5,7 @@ ghost use Rattle.blot_session.specs.Told.{close_name, close_number};
 use blot_types::Command;
 use std::marker::Model;
 
-/// What a session wants done, in this order of a call's list: sends, then at most one of the others.
+/// What a session wants done. The list of a call has its sends first, and then at most one of the others.
 #[derive(Debug, Drop)]
 pub enum Action {
     /// These bytes, one whole frame, go to the peer.

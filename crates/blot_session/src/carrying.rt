@@ -17,10 +17,10 @@ use blot_types::Command;
 use std::alloc::{AllocError as NoMemory, Global};
 
 /// The last number under which a call begins to send. A call sends two messages at most, so that a peer that counts in
-/// nine digits follows. This project's rule.
+/// nine digits can still follow. This project's rule.
 pub(crate) const LAST_NUMBER: u64 = 999_999_990;
 
-/// A session behind a call, and what is to be done.
+/// A session after a call, and what is to be done.
 pub(crate) type Outcome = (State, Vec<Action>);
 
 /// Does what a row says, unless the numbers to send are used up.
@@ -45,7 +45,7 @@ pub(crate) fn take_row(
     Ok((state, actions))
 }
 
-/// Goes on with what a call gave, or closed, out of memory.
+/// Goes on with what a call gave or, out of memory, closed.
 pub(crate) fn go_on(
     state: &mut State,
     outcome: Result<Outcome, NoMemory>,
@@ -99,7 +99,7 @@ pub(crate) fn carry_out(
     Ok((state, actions))
 }
 
-// Sends the messages of a row: the session behind them.
+// Sends the messages of a row: the session after them.
 fn send_all(
     alloc: Global,
     actions: &mut Vec<Action>,
@@ -121,7 +121,7 @@ fn send_all(
     }
 }
 
-// Sends a message: the session behind it.
+// Sends a message: the session after it.
 fn send(
     alloc: Global,
     actions: &mut Vec<Action>,
@@ -142,7 +142,7 @@ fn send(
     Ok(state.spoken(now))
 }
 
-// Puts how a call ends behind its sends.
+// Adds how a call ends, after its sends.
 fn push_end(actions: &mut Vec<Action>, end: End, command: Option<Command>) -> Result<(), NoMemory>
     ensures { OnOk result (actions.new.items ≡ actions.old.items ++ ending end command) }
 {

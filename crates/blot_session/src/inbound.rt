@@ -2,7 +2,7 @@
 //! table or a choice between some.
 ghost use Rattle.std.specs.Prelude.{◌≡◌, ◌≤◌};
 ghost use Rattle.blot_fields.specs.declared.TheConstants.{SEQUENCE_MAX};
-ghost use Rattle.blot_fields.specs.Numbers.{HasNumber, head_in};
+ghost use Rattle.blot_fields.specs.Numbers.{HasNumber};
 ghost use Rattle.blot_session.specs.Rows.{comp_id_row, high_body_row, high_row, frame_row, head_row, low_row, message_row, number_row, on_row, peer_row, reset_row};
 
 use crate::expected::expected_row;
@@ -11,7 +11,7 @@ use crate::outbound::Outbound;
 use crate::row::Row;
 use crate::state::{Link, State};
 use crate::{CloseReason, tags};
-use blot_fields::{Admin, Body, FieldFault, Head, Message};
+use blot_fields::{Admin, Body, FieldFault, Head, Message, head_in};
 use blot_time::Moment;
 
 // SessionRejectReason(373) of a CompID problem.
@@ -38,16 +38,6 @@ fn on_row(state: State, said: &Result<Message, FieldFault>, now: Moment) -> Row
     match head_in(said) {
         Some(head) => head_row(state, &head, said, now),
         None => Row::sends(Outbound::Logout, state).closing(CloseReason::BadHeader),
-    }
-}
-
-/// The header, where it can be read.
-pub(crate) fn head_in(said: &Result<Message, FieldFault>) -> Option<Head>
-    ensures { result ≡ head_in said.now }
-{
-    match said {
-        Ok(message) => Some(message.head),
-        Err(fault) => fault.head,
     }
 }
 
@@ -87,7 +77,7 @@ fn comp_id_row(state: State, head: &Head) -> Row
     Row::sends_both(reject, Outbound::Logout, state).closing(CloseReason::CompId)
 }
 
-// A frame of the peer. A Logon that resets the numbers, and a Sequence Reset, go before their numbers.
+// A frame of the peer. A Logon that resets the numbers, and a Sequence Reset, are looked at before their numbers.
 #[tactic(auto, unfolding(crate::specs::Rows::peer_row))]
 fn peer_row(state: State, head: &Head, said: &Result<Message, FieldFault>, now: Moment) -> Row
     requires { head.now.number ≤ SEQUENCE_MAX }

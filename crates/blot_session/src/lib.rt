@@ -5,6 +5,7 @@
 
 mod action;
 mod carrying;
+mod delivery;
 mod expected;
 mod inbound;
 mod logons;
@@ -21,6 +22,7 @@ mod ticks;
 mod writing;
 
 pub use action::{Action, Bytes, CloseReason};
+pub use delivery::delivered;
 pub use met::Met;
 pub use replies::{NotTaken, SeenReply};
 pub use session::Session;

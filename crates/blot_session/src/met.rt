@@ -5,11 +5,11 @@ ghost use Rattle.blot_session.specs.Met.{goes_before, is_before_number, is_late,
 
 use crate::CloseReason;
 use crate::carrying::is_spent;
-use crate::inbound::{frame_row, head_in};
+use crate::inbound::frame_row;
 use crate::outbound::Outbound;
 use crate::row::{End, Sends};
 use crate::state::State;
-use blot_fields::{Admin, Body, FieldFault, Message};
+use blot_fields::{Admin, Body, FieldFault, Message, head_in};
 use blot_time::Moment;
 
 /// What becomes of a frame at its session, by the row of the session's table that it meets. This project's rule.
@@ -32,7 +32,7 @@ pub enum Met {
     Early(u64),
     /// The number is below this one, which was expected, and the message is ignored.
     Late(u64),
-    /// The session goes by it, and the book is left alone.
+    /// The message is taken, and the book is left alone.
     Taken,
 }
 
@@ -52,7 +52,7 @@ pub(crate) fn met_of(state: &State, said: &Result<Message, FieldFault>, now: Mom
     }
 }
 
-// What becomes of a message that has these answers, or is passed by in silence.
+// What becomes of a message that has these answers, or none.
 fn met_by_sends(silent: Met, sends: Sends) -> Met
     ensures { result ≡ met_by_sends silent sends }
 {
@@ -92,7 +92,7 @@ fn passed_by(state: &State, said: &Result<Message, FieldFault>) -> Met
     Met::Taken
 }
 
-// Whether a message bears a number below the expected one, and goes by it.
+// Whether a message bears a number below the expected one, and is judged by that number.
 fn is_late(state: &State, said: &Result<Message, FieldFault>) -> bool
     ensures { result ≡ is_late state.now said.now }
 {
@@ -102,7 +102,7 @@ fn is_late(state: &State, said: &Result<Message, FieldFault>) -> bool
     head.number < state.expected && !is_before_number(said)
 }
 
-// Whether a message is a Sequence Reset that goes before its number.
+// Whether a message is a Sequence Reset that is looked at before its number.
 fn is_before_number(said: &Result<Message, FieldFault>) -> bool
     ensures { result ≡ is_before_number said.now }
 {
@@ -112,7 +112,7 @@ fn is_before_number(said: &Result<Message, FieldFault>) -> bool
     }
 }
 
-// A Sequence Reset that isn't a gap fill goes before its number.
+// A Sequence Reset that isn't a gap fill is looked at before its number.
 fn goes_before(body: &Body) -> bool
     ensures { result ≡ goes_before body.now }
 {

@@ -110,7 +110,7 @@ impl Outbound {
         matches!(self, Outbound::GapFill { .. })
     }
 
-    /// The next number to send behind it. A gap fill uses none up.
+    /// The next number to send after it. A gap fill uses none up.
     pub(crate) fn next_behind(&self, next: u64) -> u64
         requires { next < 2 ^ 64 - 1 }
         ensures { result ≡ next_behind self.now next }

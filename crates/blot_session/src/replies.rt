@@ -21,7 +21,7 @@ pub enum SeenReply {
 pub struct NotTaken;
 
 /// What a session does about a reply to what it awaits. A command that wasn't taken leaves its number expected, so that
-/// the message is asked for again behind the next Logon.
+/// the message is asked for again after the next Logon.
 #[tactic(auto, unfolding(crate::specs::Rows::reply_row))]
 pub(crate) fn reply_row(state: State, awaited: Awaited, reply: Result<SeenReply, NotTaken>) -> Row
     requires { state.expected ≤ SEQUENCE_MAX }

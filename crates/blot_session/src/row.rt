@@ -6,7 +6,7 @@ use crate::CloseReason;
 use crate::outbound::Outbound;
 use crate::state::{Awaited, State};
 
-/// What a row of the session's table says: the messages to send, how the call ends, and the session behind it, before
+/// What a row of the session's table says: the messages to send, how the call ends, and the session that it leaves, before
 /// the messages take their numbers.
 #[derive(Clone, Copy)]
 pub(crate) struct Row {

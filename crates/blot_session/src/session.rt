@@ -98,7 +98,7 @@ impl Session {
         )
     }
 
-    /// Waits for a Logon again, as a new session, but for both numbers, which are kept.
+    /// Waits for a Logon again, like a new session, except that both numbers are kept.
     pub fn wait_again(&mut self)
         ensures { self.new ≡ waiting_again self.old }
     {

@@ -50,7 +50,7 @@ pub(crate) struct Live {
     pub(crate) received: Moment,
     /// When the last message was sent.
     pub(crate) sent: Moment,
-    /// When the TestRequest was sent that no frame came after, if one is out.
+    /// When the TestRequest was sent after which no frame has come, if one is out.
     pub(crate) asked: Option<Moment>,
     /// What was delivered and not replied to yet.
     pub(crate) awaited: Option<Awaited>,

@@ -5,14 +5,14 @@ ghost use Rattle.blot_tag.specs.Writing.{begun, body_of, with_field};
 ghost use Rattle.blot_tag.specs.declared.write_fault.WriteFault.TheVariants as WriteFault;
 ghost use Rattle.blot_time.specs.Moment.{moment_text};
 ghost use Rattle.blot_types.specs.Text.{is_text};
-ghost use Rattle.blot_session.specs.Outbound.{ack_fields, body_fields, field, gap_fill_fields, header_fields, kind_of, logon_fields, reject_code, reject_fields, resend_fields, text_of, unsupported_fields, with_fields, is_plain_tag};
+ghost use Rattle.blot_session.specs.Outbound.{ack_fields, body_fields, field, gap_fill_fields, header_fields, kind_of, logon_fields, reject_fields, resend_fields, text_of, unsupported_fields, with_fields, is_plain_tag};
 
 use crate::outbound::Outbound;
 use crate::state::State;
 use crate::{SeenReply, tags};
 use blot_tag::{FrameText, WriteFault};
 use blot_time::Moment;
-use blot_types::Text64;
+use blot_types::{Refused, Text64};
 use itoa::Buffer;
 use std::alloc::{AllocError as NoMemory, Global};
 
@@ -22,7 +22,7 @@ const FIELD_MAX: usize = 80;
 // No message has more bytes up to the end of its header.
 const HEADER_MAX: usize = 2_000;
 
-// No field is put behind more bytes than these.
+// No field is added after more bytes than these.
 const BODY_MAX: usize = 4_000;
 
 /// The frame of a message that is sent next.
@@ -76,7 +76,7 @@ fn put_header(
     put_moment(text, tags::SENDING_TIME, now)
 }
 
-// Puts what stands behind the header.
+// Puts what stands after the header.
 fn put_body(
     text: &mut FrameText,
     message: &Outbound,
@@ -173,19 +173,8 @@ fn put_allocation_ack(
         SeenReply::Accepted => put(text, tags::ALLOC_STATUS, b"0"),
         SeenReply::Refused(refusal) => {
             put(text, tags::ALLOC_STATUS, b"1")?;
-            put_number(text, tags::ALLOC_REJ_CODE, reject_code(refusal))
+            put_number(text, tags::ALLOC_REJ_CODE, Refused::reject_code(refusal))
         }
-    }
-}
-
-// AllocRejCode of a refusal's number.
-fn reject_code(refusal: u8) -> u64
-    ensures { result ≡ reject_code refusal }
-{
-    match refusal {
-        5 | 6 | 8 => 10,
-        10 => 1,
-        _ => 7,
     }
 }
 
@@ -235,7 +224,7 @@ fn put(text: &mut FrameText, tag: u32, value: &[u8]) -> Result<(), NoMemory>
     }
 }
 
-// A field that isn't refused finds no memory.
+// A field that isn't refused fails only out of memory.
 fn out_of_memory(_fault: WriteFault) -> NoMemory
     requires { _fault ≡ WriteFault.NoMemory }
 {

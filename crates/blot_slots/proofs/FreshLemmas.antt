@@ -10,7 +10,7 @@ use Rattle.blot_session.specs.States.{fresh}
 use Rattle.blot_slots.proofs.SlotLemmas.{slot_of-all_in}
 use Rattle.blot_slots.specs.Slots.{fresh_slots}
 
--- what holds of each of a list holds of one in its midst
+-- what holds of each item of a list holds of one in its middle
 in_midst : {X : Type 0} (P : X → Type 0) (xs ys : List X) (y : X) → AllByRecursion P (xs ++ y ∷ ys) → P y
 in_midst P [] ys y all = all.0
 in_midst P (x ∷ xs) ys y all = in_midst P xs ys y all.1
@@ -33,7 +33,7 @@ fresh-absent own peers index peer within is all =
     let alone = none_before (take index peers) (drop (index + 1) peers) peer (subst (IsDistinct same_text) (sym parts) all) in
     slot_of-all_in own peer (take index peers) ∙ ap (λ found. if found then Some (Some (fresh own peer)) else None) alone
 
--- and gets one behind the others
+-- and gets one after the others
 pub fresh-more :
     (own : List ℕ) (peers : List (List ℕ)) (index : ℕ) (peer : List ℕ) → index < length peers → peer ≡ get_or peers index peer
     → fresh_slots own (take index peers) ++ (peer, Some (fresh own peer)) ∷ [] ≡ fresh_slots own (take (index + 1) peers)

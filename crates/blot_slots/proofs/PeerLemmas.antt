@@ -14,7 +14,7 @@ none_found : {X : Type 0} (p : X → Bool) → (xs : List X) → AllByRecursion 
 none_found p [] fail = refl
 none_found p (x ∷ xs) fail = or_from (p x) _ fail.0 (none_found p xs fail.1)
 
--- where the next peer isn't met again, what is left differs exactly if what is left behind it does
+-- where the next peer isn't met again, the peers that are left differ exactly if those after it differ
 pub distinct_step :
     (peers : List (List ℕ)) (index : ℕ) (peer : List ℕ) → index < length peers → peer ≡ get_or peers index peer
     → list_any (λ other. same_text peer other) (drop (index + 1) peers) ≡ false

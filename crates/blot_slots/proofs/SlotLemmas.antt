@@ -1,4 +1,4 @@
--- What a slot is, behind a change of one slot and at the start.
+-- What a slot is, after a change of one slot and at the start.
 use Rattle.std.proofs.Common.{◌≡◌, ℕ, true, false, List, [], ◌∷◌, Option, None, Some, is_some, if◌then◌else◌, inl, inr, refl, ◌∙◌}
 use Rattle.std.specs.Cmp.Lexicographic.{bytes_decides, nat_list_eq_equiv}
 use Rattle.std.specs.List.{list_any}

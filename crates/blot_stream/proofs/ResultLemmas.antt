@@ -1,6 +1,6 @@
 -- What holds of a result.
 use Rattle.std.proofs.Common.{◌≡◌, ◌≢◌, ap, subst, Result, Option, Ok, Err, Some, None}
-use Rattle.std.specs.Prelude.{IsOk, OnOk, IfErr, IfSome}
+use Rattle.std.specs.Prelude.{IsOk, OnOk, OnErr, IfErr, IfSome}
 
 pub on-ok : {T E P Q : Type 0} (result : Result T E) → OnOk result P → (P → Q) → OnOk result Q
 on-ok (Ok x) p more = more p
@@ -17,6 +17,14 @@ ok-other (Err other) e is = absurd cc
 pub if-err : {T E : Type 0} (P Q : E → Type 0) (result : Result T E) → IfErr result P → ((e : E) → P e → Q e) → IfErr result Q
 if-err P Q (Ok x) p more = tt
 if-err P Q (Err e) p more = more e p
+
+pub on-err : {T E P Q : Type 0} (result : Result T E) → OnErr result P → (P → Q) → OnErr result Q
+on-err (Ok x) p more = tt
+on-err (Err e) p more = more p
+
+pub err-always : {T E P : Type 0} (result : Result T E) → P → OnErr result P
+err-always (Ok x) p = tt
+err-always (Err e) p = p
 
 pub if-some : {A : Type 0} (P Q : A → Type 0) (known : Option A) → IfSome known P → ((x : A) → P x → Q x) → IfSome known Q
 if-some P Q None p more = tt

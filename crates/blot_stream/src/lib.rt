@@ -6,4 +6,4 @@ mod outcome;
 mod transfer;
 
 pub use outcome::{Outcome, ReplayFault, ServeFault};
-pub use transfer::{flush, read_piece, write_retrying, write_text};
+pub use transfer::{read_piece, write_retrying, write_text};

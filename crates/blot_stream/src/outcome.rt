@@ -37,7 +37,7 @@ impl From<NoMemory> for ReplayFault {
     }
 }
 
-/// What a day that is served met. At Connection, and where the operator's lines stopped, the report is written all the same.
+/// What a day that is served met. At Connection, and where the operator's lines stopped, the report is still written.
 #[derive(Clone, Copy, Debug, PartialEq, Eq, Error)]
 pub enum ServeFault {
     /// No connection can be accepted, so no further round began.

@@ -27,8 +27,18 @@ pub fn read_piece<R: Read>(input: &mut R, buffer: &mut [u8]) -> Result<Option<us
     }
 }
 
-/// Writes a text to its end.
+/// Writes a text to its end and flushes it, since what stays in a buffer isn't written. A flush that fails is a write fault.
 pub fn write_text<W: Write>(output: &mut W, text: &[u8]) -> Result<(), ReplayFault>
+    ensures fault { IfErr result (λ fault. fault ≡ ReplayFault.Write) }
+    ensures ok { OnOk result (Appends (W.contents output.old) (W.contents output.new) text.now) }
+    ensures err { OnErr result ((front back : List ℕ) × (front ++ back ≡ text.now) × Appends (W.contents output.old) (W.contents output.new) front) }
+{
+    write_all(output, text)?;
+    flush(output)
+}
+
+// Writes a text to its end.
+fn write_all<W: Write>(output: &mut W, text: &[u8]) -> Result<(), ReplayFault>
     ensures fault { IfErr result (λ fault. fault ≡ ReplayFault.Write) }
     ensures ok { OnOk result (Appends (W.contents output.old) (W.contents output.new) text.now) }
     ensures err { OnErr result ((front back : List ℕ) × (front ++ back ≡ text.now) × Appends (W.contents output.old) (W.contents output.new) front) }
@@ -63,8 +73,8 @@ pub fn write_retrying<W: Write>(output: &mut W, text: &[u8]) -> Option<usize>
     None
 }
 
-/// Flushes an output.
-pub fn flush<W: Write>(output: &mut W) -> Result<(), ReplayFault>
+// Flushes an output, again where that was interrupted.
+fn flush<W: Write>(output: &mut W) -> Result<(), ReplayFault>
     ensures fault { IfErr result (λ fault. fault ≡ ReplayFault.Write) }
     ensures kept { Keeps (W.contents output.old) (W.contents output.new) }
 {

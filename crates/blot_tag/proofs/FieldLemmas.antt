@@ -8,7 +8,7 @@ use Rattle.blot_tag.specs.Fields.{TagValue, no_tag, wrong_length, length_before,
 use Rattle.blot_tag.specs.Results.{◌>>=◌}
 use Rattle.blot_tag.specs.declared.field.SplitFault.{SplitFault}
 
--- what stands behind a data field's value
+-- what stands after a data field's value
 length-data_value : (digits rest : List ℕ) (cut : List ℕ × List ℕ) → data_value digits rest ≡ Some cut → length cut.1 ≤ length rest
 unfolding data_value
 length-data_value digits rest cut e =
@@ -29,7 +29,7 @@ length-value_of (Some digits) tag rest cut e = by_value (data_value digits rest)
     by_value None short is = cc
     by_value (Some got) short is = let same : got ≡ cut = cc in omega (arith, short got refl, ap (λ x. length x.1) same)
 
--- the text behind a field is shorter
+-- the text after a field is shorter
 pub length-first_field : (before : Option TagValue) (text : List ℕ) (split : TagValue × List ℕ) → 0 < length text → first_field before text ≡ Ok split → length split.1 < length text
 unfolding first_field
 length-first_field before text split some e = by_tag (first_tag text) e
@@ -81,7 +81,7 @@ others_behind : (n : ℕ) (split : Result (TagValue × List ℕ) SplitFault) →
 others_behind n (Ok cut) same = ap (λ items. Ok cut.0 ∷ items) (same cut refl)
 others_behind n (Err fault) same = refl
 
--- the items of a text are its first field and those behind it, or its fault
+-- the items of a text are its first field and those after it, or its fault
 pub items_behind-step : (before : Option TagValue) (text : List ℕ) → 0 < length text → items_behind before text ≡ and_then_others items_behind (first_field before text)
 unfolding items_behind first_items
 items_behind-step before [] some = absurd (omega arith)

@@ -1,4 +1,4 @@
--- The fields of a text that ends with SOH stand in it one behind the other.
+-- The fields of a text that ends with SOH stand in it one after the other.
 use Rattle.std.proofs.Common.{◌≡◌, ◌≢◌, ℕ, zero, suc, ◌+◌, ◌-◌, ◌%◌, ◌<◌, ◌≤◌, true, not, ◌&&◌, ◌==◌, ltb, leb, List, [], ◌∷◌, ◌++◌, length, take, drop, get_or, fold, Option, Some, None, option_and_then, IsNone, MatchOption, codes, sum, Result, Ok, Err, inl, inr, refl, sym, ap, subst, ◌∙◌, arith, rules, append_assoc, length-append}
 use Rattle.std.specs.Char.{is_ascii_digit}
 use Rattle.std.specs.Fmt.{decimal}
@@ -42,7 +42,7 @@ length-behind_equals front [] ends =
     absurd (omega (arith, soh_is))
 length-behind_equals front (byte ∷ rest) ends = omega arith
 
--- a text is what stands before the first byte of a kind, that byte, and what stands behind it
+-- a text is what stands before the first byte of a kind, that byte, and what stands after it
 split_at_byte : (byte : ℕ) (text : List ℕ) → position_or_len (λ x. x == byte) text < length text → text ≡ before_first (λ x. x == byte) text ++ byte ∷ after_first (λ x. x == byte) text
 split_at_byte byte text inside =
     let here = eqb-true _ byte (passes_at_first (λ x. x == byte) text 0 inside) in
@@ -59,7 +59,7 @@ first_soh-inside text ends some =
           absurd (false≢true (sym fails ∙ eq-eqb _ soh (ends some)))
     ]
 
--- before the first SOH none stands
+-- no SOH stands before the first one
 before_first_soh : (text : List ℕ) → All (λ byte. byte ≢ soh) (before_first is_soh text)
 before_first_soh text k d inside same =
     let size = length-take (position_or_len is_soh text) text in
@@ -89,7 +89,7 @@ decimal-tag digits tag is =
       | inr fails ↦ cc
     ]
 
--- a text that begins with a tag is its decimal, `=`, and what stands behind it
+-- a text that begins with a tag is its decimal, `=`, and what stands after it
 first_tag-text : (text : List ℕ) (tag : ℕ) → first_tag text ≡ Some tag → text ≡ decimal tag ++ equals ∷ after_first is_equals text
 first_tag-text text tag is = by_place (position is_equals text) refl is
   where
@@ -104,7 +104,7 @@ first_tag-text text tag is = by_place (position is_equals text) refl is
 
 -- ---- a value
 
--- a value, SOH and what stands behind it
+-- a value, SOH and what stands after it
 record IsCut (size : Option (List ℕ)) (rest : List ℕ) (cut : List ℕ × List ℕ) : Type 0 where
   whole : rest ≡ cut.0 ++ soh ∷ cut.1
   ends : MatchOption size (All (λ byte. byte ≢ soh) cut.0) (λ digits. (is_number digits ≡ true) × (length cut.0 ≡ number_of digits))
@@ -140,7 +140,7 @@ value_of-cut (Some digits) tag rest cut ends some is = by_value (data_value digi
     by_value None at found = cc
     by_value (Some got) at found = let same : got ≡ cut = cc in subst (IsCut (Some digits) rest) same (data_value-cut digits rest got at)
 
--- ---- a field, and those behind it
+-- ---- a field, and those after it
 
 -- the field begins the text and ends where it has to, and a text that ends with SOH is left
 record IsFirst (before : Option TagValue) (text : List ℕ) (split : TagValue × List ℕ) : Type 0 where
@@ -195,7 +195,7 @@ pub record StandIn (before : Option TagValue) (text : List ℕ) (items : List It
 StandIn-nil : (before : Option TagValue) → StandIn before [] []
 StandIn-nil before = record { rest = []; whole = refl; all = λ none. refl; ends = tt }
 
--- a field, and those behind it
+-- a field, and those after it
 StandIn-step : (n : ℕ) (before : Option TagValue) (text : List ℕ) (split : Result (TagValue × List ℕ) SplitFault) → first_field before text ≡ split → 0 < length text → EndsWithSoh text → ((cut : TagValue × List ℕ) → first_field before text ≡ Ok cut → EndsWithSoh cut.1 → StandIn (Some cut.0) cut.1 (first_items n (Some cut.0) cut.1)) → StandIn before text (and_then_others (first_items n) split)
 StandIn-step n before text (Ok cut) is some ends others =
     let first = first_field-first before text cut ends is in

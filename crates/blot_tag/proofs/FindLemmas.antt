@@ -12,7 +12,7 @@ use Rattle.blot_tag.specs.declared.look.Miss.TheVariants.{Neither}
 use Rattle.blot_tag.proofs.MatchLemmas.{behind-differs}
 use Rattle.blot_tag.proofs.WalkLemmas.{look_of-nil}
 
--- no `8` stands between the start and the first one behind it
+-- no `8` stands between the start and the first one after it
 pub next_start_is : (text rest : List ℕ) (start further : ℕ) → rest ≡ drop start text → start ≤ length text → position_or_len (λ x. x == 56) rest ≡ further → further ≤ length rest → IsNextStart text start (start + further)
 next_start_is text rest start further rest_is inside is within = record {
   low = omega arith;

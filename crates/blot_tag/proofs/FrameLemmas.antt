@@ -15,7 +15,7 @@ use Rattle.blot_tag.proofs.OutcomeLemmas.{Outcome, out_whole, out_part, out_neve
 
 -- ---- BodyLength and what follows
 
--- the remainders behind the head
+-- the remainders after the head
 abbrev pub IsLengthAndBody : List ℕ → Type 0
 IsLengthAndBody end =
     (digits : List ℕ) × (body : List ℕ) × IsBodyLength digits (length body) × IsBody body
@@ -81,7 +81,7 @@ whole_frame end is = record {
   whole = ap (λ x. head ++ x) is.4 ∙ simp append_assoc;
 }
 
--- the shortest frame, behind its head
+-- the shortest frame, after its head
 shortest : (end : List ℕ) × IsLengthAndBody end
 shortest =
     let filled = filled_body [] (codes "35=") 5 refl (lit≤ tt) in

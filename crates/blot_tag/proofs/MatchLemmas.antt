@@ -1,4 +1,4 @@
--- The text behind expected bytes.
+-- The text after expected bytes.
 use Rattle.std.proofs.Common.{◌≡◌, ℕ, ◌<◌, List, [], ◌∷◌, ◌++◌, length, drop, Ok, Err, refl, sym, ap, ◌∙◌, inl, inr, arith, append-nil}
 use Rattle.std.proofs.lemmas.Bool.{cases_eq, eq-eqb, ne_eqb}
 use Rattle.blot_tag.specs.Looking.{behind}
@@ -23,7 +23,7 @@ behind-part [] [] some = absurd (omega arith)
 behind-part [] (byte ∷ more) some = refl
 behind-part (byte ∷ text) more some = rw (eq-eqb byte byte refl) (behind-part text more some)
 
--- a text goes on behind the expected bytes, ends within them, or differs from them
+-- a text goes on after the expected bytes, ends within them, or differs from them
 pub data Begins (expected text : List ℕ) : Type 0 where
   begins_whole : (more : List ℕ) → text ≡ expected ++ more → Begins expected text
   begins_short : (more : List ℕ) → 0 < length more → expected ≡ text ++ more → Begins expected text
@@ -62,7 +62,7 @@ behind_other expected text not_whole not_short = by_view (begins expected text)
     by_view (begins_short more some is) = absurd (not_short more is)
     by_view (begins_other fails) = sym (ap (behind expected) (sym (append-nil text)) ∙ fails [])
 
--- the text that is found behind the expected bytes
+-- the text that is found after the expected bytes
 pub behind-ok : (expected text rest : List ℕ) → Ok rest ≡ behind expected text → text ≡ expected ++ rest
 behind-ok expected text rest is = by_view (begins expected text)
   where

@@ -11,7 +11,7 @@ use Rattle.blot_tag.specs.declared.look.Miss.{Miss}
 use Rattle.blot_tag.specs.declared.look.Miss.TheVariants.{Partial, Neither}
 use Rattle.blot_tag.proofs.MatchLemmas.{Begins, begins_whole, begins_short, begins_other, begins, behind-append, behind-part}
 
--- a step that looks at the rest of a frame behind `before` bytes, where Ends says which remainders a frame may have
+-- a step that looks at the rest of a frame after `before` bytes, where Ends says which remainders a frame may have
 pub data Outcome (look : List ℕ → Result ℕ Miss) (Ends : List ℕ → Type 0) (before : ℕ) (rest : List ℕ) : Type 0 where
   out_whole : (end more : List ℕ) → Ends end → rest ≡ end ++ more → look rest ≡ Ok (before + length end) → Outcome look Ends before rest
   out_part : (more : List ℕ) → 0 < length more → Ends (rest ++ more) → look rest ≡ Err Partial → Outcome look Ends before rest
@@ -26,7 +26,7 @@ pub trailer_look-append : (front more : List ℕ) → trailer_look front (traile
 unfolding trailer_look
 trailer_look-append front more = rw (append_assoc (codes "10=") (check_sum front) more, behind-append (codes "10=") (check_sum front ++ more), behind-append (check_sum front) more) refl
 
--- the look behind `10=`
+-- the look after `10=`
 abbrev pub digits_look : List ℕ → List ℕ → Result ℕ Miss
 digits_look front digits = behind (check_sum front) digits >>= (λ more. Ok (length front + 7))
 
@@ -62,7 +62,7 @@ trailer_outcome front rest = trailer_first front rest (begins (codes "10=") rest
 
 -- ---- the body
 
--- the remainders behind the first two fields, for a body of this size
+-- the remainders after the first two fields, for a body of this size
 abbrev pub IsBodyAndTrailer : List ℕ → ℕ → List ℕ → Type 0
 IsBodyAndTrailer before size end =
     (body : List ℕ) × (length body ≡ size) × IsBody body × (end ≡ body ++ trailer_of (before ++ body))

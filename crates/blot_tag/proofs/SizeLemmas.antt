@@ -29,7 +29,7 @@ size_of_at_end count value rest i over = rw (drop_all i rest over) refl
 
 -- ---- what digits can follow
 
--- these digits, behind `count` others of that value, write this size
+-- these digits, after `count` others of that value, write this size
 pub record Writes (count value : ℕ) (digits : List ℕ) (size : ℕ) : Type 0 where
   pub digit : list_all is_ascii_digit digits ≡ true
   pub short : count + length digits ≤ 6

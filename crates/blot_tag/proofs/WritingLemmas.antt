@@ -139,7 +139,7 @@ first_field-text before field later low high found =
 length-field_text : (field : TagValue) (later : List ℕ) → 0 < length (field_text field ++ later)
 length-field_text field later = omega (arith, length-append (field_text field) later, length-append (decimal field.tag) (equals ∷ (field.value ++ soh ∷ [])))
 
--- a field that begins a text, and those behind it
+-- a field that begins a text, and those after it
 items_behind-field : (before : Option TagValue) (field : TagValue) (later : List ℕ) → 1 ≤ field.tag → field.tag < 10 ^ 9 → value_of (length_before before field.tag) field.tag (field.value ++ soh ∷ later) ≡ Ok (field.value, later) → items_behind before (field_text field ++ later) ≡ Ok field ∷ items_behind (Some field) later
 items_behind-field before field later low high found =
     items_behind-of before (field_text field ++ later) (Ok (field, later)) (length-field_text field later) (sym (first_field-text before field later low high found))
@@ -195,7 +195,7 @@ map_ok-push : (fields : List TagValue) (field : TagValue) → ◌++◌ {A = Item
 map_ok-push [] field = refl
 map_ok-push (next ∷ fields) field = ap (λ items. Ok next ∷ items) (map_ok-push fields field)
 
--- fields that stand well behind one another, with the first before them and CheckSum behind
+-- fields that stand well one after another, with the first before them and CheckSum after them
 fields_of-written : (first : TagValue) (fields : List TagValue) (front : List ℕ) → 1 ≤ first.tag → first.tag < 10 ^ 9 → has_soh first.value ≡ false → EachFollows first fields → fields_of (fields_text (first ∷ fields) ++ trailer_of front) ≡ map Ok (first ∷ (fields ++ check_sum_field front ∷ []))
 fields_of-written first fields front low high plain follow =
     let later = fields_text fields ++ trailer_of front in
@@ -322,7 +322,7 @@ fields_of-frame_of written is =
     ap (λ front. fields_of (front ++ trailer_of (front_text written))) (front_text-fields written)
     ∙ fields_of-written begin_field (length_field size ∷ kind_field written.kind ∷ written.fields) (front_text written) (lit≤ tt) (lit< tt) refl (sized, (kind_is, is.follow))
 
--- ---- a field more
+-- ---- one more field
 
 last_of-push : (before : TagValue) (fields : List TagValue) (field : TagValue) → last_of before (fields ++ field ∷ []) ≡ field
 last_of-push before [] field = refl

@@ -12,7 +12,7 @@ reading_of buffer = record { unread = drop buffer.start buffer.bytes.items; skip
 abbrev pub given_of : Buffer → Option (List ℕ)
 given_of buffer = if buffer.has_frame then Some buffer.frame.items else None
 
--- what is left behind the frame, or behind what was passed over
+-- what is left after the frame, or after what was passed over
 abbrev pub behind_found : Reading → Found → Reading
 behind_found reading found = record {
   unread = drop (found.place + unwrap_or found.length 0) reading.unread;

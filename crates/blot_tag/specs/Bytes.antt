@@ -24,7 +24,7 @@ is_equals byte = byte == equals
 abbrev pub is_number : List ℕ → Bool
 is_number digits = nat_le 1 (length digits) && list_all is_ascii_digit digits
 
--- a number with one more digit behind it, which is given as a byte
+-- a number with one more digit after it; the digit is given as a byte
 abbrev pub with_digit : ℕ → ℕ → ℕ
 with_digit number digit = number * 10 + (digit - 48)
 

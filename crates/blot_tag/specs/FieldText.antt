@@ -9,7 +9,7 @@ use Rattle.blot_tag.specs.Fields.{TagValue, length_before}
 abbrev pub field_text : TagValue → List ℕ
 field_text field = decimal field.tag ++ equals ∷ (field.value ++ soh ∷ [])
 
--- fields one behind the other
+-- fields one after the other
 abbrev pub fields_text : List TagValue → List ℕ
 fields_text fields = flat_map field_text fields
 
@@ -24,13 +24,13 @@ pub record IsSlice (bytes text : List ℕ) : Type 0 where
   pub behind : List ℕ
   pub whole : text ≡ before ++ (bytes ++ behind)
 
--- where a field's value ends, right behind the field `before`: at the first SOH, or after as many bytes as that field says
+-- where the value of a field ends that comes right after the field `before`: at the first SOH, or after as many bytes as `before` says
 abbrev pub EndsBehind : Option TagValue → TagValue → Type 0
 EndsBehind before field =
     MatchOption (length_before before field.tag) (All (λ byte. byte ≢ soh) field.value)
     (λ digits. (is_number digits ≡ true) × (length field.value ≡ number_of digits))
 
--- each of the fields ends so behind the one before it
+-- the value of each field ends there, by the field before it
 abbrev pub EachEnds : Option TagValue → List TagValue → Type 0
 EachEnds before [] = Unit {0}
 EachEnds before (field ∷ fields) = EndsBehind before field × EachEnds (Some field) fields

@@ -26,7 +26,7 @@ no_tag = record { tag = 0; reason = InvalidTagNumber }
 abbrev pub wrong_length : ℕ → SplitFault
 wrong_length tag = record { tag = tag; reason = IncorrectDataFormat }
 
--- each length tag and the tag of the data behind it (FIX 4.4 volume 1, "Data fields"; volume 6)
+-- each length tag and the tag of the data after it (FIX 4.4 volume 1, "Data fields"; volume 6)
 abbrev pub length_and_data_tags : List (ℕ × ℕ)
 length_and_data_tags =
     (90, 91) ∷ (93, 89) ∷ (95, 96) ∷ (212, 213) ∷ (348, 349) ∷ (350, 351) ∷ (352, 353) ∷ (354, 355)
@@ -45,37 +45,37 @@ length_before (Some field) tag = if option_eq nat_eq (data_tag_of field.tag) (So
 abbrev pub first_tag : List ℕ → Option ℕ
 first_tag text = option_and_then (λ place. tag_number (take place text)) (position is_equals text)
 
--- as many bytes as the digits say, and the text behind the SOH that follows; both lie before the seven bytes of CheckSum
+-- as many bytes as the digits say, and the text after the SOH that follows; both lie before the seven bytes of CheckSum
 unfoldable pub data_value : List ℕ → List ℕ → Option (List ℕ × List ℕ)
 data_value digits rest =
     let size = number_of digits in
     if is_number digits && nat_lt (size + CHECK_SUM_LENGTH) (length rest) && is_soh (slice_index rest size)
     then Some (take size rest, drop (size + 1) rest) else None
 
--- a value and the text behind its SOH: an ordinary one ends at the next SOH, a data field's is as long as the length says
+-- a value and the text after its SOH: an ordinary one ends at the next SOH, a data field's is as long as the length says
 abbrev pub value_of : Option (List ℕ) → ℕ → List ℕ → Result (List ℕ × List ℕ) SplitFault
 value_of None tag rest = Ok (before_first is_soh rest, after_first is_soh rest)
 value_of (Some digits) tag rest = ok_or (data_value digits rest) (wrong_length tag)
 
--- the field that begins a text, right behind the field `before`, and the text behind it
+-- the field that begins a text, right after the field `before`, and the text after it
 unfoldable pub first_field : Option TagValue → List ℕ → Result (TagValue × List ℕ) SplitFault
 first_field before text = do
   tag ← ok_or (first_tag text) no_tag
   cut ← value_of (length_before before tag) tag (after_first is_equals text)
   Ok (record { tag = tag; value = cut.0 }, cut.1)
 
--- a field and what `others` finds behind it, or the fault alone: behind it nothing is looked for
+-- a field and what `others` finds after it, or the fault alone: nothing is looked for after a fault
 abbrev pub and_then_others : (Option TagValue → List ℕ → List Item) → Result (TagValue × List ℕ) SplitFault → List Item
 and_then_others others (Ok split) = Ok split.0 ∷ others (Some split.0) split.1
 and_then_others others (Err fault) = Err fault ∷ []
 
--- the first n items of a text, right behind the field `before`
+-- the first n items of a text, right after the field `before`
 unfoldable pub first_items : ℕ → Option TagValue → List ℕ → List Item
 first_items zero before text = []
 first_items (suc n) before [] = []
 first_items (suc n) before (byte ∷ bytes) = and_then_others (first_items n) (first_field before (byte ∷ bytes))
 
--- all items of a text behind the field `before`: no more than it has bytes
+-- all items of a text after the field `before`: no more than it has bytes
 unfoldable pub items_behind : Option TagValue → List ℕ → List Item
 items_behind before text = first_items (length text) before text
 

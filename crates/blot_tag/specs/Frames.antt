@@ -12,11 +12,11 @@ head = codes "8=FIX.4.4" ++ soh ∷ codes "9="
 abbrev pub three_digits : ℕ → List ℕ
 three_digits n = (48 + n / 100) ∷ (48 + n / 10 % 10) ∷ (48 + n % 10) ∷ []
 
--- what stands behind `10=`: the sum of these bytes modulo 256, and SOH
+-- what stands after `10=`: the sum of these bytes modulo 256, and SOH
 abbrev pub check_sum : List ℕ → List ℕ
 check_sum bytes = three_digits (sum bytes % 256) ++ soh ∷ []
 
--- the field CheckSum behind these bytes
+-- the field CheckSum after these bytes
 abbrev pub trailer_of : List ℕ → List ℕ
 trailer_of bytes = codes "10=" ++ check_sum bytes
 
@@ -66,7 +66,7 @@ pub record BeginsWithFrame (text : List ℕ) : Type 0 where
   pub valid : IsFrame frame
   pub whole : text ≡ frame ++ more
 
--- no valid frame begins here, whatever may come behind the text
+-- no valid frame begins here, whatever may come after the text
 pub record IsGarbled (text : List ℕ) : Type 0 where
   pub no_frame : ¬ BeginsWithFrame text
   pub no_prefix : ¬ IsFramePrefix text

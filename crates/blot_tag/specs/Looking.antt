@@ -9,13 +9,13 @@ use Rattle.blot_tag.specs.declared.look.Miss.TheVariants.{Partial, Neither}
 use Rattle.blot_tag.specs.declared.look.TheConstants.{SIZE_MIN, SIZE_MAX, DIGITS_MAX}
 use Rattle.blot_tag.specs.declared.bytes.TheConstants.{CHECK_SUM_LENGTH}
 
--- the text behind the bytes that are expected at its beginning
+-- the text after the bytes that are expected at its beginning
 unfoldable pub behind : List ℕ → List ℕ → Result (List ℕ) Miss
 behind [] text = Ok text
 behind (byte ∷ expected) [] = Err Partial
 behind (byte ∷ expected) (first ∷ text) = if byte == first then behind expected text else Err Neither
 
--- a number with one more digit of BodyLength, behind `count` others: no more digits than six, and no more than 65,536
+-- a number with one more digit of BodyLength, after `count` others: no more digits than six, and no more than 65,536
 unfoldable pub longer_size : ℕ → ℕ → ℕ → Result ℕ Miss
 longer_size count value byte =
     if is_ascii_digit byte && nat_lt count DIGITS_MAX && nat_le (with_digit value byte) SIZE_MAX then Ok (with_digit value byte) else Err Neither
@@ -24,7 +24,7 @@ longer_size count value byte =
 unfoldable pub whole_size : ℕ → ℕ → Result (ℕ × ℕ) Miss
 whole_size count value = if nat_le SIZE_MIN value then Ok (value, count) else Err Neither
 
--- the digits of BodyLength, where the text ends behind `count` of them
+-- the digits of BodyLength, where the text ends after `count` of them
 unfoldable pub open_size : ℕ → ℕ → Miss
 open_size count value = if nat_lt count DIGITS_MAX || nat_le SIZE_MIN value then Partial else Neither
 
@@ -37,7 +37,7 @@ size_of count value (byte ∷ rest) =
       longer ← longer_size count value byte
       size_of (count + 1) longer rest)
 
--- CheckSum, behind what it sums
+-- CheckSum, after what it sums
 unfoldable pub trailer_look : List ℕ → List ℕ → Result ℕ Miss
 trailer_look front rest = do
   digits ← behind (codes "10=") rest
@@ -49,7 +49,7 @@ abbrev pub whole_body_look : List ℕ → ℕ → List ℕ → Result ℕ Miss
 whole_body_look before size rest =
     if is_soh (slice_index rest (size - 1)) then trailer_look (before ++ take size rest) (drop size rest) else Err Neither
 
--- a body of this size and CheckSum, behind the first two fields
+-- a body of this size and CheckSum, after the first two fields
 unfoldable pub body_look : List ℕ → ℕ → List ℕ → Result ℕ Miss
 body_look before size rest = do
   kind ← behind (codes "35=") rest

@@ -44,7 +44,7 @@ abbrev pub Advances : Reading → Option (List ℕ) → Reading → Type 0
 Advances old (Some frame) new = TakesFirst old frame new
 Advances old None new = FindsNone old new
 
--- what a call of `next` leaves behind
+-- what a call of `next` leaves
 abbrev pub Leaves : Reading → Result (Option Frame) AllocError → Reading → Type 0
 Leaves old (Ok frame) new = Advances old (option_map text_of frame) new
 Leaves old (Err fault) new = new ≡ old

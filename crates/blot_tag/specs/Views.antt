@@ -19,7 +19,7 @@ abbrev pub item_of : Result Field SplitFault → Item
 item_of (Ok field) = Ok (tag_value field)
 item_of (Err fault) = Err fault
 
--- a field and the text behind it
+-- a field and the text after it
 abbrev pub split_of : Result (Field × Bor (List ℕ)) SplitFault → Result (TagValue × List ℕ) SplitFault
 split_of (Ok split) = Ok (tag_value split.0, split.1.now)
 split_of (Err fault) = Err fault

@@ -23,7 +23,7 @@ passes_by bytes walk = record walk { skipped = bytes + walk.skipped }
 abbrev pub stops_at : List ℕ → Walk
 stops_at text = record { frames = []; skipped = 0; rest = text }
 
--- one step of the walk at a text, by what stands there; `goes_on` walks on behind its first byte, past bytes of a frame
+-- one step of the walk at a text, by what stands there; `goes_on` walks on after its first byte, past bytes of a frame
 abbrev pub step_at : List ℕ → (ℕ → Walk) → Result ℕ Miss → Walk
 step_at text goes_on (Ok size) = takes (take size text) (goes_on (size - 1))
 step_at text goes_on (Err Partial) = stops_at text
@@ -51,7 +51,7 @@ skipped_of text = (walk_of text).skipped
 abbrev pub rest_of : List ℕ → List ℕ
 rest_of text = (walk_of text).rest
 
--- the walk over a text and a piece behind it: the frames of the text, and then those of its rest joined with the piece
+-- the walk over a text and a piece after it: the frames of the text, and then those of its rest joined with the piece
 abbrev pub joined_with : Walk → List ℕ → Walk
 joined_with walk piece = record {
   frames = walk.frames ++ frames_of (walk.rest ++ piece);

@@ -40,7 +40,7 @@ begin_field = record { tag = 8; value = codes "FIX.4.4" }
 abbrev pub length_field : ℕ → TagValue
 length_field size = record { tag = 9; value = decimal size }
 
--- the field CheckSum behind these bytes
+-- the field CheckSum after these bytes
 abbrev pub check_sum_field : List ℕ → TagValue
 check_sum_field front = record { tag = 10; value = three_digits (sum front % 256) }
 
@@ -58,7 +58,7 @@ begun kind = record { kind = kind; fields = [] }
 abbrev pub with_field : Written → TagValue → Written
 with_field written field = record { kind = written.kind; fields = written.fields ++ field ∷ [] }
 
--- the last of some fields behind a first
+-- the last of a first field and those after it
 abbrev pub last_of : TagValue → List TagValue → TagValue
 last_of field [] = field
 last_of field (next ∷ fields) = last_of next fields
@@ -85,15 +85,15 @@ pub record IsLengthOf (field before : TagValue) : Type 0 where
   pub number : is_number before.value ≡ true
   pub size : number_of before.value ≡ length field.value
 
--- a field may be put behind the field `before`: its tag is one to nine digits and not the message's own, and data
--- comes right behind its length
+-- a field may be added after the field `before`: its tag is one to nine digits and not the message's own, and data
+-- comes right after its length
 pub record MayFollow (before field : TagValue) : Type 0 where
   pub low : 1 ≤ field.tag
   pub high : field.tag < 10 ^ TAG_DIGITS_MAX
   pub other : is_own_tag field.tag ≡ false
   pub paired : is_data_tag field.tag ≡ true → IsLengthOf field before
 
--- why a field isn't put behind so many bytes of a body: the first that applies
+-- why a field isn't added after so many bytes of a body: the first reason that applies
 abbrev pub refusal_of : ℕ → TagValue → Option WriteFault
 refusal_of size field =
     if nat_lt SIZE_MAX (size + length (field_text field)) then Some TooLong
@@ -115,14 +115,14 @@ written_of body =
     let fields = fields_before_fault (fields_of (body ++ trailer_of [])) in
     record { kind = first_value fields; fields = take (length fields - 2) (drop 1 fields) }
 
--- a field stands well behind the field `before`: it is read again as it was put
+-- a field stands well after the field `before`: it is read again as it was put
 pub record Follows (before field : TagValue) : Type 0 where
   pub low : 1 ≤ field.tag
   pub high : field.tag < 10 ^ TAG_DIGITS_MAX
   pub paired : is_data_tag field.tag ≡ true → IsLengthOf field before
   pub plain : is_data_tag field.tag ≡ false → has_soh field.value ≡ false
 
--- each field stands well behind the one before it
+-- each field stands well after the one before it
 abbrev pub EachFollows : TagValue → List TagValue → Type 0
 EachFollows before [] = Unit {0}
 EachFollows before (field ∷ fields) = Follows before field × EachFollows field fields

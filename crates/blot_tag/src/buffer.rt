@@ -36,7 +36,7 @@ fn drop_front(bytes: &mut Vec<u8>, count: usize)
 impl Buffer {
     ghost use Rattle.blot_tag.specs.Buffers.{reading_of, given_of, behind_found};
 
-    /// Puts a piece behind the unread bytes.
+    /// Adds a piece at the end of the unread bytes.
     pub(crate) fn extend(&mut self, piece: &[u8]) -> Result<(), NoMemory>
         ensures ok { OnOk result (reading_of self.new
             ≡ record (reading_of self.old) { unread = (reading_of self.old).unread ++ piece.now }) }

@@ -21,7 +21,7 @@ pub enum SplitReason {
     IncorrectDataFormat = 6,
 }
 
-/// A field that can't be split off. What stands behind it isn't looked at.
+/// A field that can't be split off. What stands after it isn't looked at.
 #[derive(Clone, Copy, Debug, PartialEq, Eq, Hash)]
 pub struct SplitFault {
     /// The data field's tag, or 0 where there is no tag.

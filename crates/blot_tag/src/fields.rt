@@ -9,7 +9,7 @@ use crate::split::first_field;
 use std::marker::Model;
 
 /// The fields of a frame, from left to right, the first three and the last included. It ends
-/// behind its first fault.
+/// after its first fault.
 #[derive(Drop)]
 pub struct Fields<'a> {
     before: Option<Field<'a>>,

@@ -42,7 +42,7 @@ impl<'a> Frame<'a> {
     pub fn fields(&self) -> Fields<'a>
         ensures items { result ≡ fields_of (text_of self.now) }
 
-        // In plain words: the fields stand in the frame one behind the other, each value a slice of
+        // In plain words: the fields stand in the frame one after the other, each value a slice of
         // it, and without a fault they are all of it.
         ensures front { BeginsWith (fields_text (fields_before_fault result)) (text_of self.now) }
         ensures whole { IsNone (fault_of result) → fields_text (fields_before_fault result) ≡ text_of self.now }

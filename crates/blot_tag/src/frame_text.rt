@@ -57,7 +57,7 @@ impl FrameText {
         })
     }
 
-    /// Puts a field behind the others. Data is put right behind its length.
+    /// Adds a field after the others. Data is added right after its length.
     pub fn put(&mut self, tag: u32, value: &[u8]) -> Result<(), WriteFault>
         requires { MayFollow (last_field self.old) (record { tag = tag; value = value.now }) }
         ensures ok { OnOk result (self.new ≡ with_field self.old (record { tag = tag; value = value.now })) }
@@ -98,7 +98,7 @@ impl FrameText {
     }
 }
 
-// Refuses a field behind so many bytes of a body.
+// Refuses a field after so many bytes of a body.
 fn check(size: usize, tag: u32, value: &[u8], is_data: bool) -> Result<(), WriteFault>
     requires small { size ≤ SIZE_MAX }
     requires tag { tag < 10 ^ TAG_DIGITS_MAX }
@@ -122,7 +122,7 @@ fn has_soh(bytes: &[u8]) -> bool
     bytes.iter().any(|byte| *byte == SOH)
 }
 
-// Puts a field behind a body, or leaves the body as it was.
+// Adds a field at the end of a body, or leaves the body as it was.
 fn put_field(body: &mut Vec<u8>, tag: u32, value: &[u8]) -> Result<(), NoMemory>
     ensures ok { OnOk result (body.new.items ≡ body.old.items ++ field_text (record { tag = tag; value = value.now })) }
     ensures err { OnErr result (body.new.items ≡ body.old.items) }
@@ -135,7 +135,7 @@ fn put_field(body: &mut Vec<u8>, tag: u32, value: &[u8]) -> Result<(), NoMemory>
     Ok(())
 }
 
-// Puts a field behind a body, or as much of it as there is memory for.
+// Adds a field at the end of a body, or as much of it as there is memory for.
 fn append_field(body: &mut Vec<u8>, tag: u32, value: &[u8]) -> Result<(), NoMemory>
     ensures ok { OnOk result (body.new.items ≡ body.old.items ++ field_text (record { tag = tag; value = value.now })) }
     ensures err { OnErr result (BeginsWith body.old.items body.new.items) }

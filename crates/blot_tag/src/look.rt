@@ -27,7 +27,7 @@ pub(crate) enum Miss {
     Neither,
 }
 
-// The text behind the bytes that are expected at its beginning.
+// The text after the bytes that are expected at its beginning.
 fn behind<'a>(expected: &[u8], text: &'a [u8]) -> Result<&'a [u8], Miss>
     ensures { result_map_both (λ rest. rest.now) (λ miss. miss) result ≡ behind expected.now text.now }
 {
@@ -38,7 +38,7 @@ fn behind<'a>(expected: &[u8], text: &'a [u8]) -> Result<&'a [u8], Miss>
     }
 }
 
-// The number with one more digit, behind `count` others.
+// The number with one more digit, after `count` others.
 #[tactic(auto, unfolding(crate::specs::Looking::longer_size))]
 fn longer_size(count: usize, size: usize, byte: u8) -> Result<usize, Miss>
     requires { size ≤ SIZE_MAX }
@@ -70,7 +70,7 @@ fn whole_size(count: usize, size: usize) -> Result<(usize, usize), Miss>
     }
 }
 
-// Why there is no number, where the text ends behind `count` digits.
+// Why there is no number, where the text ends after `count` digits.
 #[tactic(auto, unfolding(crate::specs::Looking::open_size))]
 fn open_size(count: usize, size: usize) -> Miss
     ensures { result ≡ open_size count size }
@@ -109,7 +109,7 @@ fn sum_of(bytes: &[u8]) -> u8
     sum
 }
 
-/// What stands behind `10=` in a frame: three digits and SOH.
+/// What stands after `10=` in a frame: three digits and SOH.
 pub(crate) fn check_sum(front: &[u8]) -> [u8; 4]
     ensures { result ≡ check_sum front.now }
 {

@@ -49,7 +49,7 @@ impl Reader {
         }
     }
 
-    /// Puts a piece of the stream behind the unread bytes. The walk over them goes on from the rest
+    /// Adds a piece of the stream at the end of the unread bytes. The walk over them goes on from the rest
     /// of the earlier one, so it doesn't matter where a stream is cut.
     pub fn feed(&mut self, piece: &[u8]) -> Result<(), NoMemory>
         ensures ok { OnOk result (self.new ≡ record self.old { unread = self.old.unread ++ piece.now }) }
@@ -60,8 +60,8 @@ impl Reader {
         self.buffer.extend(piece)
     }
 
-    /// The first frame of the unread bytes, which leaves those behind it; none where there is no
-    /// frame, and then what could become one with more bytes stays unread.
+    /// Takes the first frame of the unread bytes, and leaves those after it. Where there is no frame it
+    /// gives none, and what could become one with more bytes stays unread.
     pub fn next(&mut self) -> Result<Option<Frame<'_>>, NoMemory>
         ensures first { IfOk result (λ frame. option_map text_of frame ≡ slice_get (frames_of self.old.unread) 0) }
         ensures valid { IfOk result (λ found. IfSome found (λ frame. IsFrame (text_of frame))) }
@@ -81,8 +81,8 @@ impl Reader {
         Ok(self.buffer.given())
     }
 
-    /// How many bytes `next` has passed over so far, before the last frame that it gave, or after
-    /// its last `None` before the rest. It stays at `u64::MAX`.
+    /// How many bytes `next` has passed over so far: those before the last frame that it gave or, where it
+    /// last gave `None`, those before the rest. The count stays at `u64::MAX`.
     pub fn skipped(&self) -> u64
         ensures { result ≡ self.now.skipped }
     {

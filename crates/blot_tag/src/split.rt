@@ -64,7 +64,7 @@ fn length_before<'a>(before: Option<Field<'a>>, tag: u32) -> Option<&'a [u8]>
     }
 }
 
-// The tag that begins a text, and the text behind its `=`, however many digits it has.
+// The tag that begins a text, and the text after its `=`, however many digits it has.
 #[tactic(auto, unfolding(crate::specs::Bytes::tag_number))]
 fn split_any_tag(text: &[u8]) -> Option<(u32, &[u8])>
     ensures tag { option_map (λ split. split.0) result ≡ first_tag text.now }
@@ -78,7 +78,7 @@ fn split_any_tag(text: &[u8]) -> Option<(u32, &[u8])>
     Some((tag, &text[place + 1..]))
 }
 
-// The tag that begins a text, and the text behind its `=`. One to three digits are read at once.
+// The tag that begins a text, and the text after its `=`. One to three digits are read at once.
 #[inline(always)]
 #[tactic(auto, using(crate::proofs::TagLemmas::tag_of_one, crate::proofs::TagLemmas::tag_of_two, crate::proofs::TagLemmas::tag_of_three))]
 fn split_tag(text: &[u8]) -> Option<(u32, &[u8])>
@@ -105,7 +105,7 @@ fn split_tag(text: &[u8]) -> Option<(u32, &[u8])>
     split_any_tag(text)
 }
 
-// The bytes up to the next SOH, and those behind it.
+// The bytes up to the next SOH, and those after it.
 #[inline(always)]
 fn split_at_soh(text: &[u8]) -> (&[u8], &[u8])
     ensures before { result.0.now ≡ before_first is_soh text.now }
@@ -119,7 +119,7 @@ fn split_at_soh(text: &[u8]) -> (&[u8], &[u8])
     }
 }
 
-// As many bytes as the digits say, and the text behind the SOH that follows them.
+// As many bytes as the digits say, and the text after the SOH that follows them.
 #[tactic(auto, unfolding(crate::specs::Fields::data_value))]
 fn split_data<'a>(digits: &[u8], text: &'a [u8]) -> Option<(&'a [u8], &'a [u8])>
     ensures { option_map (λ split. (split.0.now, split.1.now)) result ≡ data_value digits.now text.now }
@@ -135,7 +135,7 @@ fn split_data<'a>(digits: &[u8], text: &'a [u8]) -> Option<(&'a [u8], &'a [u8])>
     }
 }
 
-/// The field that begins a text, right behind the field `before`, and the text behind it.
+/// The field that begins a text, right after the field `before`, and the text after it.
 #[inline(always)]
 #[tactic(auto, unfolding(crate::specs::Fields::first_field))]
 pub(crate) fn first_field<'a>(

@@ -25,7 +25,7 @@ abbrev pub is_fraction : ℕ → List ℕ → Bool
 is_fraction byte digits =
     byte == 46 && (nat_le FRACTION_MIN (length digits) && nat_le (length digits) FRACTION_MAX) && list_all is_ascii_digit digits
 
--- the thousandths of a second in what stands behind the seconds: nothing, or a fraction, of which three digits count
+-- the thousandths of a second in what stands after the seconds: nothing, or a fraction, of which three digits count
 unfoldable pub fraction_of : List ℕ → Result ℕ TimeFault
 fraction_of [] = Ok 0
 fraction_of (byte ∷ digits) = if is_fraction byte digits then Ok (number (take 3 digits)) else Err Format

@@ -12,7 +12,7 @@ abbrev pub fits : List ℕ → List ℕ → Bool
 fits shape text =
     length text == length shape && list_all (λ pair. stands_for pair.0 pair.1) (zip shape text)
 
--- a number with one more digit behind it
+-- a number with one more digit after it
 abbrev pub with_digit : ℕ → ℕ → ℕ
 with_digit n digit = n * 10 + (digit - 48)
 

@@ -20,14 +20,14 @@ since_midnight moment = unsigned_abs (int_rem_euclid moment (pos DAY_MILLIS))
 abbrev pub IsMoment : ℤ → Type 0
 IsMoment moment = IsDay (utc_day moment)
 
--- the moment that a text names: a day in its first eight bytes, and a time of day behind them, whose fault comes first
+-- the moment that a text names: a day in its first eight bytes, and a time of day after them, whose fault comes first
 unfoldable pub moment_of : List ℕ → Result ℤ TimeFault
 moment_of text = do
   millis ← clock_of (drop 8 text)
   day ← day_of (take 8 text)
   Ok (day *ℤ pos DAY_MILLIS +ℤ pos millis)
 
--- a text of a moment: that of a day, and behind it that of a time of day
+-- a text of a moment: that of a day, and after it that of a time of day
 abbrev pub IsMomentText : List ℕ → Type 0
 IsMomentText text = IsDayText (take 8 text) × IsOk (clock_of (drop 8 text))
 

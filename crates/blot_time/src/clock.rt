@@ -36,7 +36,7 @@ pub(crate) fn read_clock(text: &[u8]) -> Result<u32, TimeFault>
     Ok(seconds * 1000 + read_fraction(fraction)?)
 }
 
-// The thousandths of a second in what stands behind the seconds.
+// The thousandths of a second in what stands after the seconds.
 #[tactic(auto, unfolding(crate::specs::Clock::fraction_of))]
 fn read_fraction(text: &[u8]) -> Result<u32, TimeFault>
     ensures value { result ≡ fraction_of text.now }
@@ -51,7 +51,7 @@ fn read_fraction(text: &[u8]) -> Result<u32, TimeFault>
     Ok(number_of(&digits[..3]))
 }
 
-// Whether a byte and what stands behind it are a point and 3 to 9 digits.
+// Whether a byte and what stands after it are a point and 3 to 9 digits.
 fn is_fraction(byte: u8, digits: &[u8]) -> bool
     ensures { result ≡ is_fraction byte digits.now }
 {

@@ -1,4 +1,4 @@
--- The trail of a stream, told as its frames are taken one by one, and its pieces one behind the other.
+-- The trail of a stream, told as its frames are taken one by one, and its pieces one after the other.
 use Rattle.std.proofs.Common.{◌≡◌, ℕ, ◌+◌, ◌-◌, ◌^◌, ◌<◌, ◌≤◌, List, [], ◌∷◌, ◌++◌, length, fold, min, Option, Some, None, refl, sym, ap, subst, ◌∙◌, arith}
 use Rattle.std.specs.Prelude.{Bool, true, false, IfSome, is_some}
 use Rattle.std.proofs.lemmas.Bool.{false≢true}
@@ -44,11 +44,11 @@ counted-bytes unread skipped after passed offset is few low within = is ∙ min-
 
 -- ---- the whole trail
 
--- its text, by its messages and how many bytes are passed over behind them
+-- its text, by its messages and how many bytes are passed over after them
 text-by : Making → Taking → List Placed → ℕ → ℕ → List ℕ
 text-by trail taking placed skipped rest = finished (behind_bytes (skipped - passed_by placed) (fold behind_turn trail (trace_over taking placed))) rest
 
--- a message more is told
+-- one more message is told
 text-taken : (trail : Making) (taking : Taking) (passed : ℕ) (frame : List ℕ) (placed : List Placed) (skipped rest : ℕ)
     → text-by trail taking (record { passed = passed; text = frame } ∷ placed) (passed + skipped) rest
     ≡ text-by (behind_turn trail (turn_of taking (record { passed = passed; text = frame }))) (taking_after taking frame) placed skipped rest
@@ -58,7 +58,7 @@ text-taken trail taking passed frame placed skipped rest =
     let last : passed + skipped - passed_by (first ∷ placed) ≡ skipped - passed_by placed = omega (arith, sum_by-cons (λ (placed : Placed). placed.passed) first placed) in
     ap (λ count. finished (behind_bytes count (fold behind_turn (behind_turn trail (turn_of taking first)) (trace_over (taking_after taking frame) placed))) rest) last
 
--- bytes more are passed over
+-- more bytes are passed over
 text-passed : (trail : Making) (taking : Taking) (passed : ℕ) (placed : List Placed) (skipped rest : ℕ)
     → text-by trail taking (after_bytes passed placed) (passed + skipped) rest ≡ text-by (behind_bytes passed trail) taking placed skipped rest
 unfolding text-by
@@ -76,7 +76,7 @@ text-passed trail taking passed (frame ∷ placed) skipped rest =
 
 -- ---- a call of the reader
 
--- it passed over so many bytes, and took so many behind them
+-- it passed over so many bytes, and took so many after them
 pub record Counts (old new : Reading) (passed size : ℕ) : Type 0 where
   pub skipped : new.skipped ≡ old.skipped + passed
   pub unread : length old.unread ≡ passed + size + length new.unread
@@ -205,7 +205,7 @@ noted-drained : (old new : Reading) (from now : Taking) (found : Option Line) �
 noted-drained old new from now None notes none = walk_of-prefix new.unread (look_of-prefix new.unread notes.none.prefix)
 noted-drained old new from now (Some line) notes none = absurd (false≢true (sym none))
 
--- a trail behind what was noted is in step again
+-- after what was noted a trail is in step again
 noted-step : (old new : Reading) (found : Option Line) (trail : Making) (passed : ℕ) → Counts old new passed (size_of found) → IsInStep old trail → IsInStep new (told_by passed found trail)
 noted-step old new None trail passed counts step = record { skipped = omega (arith, counts.skipped, step.skipped); low = omega (arith, counts.skipped, step.low) }
 noted-step old new (Some line) trail passed counts step = record { skipped = omega (arith, counts.skipped, step.skipped); low = omega (arith, counts.skipped, step.low) }

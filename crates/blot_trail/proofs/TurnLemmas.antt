@@ -31,7 +31,7 @@ sent-wanted actions handled.Passed wants = ap (flat_map action_text) (sym wants)
 sent-wanted actions (handled.Met wanted) wants = ap (flat_map action_text) (sym wants)
 sent-wanted actions (handled.Replied reply wanted) wants = ap (flat_map action_text) (sym wants.1)
 
--- the end of a line and those behind it, by the lines of what is sent
+-- the end of a line and those after it, by the lines of what is sent
 abbrev tail-by : List ℕ → Became → List ℕ → List ℕ
 tail-by text became sent =
     told (word_or_dash (sender_of (fields_of text))) ++ head_text (head_in (said_by text)) (fields_of text) ++ 9 ∷ became_text became ++ sent
@@ -62,7 +62,7 @@ can-be-told session journal text became is = subst IsToldOf (sym is) (told-in se
 
 -- ---- a frame that was taken
 
--- what is said of the sessions behind `meets` is said of those before it
+-- what is said of the sessions after `meets` is said of those before it
 pub handled-as : (before after : Sessions) (journal : Journal) (text : List ℕ) (met : Option Met) (handled : Handled)
     → after ≡ before → met ≡ met_at (session_for before text) text
     → IsHandled (became_in (session_for after text) journal text) (actions_in (session_for after text) journal text) (met_at (session_for after text) text) handled

@@ -18,7 +18,7 @@ line_of turn = record {
   length_of = length turn.placed.text;
 }
 
--- a trail behind a message: behind the bytes that are passed over right before it, and behind what is told of it
+-- a trail after a message: after the bytes that are passed over right before the message, and after what is told of it
 abbrev pub behind_turn : Making → Turn → Making
 behind_turn trail turn = behind_line (line_of turn) (behind_bytes turn.placed.passed trail)
 
@@ -77,11 +77,11 @@ pub record Telling : Type 0 where
   pub trail : Making
   pub taking : Taking
 
--- here these bytes are still to come, there those: the whole trail is the same
+-- the whole trail is the same: here with these bytes still to come, there with those
 abbrev pub Told : Telling → List ℕ → Telling → List ℕ → Type 0
 Told from bytes now left = trail_from from.trail from.taking bytes ≡ trail_from now.trail now.taking left
 
--- the same of an input's bytes, where they are known: some were read, and of those some are unread
+-- the same for an input's bytes, where they are known: some were read, and some of those are unread
 abbrev pub ToldOf : Option (List ℕ) → Telling → Option (List ℕ) → List ℕ → Telling → Type 0
 ToldOf None from rest unread now = ⊤
 ToldOf (Some bytes) from None unread now = ⊥

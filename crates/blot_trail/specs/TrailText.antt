@@ -1,11 +1,12 @@
 -- The text of an audit trail. Words are divided by tabs, and each line ends with LF. Source: this project's rule.
-use Rattle.std.specs.Prelude.{ℕ, zero, suc, ◌+◌, ◌-◌, ◌≤◌, ◌==◌, List, [], ◌∷◌, ◌++◌, length, map, filter, codes, Option, Some, None, Ok, Err, if◌then◌else◌}
+use Rattle.std.specs.Prelude.{ℕ, zero, suc, ◌+◌, ◌-◌, ◌≤◌, ◌==◌, List, [], ◌∷◌, ◌++◌, length, map, filter, codes, Option, Some, None, if◌then◌else◌}
 use Rattle.std.specs.List.{flat_map}
 use Rattle.blot_tag.specs.Fields.{Item, fields_of}
 use Rattle.blot_types.specs.Keys.{same_text}
 use Rattle.blot_fields.specs.declared.head.Head.{Head}
 use Rattle.blot_fields.specs.Numbers.{head_in}
-use Rattle.blot_fields.specs.Sender.{sender_of, text_in}
+use Rattle.blot_fields.specs.First.{first_text}
+use Rattle.blot_fields.specs.Sender.{sender_of}
 use Rattle.blot_session.specs.declared.action.Action.{Action}
 use Rattle.blot_session.specs.declared.action.Action.TheVariants.{Send}
 use Rattle.blot_session.specs.declared.met.Met.{Met}
@@ -27,12 +28,6 @@ abbrev pub word_or_dash : Option (List ℕ) → List ℕ
 word_or_dash None = codes "-"
 word_or_dash (Some word) = word
 
--- the first field of a tag that can be split off, if it is a text
-abbrev pub first_text_of : ℕ → List Item → Option (List ℕ)
-first_text_of tag [] = None
-first_text_of tag (Err fault ∷ items) = None
-first_text_of tag (Ok field ∷ items) = if field.tag == tag then text_in field.value else first_text_of tag items
-
 -- the tag of what a message is known by: ExecID(17) of an Execution Report, AllocID(70) of an Allocation Instruction
 abbrev pub id_tag_of : List ℕ → Option ℕ
 id_tag_of kind =
@@ -42,7 +37,7 @@ id_tag_of kind =
 -- what it is known by
 abbrev pub id_by : Option ℕ → List Item → Option (List ℕ)
 id_by None items = None
-id_by (Some tag) items = first_text_of tag items
+id_by (Some tag) items = first_text tag items
 
 -- MsgSeqNum, MsgType and that, of a message whose header can be read
 abbrev pub head_text : Option Head → List Item → List ℕ
@@ -81,7 +76,7 @@ abbrev pub action_text : Action → List ℕ
 action_text (Send bytes) = sent_text bytes
 action_text action = []
 
--- what is told of a message behind its place and where it begins: its words, to the end of its line, and the lines of what is sent
+-- what is told of a message after its place and where it begins: its words, to the end of its line, and the lines of what is sent
 abbrev pub tail_text : List ℕ → Became → List Action → List ℕ
 tail_text frame became actions =
     told (word_or_dash (sender_of (fields_of frame)))
@@ -89,7 +84,7 @@ tail_text frame became actions =
     ++ 9 ∷ became_text became
     ++ flat_map action_text actions
 
--- its line and those behind it
+-- its line and those after it
 abbrev pub message_text : ℕ → ℕ → List ℕ → List ℕ
 message_text place offset tail = codes "message" ++ number_text place ++ number_text offset ++ tail
 
@@ -163,7 +158,7 @@ word_sums all =
 
 -- ---- a trail
 
--- the last lines: what is passed over behind the last message, up to this place, and the rest that begins there; the sums; and how
+-- the last lines: what is passed over after the last message, up to this place, and the rest that begins there; the sums; and how
 -- many messages there are
 abbrev pub last_text : List Word → ℕ → ℕ → ℕ → ℕ → List ℕ
 last_text all offset passed skipped rest =
@@ -191,13 +186,13 @@ none_yet = record { text = []; words = []; offset = 0; passed = 0; skipped = 0 }
 abbrev pub behind_bytes : ℕ → Making → Making
 behind_bytes count trail = record trail { offset = trail.offset + count; passed = trail.passed + count }
 
--- what is told of a message, but its place and where it begins
+-- what is told of a message, except its place and where it begins
 pub record Line : Type 0 where
   pub tail : List ℕ
   pub word : Word
   pub length_of : ℕ
 
--- a message more
+-- one more message
 abbrev pub behind_line : Line → Making → Making
 behind_line line trail = record {
   text = trail.text ++ (bytes_text (codes "skipped") (trail.offset - trail.passed) trail.passed

@@ -14,7 +14,7 @@ use blot_tag::Frame;
 use std::alloc::{AllocError as NoMemory, Global};
 use std::marker::Model;
 
-/// What is told of a message, but its place and where it begins: how its line ends, and the lines of what would be sent.
+/// What is told of a message, except its place and where it begins: how its line ends, and the lines of what would be sent.
 #[derive(Drop)]
 pub struct Noted {
     tail: Vec<u8>,
@@ -31,7 +31,7 @@ impl Model for Noted {
 }
 
 impl Noted {
-    /// What is told of a frame that says this and became this, where a session wants these actions done. An error is out of memory.
+    /// What is told of a frame that says this and became this, and whose session wants these actions done. An error is out of memory.
     pub fn new(
         alloc: Global,
         frame: &Frame,
@@ -125,7 +125,7 @@ impl Trail {
         self.offset
     }
 
-    /// A message comes, behind what is passed over. An error is out of memory, and what the trail is then isn't said.
+    /// A message comes, after what is passed over. An error is out of memory, and what the trail is then isn't said.
     pub fn put(&mut self, alloc: Global, noted: &Noted) -> Result<(), NoMemory>
         requires { self.old.offset + noted.now.length_of < 2 ^ 63 }
         ensures { OnOk result (self.new ≡ behind_line noted.now self.old) }
@@ -174,7 +174,7 @@ impl Trail {
     }
 }
 
-// Puts the lines of what is sent behind a text.
+// Adds the lines of what is sent at the end of a text.
 fn put_all_sent(text: &mut Vec<u8>, actions: &[Action]) -> Result<(), NoMemory>
     ensures { OnOk result (text.new.items ≡ text.old.items ++ flat_map action_text actions.now) }
 {
@@ -184,7 +184,7 @@ fn put_all_sent(text: &mut Vec<u8>, actions: &[Action]) -> Result<(), NoMemory>
     Ok(())
 }
 
-// Puts the line of what an action sends behind a text, if it sends anything.
+// Adds at the end of a text the line of what an action sends, if it sends anything.
 fn put_action(text: &mut Vec<u8>, action: &Action) -> Result<(), NoMemory>
     ensures { OnOk result (text.new.items ≡ text.old.items ++ action_text action.now) }
 {
@@ -194,7 +194,7 @@ fn put_action(text: &mut Vec<u8>, action: &Action) -> Result<(), NoMemory>
     }
 }
 
-// Puts how often each word is told behind a text.
+// Adds how often each word is told at the end of a text.
 #[tactic(auto, unfolding(crate::specs::TrailText::word_sums))]
 fn put_word_sums(alloc: Global, text: &mut Vec<u8>, words: &[Word]) -> Result<(), NoMemory>
     ensures { OnOk result (text.new.items ≡ text.old.items ++ word_sums words.now) }
@@ -210,7 +210,7 @@ fn put_word_sums(alloc: Global, text: &mut Vec<u8>, words: &[Word]) -> Result<()
     put_word_sum(alloc, text, words, Word::Passed)
 }
 
-// Puts how often a word is told behind a text.
+// Adds how often a word is told at the end of a text.
 #[tactic(auto, unfolding(crate::specs::TrailText::word_sum))]
 fn put_word_sum(
     alloc: Global,

@@ -3,20 +3,20 @@ ghost use Rattle.std.specs.Prelude.{◌≡◌, ◌++◌, ◌∷◌, OnOk, IfOk, 
 ghost use Rattle.blot_tag.specs.Fields.{fields_of};
 ghost use Rattle.blot_tag.specs.Views.{text_of};
 ghost use Rattle.blot_fields.specs.Numbers.{head_in};
-ghost use Rattle.blot_fields.specs.Sender.{sender_of, text_in};
+ghost use Rattle.blot_fields.specs.Sender.{sender_of};
 ghost use Rattle.blot_console.specs.Answers.{told, number_text};
 ghost use Rattle.blot_trail.specs.TrailText.{IsToldOf};
-ghost use Rattle.blot_trail.specs.TrailText.{became_text, bytes_text, first_text_of, head_text, id_by, id_tag_of, met_text, sent_text, shown_byte, sum_text, word_or_dash};
+ghost use Rattle.blot_trail.specs.TrailText.{became_text, bytes_text, head_text, id_by, id_tag_of, met_text, sent_text, shown_byte, sum_text, word_or_dash};
 
 use blot_capture::Became;
 use blot_console::{Answer, answer_text};
-use blot_fields::{FieldFault, Head, Message, sender_of};
+use blot_fields::{FieldFault, Message, first_text, head_in, sender_of};
 use blot_session::Met;
 use blot_tag::Frame;
 use blot_types::Text64;
 use std::alloc::{AllocError as NoMemory, Global};
 
-/// Puts a word's name and its count behind a text, as a line.
+/// Adds a word's name and its count at the end of a text, as a line.
 #[tactic(auto, unfolding(crate::specs::TrailText::sum_text))]
 pub(crate) fn put_sum(
     alloc: Global,
@@ -33,7 +33,7 @@ pub(crate) fn put_sum(
     Ok(())
 }
 
-/// Puts the line of bytes that are no message behind a text: where they begin, and how many. None have no line.
+/// Adds at the end of a text the line of bytes that are no message: where they begin, and how many. None have no line.
 #[tactic(auto, unfolding(crate::specs::TrailText::bytes_text))]
 pub(crate) fn put_bytes(
     alloc: Global,
@@ -54,7 +54,7 @@ pub(crate) fn put_bytes(
     Ok(())
 }
 
-/// Puts the line of a message that is sent behind a text, with a bar for each SOH.
+/// Adds at the end of a text the line of a message that is sent, with a bar for each SOH.
 pub(crate) fn put_sent(text: &mut Vec<u8>, message: &[u8]) -> Result<(), NoMemory>
     ensures { OnOk result (text.new.items ≡ text.old.items ++ sent_text message.now) }
 {
@@ -64,14 +64,14 @@ pub(crate) fn put_sent(text: &mut Vec<u8>, message: &[u8]) -> Result<(), NoMemor
     Ok(())
 }
 
-/// Puts the sender of a frame behind a text.
+/// Adds the sender of a frame at the end of a text.
 pub(crate) fn put_sender(text: &mut Vec<u8>, frame: &Frame) -> Result<(), NoMemory>
     ensures { OnOk result (text.new.items ≡ text.old.items ++ told (word_or_dash (sender_of (fields_of (text_of frame.now))))) }
 {
     put_word_or_dash(text, sender_of(frame))
 }
 
-/// Puts a message's number, its type and what it is known by behind a text.
+/// Adds a message's number, its type and what it is known by at the end of a text.
 pub(crate) fn put_head(
     alloc: Global,
     text: &mut Vec<u8>,
@@ -89,7 +89,7 @@ pub(crate) fn put_head(
     put_word_or_dash(text, id_of(frame, &head.kind))
 }
 
-/// Puts what became of a message behind a text, to the end of its line.
+/// Adds at the end of a text what became of a message, to the end of its line.
 pub(crate) fn put_became(alloc: Global, text: &mut Vec<u8>, became: &Became) -> Result<(), NoMemory>
     requires { IsToldOf became.now }
     ensures { OnOk result (text.new.items ≡ text.old.items ++ became_text became.now) }
@@ -108,7 +108,7 @@ pub(crate) fn put_became(alloc: Global, text: &mut Vec<u8>, became: &Became) -> 
     }
 }
 
-/// Puts a tab and a number behind a text.
+/// Adds a tab and a number at the end of a text.
 pub(crate) fn put_number(alloc: Global, text: &mut Vec<u8>, number: u64) -> Result<(), NoMemory>
     ensures { OnOk result (text.new.items ≡ text.old.items ++ number_text number) }
 {
@@ -117,7 +117,7 @@ pub(crate) fn put_number(alloc: Global, text: &mut Vec<u8>, number: u64) -> Resu
     Ok(())
 }
 
-// Puts what a session made of a message behind a text, to the end of its line.
+// Adds at the end of a text what a session made of a message, to the end of its line.
 fn put_met(alloc: Global, text: &mut Vec<u8>, met: Met) -> Result<(), NoMemory>
     ensures { OnOk result (text.new.items ≡ text.old.items ++ met_text met) }
 {
@@ -147,7 +147,7 @@ fn put_met(alloc: Global, text: &mut Vec<u8>, met: Met) -> Result<(), NoMemory>
     Ok(())
 }
 
-// Puts a tab and a word behind a text.
+// Adds a tab and a word at the end of a text.
 fn put_word(text: &mut Vec<u8>, word: &[u8]) -> Result<(), NoMemory>
     ensures { OnOk result (text.new.items ≡ text.old.items ++ told word.now) }
 {
@@ -156,7 +156,7 @@ fn put_word(text: &mut Vec<u8>, word: &[u8]) -> Result<(), NoMemory>
     Ok(())
 }
 
-// Puts a tab and a word behind a text, `-` where there is none.
+// Adds a tab and a word at the end of a text, `-` where there is none.
 fn put_word_or_dash(text: &mut Vec<u8>, word: Option<Text64>) -> Result<(), NoMemory>
     ensures { OnOk result (text.new.items ≡ text.old.items ++ told (word_or_dash word)) }
 {
@@ -166,7 +166,7 @@ fn put_word_or_dash(text: &mut Vec<u8>, word: Option<Text64>) -> Result<(), NoMe
     }
 }
 
-// Puts bytes behind a text, with a bar for each SOH.
+// Adds bytes at the end of a text, with a bar for each SOH.
 fn put_shown(text: &mut Vec<u8>, bytes: &[u8]) -> Result<(), NoMemory>
     ensures { OnOk result (text.new.items ≡ text.old.items ++ map shown_byte bytes.now) }
 {
@@ -183,22 +183,12 @@ fn shown_byte(byte: u8) -> u8
     if byte == 1 { b'|' } else { byte }
 }
 
-// The header of a message, where it can be read.
-fn head_in(said: &Result<Message, FieldFault>) -> Option<Head>
-    ensures { result ≡ head_in said.now }
-{
-    match said {
-        Ok(message) => Some(message.head),
-        Err(fault) => fault.head,
-    }
-}
-
 // What a message of a type is known by.
 fn id_of(frame: &Frame, kind: &Text64) -> Option<Text64>
     ensures { result ≡ id_by (id_tag_of kind.now) (fields_of (text_of frame.now)) }
 {
     match id_tag_of(kind) {
-        Some(tag) => first_text_of(frame, tag),
+        Some(tag) => first_text(frame, tag),
         None => None,
     }
 }
@@ -214,26 +204,4 @@ fn id_tag_of(kind: &Text64) -> Option<u32>
         return Some(70);
     }
     None
-}
-
-// The first field of a tag that can be split off, if it is a text.
-fn first_text_of(frame: &Frame, tag: u32) -> Option<Text64>
-    ensures { result ≡ first_text_of tag (fields_of (text_of frame.now)) }
-{
-    for item in frame.fields() {
-        let Ok(field) = item else {
-            return None;
-        };
-        if field.tag == tag {
-            return text_in(field.value);
-        }
-    }
-    None
-}
-
-// These bytes, if they are a text.
-fn text_in(bytes: &[u8]) -> Option<Text64>
-    ensures { result ≡ text_in bytes.now }
-{
-    Text64::read(bytes)
 }

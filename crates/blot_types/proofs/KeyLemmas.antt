@@ -1,10 +1,15 @@
--- When two keys are one: the test is an equivalence that decides equality.
+-- When two keys are one: the test is an equivalence that decides equality; and the order of positions is total.
 use Rattle.std.proofs.Common.{◌≡◌, true, sym}
-use Rattle.std.specs.Cmp.Lexicographic.{same_text as text_told, nat_list_eq_equiv}
+use Rattle.std.specs.Cmp.{IsTotalOrder, on_total, then_total}
+use Rattle.std.specs.Cmp.Lexicographic.{slice_cmp, same_text as text_told, nat_list_cmp_total, nat_list_eq_equiv}
+use Rattle.std.specs.FinMap as finite
+use Rattle.std.specs.Ordering.{nat_cmp}
 use Rattle.std.proofs.lemmas.Bool.{and_from, and_parts}
+use Rattle.std.proofs.lemmas.Map.Lookups.{exact_bytes, exact_pairs}
 use Rattle.blot_types.specs.declared.keys.AllocKey.{AllocKey}
 use Rattle.blot_types.specs.declared.keys.ExecKey.{ExecKey}
-use Rattle.blot_types.specs.Keys.{same_text, same_exec, same_alloc}
+use Rattle.blot_types.specs.declared.keys.PositionKey.{PositionKey}
+use Rattle.blot_types.specs.Keys.{same_text, same_exec, same_alloc, position_cmp}
 
 -- keys that the test calls one are equal
 pub same_exec-true : (a b : ExecKey) → same_exec a b ≡ true → a ≡ b
@@ -35,3 +40,12 @@ same_alloc-refl a = and_from _ _ (nat_list_eq_equiv.refl a.peer) (nat_list_eq_eq
 
 pub same_alloc-sym : (a b : AllocKey) → same_alloc a b ≡ same_alloc b a
 same_alloc-sym a b = rw (nat_list_eq_equiv.symm a.peer b.peer, nat_list_eq_equiv.symm a.id b.id)
+
+-- the order of positions is total, and ties no two of them
+pub position_cmp-total : IsTotalOrder position_cmp
+position_cmp-total = then_total (on_total (λ (key : PositionKey). key.account) nat_list_cmp_total) (on_total (λ (key : PositionKey). key.symbol) nat_list_cmp_total)
+
+pub position_cmp-exact : finite.IsAntisymmetric position_cmp
+position_cmp-exact a b tied =
+    let both : (a.account, a.symbol) ≡ (b.account, b.symbol) = exact_pairs (slice_cmp nat_cmp) (slice_cmp nat_cmp) exact_bytes exact_bytes (a.account, a.symbol) (b.account, b.symbol) tied in
+    λ i. record { account = (both i).0; symbol = (both i).1 }

@@ -19,5 +19,6 @@ pub mod QuantityLemmas
 mod Rows
 pub mod StandLemmas
 pub mod UncorrectedLemmas
+pub mod StayLemmas
 pub mod SumLemmas
 pub mod SurvivorLemmas

@@ -1,6 +1,6 @@
 -- The parts of the positions: what moves where a chain is named, or isn't any more.
 use Rattle.std.proofs.Common.{◌≡◌, ℕ, ◌==◌, Bool, true, false, ◌&&◌, ◌+ℤ◌, arith, List, [], ◌∷◌, map, reverse, Option, Some, None, refl, sym, ap, subst, ◌∙◌, inl, inr}
-use Rattle.std.specs.Prelude.{ℤ, filter, find, is_none, not, All, IsTrue, if◌then◌else◌}
+use Rattle.std.specs.Prelude.{ℤ, neg_ℤ, unsigned_abs, filter, find, is_none, not, All, IsTrue, if◌then◌else◌}
 use Rattle.std.specs.List.{cons_option}
 use Rattle.std.specs.Option.{option_map_or, option_and_then}
 use Rattle.std.proofs.lemmas.Bool.{cases_Bool, eqb-true, eq-eqb}
@@ -8,8 +8,10 @@ use Rattle.std.proofs.lemmas.Int.{ints}
 use Rattle.std.proofs.lemmas.List.{reverse-reverse}
 use Rattle.std.proofs.lemmas.List.Elements.{All-nil, All-cons, All-weaker}
 use Rattle.blot_types.specs.declared.command.Entry.{Entry}
+use Rattle.blot_types.specs.declared.fill.Sign.{Sign}
+use Rattle.blot_types.specs.declared.fill.Sign.TheVariants.{Buy, Sell}
 use Rattle.blot_types.specs.declared.keys.ExecKey.{ExecKey}
-use Rattle.blot_types.specs.declared.lines.Part.{Part}
+use Rattle.blot_types.specs.declared.part.Part.{Part}
 use Rattle.blot_types.specs.declared.lines.Version.{Version}
 use Rattle.blot_types.specs.declared.link.Link.{Link}
 use Rattle.blot_types.specs.Chains.{root_in, is_root, bust_in, current_in}
@@ -17,7 +19,7 @@ use Rattle.blot_types.specs.Keys.{same_exec}
 use Rattle.blot_types.specs.Laws.{is_of_chain, survivors_of_chain}
 use Rattle.blot_types.specs.Legal.{is_book}
 use Rattle.blot_types.specs.Order.{total}
-use Rattle.blot_types.specs.Position.{part_of_fill}
+use Rattle.blot_types.specs.Position.{signed, part_of_fill}
 use Rattle.blot_types.specs.Standing.{standing}
 use Rattle.blot_types.specs.Survivors.{links_of, versions_of, stands_under, stands_in, survivors}
 use Rattle.blot_types.proofs.KeyLemmas.{same_exec-true, same_exec-refl}
@@ -25,6 +27,16 @@ use Rattle.blot_types.proofs.LawLemmas.{filter-none, all, alone, stands-number, 
 use Rattle.blot_types.proofs.StandLemmas.{and-false}
 use Rattle.blot_types.proofs.SumLemmas.{total-map, total-filter, total-agree, total-same}
 use Rattle.blot_types.proofs.SurvivorLemmas.{IsCurrent, filter-and, find-passes, current-found}
+
+-- ---- how large a part is
+
+-- a sign changes no size
+pub neg-size : (amount : ℤ) → unsigned_abs (neg_ℤ amount) ≡ unsigned_abs amount
+neg-size amount = omega (arith, ints)
+
+pub signed-size : (sign : Sign) (amount : ℤ) → unsigned_abs (signed sign amount) ≡ unsigned_abs amount
+signed-size Buy amount = refl
+signed-size Sell amount = neg-size amount
 
 -- ---- lists
 

@@ -1,10 +1,13 @@
 -- When two keys are one.
 use Rattle.std.specs.Prelude.{ℕ, Bool, ◌&&◌, List, nat_eq}
-use Rattle.std.specs.Cmp.Lexicographic.{pointwise}
+use Rattle.std.specs.Cmp.Lexicographic.{pointwise, slice_cmp}
 use Rattle.std.specs.List.{list_any}
+use Rattle.std.specs.Ordering.{nat_cmp, ordering_then}
+use Rattle.std.specs.declared.cmp.Ordering.{Ordering}
 use Rattle.blot_types.specs.declared.keys.AllocKey.{AllocKey}
 use Rattle.blot_types.specs.declared.keys.ExecKey.{ExecKey}
 use Rattle.blot_types.specs.declared.keys.OrderKey.{OrderKey}
+use Rattle.blot_types.specs.declared.keys.PositionKey.{PositionKey}
 
 -- the same text, byte for byte
 abbrev pub same_text : List ℕ → List ℕ → Bool
@@ -25,3 +28,11 @@ same_order a b = same_text a.peer b.peer && same_text a.id b.id
 -- the same peer and AllocID(70)
 abbrev pub same_alloc : AllocKey → AllocKey → Bool
 same_alloc a b = same_text a.peer b.peer && same_text a.id b.id
+
+-- the position of an account in a symbol
+abbrev pub position_at : List ℕ → List ℕ → PositionKey
+position_at account symbol = record { account = account; symbol = symbol }
+
+-- positions by account, and then by symbol, each by its bytes
+abbrev pub position_cmp : PositionKey → PositionKey → Ordering
+position_cmp a b = ordering_then (slice_cmp nat_cmp a.account b.account) (slice_cmp nat_cmp a.symbol b.symbol)

@@ -1,13 +1,17 @@
 -- Which commands a list of entries refuses, and which lists are legal. A word that ends in `_in` reads the
 -- entries newest first.
-use Rattle.std.specs.Prelude.{ℕ, ◌+◌, Bool, true, ◌&&◌, List, [], ◌∷◌, reverse, Option, is_none, nat_lt}
+use Rattle.std.specs.Prelude.{◌≡◌, ℕ, ◌+◌, Bool, true, ◌&&◌, List, [], ◌∷◌, reverse, Option, is_none, nat_lt}
 use Rattle.std.specs.List.{list_all}
 use Rattle.std.specs.Option.{option_or}
+use Rattle.blot_types.specs.declared.allocation.Instruction.{Instruction}
 use Rattle.blot_types.specs.declared.command.Command.{Command}
 use Rattle.blot_types.specs.declared.command.Entry.{Entry}
+use Rattle.blot_types.specs.declared.link.Link.{Link}
 use Rattle.blot_types.specs.declared.refused.Refused.{Refused}
 use Rattle.blot_types.specs.declared.TheConstants.{EVENTS_MAX}
+use Rattle.blot_types.specs.Allocations.{instructions_of}
 use Rattle.blot_types.specs.Refusals.{duplicate_exec, duplicate_alloc, unknown_alloc, dead_alloc, unknown_exec, busted_exec, repeated_exec, exec_taken, instrument, quantity}
+use Rattle.blot_types.specs.Survivors.{links_of}
 
 -- whether a number is above those of the entries
 abbrev pub is_above_entries : ℕ → List Entry → Bool
@@ -53,3 +57,9 @@ is_numbered list = numbers_rise list && is_above_entries (EVENTS_MAX + 1) (rever
 -- a book: a list of entries that is legal
 abbrev pub is_book : List Entry → Bool
 is_book list = is_numbered list && is_legal list
+
+-- a list is a book; the chains are those of its executions, the instructions those of its allocations
+pub record HoldsList (list : List Entry) (links : List Link) (instructions : List Instruction) : Type 0 where
+  pub book : is_book list ≡ true
+  pub links_are : links ≡ links_of list
+  pub instructions_are : instructions ≡ instructions_of list

@@ -1,4 +1,5 @@
 pub mod Allocations
+pub mod Bounds
 pub mod Chains
 pub mod Instructions
 pub mod Keys

@@ -1,5 +1,5 @@
 -- Positions, by account and symbol: sums of signed parts, with no bound.
-use Rattle.std.specs.Prelude.{ℕ, Bool, true, false, ◌&&◌, ℤ, pos, neg_ℤ, ◌*ℤ◌, List, [], ◌∷◌, ◌++◌, map, filter, Option, Some, None}
+use Rattle.std.specs.Prelude.{ℕ, ◌*◌, ◌^◌, ◌≤◌, Bool, true, false, ◌&&◌, ℤ, pos, neg_ℤ, ◌*ℤ◌, List, [], ◌∷◌, ◌++◌, length, map, filter, All, Option, Some, None, unsigned_abs}
 use Rattle.std.specs.List.{flat_map}
 use Rattle.std.specs.Option.{option_map_or, unwrap_or}
 use Rattle.blot_types.specs.declared.allocation.Line.{Line}
@@ -9,9 +9,10 @@ use Rattle.blot_types.specs.declared.fill.Fill.{Fill}
 use Rattle.blot_types.specs.declared.fill.Sign.{Sign}
 use Rattle.blot_types.specs.declared.fill.Sign.TheVariants.{Buy, Sell}
 use Rattle.blot_types.specs.declared.keys.ExecKey.{ExecKey}
-use Rattle.blot_types.specs.declared.lines.Part.{Part}
+use Rattle.blot_types.specs.declared.part.Part.{Part}
 use Rattle.blot_types.specs.declared.lines.PositionLine.{PositionLine}
 use Rattle.blot_types.specs.declared.lines.Version.{Version}
+use Rattle.blot_types.specs.declared.TheConstants.{ITEMS_MAX}
 use Rattle.blot_types.specs.Allocations.{live_allocations, named_roots}
 use Rattle.blot_types.specs.Keys.{is_among, same_text}
 use Rattle.blot_types.specs.Order.{total}
@@ -53,12 +54,27 @@ part_of_line terms line = record {
 abbrev pub from_house : Part → Part
 from_house part = record { account = house; symbol = part.symbol; qty = neg_ℤ part.qty; value = neg_ℤ part.value }
 
+-- a part is that of one fill or of one line: at most 10^16 units of quantity, at a price of at most 10^16 units
+pub record IsSmall (part : Part) : Type 0 where
+  pub qty : unsigned_abs part.qty ≤ 10 ^ 16
+  pub value : unsigned_abs part.value ≤ unsigned_abs part.qty * 10 ^ 16
+
 -- a line moves its amounts from the house account to its own
 abbrev pub moves_of_line : Terms → Line → List Part
 moves_of_line terms line = part_of_line terms line ∷ from_house (part_of_line terms line) ∷ []
 
 abbrev pub moves_of : Terms → List Part
 moves_of terms = flat_map (moves_of_line terms) terms.lines
+
+-- the amounts of a fill are in range
+abbrev pub FillFits : Fill → Type 0
+FillFits fill = (named : Bool) → IsSmall (part_of_fill named fill)
+
+-- the amounts of the lines of terms are in range, and so is their block
+pub record TermsFit (terms : Terms) : Type 0 where
+  pub lines : All (λ line. IsSmall (part_of_line terms line)) terms.lines
+  pub few : length terms.lines ≤ ITEMS_MAX
+  pub block : terms.block ≤ 10 ^ 16
 
 -- whether the chain of a key is named by a live allocation
 abbrev pub is_named : List Entry → ExecKey → Bool

@@ -32,20 +32,27 @@ abbrev pub exec_key : Command → Option ExecKey
 exec_key (Trade trade) = Some trade.key
 exec_key (Correct correct) = Some correct.key
 exec_key (Bust bust) = Some bust.key
-exec_key _ = None
+exec_key (AllocNew new) = None
+exec_key (AllocReplace replace) = None
+exec_key (AllocCancel cancel) = None
 
 -- the allocation that it takes up
 abbrev pub alloc_key : Command → Option AllocKey
+alloc_key (Trade trade) = None
+alloc_key (Correct correct) = None
+alloc_key (Bust bust) = None
 alloc_key (AllocNew new) = Some new.key
 alloc_key (AllocReplace replace) = Some replace.key
 alloc_key (AllocCancel cancel) = Some cancel.key
-alloc_key _ = None
 
 -- the allocation that it refers to
 abbrev pub alloc_reference : Command → Option AllocKey
+alloc_reference (Trade trade) = None
+alloc_reference (Correct correct) = None
+alloc_reference (Bust bust) = None
+alloc_reference (AllocNew new) = None
 alloc_reference (AllocReplace replace) = Some replace.reference
 alloc_reference (AllocCancel cancel) = Some cancel.reference
-alloc_reference _ = None
 
 -- what it allocates
 abbrev pub terms_of : Command → Option Terms
@@ -102,8 +109,9 @@ current_fill entries key =
 -- whether two signs are one
 abbrev pub same_sign : Sign → Sign → Bool
 same_sign Buy Buy = true
+same_sign Buy Sell = false
+same_sign Sell Buy = false
 same_sign Sell Sell = true
-same_sign _ _ = false
 
 -- whether a fill is of another instrument or side than the terms
 abbrev pub differs : Terms → Fill → Bool

@@ -3,7 +3,7 @@
 use Rattle.std.specs.Prelude.{ℕ, ◌==◌, Bool, false, ◌&&◌, List, filter, reverse, Option, Some, None, is_none}
 use Rattle.std.specs.List.{filter_map}
 use Rattle.blot_types.specs.declared.command.Command.{Command}
-use Rattle.blot_types.specs.declared.command.Command.TheVariants.{Trade, Correct, Bust}
+use Rattle.blot_types.specs.declared.command.Command.TheVariants.{Trade, Correct, Bust, AllocNew, AllocReplace, AllocCancel}
 use Rattle.blot_types.specs.declared.command.Entry.{Entry}
 use Rattle.blot_types.specs.declared.keys.ExecKey.{ExecKey}
 use Rattle.blot_types.specs.declared.lines.Version.{Version}
@@ -16,7 +16,9 @@ abbrev pub link_by : ℕ → Command → Option Link
 link_by number (Trade trade) = Some (record { number = number; key = trade.key; role = Begins })
 link_by number (Correct correct) = Some (record { number = number; key = correct.key; role = Corrects correct.reference })
 link_by number (Bust bust) = Some (record { number = number; key = bust.key; role = Busts bust.reference })
-link_by number _ = None
+link_by number (AllocNew new) = None
+link_by number (AllocReplace replace) = None
+link_by number (AllocCancel cancel) = None
 
 abbrev pub link_of : Entry → Option Link
 link_of entry = link_by entry.number entry.command
@@ -40,7 +42,10 @@ busted_roots list = busted_roots_in (links_of list)
 abbrev pub version_by : ℕ → Command → Option Version
 version_by number (Trade trade) = Some (record { number = number; key = trade.key; fill = trade.fill })
 version_by number (Correct correct) = Some (record { number = number; key = correct.key; fill = correct.fill })
-version_by number _ = None
+version_by number (Bust bust) = None
+version_by number (AllocNew new) = None
+version_by number (AllocReplace replace) = None
+version_by number (AllocCancel cancel) = None
 
 abbrev pub version_of : Entry → Option Version
 version_of entry = version_by entry.number entry.command

@@ -1,5 +1,5 @@
 -- How a refusal is told: by its number and its name. Source: this project's rule.
-use Rattle.std.specs.Prelude.{ℕ, List, codes}
+use Rattle.std.specs.Prelude.{ℕ, ◌==◌, ◌||◌, List, codes, if◌then◌else◌}
 use Rattle.blot_types.specs.declared.refused.Refused.{Refused}
 use Rattle.blot_types.specs.declared.refused.Refused.TheVariants.{DuplicateExec, DuplicateAlloc, UnknownAlloc, DeadAlloc, UnknownExec, BustedExec, RepeatedExec, ExecTaken, Instrument, Quantity, NothingToUndo, Moved, NothingToRedo}
 
@@ -34,3 +34,11 @@ refused_name (Quantity wanted found) = codes "Quantity"
 refused_name NothingToUndo = codes "NothingToUndo"
 refused_name (Moved newest) = codes "Moved"
 refused_name NothingToRedo = codes "NothingToRedo"
+
+-- the code of a refusal, by the number under which it is told: 10 where an execution isn't there to be allocated (5
+-- UnknownExec, 6 BustedExec, 8 ExecTaken), 1 where quantities differ (10 Quantity), and 7 for any other (FIX 4.4 volume 5,
+-- AllocRejCode; which refusal has which code is this project's rule)
+abbrev pub reject_code : ℕ → ℕ
+reject_code refusal =
+    if refusal == 5 || refusal == 6 || refusal == 8 then 10
+    else (if refusal == 10 then 1 else 7)

@@ -1,7 +1,10 @@
 //! What an allocation books, and where.
+ghost use Rattle.std.specs.Prelude.{◌≡◌, pos};
+ghost use Rattle.blot_types.specs.declared.refused.Refused.TheVariants.{Quantity};
+ghost use Rattle.blot_types.specs.Refusals.{booked, differs, mismatch, same_sign};
 
-use crate::{AllocKey, ExecKey, Items, Sign, Text64};
-use blot_decimal::{Price, Qty};
+use crate::{AllocKey, ExecKey, Fill, Items, Refused, Sign, Text64};
+use blot_decimal::{Price, Qty, QtySum};
 use blot_time::Day;
 
 /// What an allocation books to one account. FIX 4.4 volume 5, NoAllocs(78).
@@ -29,6 +32,59 @@ pub struct Terms {
     pub execs: Items<ExecKey>,
     /// What goes to each account; 1 to 200 lines from a message.
     pub lines: Items<Line>,
+}
+
+impl Terms {
+    /// Whether a fill is of another symbol or sign than the terms.
+    pub fn differs(&self, fill: &Fill) -> bool
+        ensures { result ≡ differs self.now fill.now }
+    {
+        !(fill.symbol == self.symbol && is_same_sign(fill.sign, self.sign))
+    }
+
+    /// Why the terms are refused where the listed executions come to a quantity, in units of 10^-6: the block's is
+    /// another, or else what the lines book is.
+    pub fn mismatch(&self, wanted: i128) -> Option<Refused>
+        ensures { result ≡ mismatch wanted (pos self.now.block) (booked self.now.lines) }
+    {
+        let block = i128::from(self.block.units());
+        if block != wanted {
+            return Some(quantity(wanted, block));
+        }
+        let booked = booked(self.lines.as_slice());
+        if booked != wanted {
+            return Some(quantity(wanted, booked));
+        }
+        None
+    }
+}
+
+// Whether two signs are one.
+fn is_same_sign(a: Sign, b: Sign) -> bool
+    ensures { result ≡ same_sign a b }
+{
+    match (a, b) {
+        (Sign::Buy, Sign::Buy) | (Sign::Sell, Sign::Sell) => true,
+        (Sign::Buy, Sign::Sell) | (Sign::Sell, Sign::Buy) => false,
+    }
+}
+
+// The quantity that lines book, in units of 10^-6.
+fn booked(lines: &[Line]) -> i128
+    ensures { result ≡ booked lines.now }
+{
+    let mut sum = 0;
+    for line in lines {
+        sum += i128::from(line.qty.units());
+    }
+    sum
+}
+
+// The refusal of a quantity found in place of the one wanted.
+fn quantity(wanted: i128, found: i128) -> Refused
+    ensures { result ≡ Quantity wanted found }
+{
+    Refused::Quantity(QtySum::from_units(wanted), QtySum::from_units(found))
 }
 
 /// What an instruction does to the allocations: it brings one, brings one in the place of another, or ends

@@ -1,8 +1,12 @@
 //! What changes the book, and the record of it.
 ghost use Rattle.std.specs.Prelude.{◌≡◌, IfOk};
+ghost use Rattle.std.specs.Option.{option_copied, option_map};
+ghost use Rattle.blot_types.specs.Allocations.{allocation_of};
+ghost use Rattle.blot_types.specs.Refusals.{exec_key, alloc_key, alloc_reference, terms_of, listed_by, exec_references};
 
 use crate::{AllocKey, ExecKey, Fill, Link, Role, Terms, Version};
 use std::alloc::{AllocError as NoMemory, Global};
+use std::slice;
 
 /// A fill that a broker reports: an Execution Report with ExecType(150) `F`.
 #[derive(Clone, Copy, Debug, PartialEq, Eq)]
@@ -109,6 +113,90 @@ impl Command {
             Command::AllocCancel(cancel) => Ok(Command::AllocCancel(*cancel)),
         }
     }
+
+    /// The execution that the command takes up.
+    pub fn exec_key(&self) -> Option<ExecKey>
+        ensures { result ≡ exec_key self.now }
+    {
+        match self {
+            Command::Trade(trade) => Some(trade.key),
+            Command::Correct(correct) => Some(correct.key),
+            Command::Bust(bust) => Some(bust.key),
+            Command::AllocNew(_) | Command::AllocReplace(_) | Command::AllocCancel(_) => None,
+        }
+    }
+
+    /// The allocation that the command takes up.
+    pub fn alloc_key(&self) -> Option<AllocKey>
+        ensures { result ≡ alloc_key self.now }
+    {
+        match self {
+            Command::Trade(_) | Command::Correct(_) | Command::Bust(_) => None,
+            Command::AllocNew(new) => Some(new.key),
+            Command::AllocReplace(replace) => Some(replace.key),
+            Command::AllocCancel(cancel) => Some(cancel.key),
+        }
+    }
+
+    /// The allocation that the command refers to, and so ends.
+    pub fn alloc_reference(&self) -> Option<AllocKey>
+        ensures { result ≡ alloc_reference self.now }
+    {
+        match self {
+            Command::Trade(_) | Command::Correct(_) | Command::Bust(_) | Command::AllocNew(_) =>
+                None,
+            Command::AllocReplace(replace) => Some(replace.reference),
+            Command::AllocCancel(cancel) => Some(cancel.reference),
+        }
+    }
+
+    /// The allocation that the command brings.
+    pub fn brought_key(&self) -> Option<AllocKey>
+        ensures { result ≡ option_map (λ allocation. allocation.key) (allocation_of self.now) }
+    {
+        match self {
+            Command::Trade(_) | Command::Correct(_) | Command::Bust(_) | Command::AllocCancel(_) =>
+                None,
+            Command::AllocNew(new) => Some(new.key),
+            Command::AllocReplace(replace) => Some(replace.key),
+        }
+    }
+
+    /// What the command allocates.
+    pub fn terms(&self) -> Option<&Terms>
+        ensures { option_copied result ≡ terms_of self.now }
+    {
+        match self {
+            Command::Trade(_) | Command::Correct(_) | Command::Bust(_) | Command::AllocCancel(_) =>
+                None,
+            Command::AllocNew(new) => Some(&new.terms),
+            Command::AllocReplace(replace) => Some(&replace.terms),
+        }
+    }
+
+    /// The executions that the command lists to be allocated.
+    pub fn listed(&self) -> &[ExecKey]
+        ensures { result.now ≡ listed_by self.now }
+    {
+        match self.terms() {
+            Some(terms) => terms.execs.as_slice(),
+            None => &[],
+        }
+    }
+
+    /// The executions that the command refers to: that of a Correct or a Bust, those that an allocation lists.
+    pub fn exec_references(&self) -> &[ExecKey]
+        ensures { result.now ≡ exec_references self.now }
+    {
+        match self {
+            Command::Correct(correct) => slice::from_ref(&correct.reference),
+            Command::Bust(bust) => slice::from_ref(&bust.reference),
+            Command::Trade(_)
+            | Command::AllocNew(_)
+            | Command::AllocReplace(_)
+            | Command::AllocCancel(_) => self.listed(),
+        }
+    }
 }
 
 /// An accepted command with its number.
@@ -130,7 +218,8 @@ impl Entry {
             Command::Trade(trade) => (trade.key, Role::Begins),
             Command::Correct(correct) => (correct.key, Role::Corrects(correct.reference)),
             Command::Bust(bust) => (bust.key, Role::Busts(bust.reference)),
-            _ => return None,
+            Command::AllocNew(_) | Command::AllocReplace(_) | Command::AllocCancel(_) =>
+                return None,
         };
         Some(Link {
             number: self.number,
@@ -146,7 +235,10 @@ impl Entry {
         let (key, fill) = match &self.command {
             Command::Trade(trade) => (trade.key, trade.fill),
             Command::Correct(correct) => (correct.key, correct.fill),
-            _ => return None,
+            Command::Bust(_)
+            | Command::AllocNew(_)
+            | Command::AllocReplace(_)
+            | Command::AllocCancel(_) => return None,
         };
         Some(Version {
             number: self.number,

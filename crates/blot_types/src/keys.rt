@@ -1,4 +1,4 @@
-//! The keys under which a peer's executions, orders and allocations are known.
+//! The keys under which a peer's executions, orders and allocations are known, and the positions.
 
 use crate::Text64;
 
@@ -21,4 +21,11 @@ pub struct OrderKey {
 pub struct AllocKey {
     pub peer: Text64,
     pub id: Text64,
+}
+
+/// A position: an account, `*` the house account, and a symbol.
+#[derive(Clone, Copy, Debug, PartialEq, Eq, PartialOrd, Ord, Hash)]
+pub struct PositionKey {
+    pub account: Text64,
+    pub symbol: Text64,
 }

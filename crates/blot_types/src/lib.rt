@@ -11,6 +11,7 @@ mod keys;
 mod lines;
 mod link;
 mod making;
+mod part;
 mod refused;
 mod text;
 
@@ -18,10 +19,11 @@ pub use allocation::{AllocRole, Instruction, Line, Terms};
 pub use command::{AllocCancel, AllocNew, AllocReplace, Bust, Command, Correct, Entry, Trade};
 pub use fill::{Fill, Sign};
 pub use items::Items;
-pub use keys::{AllocKey, ExecKey, OrderKey};
-pub use lines::{OrderLine, Part, PositionLine, Version};
+pub use keys::{AllocKey, ExecKey, OrderKey, PositionKey};
+pub use lines::{OrderLine, PositionLine, Version};
 pub use link::{Link, Role};
 pub use making::Making;
+pub use part::{Part, house_account};
 pub use refused::Refused;
 pub use text::{TEXT_MAX, Text64};
 

@@ -1,4 +1,4 @@
-//! What the book shows: the line of an order, which grows a fill at a time, and a position with what adds to it.
+//! What the book shows: the line of an order, which grows a fill at a time, and the line of a position.
 ghost use Rattle.std.specs.Prelude.{◌≡◌, ℕ, ◌+◌, ◌^◌, pos, neg_ℤ, ◌+ℤ◌, ◌-ℤ◌, ◌*ℤ◌, ◌≤ℤ◌, Some};
 ghost use Rattle.std.specs.Int.{int_max};
 ghost use Rattle.blot_types.specs.Order.{cum_before, value_before, with_fill, IsWithin};
@@ -87,17 +87,6 @@ fn leaves_of(size: i128, cum: i128) -> i128
     ensures { result ≡ int_max (pos 0) (size -ℤ cum) }
 {
     if cum < size { size - cum } else { 0 }
-}
-
-/// What one execution, or one line of an allocation, adds to a position.
-#[derive(Clone, Copy, Debug, PartialEq, Eq)]
-pub struct Part {
-    pub account: Text64,
-    pub symbol: Text64,
-    /// The signed quantity, in units of 10^-6.
-    pub qty: QtySum,
-    /// The signed quantity times price, in units of 10^-14.
-    pub value: Value,
 }
 
 /// A position of an account in a symbol.

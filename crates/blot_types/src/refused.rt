@@ -36,7 +36,7 @@ pub enum Refused {
 
 impl Refused {
     ghost use Rattle.std.specs.Prelude.{◌≡◌};
-    ghost use Rattle.blot_types.specs.Told.{refused_number, refused_name};
+    ghost use Rattle.blot_types.specs.Told.{refused_number, refused_name, reject_code};
 
     /// The number under which a refusal is told. This project's rule.
     pub fn number(self) -> u8
@@ -77,6 +77,18 @@ impl Refused {
             Refused::NothingToUndo => b"NothingToUndo",
             Refused::Moved(_) => b"Moved",
             Refused::NothingToRedo => b"NothingToRedo",
+        }
+    }
+
+    /// AllocRejCode(88) of the refusal of this number: 10 where a listed execution isn't there to be allocated, 1 where
+    /// quantities differ, and 7 for any other. FIX 4.4 volume 5; which refusal has which code is this project's rule.
+    pub fn reject_code(number: u8) -> u64
+        ensures { result ≡ reject_code number }
+    {
+        match number {
+            5 | 6 | 8 => 10,
+            10 => 1,
+            _ => 7,
         }
     }
 }

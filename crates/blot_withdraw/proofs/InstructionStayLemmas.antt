@@ -23,7 +23,7 @@ use Rattle.blot_types.specs.Survivors.{links_in}
 use Rattle.blot_types.proofs.AcceptLemmas.{unmapped}
 use Rattle.blot_types.proofs.KeyLemmas.{same_alloc-true}
 use Rattle.blot_withdraw.proofs.SpareLemmas.{Spares, spares-newest, roots-spared}
-use Rattle.blot_withdraw.proofs.ListLemmas.{mapped-none, filter_map-agree, unfound-among, find-stays, any-stays}
+use Rattle.blot_types.proofs.StayLemmas.{mapped-none, filter_map-agree, unfound-among, find-stays, any-stays}
 use Rattle.blot_withdraw.proofs.Split.{Split, IsFree}
 
 abbrev pub instruction_stays : Split → Instruction → Bool

@@ -24,7 +24,7 @@ use Rattle.blot_types.proofs.PartLemmas.{filter-passes}
 use Rattle.blot_types.proofs.SurvivorLemmas.{filter-and}
 use Rattle.blot_withdraw.proofs.ChainStayLemmas.{GoWhole}
 use Rattle.blot_withdraw.proofs.InstructionStayLemmas.{instruction_stays, instructions-split}
-use Rattle.blot_withdraw.proofs.ListLemmas.{filter_map-filter, filter-reverse}
+use Rattle.blot_types.proofs.StayLemmas.{filter_map-filter, filter-reverse}
 use Rattle.blot_withdraw.proofs.RuleLemmas.{KeyStays, RootStays, root-known}
 use Rattle.blot_withdraw.proofs.SpareLemmas.{Spares, roots-spared, bust-spared, current-spared}
 use Rattle.blot_withdraw.proofs.Split.{Split, version_stays, versions-split}

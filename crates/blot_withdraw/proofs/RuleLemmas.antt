@@ -23,7 +23,7 @@ use Rattle.blot_types.specs.Survivors.{links_in, version_of}
 use Rattle.blot_types.proofs.AcceptLemmas.{or_parts, unmapped}
 use Rattle.blot_types.proofs.SurvivorLemmas.{current-found, version_in-rising}
 use Rattle.blot_withdraw.proofs.InstructionStayLemmas.{instruction_stays, instructions-split, tied, taker-stays, allocation-stays, unended-stays, holder-stays}
-use Rattle.blot_withdraw.proofs.ListLemmas.{mapped-none, or-none, then-none, filter_map-agree, unfound-among, found-stays, find-agree, any-agree, first-none}
+use Rattle.blot_types.proofs.StayLemmas.{mapped-none, or-none, then-none, filter_map-agree, unfound-among, found-stays, find-agree, any-agree, first-none}
 use Rattle.blot_withdraw.proofs.SpareLemmas.{Spares, roots-spared, unbusted-spared, current-spared}
 use Rattle.blot_withdraw.proofs.Split.{Split, links-split, version_stays, versions-split}
 

@@ -17,7 +17,7 @@ use Rattle.blot_types.specs.Chains.{root_in}
 use Rattle.blot_types.specs.Refusals.{alloc_key, alloc_reference, listed_by}
 use Rattle.blot_types.specs.Survivors.{link_of, links_in, version_by, version_of}
 use Rattle.blot_types.proofs.StandLemmas.{brings}
-use Rattle.blot_withdraw.proofs.ListLemmas.{filter_map-filter}
+use Rattle.blot_types.proofs.StayLemmas.{filter_map-filter}
 
 -- the execution by which a link is of a chain: its own, or for a Bust its reference
 abbrev pub chain_key : ExecKey → Role → ExecKey

@@ -3,7 +3,7 @@ use Rattle.std.specs.Prelude.{◌≡◌, ℕ, ◌⊎◌, Bool, not, List, filter
 use Rattle.std.specs.List.{list_any}
 use Rattle.std.specs.Option.{option_map, option_map_or, option_and_then}
 use Rattle.blot_types.specs.declared.command.Command.{Command}
-use Rattle.blot_types.specs.declared.command.Command.TheVariants.{Trade, Correct, Bust}
+use Rattle.blot_types.specs.declared.command.Command.TheVariants.{Trade, Correct, Bust, AllocNew, AllocReplace, AllocCancel}
 use Rattle.blot_types.specs.declared.command.Entry.{Entry}
 use Rattle.blot_types.specs.declared.keys.ExecKey.{ExecKey}
 use Rattle.blot_types.specs.Chains.{is_root, bust_in}
@@ -17,7 +17,9 @@ abbrev pub chained_by : Command → Option ExecKey
 chained_by (Trade trade) = Some trade.key
 chained_by (Correct correct) = Some correct.key
 chained_by (Bust bust) = Some bust.reference
-chained_by _ = None
+chained_by (AllocNew new) = None
+chained_by (AllocReplace replace) = None
+chained_by (AllocCancel cancel) = None
 
 -- whether an entry is of the chain of a root: it is its Trade, one of its Corrects, or its Bust
 abbrev pub is_of_chain : List Entry → ExecKey → Entry → Bool

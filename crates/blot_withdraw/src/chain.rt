@@ -1,7 +1,6 @@
 //! The entries of a chain of executions, and the allocations that name it.
 ghost use Rattle.std.specs.Prelude.{◌≡◌};
 ghost use Rattle.blot_types.specs.Chains.{is_root};
-ghost use Rattle.blot_types.specs.Refusals.{listed_by};
 ghost use Rattle.blot_types.specs.Survivors.{root_of};
 ghost use Rattle.blot_withdraw.specs.Erasure.{chained_by, is_of_chain, lists_chain, first_listing};
 
@@ -34,7 +33,9 @@ pub(crate) fn first_listing(list: &[Entry], root: &ExecKey) -> Option<u64>
 fn lists_chain(list: &[Entry], root: &ExecKey, entry: &Entry) -> bool
     ensures { result ≡ lists_chain list.now root.now entry.now }
 {
-    listed_by(&entry.command)
+    entry
+        .command
+        .listed()
         .iter()
         .any(|key| is_rooted(list, root, key))
 }
@@ -57,17 +58,6 @@ fn chained_by(command: &Command) -> Option<ExecKey>
         Command::Trade(trade) => Some(trade.key),
         Command::Correct(correct) => Some(correct.key),
         Command::Bust(bust) => Some(bust.reference),
-        _ => None,
-    }
-}
-
-// The executions that a command lists to be allocated.
-fn listed_by(command: &Command) -> &[ExecKey]
-    ensures { result.now ≡ listed_by command.now }
-{
-    match command {
-        Command::AllocNew(new) => new.terms.execs.as_slice(),
-        Command::AllocReplace(replace) => replace.terms.execs.as_slice(),
-        _ => &[],
+        Command::AllocNew(_) | Command::AllocReplace(_) | Command::AllocCancel(_) => None,
     }
 }

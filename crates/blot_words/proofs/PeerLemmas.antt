@@ -69,7 +69,7 @@ next_differs bytes words index other peer peers within is so_far all alone =
     subst (IsDistinct same_text) (sym (next_of bytes words index other peer within is))
     (distinct_push same_text _ peer all (ap (list_any _) (sym so_far) ∙ alone))
 
--- words of which one is met before aren't all different
+-- where a word is met again, the words aren't all different
 pub met_before :
     {X : Type 0} (bytes : X → List ℕ) (words : List X) (index : ℕ) (other : X) (peer : List ℕ) (peers : List (List ℕ))
     → index < length words → peer ≡ bytes (get_or words index other) → peers ≡ map bytes (take index words)

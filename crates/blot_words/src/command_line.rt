@@ -30,7 +30,7 @@ pub const SESSIONS_MAX: u16 = 1_000;
 pub const ROUNDS: &str = "rounds";
 /// The most rounds of a day.
 pub const ROUNDS_MAX: u16 = 1_000;
-/// The peers, behind the options.
+/// The peers, after the options.
 pub const PEER: &str = "peer";
 
 /// The whole command line. Help that nobody asked for is the answer to no words at all.

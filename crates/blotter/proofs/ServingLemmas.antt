@@ -21,7 +21,7 @@ each-none : (seats : List (List Receipt)) → EachAdds seats seats
 each-none [] = tt
 each-none (receipts ∷ seats) = (adds-none receipts receipts refl, each-none seats)
 
--- one round behind another
+-- one round after another
 each-on : (a b c : List (List Receipt)) → EachAdds a b → EachAdds b c → EachAdds a c
 each-on [] [] [] one two = tt
 each-on (x ∷ a) (y ∷ b) (z ∷ c) one two = (adds-on x y z one.0 two.0, each-on a b c one.1 two.1)
@@ -44,7 +44,7 @@ rounds-add round adds zero before after same = subst (λ seats. EachAdds before 
 rounds-add round adds (suc count) before after rounds =
     each-on before rounds.0 after (rounds-add round adds count before rounds.0 rounds.1) (adds rounds.0 after rounds.2)
 
--- behind rounds there are as many seats
+-- after rounds there are as many seats
 as-many : (before after : List (List Receipt)) → EachAdds before after → length after ≡ length before
 as-many [] [] adds = refl
 as-many (x ∷ before) (y ∷ after) adds = ap suc (as-many before after adds.1)
@@ -88,7 +88,7 @@ pub stops-at : (round : List (List Receipt) → List (List Receipt) → Type 0) 
 stops-at round count rounds before between after fault less led kept other =
     (count, less, subst (λ seats. RoundsLead round count before seats) (sym (kept other)) led)
 
--- for want of a connection there were fewer
+-- where a connection was missing there were fewer
 pub were-fewer : {T : Type 0} (round : List (List Receipt) → List (List Receipt) → Type 0) (rounds : ℕ) (before after : List (List Receipt)) (served : Result T ServeFault)
     → served ≡ Err Connection → IfErr served (λ fault. fault ≢ NoMemory → (count : ℕ) × (count < rounds) × RoundsLead round count before after)
     → (count : ℕ) × (count < rounds) × RoundsLead round count before after

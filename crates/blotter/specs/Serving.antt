@@ -18,7 +18,7 @@ use Rattle.blotter.specs.declared.system_clock.SystemClock.{SystemClock}
 -- ---- rounds
 
 -- a round is served: for each seat there is a connection and a clock, each connection was served at its clock until it ended, with its
--- seat behind it, and those are the seats behind the round
+-- seat as the sink, and those are the seats after the round
 pub record ServesRound (R : Type 0) {S : Type 0} (remaining contents : S → Option (List ℕ)) (own : List ℕ) (before after : List (List Receipt)) : Type 0 where
   pub wires : List (Socket S)
   pub clocks : List (SystemClock R)
@@ -26,7 +26,7 @@ pub record ServesRound (R : Type 0) {S : Type 0} (remaining contents : S → Opt
   pub served : EachServed (SocketDoes remaining contents) ClockTicks (λ socket. socket.faults) own wires clocks before endings
   pub seats : after ≡ map (λ ending. ending.1) endings
 
--- so many rounds, one behind the other, lead from some seats to others
+-- so many rounds, one after the other, lead from some seats to others
 abbrev pub RoundsLead : (List (List Receipt) → List (List Receipt) → Type 0) → ℕ → List (List Receipt) → List (List Receipt) → Type 0
 RoundsLead round zero before after = after ≡ before
 RoundsLead round (suc count) before after = (between : List (List Receipt)) × RoundsLead round count before between × round between after
@@ -37,8 +37,8 @@ RoundsLead round (suc count) before after = (between : List (List Receipt)) × R
 abbrev pub are_submits : List Receipt → Bool
 are_submits receipts = list_all (λ receipt. is_submit receipt.event) receipts
 
--- the report of a day is written, of a history in which each receipt of these seats stands, once, and each reply is that of the run of
--- its events
+-- the report of a day is written, of a history in which each receipt of these seats stands once, and in which each reply is that of the
+-- run of its events
 pub record Reported (day : ℤ) (seats : List (List Receipt)) (before after : Option (List ℕ)) : Type 0 where
   pub history : List Recorded
   pub settled : IsSettled history seats

@@ -111,7 +111,7 @@ where
     Ok(wires)
 }
 
-// The next connection. One that is gone already is passed over.
+// The next connection. A connection that is gone already is passed over.
 fn accept<N>(listener: &N) -> Result<Socket<N::Stream>, ServeFault>
 where
     N: OpenListener,
@@ -151,7 +151,7 @@ fn clocks_of<'a, R: Clock>(
     Ok(clocks)
 }
 
-// The seats behind a round, in their order.
+// The seats after a round, in their order.
 fn seats_of<L: Ledger>(
     alloc: Global,
     endings: Vec<(Ended, Seat<L>)>,

@@ -1,7 +1,7 @@
 //! `serve_day`: connections served round by round while an operator's lines are answered, and the report of the day.
 ghost use Rattle.std.specs.Prelude.{◌≡◌, ◌≢◌, ◌+◌, ◌<◌, ◌⊎◌, ℕ, [], ◌∷◌, ◌++◌, length, Err, IfErr, IfOk, IsOk, OnOk};
 ghost use Rattle.std.specs.List.{All};
-ghost use Rattle.std.specs.Io.KnownBytes.{Appends, IsAtEnd};
+ghost use Rattle.std.specs.Io.KnownBytes.{IsAtEnd};
 ghost use Rattle.blotter.specs.Serving.{DayServed, Reported, RoundsLead, ServesRound};
 
 use crate::Rounds;
@@ -10,7 +10,7 @@ use crate::rounds::serve_rounds;
 use blot_capture::day_report;
 use blot_desk::{Desk, DeskFault, Seat};
 use blot_slots::Slots;
-use blot_stream::{ReplayFault, ServeFault, flush, write_text};
+use blot_stream::{ReplayFault, ServeFault, write_text};
 use blot_time::Day;
 use log::Log;
 use std::alloc::{AllocError as NoMemory, Global};
@@ -25,9 +25,9 @@ use std::time::Clock;
 /// their own. After the last round and the last line the seats are settled with the desk, and the report of the day is written.
 /// How each connection of a round ended is logged after that round.
 ///
-/// NoMemory: memory ran out. Lines: they stopped, as `seat_lines` says, or the report can't be written; where they stopped, it is written
-/// if it can be. Connection: none can be accepted, and no further round begins; the lines are answered and the report is written all
-/// the same. Unsettled: the receipts aren't those of the history.
+/// NoMemory: memory ran out. Lines: they stopped, as `seat_lines` says, or the report can't be written; where they stopped, it is still
+/// written if it can be. Connection: none can be accepted, and no further round begins; the lines are answered and the report is written
+/// all the same. Unsettled: the receipts aren't those of the history.
 pub fn serve_day<L, R, N, I, O>(
     rt: &R,
     alloc: Global,
@@ -144,7 +144,7 @@ where
     )
 }
 
-// What rounds and lines at once come to: out of memory is told before another fault, and the lines' before the rounds'.
+// What rounds and lines at once come to: out of memory is told before any other fault, and the lines' fault before the rounds'.
 fn both(served: Result<(), ServeFault>, answered: Result<(), ReplayFault>) -> Result<(), ServeFault>
     ensures ok { OnOk result (IsOk served × IsOk answered) }
     ensures connection { result ≡ Err ServeFault.Connection → (served ≡ Err ServeFault.Connection) × IsOk answered }
@@ -180,16 +180,8 @@ fn report<L: Ledger, O: Write>(
         Err(_) => return Err(ServeFault::NoMemory),
     };
     let text = day_report(alloc, &settled.held, day)?;
-    match write_all(output, &text) {
+    match write_text(output, &text) {
         Ok(()) => Ok(()),
         Err(fault) => Err(ServeFault::Lines(fault)),
     }
-}
-
-// Writes a text and flushes it.
-fn write_all<O: Write>(output: &mut O, text: &[u8]) -> Result<(), ReplayFault>
-    ensures { OnOk result (Appends (O.contents output.old) (O.contents output.new) text.now) }
-{
-    write_text(output, text)?;
-    flush(output)
 }

@@ -12,9 +12,9 @@ use Rattle.blot_words.specs.declared.words.Words.{Words}
 use Rattle.blot_words.specs.declared.words.Words.TheVariants.{Replay, Desk, Audit, Serve}
 
 -- what the words ask for was done, where `round` says what a round under a CompID does to the seats. Of a replay, the input is read to
--- its end, and the report of the day stands behind what was written; of a desk, the input is read to its end, and there stand the answers
+-- its end, and the report of the day stands after what was written; of a desk, the input is read to its end, and there stand the answers
 -- to its lines, of a desk as the capture left it; of an audit, the input is read to its end, and there stands its trail; of a server,
--- the input is read to its end, there stand the answers to its lines, and behind them the report of a settled history, in which the
+-- the input is read to its end, there stand the answers to its lines, and after them the report of a settled history, in which the
 -- brokers' seats are as so many rounds of so many connections left them
 abbrev pub Did : (List ℕ → List (List Receipt) → List (List Receipt) → Type 0) → Words → Option (List ℕ) → Option (List ℕ) → Option (List ℕ) → Option (List ℕ) → Type 0
 Did round (Replay own day peers) input left before after =

@@ -29,7 +29,7 @@ pub enum Failure {
     /// The replay, the capture or the operator's lines stopped.
     #[error("{0}")]
     Stopped(ReplayFault),
-    /// What the day met that was served.
+    /// What the day that was served met.
     #[error("{0}")]
     Served(ServeFault),
     #[error("no memory")]

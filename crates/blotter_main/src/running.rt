@@ -212,7 +212,7 @@ fn keep_desk<C: Read, R: Read, W: Write>(
     }
 }
 
-// Tells why a run failed, and says how it ends. A fault in telling is let go.
+// Tells why a run failed, and says how it ends. A fault in telling is ignored.
 fn tell<E: Write>(errors: &mut E, failure: &Failure) -> Outcome
     ensures { result ≡ outcome_of failure.now }
 {

@@ -3,6 +3,8 @@
 ghost use Rattle.std.specs.Prelude.{IsTrue};
 ghost use Rattle.blot_types.specs.Legal.{is_book};
 
+use crate::draws::drawn_orders;
+use crate::keys::{symbols, text};
 use blot_command::Tables;
 use blot_desk::{Event, Held, Reply};
 use blot_model::{bust_of, legal, order_of, position_of, root_of};
@@ -11,7 +13,6 @@ use blot_withdraw::EraseFault::{Named, NotBusted, UnknownExec};
 use blot_withdraw::{EraseFault, erase_check};
 use std::alloc::Global;
 use std::test::Fail;
-use tests_words::{drawn_orders, symbols, text};
 
 /// A command is offered to a desk, which takes it or refuses it.
 pub fn offer(held: &mut Held, command: Command) -> Result<bool, Fail> {

@@ -3,6 +3,10 @@ ghost use Rattle.std.specs.Prelude.{IsTrue, IfOk};
 ghost use Rattle.blot_types.specs.Legal.{is_book};
 
 use crate::erasure::{fault_of, offer};
+use crate::keys::{exec, order, text};
+use crate::words::Filled::Bought;
+use crate::words::Step::{Allocates, Busts, Cancels, Corrects, Replaces, Trades};
+use crate::words::{Booked, Step, command};
 use Answer::{Fails, Leaves};
 use blot_command::Tables;
 use blot_decimal::{QtySum, Value};
@@ -12,9 +16,6 @@ use blot_withdraw::EraseFault::{Named, NotBusted, UnknownExec};
 use blot_withdraw::{EraseFault, erase_check};
 use std::alloc::Global;
 use std::test::Fail;
-use tests_words::Filled::Bought;
-use tests_words::Step::{Allocates, Busts, Cancels, Corrects, Replaces, Trades};
-use tests_words::{Booked, Step, command, exec, order, text};
 
 const A: &[u8] = b"BRKA";
 

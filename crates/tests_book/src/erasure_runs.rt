@@ -2,13 +2,14 @@
 ghost use Rattle.std.specs.Prelude.{IsTrue, IfOk};
 ghost use Rattle.blot_types.specs.Legal.{is_book};
 
+use crate::draws::{Draws, drawn_execs};
 use crate::erasure::{fault_of, offer};
+use crate::keys::exec;
 use blot_desk::{Held, Snapshot};
 use blot_types::{Command, Entry, ExecKey};
 use blot_withdraw::EraseFault;
 use std::alloc::Global;
 use std::test::Fail;
-use tests_words::{Draws, drawn_execs, exec};
 
 // A command for a list. One in eight is a bust besides those that come anyway.
 fn drawn(alloc: Global, draws: &mut Draws, list: &[Entry]) -> Result<Command, Fail> {

@@ -4,7 +4,11 @@ ghost use Rattle.blot_command.specs.Undoable.{IsAboveNumbers};
 ghost use Rattle.blot_command.specs.Kinds.{command_meaning};
 
 use crate::answers::{expect_back, expect_refused, expect_taken};
+use crate::draws::{Draws, drawn_orders};
+use crate::keys::{alloc_key, exec, fill, order};
 use crate::model::{compare, live};
+use crate::tally::Tally;
+use crate::words::terms;
 use blot_command::{Tables, Undoable};
 use blot_decimal::Qty;
 use blot_model::accepts;
@@ -14,7 +18,6 @@ use blot_types::{
 };
 use std::alloc::Global;
 use std::test::Fail;
-use tests_words::{Draws, Tally, alloc_key, drawn_orders, exec, fill, order, terms};
 
 // What the plain program says of a command.
 fn expected(

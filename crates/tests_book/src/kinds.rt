@@ -3,14 +3,14 @@ ghost use Rattle.std.specs.Prelude.{◌≡◌, ◌≤◌, [], IfOk};
 ghost use Rattle.blot_command.specs.Undoable.{IsAboveNumbers};
 ghost use Rattle.blot_command.specs.Kinds.{trade_meaning, correct_meaning, bust_meaning, alloc_new_meaning, alloc_replace_meaning, alloc_cancel_meaning};
 
+use crate::words::Filled::Buys;
+use crate::words::{Booked, alloc_cancel, alloc_new, alloc_replace, bust, correct, trade};
 use blot_command::{ApplyFault, Tables, Undoable};
 use blot_types::{
     AllocCancel, AllocNew, AllocReplace, Bust, Correct, EVENTS_MAX, Refused, Sign, Trade,
 };
 use std::alloc::Global;
 use std::test::Fail;
-use tests_words::Filled::Buys;
-use tests_words::{Booked, alloc_cancel, alloc_new, alloc_replace, bust, correct, trade};
 
 // 100 of E1 at 10, 60 to A and 40 to B.
 const FIRST: Booked = Booked {

@@ -2,12 +2,12 @@
 ghost use Rattle.std.specs.Prelude.{◌≤◌, IfOk, IsTrue};
 ghost use Rattle.blot_types.specs.Legal.{is_book, is_numbered};
 
+use crate::keys::{accounts, symbols};
 use blot_command::Tables;
 use blot_model::{legal, order_of, position_of, survivors};
 use blot_types::{Command, EVENTS_MAX, Entry, OrderKey, PositionLine, Sign, Text64, Version};
 use std::alloc::{AllocError, Global};
 use std::test::Fail;
-use tests_words::{accounts, symbols};
 
 /// The live list up to a number, read entry by entry.
 pub fn live(alloc: Global, tables: &Tables, next: u64) -> Result<Vec<Entry>, AllocError>

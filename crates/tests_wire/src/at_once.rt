@@ -1,11 +1,15 @@
 //! Wires that are served at once, each with a seat at one desk.
 ghost use Rattle.std.specs.Prelude.{◌≡◌};
 
+use crate::expect::text;
+use crate::frames::stream;
+use crate::locked::{out, table_of};
+use crate::slots::expect_waiting;
 use crate::streams::moments;
 use crate::turns::Turns;
 use blot_desk::{Desk, Reply, Seat};
 use blot_gateway::{Ended, ListClock, MemoryWire, serve};
-use blot_session::{CloseReason, Phase, Session};
+use blot_session::CloseReason;
 use blot_slots::Slots;
 use std::alloc::Global;
 use std::marker::Brand;
@@ -13,7 +17,6 @@ use std::sync::Wait;
 use std::sync::ledger::{Blank, Ledger};
 use std::test::Fail;
 use std::thread::Threads;
-use tests_words::{stream, text};
 
 // A Logon and a trade of BRKA.
 const FIRST: &str = "\
@@ -30,10 +33,7 @@ const UNLISTED: &str = "35=A|49=BRKX|56=MO|34=1|52=20240105-09:59:59|98=0|108=30
 
 // The sessions of MO with BRKA and BRKB.
 fn table(alloc: Global) -> Result<Slots, Fail> {
-    match Slots::new(alloc, text(b"MO")?, &[text(b"BRKA")?, text(b"BRKB")?]) {
-        Ok(slots) => Ok(slots),
-        Err(fault) => Err(Fail::new(format_args!("{fault:?}"))),
-    }
+    table_of(alloc, &[text(b"BRKA")?, text(b"BRKB")?])
 }
 
 // A clock for each wire, at one moment.
@@ -116,23 +116,12 @@ fn settle<L: Ledger>(desk: Desk<L>, seats: Vec<Seat<L>>, events: usize) -> Resul
     Ok(())
 }
 
-// The session of a peer, handed out.
-fn out(rt: &impl Wait, slots: &Slots, peer: &[u8]) -> Result<Session, Fail> {
-    match slots.check_out(rt, &text(peer)?) {
-        Ok(session) => Ok(session),
-        Err(fault) => Err(Fail::new(format_args!("{fault:?}"))),
-    }
-}
-
 // The session of a peer is in, waits for a Logon, and expects this number. It stays in.
-fn expect_in(rt: &impl Wait, slots: &Slots, peer: &[u8], number: u64) -> Result<(), Fail> {
-    let session = out(rt, slots, peer)?;
-    let (phase, expected) = (session.phase(), session.expected());
+fn expect_in(rt: &impl Wait, slots: &Slots, name: &str, number: u64) -> Result<(), Fail> {
+    let session = out(rt, slots, &text(name.as_bytes())?)?;
+    let waiting = expect_waiting(&session, name, number);
     slots.check_in(rt, session);
-    if phase != Phase::Waiting || expected != number {
-        return Err(Fail::new(format_args!("{phase:?}, number {expected}")));
-    }
-    Ok(())
+    waiting
 }
 
 // Two wires of two peers. The submit at one place is held until that at the other is answered.
@@ -152,8 +141,8 @@ fn run_two<L: Ledger + Send + Sync, R: Threads + Wait + Sync>(
     let endings = serve_all(rt, alloc, wires, &slots, &desk, seats, &gate)?;
     gate.expect_in_time()?;
     expect_two(&endings, held)?;
-    expect_in(rt, &slots, b"BRKA", 3)?;
-    expect_in(rt, &slots, b"BRKB", 3)?;
+    expect_in(rt, &slots, "BRKA", 3)?;
+    expect_in(rt, &slots, "BRKB", 3)?;
     settle(desk, seats_of(alloc, endings)?, 2)
 }
 
@@ -194,7 +183,7 @@ fn expect_unserved<L: Ledger>(endings: &[(Ended, Seat<L>)]) -> Result<(), Fail> 
     expect_ending(failing, Ended::WriteFault, None)
 }
 
-// Behind them the peer that is on is on still, and the session of the wire that failed is in again.
+// After them the peer that is on is still on, and the session of the wire that failed is in again.
 fn run_unserved<L: Ledger + Send + Sync, R: Threads + Wait + Sync>(
     rt: &R,
     alloc: Global,
@@ -206,12 +195,12 @@ fn run_unserved<L: Ledger + Send + Sync, R: Threads + Wait + Sync>(
 {
     let (desk, seats) = Desk::<L>::new(alloc, blank, 3)?;
     let (slots, gate) = (table(alloc)?, Turns::new(3));
-    let session = out(rt, &slots, b"BRKA")?;
+    let session = out(rt, &slots, &text(b"BRKA")?)?;
     let endings = serve_all(rt, alloc, unserved(alloc)?, &slots, &desk, seats, &gate)?;
     expect_unserved(&endings)?;
-    expect_in(rt, &slots, b"BRKB", 2)?;
+    expect_in(rt, &slots, "BRKB", 2)?;
     slots.check_in(rt, session);
-    expect_in(rt, &slots, b"BRKA", 1)?;
+    expect_in(rt, &slots, "BRKA", 1)?;
     settle(desk, seats_of(alloc, endings)?, 0)
 }
 

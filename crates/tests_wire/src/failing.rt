@@ -1,5 +1,6 @@
 //! Wires that fail at each read and at each write in turn.
 
+use crate::frames::{frame, stream};
 use crate::rows::{allocation, first_trade, gap};
 use crate::runs::{
     BY_BYTES, BY_SEVENS, Manner, Row, Run, WHOLE, commands_text, expect_ended, expect_number,
@@ -10,7 +11,6 @@ use blot_gateway::{Ended, MemoryWire, Wire};
 use blot_session::{CloseReason, Session};
 use std::alloc::{AllocError as NoMemory, Global};
 use std::test::Fail;
-use tests_words::{frame, stream};
 
 // More calls than a wire of these tests gets.
 const CALLS: usize = 10_000;
@@ -47,7 +47,7 @@ fn expect_front(alloc: Global, row: &Row, run: &Run) -> Result<(), Fail> {
     Ok(())
 }
 
-// No command is lost, and none counts twice: behind the first that was taken, the session expects the number behind the last.
+// No command is lost, and none counts twice: after the first that was taken, the session expects the number after the last.
 fn expect_counted(row: &Row, run: &Run, session: &Session) -> Result<(), Fail> {
     let (expected, taken) = (session.expected(), run.sink.taken().len() as u64);
     let commands = row.taken.split("; ").count().saturating_sub(1) as u64;
@@ -58,7 +58,7 @@ fn expect_counted(row: &Row, run: &Run, session: &Session) -> Result<(), Fail> {
     Err(Fail::new(format_args!("{}: {expected} behind {taken}", row.name)))
 }
 
-// A Logon under this number, and a Logout behind it.
+// A Logon under this number, and a Logout after it.
 fn on_and_off(alloc: Global, from: &str, moment: &str, number: u64) -> Result<Vec<u8>, NoMemory> {
     let behind = number.saturating_add(1);
     let on = format!(in alloc; "35=A|{from}|34={number}|52={moment}|98=0|108=30|")?;
@@ -189,7 +189,7 @@ fn each_write_fails_in_turn(rt: HostRuntime) -> Result<(), Fail> {
     Ok(())
 }
 
-// The Logon is answered, and the command behind it counts, though its acknowledgment can't be written.
+// The Logon is answered, and the command after it counts, though its acknowledgment can't be written.
 fn expect_unacknowledged(alloc: Global, row: &Row, session: &mut Session) -> Result<(), Fail> {
     let manner = Manner {
         failing_write: Some(1),

@@ -1,5 +1,7 @@
 //! A session served over a wire in memory, and what comes of it.
 
+use crate::expect::text;
+use crate::frames::stream;
 use crate::streams::{answers, moments, shown};
 use blot_gateway::{Ended, ListClock, ListSink, MemoryWire, Wire, greet, serve_session};
 use blot_session::{Phase, Session};
@@ -7,7 +9,6 @@ use blot_tag::Reader;
 use blot_types::{Command, Text64};
 use std::alloc::{AllocError as NoMemory, Global};
 use std::test::Fail;
-use tests_words::{stream, text};
 
 /// What a wire gives, when, and how the commands are answered; and what comes of it.
 pub struct Row {
@@ -15,7 +16,7 @@ pub struct Row {
     /// What the clock tells.
     pub moments: &'static str,
     pub stream: &'static str,
-    /// How many reads bring nothing behind the stream.
+    /// How many reads bring nothing after the stream.
     pub quiet: usize,
     /// How the sink answers the first three commands.
     pub answer: &'static str,
@@ -41,7 +42,7 @@ pub struct Manner {
     pub failing_write: Option<usize>,
 }
 
-/// All at once, behind a greeting.
+/// All at once, after a greeting.
 pub const WHOLE: Manner = Manner {
     piece: 10_000_000,
     room: 10_000_000,

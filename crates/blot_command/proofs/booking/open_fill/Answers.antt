@@ -3,10 +3,10 @@ use Rattle.blot_command.proofs.booking.open_fill.Goals as goal
 
 pub returns-clause-opens : goal.returns-clause-opens
 returns-clause-opens c =
-    fill-opens c.open-2.result c.part_of_fill-part.result c.house_account.result c.args.positions.now c.open.new.self c.open-2.new.self
+    fill-opens c.open-2.result c.of_fill-part.result c.house_account.result c.args.positions.now c.open.new.self c.open-2.new.self
     c.in_ok-open.ensures.ok c.open-2.ensures.ok c.open-2.ensures.err
 
 pub returns-clause-made : goal.returns-clause-made
 returns-clause-made c =
-    fill-made c.open-2.result c.args.fill.now c.part_of_fill-part.result c.house_account.result c.args.positions.now c.open.new.self c.open-2.new.self
-    c.part_of_fill-part.ensures.part c.house_account.ensures c.in_ok-open.ensures.ok c.open-2.ensures.ok
+    fill-made c.open-2.result c.args.fill.now c.of_fill-part.result c.house_account.result c.args.positions.now c.open.new.self c.open-2.new.self
+    c.of_fill-part.ensures.part c.house_account.ensures c.in_ok-open.ensures.ok c.open-2.ensures.ok

@@ -4,14 +4,14 @@ use Rattle.blot_command.proofs.booking.open_terms.Goals as goal
 
 pub loop-line-preserved : goal.loop-line-preserved
 loop-line-preserved c =
-    let part = c.part_of_line-part.result in
+    let part = c.of_line-part.result in
     let lines = c.as_slice-line-items.result.now in
     record {
       opens = opens-then part.account part.symbol c.args.positions.now c.loop-line.positions c.open.new.self c.loop-line.invariant.opens c.in_ok-open.ensures.ok;
       made = line-made c.args.terms.now lines c.loop-line.line-index c.line-item.result part c.loop-line.positions c.open.new.self c.loop-line-test.true
-          c.line-item.is c.part_of_line-part.ensures.part c.in_ok-open.ensures.ok c.loop-line.invariant.made;
+          c.line-item.is c.of_line-part.ensures.part c.in_ok-open.ensures.ok c.loop-line.invariant.made;
       small = line-fits c.args.terms.now lines c.loop-line.line-index c.line-item.result part c.loop-line-test.true c.line-item.is
-          c.part_of_line-part.ensures.part c.part_of_line-part.ensures.small c.loop-line.invariant.small;
+          c.of_line-part.ensures.part c.of_line-part.ensures.small c.loop-line.invariant.small;
     }
 
 pub returns-clause-opens : goal.returns-clause-opens

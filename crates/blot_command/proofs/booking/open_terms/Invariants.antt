@@ -1,9 +1,8 @@
 use Rattle.std.proofs.Common.{◌≡◌, true, take}
 use Rattle.std.specs.Prelude.{All}
-use Rattle.blot_types.specs.Position.{part_of_line}
+use Rattle.blot_types.specs.Position.{part_of_line, IsSmall}
 use Rattle.blot_position.specs.Positions.{has_cell}
 use Rattle.blot_command.specs.Carried.{Opens}
-use Rattle.blot_command.specs.Sizes.{IsSmall}
 use Rattle.blot_command.proofs.booking.open_terms.Given as goal
 
 abbrev pub invariant-loop-line : goal.invariant-loop-line

@@ -1,4 +1,4 @@
--- The table is held against the list of tags at each of the tags that it covers, by computing.
+-- The table is compared with the list of tags at each tag that it covers, by computing.
 use Rattle.std.proofs.Common.{◌≡◌, ℕ, zero, suc, ◌<◌, ◌≤◌, Bool, true, false, ◌&&◌, ◌==◌, ◌∷◌, [], nat_eq, nat_lt, get_or, List, refl, arith, inl, inr, sym, ◌∙◌, length}
 use Rattle.std.proofs.lemmas.Bool.{cases_eq, eqb-true, ne_eqb, ltb-true}
 use Rattle.std.specs.List.{list_all, position_or_len}

@@ -1,6 +1,7 @@
 use Rattle.std.proofs.Common.{◌+◌, ◌*◌, ◌^◌, arith, ◌∙◌}
 use Rattle.std.specs.List.{filter_map}
 use Rattle.blot_types.specs.declared.command.Entry.{Entry}
+use Rattle.blot_types.specs.Bounds.{BOOK_MOVED, BOOK_QTY}
 use Rattle.blot_types.specs.Allocations.{allocation_of}
 use Rattle.blot_model.specs.Sums.{live_moves}
 use Rattle.blot_model.proofs.BookLemmas.{few_entries, entry_books}
@@ -12,7 +13,7 @@ moves_of_entry-requires c = entry_books c.args.list.now c.loop-entry.entry-index
 
 pub joined-sums-requires-clause-first : goal.joined-sums-requires-clause-first
 joined-sums-requires-clause-first c =
-    up_to-weaker (2 * 10 ^ 16 * c.loop-entry.entry-index) (5 * 10 ^ 21) c.loop-entry.sums (omega (arith, few_entries c.args.list.now c.requires, c.loop-entry-test.true)) c.loop-entry.invariant.few
+    up_to-weaker (2 * 10 ^ 16 * c.loop-entry.entry-index) BOOK_QTY c.loop-entry.sums (omega (arith, few_entries c.args.list.now c.requires, c.loop-entry-test.true)) c.loop-entry.invariant.few
 
 pub loop-entry-preserved : goal.loop-entry-preserved
 loop-entry-preserved c =
@@ -28,4 +29,4 @@ loop-entry-preserved c =
 
 pub returns-clause-few : goal.returns-clause-few
 returns-clause-few c =
-    up_to-weaker (2 * 10 ^ 16 * c.loop-entry.entry-index) (4 * 10 ^ 21) c.loop-entry.sums (omega (arith, few_entries c.args.list.now c.requires)) c.loop-entry.invariant.few
+    up_to-weaker (2 * 10 ^ 16 * c.loop-entry.entry-index) BOOK_MOVED c.loop-entry.sums (omega (arith, few_entries c.args.list.now c.requires)) c.loop-entry.invariant.few

@@ -5,12 +5,12 @@ use Rattle.blot_operator.specs.Dialogue.{HasTold, StopsAmong}
 use Rattle.blot_operator.proofs.DialogueLemmas.{OnErr-always}
 use Rattle.blot_operator.proofs.lines.answer_piece.Goals as goal
 
--- a byte more of a piece that stands behind a front
+-- one more byte of a piece that stands after a front
 one_more : (front piece : List ℕ) (index : ℕ) → index < length piece
     → (front ++ take index piece) ++ get_or piece index 0 ∷ [] ≡ front ++ take (index + 1) piece
 one_more front piece index within = append_assoc front (take index piece) (get_or piece index 0 ∷ []) ∙ ap (λ taken. front ++ taken) (sym (take_more piece index 0 within))
 
--- the piece whole, with what stands behind it
+-- the piece whole, with what stands after it
 whole : (front piece more : List ℕ) (index : ℕ) → index < length piece
     → (front ++ take index piece) ++ get_or piece index 0 ∷ (drop (index + 1) piece ++ more) ≡ (front ++ piece) ++ more
 whole front piece more index within =

@@ -1,15 +1,18 @@
-use Rattle.std.proofs.Common.{◌≡◌, true, false, None, sym, ◌∙◌}
-use Rattle.std.specs.Prelude.{position}
-use Rattle.blot_position.specs.Cells.{is_of}
-use Rattle.blot_position.proofs.CellLemmas.{has_cell-missed, cells_in-set}
+use Rattle.std.proofs.Common.{◌≡◌, None, true, false, ap, sym, ◌∙◌, is_some}
+use Rattle.std.specs.Map.{lookup}
+use Rattle.std.specs.Option.{option_copied_mut}
+use Rattle.blot_position.proofs.CellLemmas.{same_key, has_cell-found, cells-written}
 use Rattle.blot_position.proofs.cell.set_sums.Goals as goal
 
 pub unreachable-requires : goal.unreachable-requires
 unreachable-requires c =
-    let none : position (is_of c.args.account.now c.args.symbol.now) c.args.cells.now ≡ None = sym c.index_of.ensures ∙ c.in-None.is in
-    let clash : true ≡ false = sym c.requires ∙ has_cell-missed c.args.cells.now c.args.account.now c.args.symbol.now none in
+    let entries = c.args.cells.now.entries in
+    let key = c.args.position.now in
+    let none : lookup (same_key key) entries ≡ None = sym c.get_mut.ensures.value ∙ ap option_copied_mut c.in-None.is in
+    let clash : true ≡ false = sym c.requires ∙ has_cell-found entries key ∙ ap is_some none in
     cc
 
 pub returns : goal.returns
 returns c =
-    cells_in-set c.args.cells.now c.args.account.now c.args.symbol.now c.in-Some.index c.args.sums (sym c.index_of.ensures ∙ c.in-Some.is)
+    cells-written c.args.cells.now.entries _ c.args.position.now c.args.sums
+    (λ other. ((c.get_mut.follows.holds c.args.sums).3 (ap is_some (sym c.in-Some.ensures.value))).0 other)

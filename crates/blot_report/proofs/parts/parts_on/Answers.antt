@@ -9,8 +9,8 @@ use Rattle.blot_report.proofs.parts.parts_on.Goals as goal
 pub returns-clause-parts : goal.returns-clause-parts
 returns-clause-parts c =
     let list = c.args.entries.now in
-    let links = c.args.linked.now.chains in
-    let instructions = c.args.linked.now.allocs in
+    let links = c.args.linked.now.chains.list in
+    let instructions = c.args.linked.now.allocs.list in
     let versions = c.args.versions.now in
     parts-put list c.args.day links instructions versions c.put_allocations.new.parts.items (record {
       holds = c.requires.book;
@@ -23,8 +23,8 @@ returns-clause-parts c =
 pub returns-clause-light : goal.returns-clause-light
 returns-clause-light c =
     let list = c.args.entries.now in
-    let links = c.args.linked.now.chains in
-    let instructions = c.args.linked.now.allocs in
+    let links = c.args.linked.now.chains.list in
+    let instructions = c.args.linked.now.allocs.list in
     let versions = c.args.versions.now in
     light-put list c.args.day links instructions versions c.put_allocations.new.parts.items (record {
       holds = c.requires.book;

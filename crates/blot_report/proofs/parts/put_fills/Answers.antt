@@ -1,12 +1,12 @@
 use Rattle.std.proofs.Common.{◌++◌, ◌∷◌, [], map, take, ap, subst, sym, ◌∙◌}
-use Rattle.blot_command.specs.Sizes.{IsSmall}
+use Rattle.blot_types.specs.Position.{IsSmall}
 use Rattle.blot_report.specs.Linked.{part_by}
 use Rattle.blot_report.proofs.ListLemmas.{behind, mapped-more, All-more}
 use Rattle.blot_report.proofs.parts.put_fills.Goals as goal
 
 pub loop-version-preserved : goal.loop-version-preserved
 loop-version-preserved c =
-    let f = part_by c.args.linked.now.chains c.args.linked.now.allocs in
+    let f = part_by c.args.linked.now.chains.list c.args.linked.now.allocs.list in
     let initial = c.args.parts.now.items in
     let versions = c.args.versions.now in
     let index = c.loop-version.version-index in

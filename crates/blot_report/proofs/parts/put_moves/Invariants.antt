@@ -1,8 +1,7 @@
 use Rattle.std.proofs.Common.{◌≡◌, ◌++◌, take}
 use Rattle.std.specs.Prelude.{All}
 use Rattle.std.specs.List.{flat_map}
-use Rattle.blot_types.specs.Position.{moves_of_line, part_of_line}
-use Rattle.blot_command.specs.Sizes.{IsSmall}
+use Rattle.blot_types.specs.Position.{moves_of_line, part_of_line, IsSmall}
 use Rattle.blot_report.proofs.parts.put_moves.Given as goal
 
 abbrev pub invariant-loop-line : goal.invariant-loop-line

@@ -1,6 +1,7 @@
 use Rattle.std.proofs.Common.{◌∙◌, ap, sym}
 use Rattle.std.specs.BTreeSet.{insert_key}
-use Rattle.blot_report.specs.Lines.{position_cmp, position_key}
+use Rattle.blot_types.specs.Keys.{position_cmp}
+use Rattle.blot_report.specs.Lines.{position_key}
 use Rattle.blot_report.proofs.ListLemmas.{sorted-more}
 use Rattle.blot_report.proofs.positions.positions_among.Goals as goal
 

@@ -1,9 +1,9 @@
-use Rattle.std.proofs.Common.{ap, ◌∙◌, reverse}
+use Rattle.std.proofs.Common.{ap, ◌∙◌}
 use Rattle.blot_types.specs.Chains.{taker_in}
-use Rattle.blot_chain.proofs.ChainLemmas.{find-taker}
+use Rattle.blot_chain.proofs.HoldsLemmas.{taker-held}
 use Rattle.blot_chain.proofs.chains.Chains.number_of.Goals as goal
 
 pub returns : goal.returns
 returns c =
-    let found = rw c.deref.ensures.value at c.number_among.ensures in
-    found ∙ find-taker (reverse c.self.inside.links.items) c.args.key.now ∙ ap (λ links. taker_in links c.args.key.now) c.self.view_is
+    let found = rw c.deref.ensures.value at c.number_at.ensures in
+    found ∙ taker-held c.self.inside.index c.self.inside.slots.items c.args.key.now c.self.invariant ∙ ap (λ shown. taker_in shown.list c.args.key.now) c.self.view_is

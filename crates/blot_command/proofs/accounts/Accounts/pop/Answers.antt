@@ -14,13 +14,13 @@ release-requires c =
     let cells = c.self.inside.positions in
     let split = last-split list last c.last-last.ensures.last in
     let front = split.0 in
-    let ended = c.ended_key-ended.result in
+    let ended = c.alloc_reference-ended.result in
     let brought = c.brought_key-brought.result in
     let it : Reads front list last (replaced_part front last) (own_part front last) ended brought = record {
       after_is = split.1;
       replaced_is = refl;
       own_is = refl;
-      ended_is = c.ended_key-ended.ensures;
+      ended_is = c.alloc_reference-ended.ensures;
       brought_is = c.brought_key-brought.ensures;
     } in
     let moves = goes-as front list last (replaced_part front last) (own_part front last) ended brought cells it (ap is_book (sym split.1) ∙ c.last-last.ensures.book) c.self.invariant in
@@ -33,13 +33,13 @@ allocate-requires c =
     let cells = c.self.inside.positions in
     let split = last-split list last c.last-last.ensures.last in
     let front = split.0 in
-    let ended = c.ended_key-ended.result in
+    let ended = c.alloc_reference-ended.result in
     let brought = c.brought_key-brought.result in
     let it : Reads front list last (replaced_part front last) (own_part front last) ended brought = record {
       after_is = split.1;
       replaced_is = refl;
       own_is = refl;
-      ended_is = c.ended_key-ended.ensures;
+      ended_is = c.alloc_reference-ended.ensures;
       brought_is = c.brought_key-brought.ensures;
     } in
     let moves = goes-as front list last (replaced_part front last) (own_part front last) ended brought cells it (ap is_book (sym split.1) ∙ c.last-last.ensures.book) c.self.invariant in
@@ -56,11 +56,11 @@ rebook-requires c =
     let same : last ≡ entry = (same-ends split.0 front last entry (sym split.1 ∙ c.pop-entry.ensures.rest)).1 in
     let gone = c.part_of-gone.result in
     let come = c.part_of-come.result in
-    let ended = c.ended_key-ended.result in
+    let ended = c.alloc_reference-ended.result in
     let brought = c.brought_key-brought.result in
     let it =
     reads front list entry c.replaced.result c.version-version.result c.link.result come gone ended brought c.pop-entry.ensures.rest c.link.ensures c.replaced.ensures c.part_of-come.ensures
-    (c.version-version.ensures ∙ ap version_of same) c.part_of-gone.ensures (c.ended_key-ended.ensures ∙ ap (λ e. alloc_reference e.command) same) (c.brought_key-brought.ensures ∙ ap own_key same) in
+    (c.version-version.ensures ∙ ap version_of same) c.part_of-gone.ensures (c.alloc_reference-ended.ensures ∙ ap (λ e. alloc_reference e.command) same) (c.brought_key-brought.ensures ∙ ap own_key same) in
     let moves = goes-as front list entry come gone ended brought cells it (ap is_book (sym c.pop-entry.ensures.rest) ∙ c.pop-entry.ensures.book) c.self.invariant in
     move-third (released list brought) (allocated list ended) (rebooked gone come) cells c.release.new.positions c.allocate.new.positions front moves c.release.ensures c.allocate.ensures
 
@@ -75,10 +75,10 @@ invariant_of-self c =
     let same : last ≡ entry = (same-ends split.0 front last entry (sym split.1 ∙ c.pop-entry.ensures.rest)).1 in
     let gone = c.part_of-gone.result in
     let come = c.part_of-come.result in
-    let ended = c.ended_key-ended.result in
+    let ended = c.alloc_reference-ended.result in
     let brought = c.brought_key-brought.result in
     let it =
     reads front list entry c.replaced.result c.version-version.result c.link.result come gone ended brought c.pop-entry.ensures.rest c.link.ensures c.replaced.ensures c.part_of-come.ensures
-    (c.version-version.ensures ∙ ap version_of same) c.part_of-gone.ensures (c.ended_key-ended.ensures ∙ ap (λ e. alloc_reference e.command) same) (c.brought_key-brought.ensures ∙ ap own_key same) in
+    (c.version-version.ensures ∙ ap version_of same) c.part_of-gone.ensures (c.alloc_reference-ended.ensures ∙ ap (λ e. alloc_reference e.command) same) (c.brought_key-brought.ensures ∙ ap own_key same) in
     let moves = goes-as front list entry come gone ended brought cells it (ap is_book (sym c.pop-entry.ensures.rest) ∙ c.pop-entry.ensures.book) c.self.invariant in
     move-shows (released list brought) (allocated list ended) (rebooked gone come) cells c.release.new.positions c.allocate.new.positions c.rebook.new.positions front moves c.release.ensures c.allocate.ensures c.rebook.ensures

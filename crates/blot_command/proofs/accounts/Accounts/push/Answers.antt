@@ -14,12 +14,12 @@ rebook-requires c =
     let after = c.push.new.self in
     let gone = c.part_of-gone.result in
     let come = c.part_of-come.result in
-    let ended = c.ended_key-ended.result in
+    let ended = c.alloc_reference-ended.result in
     let brought = c.brought_key-brought.result in
     let book = ap (λ l. is_book (l ++ entry ∷ [])) c.self.view_is ∙ c.requires in
     let it =
     reads list after entry c.replaced.result c.version-version.result c.link.result gone come ended brought c.in-Ok-push.ensures.ok c.link.ensures c.replaced.ensures c.part_of-gone.ensures
-    c.version-version.ensures c.part_of-come.ensures c.ended_key-ended.ensures c.brought_key-brought.ensures in
+    c.version-version.ensures c.part_of-come.ensures c.alloc_reference-ended.ensures c.brought_key-brought.ensures in
     let moves = comes-as list after entry gone come ended brought c.self.inside.positions cells it book c.self.invariant c.in-Ok.ensures.opens c.in-Ok.ensures.made c.in-Ok.ensures.fits in
     moves.first
 
@@ -31,12 +31,12 @@ release-requires c =
     let after = c.push.new.self in
     let gone = c.part_of-gone.result in
     let come = c.part_of-come.result in
-    let ended = c.ended_key-ended.result in
+    let ended = c.alloc_reference-ended.result in
     let brought = c.brought_key-brought.result in
     let book = ap (λ l. is_book (l ++ entry ∷ [])) c.self.view_is ∙ c.requires in
     let it =
     reads list after entry c.replaced.result c.version-version.result c.link.result gone come ended brought c.in-Ok-push.ensures.ok c.link.ensures c.replaced.ensures c.part_of-gone.ensures
-    c.version-version.ensures c.part_of-come.ensures c.ended_key-ended.ensures c.brought_key-brought.ensures in
+    c.version-version.ensures c.part_of-come.ensures c.alloc_reference-ended.ensures c.brought_key-brought.ensures in
     let moves = comes-as list after entry gone come ended brought c.self.inside.positions cells it book c.self.invariant c.in-Ok.ensures.opens c.in-Ok.ensures.made c.in-Ok.ensures.fits in
     move-second (rebooked gone come) (released after ended) (allocated after brought) cells c.rebook.new.positions after moves c.rebook.ensures
 
@@ -48,12 +48,12 @@ allocate-requires c =
     let after = c.push.new.self in
     let gone = c.part_of-gone.result in
     let come = c.part_of-come.result in
-    let ended = c.ended_key-ended.result in
+    let ended = c.alloc_reference-ended.result in
     let brought = c.brought_key-brought.result in
     let book = ap (λ l. is_book (l ++ entry ∷ [])) c.self.view_is ∙ c.requires in
     let it =
     reads list after entry c.replaced.result c.version-version.result c.link.result gone come ended brought c.in-Ok-push.ensures.ok c.link.ensures c.replaced.ensures c.part_of-gone.ensures
-    c.version-version.ensures c.part_of-come.ensures c.ended_key-ended.ensures c.brought_key-brought.ensures in
+    c.version-version.ensures c.part_of-come.ensures c.alloc_reference-ended.ensures c.brought_key-brought.ensures in
     let moves = comes-as list after entry gone come ended brought c.self.inside.positions cells it book c.self.invariant c.in-Ok.ensures.opens c.in-Ok.ensures.made c.in-Ok.ensures.fits in
     move-third (rebooked gone come) (released after ended) (allocated after brought) cells c.rebook.new.positions c.release.new.positions after moves c.rebook.ensures c.release.ensures
 
@@ -65,12 +65,12 @@ invariant_of-self-in-Ok-push c =
     let after = c.push.new.self in
     let gone = c.part_of-gone.result in
     let come = c.part_of-come.result in
-    let ended = c.ended_key-ended.result in
+    let ended = c.alloc_reference-ended.result in
     let brought = c.brought_key-brought.result in
     let book = ap (λ l. is_book (l ++ entry ∷ [])) c.self.view_is ∙ c.requires in
     let it =
     reads list after entry c.replaced.result c.version-version.result c.link.result gone come ended brought c.in-Ok-push.ensures.ok c.link.ensures c.replaced.ensures c.part_of-gone.ensures
-    c.version-version.ensures c.part_of-come.ensures c.ended_key-ended.ensures c.brought_key-brought.ensures in
+    c.version-version.ensures c.part_of-come.ensures c.alloc_reference-ended.ensures c.brought_key-brought.ensures in
     let moves = comes-as list after entry gone come ended brought c.self.inside.positions cells it book c.self.invariant c.in-Ok.ensures.opens c.in-Ok.ensures.made c.in-Ok.ensures.fits in
     move-shows (rebooked gone come) (released after ended) (allocated after brought) cells c.rebook.new.positions c.release.new.positions c.allocate.new.positions after moves c.rebook.ensures c.release.ensures c.allocate.ensures
 

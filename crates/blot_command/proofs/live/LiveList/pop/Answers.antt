@@ -3,5 +3,5 @@ use Rattle.blot_command.proofs.live.LiveList.pop.Goals as goal
 
 pub invariant_of-self : goal.invariant_of-self
 invariant_of-self c =
-    holds-less c.self.inside.entries.items c.pop.new.self.items c.in-Some.entry c.self.inside.chains c.unlink_entry.new.chains c.self.inside.allocs c.unlink_entry.new.allocs
+    holds-less c.self.inside.entries.items c.pop.new.self.items c.in-Some.entry c.self.inside.chains.list c.unlink_entry.new.chains.list c.self.inside.allocs.list c.unlink_entry.new.allocs.list
     c.self.invariant c.in-Some.ensures.items c.unlink_entry.ensures.chains c.unlink_entry.ensures.allocs

@@ -8,6 +8,6 @@ use Rattle.blot_report.proofs.linked.Linked.is_named.Goals as goal
 
 pub returns-in-Some : goal.returns-in-Some
 returns-in-Some c =
-    let instructions = c.args.self.now.allocs in
+    let instructions = c.args.self.now.allocs.list in
     c.is_some.ensures ∙ ap is_some c.holder_of.ensures.holder ∙ named-holder instructions c.in-Some.root
     ∙ sym (ap (λ root. option_map_or (is_among (named_in instructions)) root false) (sym c.root_of.ensures.root ∙ c.in-Some.is))

@@ -6,12 +6,12 @@ link_entry-requires c =
     let list = c.args.entries.now in
     let index = c.loop-entry.entry-index in
     let entry = c.entry-item.result in
-    links-next list index entry c.loop-entry.chains c.loop-entry.allocs (is-next list index entry c.requires c.loop-entry-test.true c.entry-item.is) c.loop-entry.invariant
+    links-next list index entry c.loop-entry.chains.list c.loop-entry.allocs.list (is-next list index entry c.requires c.loop-entry-test.true c.entry-item.is) c.loop-entry.invariant
 
 pub loop-entry-preserved : goal.loop-entry-preserved
 loop-entry-preserved c =
     let list = c.args.entries.now in
     let index = c.loop-entry.entry-index in
     let entry = c.entry-item.result in
-    holds-next list index entry c.loop-entry.chains _ c.loop-entry.allocs _ (is-next list index entry c.requires c.loop-entry-test.true c.entry-item.is) c.loop-entry.invariant
+    holds-next list index entry c.loop-entry.chains.list _ c.loop-entry.allocs.list _ (is-next list index entry c.requires c.loop-entry-test.true c.entry-item.is) c.loop-entry.invariant
     c.in_ok-link_entry.ensures.chains c.in_ok-link_entry.ensures.allocs

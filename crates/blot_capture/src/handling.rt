@@ -1,0 +1,173 @@
+//! A frame at the session of its sender, and what that delivers at the desk.
+ghost use Rattle.std.specs.Prelude.{◌≡◌, ◌≢◌, [], ◌∷◌, Ok, Err, Some, OnOk, IfOk, IfErr};
+ghost use Rattle.blot_tag.specs.Views.{text_of};
+ghost use Rattle.blot_session.specs.Calls.{Awaits, DeliversAlone, on_reply};
+ghost use Rattle.blot_session.specs.declared.met.Met.{Met};
+ghost use Rattle.blot_session.specs.declared.replies.SeenReply.TheVariants.{Accepted};
+ghost use Rattle.blot_session.specs.Runs.{behind_calls};
+ghost use Rattle.blot_session.specs.States.{IsIdle, IsAwaiting};
+ghost use Rattle.blot_desk.specs.declared.event.Event.TheVariants.{Submit};
+ghost use Rattle.blot_desk.specs.Desk.{recorded_of};
+ghost use Rattle.blot_gateway.specs.Serving.{seen_by};
+ghost use Rattle.blot_capture.specs.Capture.{calls_of, reply_calls, waiting_calls, taken_by};
+ghost use Rattle.blot_capture.specs.Handling.{IsHandled, IsReplied, delivered_in, met_at};
+ghost use Rattle.blot_capture.specs.Replay.{submitted, Stopped, fault_of};
+ghost use Rattle.blot_capture.specs.Trace.{actions_after, actions_at, became_at, became_of, reply_to};
+
+use crate::handled::Handled;
+use crate::moment::sending_of;
+use blot_desk::{DeskFault, Event, Held, Reply};
+use blot_gateway::seen_by;
+use blot_session::{Action, NotTaken, Phase, SeenReply, Session, delivered};
+use blot_stream::ReplayFault;
+use blot_tag::Frame;
+use blot_time::Moment;
+use blot_types::Command;
+use std::alloc::Global;
+
+/// Gives a frame to its session, and what the session delivers to the desk. If the session is closed after that, it waits for
+/// its next Logon.
+pub(crate) fn take_frame(
+    alloc: Global,
+    session: &mut Session,
+    frame: &Frame,
+    held: &mut Held,
+) -> Result<Handled, ReplayFault>
+    requires { IsIdle session.old }
+    ensures session { OnOk result (session.new ≡ behind_calls session.old (calls_of session.old (text_of frame.now))) }
+    ensures peer { session.new.peer ≡ session.old.peer }
+    ensures idle { IsIdle session.new }
+    ensures desk { OnOk result (held.new ≡ submitted held.old (taken_by session.old (text_of frame.now))) }
+    ensures handled { IfOk result (IsHandled (became_at session.old held.old (text_of frame.now)) (actions_at session.old held.old (text_of frame.now))
+        (met_at (Some session.old) (text_of frame.now))) }
+    ensures err { IfErr result (λ fault. Stopped fault held.old held.new (taken_by session.old (text_of frame.now))) }
+    ensures no_write { result ≢ Err ReplayFault.Write }
+{
+    let now = sending_of(frame);
+    let Ok(actions) = session.on_frame(alloc, frame, now) else {
+        return Err(ReplayFault::NoMemory);
+    };
+    match take_delivered(alloc, session, actions, now, held) {
+        Ok(handled) => {
+            wait_where_closed(session);
+            Ok(handled)
+        }
+        Err(fault) => Err(fault),
+    }
+}
+
+// Submits what these actions deliver, if they deliver a command.
+fn take_delivered(
+    alloc: Global,
+    session: &mut Session,
+    actions: Vec<Action>,
+    now: Moment,
+    held: &mut Held,
+) -> Result<Handled, ReplayFault>
+    requires awaits { Awaits session.old actions.items }
+    requires alone { DeliversAlone actions.items }
+    ensures session { OnOk result (session.new ≡ behind_calls session.old (reply_calls session.old now)) }
+    ensures peer { session.new.peer ≡ session.old.peer }
+    ensures idle { IsIdle session.new }
+    ensures desk { OnOk result (held.new ≡ submitted held.old (delivered_in actions.items)) }
+    ensures handled { IfOk result (λ handled. (met : Met) → IsHandled (became_of met held.old (delivered_in actions.items))
+        (actions_after session.old held.old now actions.items (delivered_in actions.items)) (Some met) handled) }
+    ensures err { IfErr result (λ fault. Stopped fault held.old held.new (delivered_in actions.items)) }
+    ensures no_write { result ≢ Err ReplayFault.Write }
+{
+    if !session.is_awaiting() {
+        return Ok(Handled::Met(actions));
+    }
+    match delivered(actions) {
+        Some(command) => submit(alloc, session, command, now, held),
+        None => unreachable!(),
+    }
+}
+
+// Submits a delivered command to the desk, and tells the session the reply, or that the command wasn't taken.
+fn submit(
+    alloc: Global,
+    session: &mut Session,
+    command: Command,
+    now: Moment,
+    held: &mut Held,
+) -> Result<Handled, ReplayFault>
+    requires { IsAwaiting session.old }
+    ensures session { OnOk result (session.new ≡ (on_reply session.old (Ok Accepted) now).state) }
+    ensures peer { session.new.peer ≡ session.old.peer }
+    ensures idle { IsIdle session.new }
+    ensures desk { OnOk result (held.new ≡ recorded_of held.old (Submit command)) }
+    ensures handled { IfOk result (IsReplied (reply_to held.old command)
+        (on_reply session.old (seen_by (Ok (reply_to held.old command))) now).actions) }
+    ensures err { IfErr result (λ fault. Stopped fault held.old held.new (command ∷ [])) }
+    ensures no_write { result ≢ Err ReplayFault.Write }
+{
+    match held.step(Event::Submit(command)) {
+        Ok(reply) => answer(alloc, session, &reply, now),
+        Err(fault) => {
+            let _ = tell(alloc, session, Err(NotTaken), now);
+            Err(fault_of(fault))
+        }
+    }
+}
+
+// Tells a session the reply to the command that it delivered.
+fn answer(
+    alloc: Global,
+    session: &mut Session,
+    reply: &Reply,
+    now: Moment,
+) -> Result<Handled, ReplayFault>
+    requires { IsAwaiting session.old }
+    ensures session { OnOk result (session.new ≡ (on_reply session.old (seen_by (Ok reply.now)) now).state) }
+    ensures fault { IfErr result (λ fault. fault ≡ ReplayFault.NoMemory) }
+    ensures peer { session.new.peer ≡ session.old.peer }
+    ensures idle { IsIdle session.new }
+    ensures handled { IfOk result (IsReplied reply.now (on_reply session.old (seen_by (Ok reply.now)) now).actions) }
+{
+    match tell(alloc, session, seen_by(Ok(*reply)), now) {
+        Ok(wanted) => Ok(Handled::Replied(*reply, wanted)),
+        Err(fault) => Err(fault),
+    }
+}
+
+// Tells a session what became of the command that it delivered.
+fn tell(
+    alloc: Global,
+    session: &mut Session,
+    seen: Result<SeenReply, NotTaken>,
+    now: Moment,
+) -> Result<Vec<Action>, ReplayFault>
+    requires { IsAwaiting session.old }
+    ensures session { OnOk result (session.new ≡ (on_reply session.old seen now).state) }
+    ensures fault { IfErr result (λ fault. fault ≡ ReplayFault.NoMemory) }
+    ensures peer { session.new.peer ≡ session.old.peer }
+    ensures idle { IsIdle session.new }
+    ensures wanted { IfOk result (λ wanted. wanted.items ≡ (on_reply session.old seen now).actions) }
+{
+    match session.on_reply(alloc, seen, now) {
+        Ok(wanted) => Ok(wanted),
+        Err(_) => Err(ReplayFault::NoMemory),
+    }
+}
+
+// A fault of a step, as a capture's: the desk is full, or memory ran out. No step answers Unsettled.
+fn fault_of(fault: DeskFault) -> ReplayFault
+    ensures { result ≡ fault_of fault }
+{
+    match fault {
+        DeskFault::Full => ReplayFault::Full,
+        DeskFault::NoMemory | DeskFault::Unsettled => ReplayFault::NoMemory,
+    }
+}
+
+// A session that is closed waits for its next Logon.
+fn wait_where_closed(session: &mut Session)
+    ensures session { session.new ≡ behind_calls session.old (waiting_calls session.old) }
+    ensures peer { session.new.peer ≡ session.old.peer }
+    ensures idle { IsIdle session.old → IsIdle session.new }
+{
+    if matches!(session.phase(), Phase::Closed) {
+        session.wait_again();
+    }
+}

@@ -1,0 +1,19 @@
+-- The first field of a tag.
+use Rattle.std.specs.Prelude.{ℕ, List, [], ◌∷◌, ◌==◌, Option, Some, None, Ok, Err, if◌then◌else◌}
+use Rattle.std.specs.Option.{option_and_then}
+use Rattle.blot_tag.specs.Fields.{Item}
+use Rattle.blot_types.specs.Text.{is_text}
+
+-- these bytes, if they are a text
+abbrev pub text_in : List ℕ → Option (List ℕ)
+text_in bytes = if is_text bytes then Some bytes else None
+
+-- the value of the first field of a tag, where that can be split off
+abbrev pub first_value : ℕ → List Item → Option (List ℕ)
+first_value tag [] = None
+first_value tag (Err fault ∷ items) = None
+first_value tag (Ok field ∷ items) = if field.tag == tag then Some field.value else first_value tag items
+
+-- the first field of a tag that can be split off, if it is a text
+abbrev pub first_text : ℕ → List Item → Option (List ℕ)
+first_text tag items = option_and_then text_in (first_value tag items)

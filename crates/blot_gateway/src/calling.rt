@@ -1,0 +1,144 @@
+//! What is due to a session: its call, and what that comes to at the wire and at the sink.
+ghost use Rattle.std.specs.Prelude.{◌≡◌, ◌≤◌, [], ◌∷◌, List, Ok, Err, Some, None, IfOk, IfErr, OnOk, OnErr, is_some};
+ghost use Rattle.blot_tag.specs.Views.{text_of};
+ghost use Rattle.blot_session.specs.Runs.Call.{Frame as FrameCall, Reply as ReplyCall, Tick};
+ghost use Rattle.blot_session.specs.States.{awaited_of, IsIdle, IsAwaiting};
+ghost use Rattle.blot_gateway.specs.Endings.{ended_by};
+ghost use Rattle.blot_gateway.specs.Wires.{Counts};
+ghost use Rattle.blot_gateway.specs.Sending.{Called, Halted, Submitted, SubmittedLast};
+ghost use Rattle.blot_gateway.specs.Serving.{Due, Runs, Ends, parties, seen_by};
+ghost use Rattle.blot_gateway.specs.Serving.Due.{Came, Passed};
+
+use crate::ended::Stop;
+use crate::writing::carry_out;
+use crate::{Clock, Sink, Wire};
+use blot_desk::{DeskFault, Reply};
+use blot_session::{NotTaken, SeenReply, Session, delivered};
+use blot_tag::Frame;
+use blot_types::Command;
+use std::alloc::Global;
+
+/// A frame is due: it comes to the session. What the session delivers goes to the sink, and the session is told the answer.
+pub(crate) fn take_frame<W: Wire, C: Clock, S: Sink>(
+    alloc: Global,
+    wire: &mut W,
+    clock: &mut C,
+    sink: &mut S,
+    session: &mut Session,
+    frame: &Frame,
+) -> Result<(), Stop>
+    requires { IsIdle session.old }
+    ensures ok { OnOk result ((more : List Due) → Runs W.does C.ticks S.takes (parties wire.old clock.old sink.old session.old)
+        (Came (text_of frame.now) ∷ more) [] more (parties wire.new clock.new sink.new session.new)) }
+    ensures err { IfErr result (λ stop. (more : List Due) → Ends W.does C.ticks S.takes (ended_by stop) (parties wire.old clock.old sink.old session.old)
+        (Came (text_of frame.now) ∷ more) [] (parties wire.new clock.new sink.new session.new)) }
+    ensures idle { IsIdle session.new }
+    ensures failures { W.failures wire.old ≤ W.failures wire.new }
+    ensures failed { IfErr result (λ stop. stop ≡ Stop.WriteFault → Counts (W.failures wire.old) (W.failures wire.new)) }
+{
+    match give_frame(alloc, wire, clock, session, frame) {
+        Ok(Some(command)) => submit(alloc, wire, clock, sink, session, command),
+        Ok(None) => Ok(()),
+        Err(stop) => Err(stop),
+    }
+}
+
+/// A moment is due.
+pub(crate) fn pass_moment<W: Wire, C: Clock>(
+    alloc: Global,
+    wire: &mut W,
+    clock: &mut C,
+    session: &mut Session,
+) -> Result<(), Stop>
+    requires { IsIdle session.old }
+    ensures ok { OnOk result (Called W.does C.ticks None Tick wire.old clock.old session.old wire.new clock.new session.new) }
+    ensures err { IfErr result (λ stop. Halted W.does C.ticks stop Tick wire.old clock.old session.old wire.new clock.new session.new) }
+    ensures idle { IsIdle session.new }
+    ensures failures { W.failures wire.old ≤ W.failures wire.new }
+    ensures failed { IfErr result (λ stop. stop ≡ Stop.WriteFault → Counts (W.failures wire.old) (W.failures wire.new)) }
+{
+    let now = clock.now();
+    match session.on_tick(alloc, now) {
+        Ok(actions) => carry_out(wire, &actions),
+        Err(_) => Err(Stop::NoMemory),
+    }
+}
+
+// A frame comes to the session: the command that it delivers, if it delivers one.
+fn give_frame<W: Wire, C: Clock>(
+    alloc: Global,
+    wire: &mut W,
+    clock: &mut C,
+    session: &mut Session,
+    frame: &Frame,
+) -> Result<Option<Command>, Stop>
+    requires { IsIdle session.old }
+    ensures ok { IfOk result (λ command. Called W.does C.ticks command (FrameCall (text_of frame.now)) wire.old clock.old session.old wire.new clock.new session.new) }
+    ensures awaits { IfOk result (λ command. is_some command ≡ is_some (awaited_of session.new)) }
+    ensures err { IfErr result (λ stop. Halted W.does C.ticks stop (FrameCall (text_of frame.now)) wire.old clock.old session.old wire.new clock.new session.new) }
+    ensures idle { OnErr result (IsIdle session.new) }
+    ensures failures { W.failures wire.old ≤ W.failures wire.new }
+    ensures failed { IfErr result (λ stop. stop ≡ Stop.WriteFault → Counts (W.failures wire.old) (W.failures wire.new)) }
+{
+    let now = clock.now();
+    let Ok(actions) = session.on_frame(alloc, frame, now) else {
+        return Err(Stop::NoMemory);
+    };
+    match carry_out(wire, &actions) {
+        Ok(()) => Ok(delivered(actions)),
+        Err(stop) => Err(stop),
+    }
+}
+
+// Hands a delivered command to the sink, and tells the session the answer.
+fn submit<W: Wire, C: Clock, S: Sink>(
+    alloc: Global,
+    wire: &mut W,
+    clock: &mut C,
+    sink: &mut S,
+    session: &mut Session,
+    command: Command,
+) -> Result<(), Stop>
+    requires { IsAwaiting session.old }
+    ensures ok { OnOk result (Submitted W.does C.ticks S.takes command wire.old clock.old sink.old session.old wire.new clock.new sink.new session.new) }
+    ensures err { IfErr result (λ stop. SubmittedLast W.does C.ticks S.takes stop command wire.old clock.old sink.old session.old wire.new clock.new sink.new session.new) }
+    ensures idle { IsIdle session.new }
+    ensures failures { W.failures wire.old ≤ W.failures wire.new }
+    ensures failed { IfErr result (λ stop. stop ≡ Stop.WriteFault → Counts (W.failures wire.old) (W.failures wire.new)) }
+{
+    let answer = sink.take(command);
+    tell(alloc, wire, clock, session, seen_by(answer))
+}
+
+// Tells a session what became of the command that it delivered.
+fn tell<W: Wire, C: Clock>(
+    alloc: Global,
+    wire: &mut W,
+    clock: &mut C,
+    session: &mut Session,
+    seen: Result<SeenReply, NotTaken>,
+) -> Result<(), Stop>
+    requires { IsAwaiting session.old }
+    ensures ok { OnOk result (Called W.does C.ticks None (ReplyCall seen) wire.old clock.old session.old wire.new clock.new session.new) }
+    ensures err { IfErr result (λ stop. Halted W.does C.ticks stop (ReplyCall seen) wire.old clock.old session.old wire.new clock.new session.new) }
+    ensures idle { IsIdle session.new }
+    ensures failures { W.failures wire.old ≤ W.failures wire.new }
+    ensures failed { IfErr result (λ stop. stop ≡ Stop.WriteFault → Counts (W.failures wire.old) (W.failures wire.new)) }
+{
+    let now = clock.now();
+    match session.on_reply(alloc, seen, now) {
+        Ok(actions) => carry_out(wire, &actions),
+        Err(_) => Err(Stop::NoMemory),
+    }
+}
+
+/// What a session is told of the answer to a command that it delivered.
+pub fn seen_by(answer: Result<Reply, DeskFault>) -> Result<SeenReply, NotTaken>
+    ensures { result ≡ seen_by answer }
+{
+    match answer {
+        Ok(Reply::Accepted(_)) => Ok(SeenReply::Accepted),
+        Ok(Reply::Refused(refused)) => Ok(SeenReply::Refused(refused.number())),
+        _ => Err(NotTaken),
+    }
+}

@@ -1,0 +1,111 @@
+-- The lines of orders as they grow, and the rows that they give.
+use Rattle.std.proofs.Common.{◌≡◌, ℕ, ◌+◌, ◌<◌, ◌≤◌, arith, Bool, true, false, List, [], ◌∷◌, ◌++◌, length, map, take, get_or, Option, Some, None, refl, sym, ap, subst, ◌∙◌, inl, inr}
+use Rattle.std.specs.Prelude.{filter, if◌then◌else◌}
+use Rattle.std.specs.Cmp.Lexicographic.{same_text as text_told}
+use Rattle.std.specs.List.{cons_option, filter_map}
+use Rattle.std.specs.Option.{option_map}
+use Rattle.std.proofs.lemmas.Bool.{and_parts, cases_Bool}
+use Rattle.std.proofs.lemmas.Int.{ints}
+use Rattle.std.proofs.lemmas.List.{append-nil, map-append, take_more}
+use Rattle.std.proofs.lemmas.List.Elements.{filter-append}
+use Rattle.blot_types.specs.declared.fill.Fill.{Fill}
+use Rattle.blot_types.specs.declared.keys.OrderKey.{OrderKey}
+use Rattle.blot_types.specs.declared.lines.OrderLine.{OrderLine}
+use Rattle.blot_types.specs.declared.lines.Version.{Version}
+use Rattle.blot_types.specs.Keys.{same_order, same_text}
+use Rattle.blot_types.specs.Order.{line_of, fills_of, with_fill, IsWithin}
+use Rattle.blot_types.proofs.OrderLemmas.{line_of-push, IsWithin-weaker}
+use Rattle.blot_report.specs.Lines.{order_row}
+use Rattle.blot_report.specs.Orders.{line_at, with_line, AreLinesOf, line_row}
+
+-- orders that the test calls one are equal
+same_order-true : (a b : OrderKey) → same_order a b ≡ true → a ≡ b
+same_order-true a b same =
+    let parts : (same_text a.peer b.peer ≡ true) × (same_text a.id b.id ≡ true) = and_parts _ _ same in
+    let peers : a.peer ≡ b.peer = text_told a.peer b.peer (sym parts.0) in
+    let ids : a.id ≡ b.id = text_told a.id b.id (sym parts.1) in
+    λ i. record { peer = peers i; id = ids i }
+
+-- the fills of versions
+abbrev pub fills_in : List Version → List Fill
+fills_in versions = map (λ version. version.fill) versions
+
+one-fill : (fill : Fill) (order : OrderKey) → fills_of (fill ∷ []) order ≡ (if same_order fill.order order then fill ∷ [] else [])
+one-fill fill order =
+    elim (cases_Bool (same_order fill.order order)) [
+      | inl own ↦ rw own refl
+      | inr other ↦ rw other refl
+    ]
+
+-- the line of an order's fills, with one fill more of any order
+line-more :
+    (lines : List (OrderKey × OrderLine)) (fills : List Fill) (fill : Fill) (order : OrderKey) → AreLinesOf lines fills
+    → with_line fill lines order ≡ line_of (fills_of (fills ++ fill ∷ []) order)
+line-more lines fills fill order are =
+    let split : fills_of (fills ++ fill ∷ []) order ≡ fills_of fills order ++ fills_of (fill ∷ []) order = filter-append (λ f. same_order f.order order) fills (fill ∷ []) in
+    elim (cases_Bool (same_order fill.order order)) [
+      | inl own ↦
+          let same : fill.order ≡ order = same_order-true fill.order order own in
+          let more : fills_of (fills ++ fill ∷ []) order ≡ fills_of fills order ++ fill ∷ [] =
+          split ∙ ap (λ back. fills_of fills order ++ back) (one-fill fill order ∙ ap (λ test. if test then fill ∷ [] else []) own) in
+          ap (λ test. if test then Some (with_fill (line_at lines fill.order) fill) else line_at lines order) own
+          ∙ ap (λ line. Some (with_fill line fill)) (ap (line_at lines) same ∙ are order)
+          ∙ sym (ap line_of more ∙ line_of-push (fills_of fills order) fill)
+      | inr other ↦
+          let more : fills_of (fills ++ fill ∷ []) order ≡ fills_of fills order =
+          split ∙ ap (λ back. fills_of fills order ++ back) (one-fill fill order ∙ ap (λ test. if test then fill ∷ [] else []) other) ∙ append-nil (fills_of fills order) in
+          ap (λ test. if test then Some (with_fill (line_at lines fill.order) fill) else line_at lines order) other
+          ∙ are order ∙ sym (ap line_of more)
+    ]
+
+-- the lines of the first versions, each of at most as many fills
+pub record HoldsFirst (lines : List (OrderKey × OrderLine)) (versions : List Version) (index : ℕ) : Type 0 where
+  pub are : AreLinesOf lines (fills_in (take index versions))
+  pub few : (order : OrderKey) → IsWithin index (line_at lines order)
+
+-- one fill more, for every order
+few-more :
+    (old : List (OrderKey × OrderLine)) (fill : Fill) (index : ℕ) (order : OrderKey) → ((order : OrderKey) → IsWithin index (line_at old order))
+    → ((n : ℕ) → IsWithin n (line_at old fill.order) → IsWithin (n + 1) (with_line fill old fill.order))
+    → IsWithin (index + 1) (with_line fill old order)
+few-more old fill index order few grows =
+    elim (cases_Bool (same_order fill.order order)) [
+      | inl own ↦ subst (λ key. IsWithin (index + 1) (with_line fill old key)) (same_order-true fill.order order own) (grows index (few fill.order))
+      | inr other ↦
+          subst (IsWithin (index + 1)) (sym (ap (λ test. if test then Some (with_fill (line_at old fill.order) fill) else line_at old order) other))
+          (IsWithin-weaker index (index + 1) (line_at old order) (omega arith) (few order))
+    ]
+
+pub holds-more :
+    (old new : List (OrderKey × OrderLine)) (versions : List Version) (index : ℕ) (version : Version)
+    → HoldsFirst old versions index → index < length versions → version ≡ get_or versions index version
+    → ((order : OrderKey) → line_at new order ≡ with_line version.fill old order)
+    → ((n : ℕ) → IsWithin n (line_at old version.fill.order) → IsWithin (n + 1) (with_line version.fill old version.fill.order))
+    → HoldsFirst new versions (index + 1)
+holds-more old new versions index version holds within is written grows =
+    let next : take (index + 1) versions ≡ take index versions ++ version ∷ [] = rw is (take_more versions index version within) in
+    let fills : fills_in (take (index + 1) versions) ≡ fills_in (take index versions) ++ version.fill ∷ [] =
+    ap fills_in next ∙ map-append (λ v. v.fill) (take index versions) (version ∷ []) in
+    record {
+      are = λ order. written order ∙ line-more old (fills_in (take index versions)) version.fill order holds.are ∙ sym (ap (λ f. line_of (fills_of f order)) fills);
+      few = λ order. subst (IsWithin (index + 1)) (sym (written order)) (few-more old version.fill index order holds.few grows);
+    }
+
+-- no fill yet
+pub holds-none : (lines : List (OrderKey × OrderLine)) (versions : List Version) → lines ≡ [] → HoldsFirst lines versions 0
+holds-none lines versions none =
+    subst (λ l. HoldsFirst l versions 0) (sym none) (record {
+      are = λ order. refl;
+      few = λ order. record { cum_low = omega (arith, ints); cum_high = omega (arith, ints); value_low = omega (arith, ints); value_high = omega (arith, ints) };
+    })
+
+-- all of them
+pub holds-all : (lines : List (OrderKey × OrderLine)) (versions : List Version) (index : ℕ) → HoldsFirst lines versions index → take index versions ≡ versions → AreLinesOf lines (fills_in versions)
+holds-all lines versions index holds all order = holds.are order ∙ ap (λ vs. line_of (fills_of (fills_in vs) order)) all
+
+-- the rows of lines are those of the fills
+pub rows-same : (lines : List (OrderKey × OrderLine)) (fills : List Fill) (keys : List OrderKey) → AreLinesOf lines fills → filter_map (line_row lines) keys ≡ filter_map (order_row fills) keys
+rows-same lines fills [] are = refl
+rows-same lines fills (key ∷ keys) are =
+    ap (λ o. cons_option (option_map (λ line. record { order = key; line = line }) o) (filter_map (line_row lines) keys)) (are key)
+    ∙ ap (cons_option (order_row fills key)) (rows-same lines fills keys are)

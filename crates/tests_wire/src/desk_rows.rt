@@ -1,0 +1,53 @@
+//! The rows of operators' scripts: a line, and its answer.
+
+use crate::dialogues::Told;
+
+/// An operator's morning, each answer to it worked out by hand.
+pub fn morning() -> &'static [Told] {
+    static ROWS: [Told; 12] = [
+        ("order>BRKA>O1", "order>BRKA>O1>XYZ>B>100>200>1050"),
+        ("undo>1", "undone>1"),
+        ("undo>1", "refused>13>NothingToUndo"),
+        ("redo", "redone>1"),
+        ("undo>2", "refused>14>Moved>1"),
+        ("position>A1>XYZ", "position>A1>XYZ>100>1050"),
+        ("fly", "bad>1"),
+        ("undo", "bad>2"),
+        ("undo>x", "bad>3>1"),
+        (
+            "allocate>BRKA>AL1>XYZ>B>20240105>10.5>1>E1>A>60>B>40",
+            "accepted>2",
+        ),
+        (
+            "allocate>BRKA>AL1>XYZ>B>20240105>10.5>0>E1>A>60>B>40",
+            "bad>3>7",
+        ),
+        ("position>*>XYZ", "position>*>XYZ>0>0"),
+    ];
+    &ROWS
+}
+
+/// The reports of the first trade's day and of another.
+pub fn reports() -> &'static [Told] {
+    static ROWS: [Told; 2] = [
+        (
+            "report>20240105",
+            "report>20240105/order>BRKA>O1>XYZ>B>100>200>1050/position>A1>XYZ>100>1050/end>2",
+        ),
+        ("report>20240106", "report>20240106/end>0"),
+    ];
+    &ROWS
+}
+
+/// The report of the first trade and of 50 of 250 at 11 after it.
+pub fn report_of_two() -> &'static [Told] {
+    static ROWS: [Told; 1] = [(
+        "report>20240105",
+        "report>20240105/order>BRKA>O1>XYZ>B>150>100>1600/position>A1>XYZ>150>1600/end>2",
+    )];
+    &ROWS
+}
+
+/// Behind the first trade, 50 of 250 at 11.
+pub const OTHER_TRADE: &str =
+    "35=8|49=BRKA|56=MO|34=3|52=20240105-10:00:00|37=O1|17=E2|150=F|39=1|1=A1|55=XYZ|54=1|38=250|32=50|31=11|151=200|14=150|6=10.666667|75=20240105|";

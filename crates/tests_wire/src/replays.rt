@@ -1,0 +1,130 @@
+//! `replay`, `audit` and `capture` over captures in memory.
+
+use crate::calls::{Call, called, check_taken, spelled};
+use crate::capture_rows::{MIXED, MIXED_REPORT, REPORT, TRADE, TRAIL};
+use crate::dialogues::captured;
+use crate::frames::stream;
+use crate::memory::{AT_ONCE, BY_BYTES, INTERRUPTED, Manner, cut_at, failing, reader, writer};
+use blot_desk::Held;
+use blotter::ReplayFault;
+use std::process::Abort;
+use std::test::Fail;
+
+// A capture comes to this text, which is flushed once.
+fn check_written(
+    rt: &(impl Abort + AllocGlobal),
+    call: Call,
+    bytes: &[u8],
+    expected: &[u8],
+    manner: Manner,
+) -> Result<(), Fail> {
+    let mut sink = writer(rt.alloc(), manner);
+    let outcome = called(rt.alloc(), call, &mut reader(bytes, manner), &mut sink)?;
+    assert_eq!(rt; outcome, Ok(()), "{call:?}");
+    assert_eq!(rt; sink.written.as_slice(), expected, "{call:?}");
+    assert_eq!(rt; sink.flushes, 1, "{call:?}");
+    Ok(())
+}
+
+// So many of its commands come to a desk, and so many entries are live then.
+fn check_desk(rt: &(impl Abort + AllocGlobal), bytes: &[u8], manner: Manner) -> Result<(), Fail> {
+    let mut held = Held::new(rt.alloc());
+    check_taken(rt, &mut held, &mut reader(bytes, manner), (Ok(()), 8, 7))
+}
+
+#[test]
+fn a_capture_in_pieces(rt: HostRuntime) -> Result<(), Fail> {
+    let bytes = stream(rt.alloc(), MIXED)?;
+    let expected = spelled(rt.alloc(), MIXED_REPORT)?;
+    for manner in [AT_ONCE, BY_BYTES, INTERRUPTED] {
+        check_written(&rt, Call::Replay, &bytes, &expected, manner)?;
+        check_desk(&rt, &bytes, manner)?;
+    }
+    Ok(())
+}
+
+// Four bytes a write, and one that fails.
+fn failing_write(fails_at: u64) -> Manner {
+    let manner = Manner { most: 4, ..AT_ONCE };
+    failing(manner, fails_at)
+}
+
+// A call comes to a fault, with this written.
+fn check_fault(
+    rt: &(impl Abort + AllocGlobal),
+    call: Call,
+    bytes: &[u8],
+    (reads, writes): (Manner, Manner),
+    fault: ReplayFault,
+    written: &[u8],
+) -> Result<(), Fail> {
+    let mut sink = writer(rt.alloc(), writes);
+    let outcome = called(rt.alloc(), call, &mut reader(bytes, reads), &mut sink)?;
+    assert_eq!(rt; outcome, Err(fault), "{call:?}");
+    assert_eq!(rt; sink.written.as_slice(), written, "{call:?}");
+    Ok(())
+}
+
+// The first so many bytes of a text.
+fn front(text: &[u8], count: usize) -> &[u8] {
+    text.get(..count).unwrap_or(text)
+}
+
+// Three reads: a piece, the rest and the end. One that fails leaves nothing written.
+fn check_reads(rt: &(impl Abort + AllocGlobal), call: Call, bytes: &[u8]) -> Result<(), Fail> {
+    for fails_at in 1..4 {
+        let manner = failing(cut_at(100), fails_at);
+        check_fault(rt, call, bytes, (manner, AT_ONCE), ReplayFault::Read, b"")?;
+    }
+    Ok(())
+}
+
+// A write that fails leaves what was written before, and so does the flush after the last.
+fn check_writes(
+    rt: &(impl Abort + AllocGlobal),
+    call: Call,
+    bytes: &[u8],
+    expected: &[u8],
+) -> Result<(), Fail> {
+    for before in 0..=expected.len().div_ceil(4) {
+        let manner = failing_write(before as u64 + 1);
+        let written = front(expected, before.saturating_mul(4));
+        let manners = (AT_ONCE, manner);
+        check_fault(rt, call, bytes, manners, ReplayFault::Write, written)?;
+    }
+    let manners = (AT_ONCE, Manner { most: 0, ..AT_ONCE });
+    check_fault(rt, call, bytes, manners, ReplayFault::Write, b"")
+}
+
+// What a call writes of the first trade, at every cut into two pieces and at every failure.
+fn check_call(
+    rt: &(impl Abort + AllocGlobal),
+    call: Call,
+    bytes: &[u8],
+    expected: &[u8],
+) -> Result<(), Fail> {
+    for cut in 1..266 {
+        check_written(rt, call, bytes, expected, cut_at(cut))?;
+    }
+    check_reads(rt, call, bytes)?;
+    check_writes(rt, call, bytes, expected)
+}
+
+// What a call writes of the first trade is the text of these words.
+fn check_words(
+    rt: &(impl Abort + AllocGlobal),
+    call: Call,
+    bytes: &[u8],
+    words: &str,
+) -> Result<(), Fail> {
+    let expected = spelled(rt.alloc(), words)?;
+    check_call(rt, call, bytes, &expected)
+}
+
+#[test]
+fn the_first_trade_at_every_cut_and_every_failure(rt: HostRuntime) -> Result<(), Fail> {
+    let bytes = captured(rt.alloc(), TRADE)?;
+    assert_eq!(rt; bytes.len(), 266);
+    check_words(&rt, Call::Replay, &bytes, REPORT)?;
+    check_words(&rt, Call::Audit, &bytes, TRAIL)
+}
