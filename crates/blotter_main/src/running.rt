@@ -204,12 +204,44 @@ fn keep_desk<C: Read, R: Read, W: Write>(
     ensures read_to_the_end { OnOk result (IsAtEnd (R.remaining input.new)) }
     ensures words { IfErr result (λ failure. outcome_of failure ≢ BadWords) }
 {
+    let mut held = captured_desk(alloc, captured, path, own, peers)?;
+    answer(alloc, &mut held, input, output)
+}
+
+// The desk that a capture leads to.
+fn captured_desk<C: Read>(
+    alloc: Global,
+    captured: &mut C,
+    path: String,
+    own: Text64,
+    peers: &[Text64],
+) -> Result<Held, Failure>
+    requires { IsDistinct same_text peers.now }
+    ensures captured { IfOk result (λ held. IfSome (C.remaining captured.old) (λ frames.
+        held ≡ submitted empty_journal (commands_of own peers.now frames))) }
+    ensures words { IfErr result (λ failure. outcome_of failure ≢ BadWords) }
+{
     let mut held = Held::new(alloc);
     match capture(alloc, captured, own, peers, &mut held) {
-        Ok(()) => desk_lines(alloc, input, output, &mut held).map_err(Failure::Stopped),
+        Ok(()) => Ok(held),
         Err(ReplayFault::Read) => Err(Failure::Unreadable(path)),
         Err(fault) => Err(Failure::Stopped(fault)),
     }
+}
+
+// Answers the lines of the input.
+fn answer<R: Read, W: Write>(
+    alloc: Global,
+    held: &mut Held,
+    input: &mut R,
+    output: &mut W,
+) -> Result<(), Failure>
+    ensures told { OnOk result (IfSome (R.remaining input.old) (λ bytes.
+        Appends (W.contents output.old) (W.contents output.new) (told_over held.old (lines_of bytes)).text)) }
+    ensures read_to_the_end { OnOk result (IsAtEnd (R.remaining input.new)) }
+    ensures words { IfErr result (λ failure. outcome_of failure ≢ BadWords) }
+{
+    desk_lines(alloc, input, output, held).map_err(Failure::Stopped)
 }
 
 // Tells why a run failed, and says how it ends. A fault in telling is ignored.
