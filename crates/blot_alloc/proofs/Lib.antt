@@ -1,1 +1,3 @@
-mod AllocLemmas
+mod HolderLemmas
+mod HoldsLemmas
+mod RootLemmas

@@ -5,7 +5,7 @@ use Rattle.blot_types.specs.declared.allocation.AllocRole.{AllocRole}
 use Rattle.blot_types.specs.declared.allocation.Instruction.{Instruction}
 use Rattle.blot_types.specs.declared.keys.AllocKey.{AllocKey}
 use Rattle.blot_types.specs.declared.keys.ExecKey.{ExecKey}
-use Rattle.blot_types.specs.Instructions.{is_keyed, is_instructed, is_above_instructions}
+use Rattle.blot_types.specs.Instructions.{is_keyed, is_above_instructions}
 
 -- what a contract sees of the allocations: their instructions, newest first
 pub record Shown : Type 0 where
@@ -19,11 +19,6 @@ roots_in instructions key = option_map (λ instruction. instruction.roots) (find
 abbrev pub numbers_fall : List Instruction → Bool
 numbers_fall [] = true
 numbers_fall (instruction ∷ earlier) = is_above_instructions instruction.number earlier && numbers_fall earlier
-
--- what is kept: each instruction might follow those before it, and the numbers fall
-pub record HoldsInstructions (instructions : List Instruction) : Type 0 where
-  pub instructed : is_instructed instructions ≡ true
-  pub fall : numbers_fall instructions ≡ true
 
 -- the later instructions are the earlier ones with one more, of this key and role
 abbrev pub Adds : AllocKey → AllocRole → List Instruction → List Instruction → Type 0

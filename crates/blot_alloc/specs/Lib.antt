@@ -1,1 +1,3 @@
 pub mod Allocs
+pub mod Holds
+pub mod Index

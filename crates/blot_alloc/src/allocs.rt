@@ -1,33 +1,37 @@
 //! The instructions on allocations: added, taken back, asked.
-ghost use Rattle.std.specs.Prelude.{◌≡◌, ◌≤◌, [], ◌∷◌, length, filter, IsTrue, OnOk, OnErr};
-ghost use Rattle.std.specs.Option.{option_map};
+ghost use Rattle.std.specs.Prelude.{◌≡◌, ◌≤◌, [], ◌∷◌, length, filter, find, IsTrue, OnOk, OnErr};
+ghost use Rattle.std.specs.Option.{option_copied, option_map};
 ghost use Rattle.blot_types.specs.declared.allocation.AllocRole.TheVariants.{Allocates, Replaces, Cancels};
-ghost use Rattle.blot_types.specs.Instructions.{alloc_taker_in, is_allocation_in, ended_in, holds_in, holder_in, other_holder_in, may_follow, is_above_instructions};
+ghost use Rattle.blot_types.specs.Instructions.{alloc_taker_in, is_keyed, is_allocation_in, ends, ended_in, is_live_in, holds_in, holder_in, other_holder_in, may_follow, is_above_instructions};
 ghost use Rattle.blot_alloc.specs.Allocs.{roots_in, Adds, IsNewest};
 
-use crate::lookup::{
-    ended_among, holder_among, is_allocation_among, keyed, number_among, other_holder_among,
-};
+use crate::index::Index;
+use crate::roles::{brings_allocation, is_reference};
+use blot_places::{Slot, newest_live};
 use blot_types::{AllocKey, AllocRole, ExecKey, Instruction, Items};
 use std::alloc::{AllocError as NoMemory, Global};
 use std::marker::Model;
 
-/// The instructions on allocations, in the order in which they came. A contract sees their list, newest
-/// first, in which each instruction might follow those before it, and the numbers fall.
+/// The instructions on allocations, in the order in which they came, and where those of a key, those that
+/// end the allocation of a key, and those that name the chain of a root are among them. A contract sees their
+/// list, newest first, in which each instruction might follow those before it, and the numbers fall.
 #[derive(Drop)]
 pub struct Allocs {
-    instructions: Vec<Instruction>,
+    alloc: Global,
+    slots: Vec<Slot<Instruction>>,
+    index: Index,
 }
 
 impl Model for Allocs {
     ghost use Rattle.std.specs.Prelude.{reverse};
-    ghost use Rattle.blot_alloc.specs.Allocs.{Shown, HoldsInstructions};
+    ghost use Rattle.blot_alloc.specs.Allocs.{Shown};
+    ghost use Rattle.blot_alloc.specs.Holds.{HoldsAllocs, shown_of};
 
     ghost Value = { Shown };
 
-    ghost view = { λ allocs. record { list = reverse allocs.instructions.items } };
+    ghost view = { λ allocs. shown_of (reverse allocs.slots.items) };
 
-    ghost invariant = { λ allocs. HoldsInstructions (reverse allocs.instructions.items) };
+    ghost invariant = { λ allocs. HoldsAllocs allocs.index (reverse allocs.slots.items) };
 }
 
 impl Allocs {
@@ -36,7 +40,9 @@ impl Allocs {
         ensures { result.list ≡ [] }
     {
         Allocs {
-            instructions: Vec::new(alloc),
+            alloc,
+            slots: Vec::new(alloc),
+            index: Index::new(alloc),
         }
     }
 
@@ -90,7 +96,7 @@ impl Allocs {
         ensures ok { OnOk result (self.new.list ≡ record { number = number; key = key.now; role = Cancels reference.now; roots = [] } ∷ self.old.list) }
         ensures err { OnErr result (self.new ≡ self.old) }
     {
-        let none = Items::new(Vec::new(*self.instructions.allocator()));
+        let none = Items::new(Vec::new(self.alloc));
         self.push(number, key, AllocRole::Cancels(*reference), none)
     }
 
@@ -126,7 +132,7 @@ impl Allocs {
         ensures holder { result ≡ holder_in self.now.list root.now }
         ensures once { length (filter (holds_in self.now.list root.now) self.now.list) ≤ 1 }
     {
-        holder_among(&self.instructions, root)
+        self.holder(root).map(|instruction| instruction.number)
     }
 
     /// The number of the live allocation that names the chain of a root, other than the one referred to. This
@@ -134,28 +140,33 @@ impl Allocs {
     pub fn other_holder_of(&self, reference: Option<AllocKey>, root: &ExecKey) -> Option<u64>
         ensures { result ≡ other_holder_in self.now.list reference root.now }
     {
-        other_holder_among(&self.instructions, reference, root)
+        let holder = self.holder(root)?;
+        if is_reference(reference, &holder.key) {
+            return None;
+        }
+        Some(holder.number)
     }
 
     /// The number of the instruction that takes up a key. This project's rule.
     pub fn number_of(&self, key: &AllocKey) -> Option<u64>
         ensures { result ≡ alloc_taker_in self.now.list key.now }
     {
-        number_among(&self.instructions, key)
+        self.taker(key).map(|instruction| instruction.number)
     }
 
     /// The roots of the chains that the instruction which takes up a key lists. This project's rule.
     pub fn roots_of(&self, key: &AllocKey) -> Option<&[ExecKey]>
         ensures { option_map (λ roots. roots.now) result ≡ roots_in self.now.list key.now }
     {
-        keyed(&self.instructions, key).map(|instruction| instruction.roots.as_slice())
+        self.taker(key)
+            .map(|instruction| instruction.roots.as_slice())
     }
 
     /// The number of the instruction that replaced or cancelled the allocation of a key. This project's rule.
     pub fn ended_by(&self, key: &AllocKey) -> Option<u64>
         ensures { result ≡ ended_in self.now.list key.now }
     {
-        ended_among(&self.instructions, key)
+        self.ending(key).map(|instruction| instruction.number)
     }
 
     /// Whether there is an allocation of this key, live or ended: whether an AllocNew or an AllocReplace takes
@@ -163,10 +174,48 @@ impl Allocs {
     pub fn is_allocation(&self, key: &AllocKey) -> bool
         ensures { result ≡ is_allocation_in self.now.list key.now }
     {
-        is_allocation_among(&self.instructions, key)
+        match self.taker(key) {
+            Some(instruction) => brings_allocation(&instruction.role),
+            None => false,
+        }
     }
 
-    // Puts an instruction behind the others.
+    // The instruction that takes up a key.
+    fn taker(&self, key: &AllocKey) -> Option<&Instruction>
+        ensures found { option_copied result ≡ find (is_keyed key.now) self.now.list }
+        ensures once { length (filter (is_keyed key.now) self.now.list) ≤ 1 }
+    {
+        newest_live(&self.slots, self.index.takers.under(key))
+    }
+
+    // The instruction that ended the allocation of a key.
+    fn ending(&self, key: &AllocKey) -> Option<&Instruction>
+        ensures { option_copied result ≡ find (λ instruction. ends key.now instruction.role) self.now.list }
+    {
+        newest_live(&self.slots, self.index.endings.under(key))
+    }
+
+    // The instruction whose allocation is live and names the chain of a root. Only the newest that names it can
+    // be this one: when that came, no other allocation that named the chain stayed live.
+    fn holder(&self, root: &ExecKey) -> Option<&Instruction>
+        ensures found { option_copied result ≡ find (holds_in self.now.list root.now) self.now.list }
+        ensures once { length (filter (holds_in self.now.list root.now) self.now.list) ≤ 1 }
+    {
+        let newest = newest_live(&self.slots, self.index.holders.under(root))?;
+        if !self.is_live(newest) {
+            return None;
+        }
+        Some(newest)
+    }
+
+    // Whether an instruction's allocation is live: whether it brings one, and none ended that.
+    fn is_live(&self, instruction: &Instruction) -> bool
+        ensures { result ≡ is_live_in self.now.list instruction.now }
+    {
+        brings_allocation(&instruction.role) && self.ended_by(&instruction.key).is_none()
+    }
+
+    // Puts an instruction behind the others. All room is made before anything changes.
     fn push(
         &mut self,
         number: u64,
@@ -179,12 +228,22 @@ impl Allocs {
         ensures ok { OnOk result (self.new.list ≡ record { number = number; key = key.now; role = role; roots = roots } ∷ self.old.list) }
         ensures err { OnErr result (self.new ≡ self.old) }
     {
-        self.instructions.push(Instruction {
+        self.slots.reserve(1)?;
+        self.index
+            .make_room(self.alloc, key, &role, roots.as_slice())?;
+        let item = Instruction {
             number,
             key: *key,
             role,
             roots,
-        })?;
+        };
+        let slot = Slot {
+            item,
+            is_live: true,
+        };
+        let place = self.slots.len();
+        self.index.push(&slot, place);
+        self.slots.push_reserved(slot);
         Ok(())
     }
 
@@ -193,8 +252,8 @@ impl Allocs {
         requires newest { IsNewest key.now role self.old.list }
         ensures { Adds key.now role self.new.list self.old.list }
     {
-        match self.instructions.pop() {
-            Some(_newest) => {}
+        match self.slots.pop() {
+            Some(slot) => self.index.pop(&slot),
             None => unreachable!(),
         }
     }

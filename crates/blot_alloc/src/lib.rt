@@ -5,6 +5,8 @@
 #![tactic(auto)]
 
 mod allocs;
-mod lookup;
+mod index;
+mod roles;
+mod roots;
 
 pub use allocs::Allocs;

@@ -68,18 +68,18 @@ fn captured_report<R: Read>(
     if let Err(fault) = capture(alloc, input, own, peers, &mut held) {
         return Err(fault);
     }
-    match day_report(alloc, &held, day) {
+    match day_report(alloc, held, day) {
         Ok(text) => Ok(text),
         Err(_) => Err(ReplayFault::NoMemory),
     }
 }
 
-/// The report of a day of a desk.
-pub fn day_report(alloc: Global, held: &Held, day: Day) -> Result<Vec<u8>, NoMemory>
-    ensures text { IfOk result (λ text. text.items ≡ report_of (run_of (events_of held.now.history)).book.list day) }
-    ensures few { length held.now.history ≤ EVENTS_MAX }
+/// The report of a day of a desk. The desk goes first, so that the report takes its room.
+pub fn day_report(alloc: Global, held: Held, day: Day) -> Result<Vec<u8>, NoMemory>
+    ensures text { IfOk result (λ text. text.items ≡ report_of (run_of (events_of held.history)).book.list day) }
+    ensures few { length held.history ≤ EVENTS_MAX }
 {
-    let snapshot = held.snapshot()?;
+    let snapshot = held.into_snapshot();
     let lines = day_lines(alloc, &snapshot, day)?;
     report_text(alloc, &lines)
 }

@@ -13,8 +13,8 @@ use Rattle.blot_types.specs.Keys.{same_exec}
 use Rattle.blot_types.specs.Laws.{IsOneTrade}
 use Rattle.blot_types.proofs.ChainLemmas.{accepted_key, none_is}
 use Rattle.blot_types.proofs.KeyLemmas.{same_exec-true, same_exec-refl}
-use Rattle.blot_chain.specs.declared.slots.Slot.{Slot}
-use Rattle.blot_chain.specs.Slots.{is_version, is_bust, has_key, is_version_of, is_bust_of, kept_root, chain_root, links_in, AreRooted}
+use Rattle.blot_chain.specs.declared.rooted.Rooted.{Rooted}
+use Rattle.blot_chain.specs.Rooted.{is_version, is_bust, has_key, is_version_of, is_bust_of, kept_root, chain_root, links_in, AreRooted}
 
 -- One link: what is said of the root beside it is what is said of its role.
 
@@ -42,7 +42,7 @@ bust-busts earlier key (Busts reference) root wanted is = ap (is_root wanted) (s
 -- The list: what is found by the stored roots is what the definitions name.
 
 pub find-root :
-    (items : List Slot) (key : ExecKey) → AreRooted items
+    (items : List Rooted) (key : ExecKey) → AreRooted items
     → option_and_then kept_root (find (has_key key) items) ≡ root_in (links_in items) key
 find-root [] key rooted = refl
 find-root (item ∷ earlier) key rooted =
@@ -52,7 +52,7 @@ find-root (item ∷ earlier) key rooted =
     ]
 
 pub find-current :
-    (items : List Slot) (root : ExecKey) → AreRooted items
+    (items : List Rooted) (root : ExecKey) → AreRooted items
     → option_map (λ item. item.link.number) (find (is_version_of root) items) ≡ current_in (links_in items) root
 find-current [] root rooted = refl
 find-current (item ∷ earlier) root rooted =
@@ -63,7 +63,7 @@ find-current (item ∷ earlier) root rooted =
     ]
 
 pub find-bust :
-    (items : List Slot) (root : ExecKey) → AreRooted items
+    (items : List Rooted) (root : ExecKey) → AreRooted items
     → option_map (λ item. item.link.number) (find (is_bust_of root) items) ≡ bust_in (links_in items) root
 find-bust [] root rooted = refl
 find-bust (item ∷ earlier) root rooted =
@@ -74,7 +74,7 @@ find-bust (item ∷ earlier) root rooted =
     ]
 
 pub find-taker :
-    (items : List Slot) (key : ExecKey)
+    (items : List Rooted) (key : ExecKey)
     → option_map (λ item. item.link.number) (find (has_key key) items) ≡ taker_in (links_in items) key
 find-taker [] key = refl
 find-taker (item ∷ earlier) key =

@@ -1,108 +1,87 @@
 -- What the chains keep with one link more, and one less; and what their look-ups find.
-use Rattle.std.proofs.Common.{◌≡◌, ℕ, ◌<◌, Bool, true, false, cond, List, [], ◌∷◌, ◌++◌, length, reverse, Option, Some, None, refl, sym, ap, subst, ◌∙◌, inl, inr, arith}
-use Rattle.std.specs.Prelude.{find, filter, map, not, nat_lt, is_none}
+use Rattle.std.proofs.Common.{◌≡◌, true, List, [], ◌∷◌, ◌++◌, reverse, Option, Some, None, refl, sym, ap, subst, ◌∙◌}
+use Rattle.std.specs.Prelude.{find, is_none}
 use Rattle.std.specs.Option.{option_map, option_and_then}
-use Rattle.std.proofs.lemmas.Bool.{cases_Bool, and_parts, and_from}
+use Rattle.std.proofs.lemmas.Bool.{and_from}
 use Rattle.std.proofs.lemmas.List.{reverse-append}
+use Rattle.blot_places.specs.declared.slots.Slot.{Slot}
+use Rattle.blot_places.specs.Places.{places_in}
+use Rattle.blot_places.specs.Slots.{items, lifted, live, newest_live}
+use Rattle.blot_places.proofs.SlotLemmas.{lifted_on, live_here, newest_live-find, unlifted-items, unlifted_live}
 use Rattle.blot_types.specs.declared.keys.ExecKey.{ExecKey}
 use Rattle.blot_types.specs.declared.link.Link.{Link}
 use Rattle.blot_types.specs.declared.link.Role.{Role}
-use Rattle.blot_types.specs.Chains.{taker_in, root_in, current_in, bust_in, link_refusal, is_chained, is_above_links, falls}
+use Rattle.blot_types.specs.Chains.{taker_in, root_in, current_in, bust_in, link_refusal, is_chained, is_above_links}
+use Rattle.blot_types.specs.Keys.{same_exec}
 use Rattle.blot_types.proofs.ChainLemmas.{accepted_key}
 use Rattle.blot_chain.specs.declared.index.Index.{Index}
-use Rattle.blot_chain.specs.declared.slots.Slot.{Slot}
+use Rattle.blot_chain.specs.declared.rooted.Rooted.{Rooted}
 use Rattle.blot_chain.specs.Holds.{HoldsChains, shown_of}
 use Rattle.blot_chain.specs.Index.{IsIndexed}
-use Rattle.blot_chain.specs.Places.{places_in}
 use Rattle.blot_chain.specs.Steps.{Adds, IsNewest}
-use Rattle.blot_chain.specs.Slots.{has_key, is_version_of, is_bust_of, kept_root, chain_root, links_in, AreRooted, live, lifted, newest_live}
+use Rattle.blot_chain.specs.Rooted.{has_key, is_version_of, is_bust_of, kept_root, chain_root, links_in, AreRooted}
 use Rattle.blot_chain.proofs.ChainLemmas.{chained-parts, falling-parts, find-root, find-current, find-bust, find-taker}
-use Rattle.blot_chain.proofs.SlotLemmas.{chain-told, live-rooted, live_here, live_on, newest_live-find}
+use Rattle.blot_chain.proofs.RootedLemmas.{chain-told, live-rooted}
 
 -- ---- the look-ups
 
-pub rooted-live : (index : Index) (slots : List Slot) → HoldsChains index slots → AreRooted (live slots)
+pub rooted-live : (index : Index) (slots : List (Slot Rooted)) → HoldsChains index slots → AreRooted (live slots)
 rooted-live index slots holds = live-rooted slots holds.roots holds.newest holds.chained
 
 pub root-held :
-    (index : Index) (slots : List Slot) (key : ExecKey) → HoldsChains index (reverse slots)
-    → option_and_then kept_root (newest_live slots (places_in index.takers.entries key)) ≡ root_in (links_in (live (reverse slots))) key
+    (index : Index) (slots : List (Slot Rooted)) (key : ExecKey) → HoldsChains index (reverse slots)
+    → option_and_then kept_root (newest_live slots (places_in same_exec index.takers key)) ≡ root_in (links_in (live (reverse slots))) key
 root-held index slots key holds =
     ap (λ places. option_and_then kept_root (newest_live slots places)) (holds.indexed.takers key)
     ∙ ap (option_and_then kept_root) (newest_live-find (has_key key) slots)
     ∙ find-root (live (reverse slots)) key (rooted-live index (reverse slots) holds)
 
 pub current-held :
-    (index : Index) (slots : List Slot) (root : ExecKey) → HoldsChains index (reverse slots)
-    → option_map (λ slot. slot.link.number) (newest_live slots (places_in index.versions.entries root)) ≡ current_in (links_in (live (reverse slots))) root
+    (index : Index) (slots : List (Slot Rooted)) (root : ExecKey) → HoldsChains index (reverse slots)
+    → option_map (λ item. item.link.number) (newest_live slots (places_in same_exec index.versions root)) ≡ current_in (links_in (live (reverse slots))) root
 current-held index slots root holds =
-    ap (λ places. option_map (λ (slot : Slot). slot.link.number) (newest_live slots places)) (holds.indexed.versions root)
-    ∙ ap (option_map (λ (slot : Slot). slot.link.number)) (newest_live-find (is_version_of root) slots)
+    ap (λ places. option_map (λ (item : Rooted). item.link.number) (newest_live slots places)) (holds.indexed.versions root)
+    ∙ ap (option_map (λ (item : Rooted). item.link.number)) (newest_live-find (is_version_of root) slots)
     ∙ find-current (live (reverse slots)) root (rooted-live index (reverse slots) holds)
 
 pub bust-held :
-    (index : Index) (slots : List Slot) (root : ExecKey) → HoldsChains index (reverse slots)
-    → option_map (λ slot. slot.link.number) (newest_live slots (places_in index.busts.entries root)) ≡ bust_in (links_in (live (reverse slots))) root
+    (index : Index) (slots : List (Slot Rooted)) (root : ExecKey) → HoldsChains index (reverse slots)
+    → option_map (λ item. item.link.number) (newest_live slots (places_in same_exec index.busts root)) ≡ bust_in (links_in (live (reverse slots))) root
 bust-held index slots root holds =
-    ap (λ places. option_map (λ (slot : Slot). slot.link.number) (newest_live slots places)) (holds.indexed.busts root)
-    ∙ ap (option_map (λ (slot : Slot). slot.link.number)) (newest_live-find (is_bust_of root) slots)
+    ap (λ places. option_map (λ (item : Rooted). item.link.number) (newest_live slots places)) (holds.indexed.busts root)
+    ∙ ap (option_map (λ (item : Rooted). item.link.number)) (newest_live-find (is_bust_of root) slots)
     ∙ find-bust (live (reverse slots)) root (rooted-live index (reverse slots) holds)
 
 pub taker-held :
-    (index : Index) (slots : List Slot) (key : ExecKey) → HoldsChains index (reverse slots)
-    → option_map (λ slot. slot.link.number) (newest_live slots (places_in index.takers.entries key)) ≡ taker_in (links_in (live (reverse slots))) key
+    (index : Index) (slots : List (Slot Rooted)) (key : ExecKey) → HoldsChains index (reverse slots)
+    → option_map (λ item. item.link.number) (newest_live slots (places_in same_exec index.takers key)) ≡ taker_in (links_in (live (reverse slots))) key
 taker-held index slots key holds =
-    ap (λ places. option_map (λ (slot : Slot). slot.link.number) (newest_live slots places)) (holds.indexed.takers key)
-    ∙ ap (option_map (λ (slot : Slot). slot.link.number)) (newest_live-find (has_key key) slots)
+    ap (λ places. option_map (λ (item : Rooted). item.link.number) (newest_live slots places)) (holds.indexed.takers key)
+    ∙ ap (option_map (λ (item : Rooted). item.link.number)) (newest_live-find (has_key key) slots)
     ∙ find-taker (live (reverse slots)) key
-
--- ---- live and lifted slots
-
-pub lifted_here : (slot : Slot) (earlier : List Slot) → slot.is_live ≡ false → lifted (slot ∷ earlier) ≡ slot ∷ lifted earlier
-lifted_here slot earlier is = ap (λ b. cond (not b) (slot ∷ lifted earlier) (lifted earlier)) is
-
-pub lifted_on : (slot : Slot) (earlier : List Slot) → slot.is_live ≡ true → lifted (slot ∷ earlier) ≡ lifted earlier
-lifted_on slot earlier is = ap (λ b. cond (not b) (slot ∷ lifted earlier) (lifted earlier)) is
-
--- a number above the live and the lifted links is above all
-above-all :
-    (number : ℕ) (slots : List Slot) → is_above_links number (links_in (live slots)) ≡ true → is_above_links number (links_in (lifted slots)) ≡ true
-    → is_above_links number (links_in slots) ≡ true
-above-all number [] lives lifts = refl
-above-all number (slot ∷ earlier) lives lifts =
-    elim (cases_Bool slot.is_live) [
-      | inl is ↦
-          let parts : (nat_lt slot.link.number number ≡ true) × (is_above_links number (links_in (live earlier)) ≡ true) =
-          and_parts _ _ (ap (λ slots. is_above_links number (links_in slots)) (sym (live_here slot earlier is)) ∙ lives) in
-          and_from _ _ parts.0 (above-all number earlier parts.1 (ap (λ slots. is_above_links number (links_in slots)) (sym (lifted_on slot earlier is)) ∙ lifts))
-      | inr not ↦
-          let parts : (nat_lt slot.link.number number ≡ true) × (is_above_links number (links_in (lifted earlier)) ≡ true) =
-          and_parts _ _ (ap (λ slots. is_above_links number (links_in slots)) (sym (lifted_here slot earlier not)) ∙ lifts) in
-          and_from _ _ parts.0 (above-all number earlier (ap (λ slots. is_above_links number (links_in slots)) (sym (live_on slot earlier not)) ∙ lives) parts.1)
-    ]
 
 -- ---- one link more
 
-pub none-found : (found : Option Slot) → option_map (λ slot. slot.link.number) found ≡ None → found ≡ None
+pub none-found : (found : Option Rooted) → option_map (λ item. item.link.number) found ≡ None → found ≡ None
 none-found None none = refl
-none-found (Some slot) none = cc
+none-found (Some item) none = cc
 
-pub vacant : (slots : List Slot) (key : ExecKey) → taker_in (links_in slots) key ≡ None → find (has_key key) slots ≡ None
-vacant slots key free = none-found (find (has_key key) slots) (find-taker slots key ∙ free)
+pub vacant : (rooted : List Rooted) (key : ExecKey) → taker_in (links_in rooted) key ≡ None → find (has_key key) rooted ≡ None
+vacant rooted key free = none-found (find (has_key key) rooted) (find-taker rooted key ∙ free)
 
 pub held-push :
-    (index new : Index) (slots written : List Slot) (link : Link) (root : ExecKey)
-    → HoldsChains index (reverse slots) → written ≡ slots ++ record { link = link; root = root; is_live = true } ∷ []
-    → IsIndexed new (record { link = link; root = root; is_live = true } ∷ reverse slots)
+    (index new : Index) (slots written : List (Slot Rooted)) (link : Link) (root : ExecKey)
+    → HoldsChains index (reverse slots) → written ≡ slots ++ record { item = record { link = link; root = root }; is_live = true } ∷ []
+    → IsIndexed new (record { item = record { link = link; root = root }; is_live = true } ∷ reverse slots)
     → link_refusal (shown_of (reverse slots)).list link.key link.role ≡ None
     → is_above_links link.number (shown_of (reverse slots)).list ≡ true
     → chain_root (shown_of (reverse slots)).list link.key link.role ≡ Some root
     → HoldsChains new (reverse written)
 held-push index new slots written link root holds is indexed accepted above rooted =
-    let slot : Slot = record { link = link; root = root; is_live = true } in
-    let earlier : List Slot = reverse slots in
+    let slot : Slot Rooted = record { item = record { link = link; root = root }; is_live = true } in
+    let earlier : List (Slot Rooted) = reverse slots in
     let all : HoldsChains new (slot ∷ earlier) = record {
-      fall = and_from _ _ (above-all link.number earlier above (ap (λ slots. is_above_links link.number (links_in slots)) holds.unlifted)) holds.fall;
+      fall = and_from _ _ (subst (λ rooted. is_above_links link.number (links_in rooted) ≡ true) (unlifted-items earlier holds.unlifted) above) holds.fall;
       roots = (chain-told earlier link.key link.role root holds.newest (rooted-live index earlier holds) rooted, holds.roots);
       indexed = indexed;
       chained = and_from _ _ (ap is_none accepted) holds.chained;
@@ -113,39 +92,31 @@ held-push index new slots written link root holds is indexed accepted above root
 
 -- ---- one link less
 
-pub record PopsLink (key : ExecKey) (role : Role) (slot : Slot) (earlier : List Slot) : Type 0 where
+pub record PopsLink (key : ExecKey) (role : Role) (slot : Slot Rooted) (earlier : List (Slot Rooted)) : Type 0 where
   pub lives : slot.is_live ≡ true
   pub adds : Adds key role (shown_of earlier).list (shown_of (slot ∷ earlier)).list
 
 first_link : (a b : Link) (xs ys : List Link) → a ∷ xs ≡ b ∷ ys → a ≡ b
 first_link a b xs ys is = cc
 
--- no slot is lifted, so the newest is live
-lives : (slot : Slot) (earlier : List Slot) → lifted (slot ∷ earlier) ≡ [] → slot.is_live ≡ true
-lives slot earlier none =
-    elim (cases_Bool slot.is_live) [
-      | inl is ↦ is
-      | inr not ↦ let some : slot ∷ lifted earlier ≡ [] = sym (lifted_here slot earlier not) ∙ none in cc
-    ]
-
 pub pops-link :
-    (key : ExecKey) (role : Role) (slot : Slot) (earlier : List Slot) → lifted (slot ∷ earlier) ≡ [] → IsNewest key role (shown_of (slot ∷ earlier)).list
+    (key : ExecKey) (role : Role) (slot : Slot Rooted) (earlier : List (Slot Rooted)) → lifted (slot ∷ earlier) ≡ [] → IsNewest key role (shown_of (slot ∷ earlier)).list
     → PopsLink key role slot earlier
 pops-link key role slot earlier unlifted newest =
-    let is : slot.is_live ≡ true = lives slot earlier unlifted in
+    let is : slot.is_live ≡ true = unlifted_live slot earlier unlifted in
     let link : Link = record { number = (newest.1).0; key = key; role = role } in
-    let lists : slot.link ∷ links_in (live earlier) ≡ link ∷ newest.0 = ap links_in (sym (live_here slot earlier is)) ∙ (newest.1).1 in
-    let same : slot.link ≡ link = first_link slot.link link (links_in (live earlier)) newest.0 lists in
+    let lists : slot.item.link ∷ links_in (live earlier) ≡ link ∷ newest.0 = ap links_in (sym (live_here slot earlier is)) ∙ (newest.1).1 in
+    let same : slot.item.link ≡ link = first_link slot.item.link link (links_in (live earlier)) newest.0 lists in
     record { lives = is; adds = ((newest.1).0, ap links_in (live_here slot earlier is) ∙ ap (λ first. first ∷ links_in (live earlier)) same) }
 
 pub held-pop :
-    (index new : Index) (slot : Slot) (earlier : List Slot) → HoldsChains index (slot ∷ earlier) → slot.is_live ≡ true
+    (index new : Index) (slot : Slot Rooted) (earlier : List (Slot Rooted)) → HoldsChains index (slot ∷ earlier) → slot.is_live ≡ true
     → IsIndexed new earlier → HoldsChains new earlier
 held-pop index new slot earlier holds is indexed = record {
-  fall = (falling-parts slot.link (links_in earlier) holds.fall).1;
+  fall = (falling-parts slot.item.link (links_in (items earlier)) holds.fall).1;
   roots = holds.roots.1;
   indexed = indexed;
-  chained = (chained-parts slot.link (links_in (live earlier)) (ap (λ slots. is_chained (links_in slots)) (sym (live_here slot earlier is)) ∙ holds.chained)).1;
+  chained = (chained-parts slot.item.link (links_in (live earlier)) (ap (λ slots. is_chained (links_in slots)) (sym (live_here slot earlier is)) ∙ holds.chained)).1;
   newest = holds.newest.1;
   unlifted = sym (lifted_on slot earlier is) ∙ holds.unlifted;
 }

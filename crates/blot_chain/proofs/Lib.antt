@@ -1,4 +1,3 @@
 pub mod ChainLemmas
 pub mod HoldsLemmas
-pub mod PlaceLemmas
-pub mod SlotLemmas
+pub mod RootedLemmas

@@ -1,20 +1,23 @@
 -- Where the slots of a key, and of the chain of a root, are.
-use Rattle.std.specs.Prelude.{◌≡◌, ℕ, List, true, IsTrue}
+use Rattle.std.specs.Prelude.{◌≡◌, List, IsTrue}
+use Rattle.blot_places.specs.declared.slots.Slot.{Slot}
+use Rattle.blot_places.specs.Places.{HasRoom, places_in}
+use Rattle.blot_places.specs.Slots.{places_by}
 use Rattle.blot_types.specs.declared.keys.ExecKey.{ExecKey}
 use Rattle.blot_types.specs.declared.link.Role.{Role}
+use Rattle.blot_types.specs.Keys.{same_exec}
 use Rattle.blot_chain.specs.declared.index.Index.{Index}
-use Rattle.blot_chain.specs.declared.slots.Slot.{Slot}
-use Rattle.blot_chain.specs.Places.{HasRoom, places_in}
-use Rattle.blot_chain.specs.Slots.{has_key, is_bust, is_bust_of, is_version, is_version_of, places_by}
+use Rattle.blot_chain.specs.declared.rooted.Rooted.{Rooted}
+use Rattle.blot_chain.specs.Rooted.{has_key, is_bust, is_bust_of, is_version, is_version_of}
 
 -- the index names the places of these slots, by key and by root
-pub record IsIndexed (index : Index) (slots : List Slot) : Type 0 where
-  pub takers : (key : ExecKey) → places_in index.takers.entries key ≡ places_by (has_key key) slots
-  pub versions : (root : ExecKey) → places_in index.versions.entries root ≡ places_by (is_version_of root) slots
-  pub busts : (root : ExecKey) → places_in index.busts.entries root ≡ places_by (is_bust_of root) slots
+pub record IsIndexed (index : Index) (slots : List (Slot Rooted)) : Type 0 where
+  pub takers : (key : ExecKey) → places_in same_exec index.takers key ≡ places_by (has_key key) slots
+  pub versions : (root : ExecKey) → places_in same_exec index.versions root ≡ places_by (is_version_of root) slots
+  pub busts : (root : ExecKey) → places_in same_exec index.busts root ≡ places_by (is_bust_of root) slots
 
 -- there is room for the place of one more slot
 pub record HasRoomFor (index : Index) (key : ExecKey) (role : Role) (root : ExecKey) : Type 0 where
-  pub takers : IsTrue true → HasRoom index.takers.entries key
-  pub versions : IsTrue (is_version role) → HasRoom index.versions.entries root
-  pub busts : IsTrue (is_bust role) → HasRoom index.busts.entries root
+  pub takers : HasRoom same_exec index.takers key
+  pub versions : IsTrue (is_version role) → HasRoom same_exec index.versions root
+  pub busts : IsTrue (is_bust role) → HasRoom same_exec index.busts root

@@ -1,5 +1,4 @@
 pub mod Holds
 pub mod Index
-pub mod Places
-pub mod Slots
+pub mod Rooted
 pub mod Steps

@@ -3,11 +3,12 @@ ghost use Rattle.std.specs.Prelude.{◌≡◌, [], ◌∷◌, Some, None, IfSome
 ghost use Rattle.blot_types.specs.declared.link.Role.TheVariants.{Begins, Corrects, Busts};
 ghost use Rattle.blot_types.specs.Chains.{root_in, current_in, bust_in, taker_in, chain_refusal, link_refusal, is_above_links};
 ghost use Rattle.blot_types.specs.Laws.{IsOneTrade};
-ghost use Rattle.blot_chain.specs.Slots.{chain_root};
+ghost use Rattle.blot_chain.specs.Rooted.{chain_root};
 ghost use Rattle.blot_chain.specs.Steps.{IsNewest, Adds};
 
 use crate::index::{Index, number_at, root_at};
-use crate::slots::Slot;
+use crate::rooted::Rooted;
+use blot_places::Slot;
 use blot_types::{ExecKey, Link, Role};
 use std::alloc::{AllocError as NoMemory, Global};
 use std::marker::Model;
@@ -18,7 +19,7 @@ use std::marker::Model;
 #[derive(Drop)]
 pub struct Chains {
     alloc: Global,
-    slots: Vec<Slot>,
+    slots: Vec<Slot<Rooted>>,
     index: Index,
 }
 
@@ -177,8 +178,7 @@ impl Chains {
             role,
         };
         let slot = Slot {
-            link,
-            root,
+            item: Rooted { link, root },
             is_live: true,
         };
         let place = self.slots.len();

@@ -4,7 +4,6 @@
 
 mod chains;
 mod index;
-mod places;
-mod slots;
+mod rooted;
 
 pub use chains::Chains;

@@ -73,6 +73,13 @@ impl LiveList {
         Ok(copies)
     }
 
+    /// The entries; the chains and the instructions go.
+    pub(crate) fn into_entries(self) -> Vec<Entry>
+        ensures { result.items ≡ self }
+    {
+        self.entries
+    }
+
     /// The last entry of a list that has one.
     pub(crate) fn last(&self) -> &Entry
         requires { 0 < length self.now }

@@ -84,6 +84,14 @@ impl Tables {
         self.accounts.live().entries(alloc)
     }
 
+    /// The live entries, in rising order of number, not copied; all else of the book goes.
+    pub fn into_entries(self) -> Vec<Entry>
+        ensures entries { result.items ≡ self.list }
+        ensures book { IsTrue (is_book self.list) }
+    {
+        self.accounts.into_live().into_entries()
+    }
+
     /// Why the book refuses a command.
     pub(crate) fn refusal(&self, command: &Command) -> Option<Refused>
         ensures refusal { result ≡ refusal_of self.now.list command.now }

@@ -96,6 +96,16 @@ impl Held {
         }
     }
 
+    /// The live list as it is at last, not copied; the history and the steps go.
+    pub fn into_snapshot(self) -> Snapshot
+        ensures list { result ≡ self.book.list }
+        ensures run { result ≡ (run_of (events_of self.history)).book.list }
+        ensures book { IsTrue (is_book result) }
+        ensures few { length self.history ≤ EVENTS_MAX }
+    {
+        Snapshot::of(self.steps.into_state().into_entries())
+    }
+
     /// The recorded events with their replies, in the order in which they came.
     pub fn history(&self) -> &[Recorded]
         ensures history { result.now ≡ self.now.history }

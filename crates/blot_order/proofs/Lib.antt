@@ -1,2 +1,7 @@
+mod CellLemmas
+mod CountLemmas
 pub mod FillLemmas
+mod HoldsLemmas
+mod NumberLemmas
 pub mod SlotLemmas
+mod TakenLemmas

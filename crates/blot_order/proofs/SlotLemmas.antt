@@ -1,5 +1,5 @@
 -- The slots of an order book and the fills by number that they stand for.
-use Rattle.std.proofs.Common.{◌≡◌, ℕ, zero, suc, ◌+◌, ◌-◌, ◌<◌, ◌≤◌, List, [], ◌∷◌, ◌++◌, length, set, replicate, take, map, Option, Some, None, Bool, true, false, refl, sym, ap, ◌∙◌, arith, inl, inr}
+use Rattle.std.proofs.Common.{◌≡◌, ℕ, zero, suc, ◌+◌, ◌-◌, ◌<◌, ◌≤◌, List, [], ◌∷◌, ◌++◌, length, set, replicate, map, Option, Some, None, Bool, true, false, refl, sym, ap, ◌∙◌, arith, inl, inr}
 use Rattle.std.specs.Prelude.{◌==◌, nat_lt, if◌then◌else◌, IsSome}
 use Rattle.std.specs.Bool.{passes}
 use Rattle.std.specs.Cmp.{nat_cmp_total, unsigned_tied}
@@ -9,18 +9,13 @@ use Rattle.std.specs.List.{filter_map}
 use Rattle.std.specs.Option.{option_and_then}
 use Rattle.std.specs.Ordering.{nat_cmp, eq_by_cmp, is_lt}
 use Rattle.std.proofs.lemmas.Bool.{cases_Bool, and_from, ltb-true, ltb-false, lt-ltb, ne_eqb, eq-eqb, eqb-true, eqb-false}
-use Rattle.std.proofs.lemmas.List.{get_or-set_same, get_or-set_other, get_or_append_left, get_or-append_right, get_or_past, take_all, length-append, length-replicate}
-use Rattle.std.proofs.lemmas.List.Elements.{filter-append, filter_map-append}
+use Rattle.std.proofs.lemmas.List.{get_or-set_same, get_or-set_other, get_or_append_left, get_or-append_right, get_or_past, append-nil, length-append, length-replicate}
+use Rattle.std.proofs.lemmas.List.Elements.{filter_map-append}
 use Rattle.blot_types.specs.declared.fill.Fill.{Fill}
-use Rattle.blot_types.specs.declared.keys.OrderKey.{OrderKey}
-use Rattle.blot_types.specs.declared.lines.OrderLine.{OrderLine}
-use Rattle.blot_types.specs.Keys.{same_order}
-use Rattle.blot_types.specs.Order.{fills_of, line_of, with_fill}
-use Rattle.blot_types.proofs.OrderLemmas.{line_of-push}
 use Rattle.blot_order.specs.declared.held.Held.{Held}
 use Rattle.blot_order.specs.declared.held.Held.TheVariants.{Kept, Put}
 use Rattle.blot_order.specs.Fills.{Fills, fill_put, fill_kept, put_at, kept_at, fills_put}
-use Rattle.blot_order.specs.Slots.{held_from, held_by, slot_at, fills_in_slots, reaching}
+use Rattle.blot_order.specs.Slots.{held_from, held_by, slot_at, put_under, fills_in_slots, reaching}
 use Rattle.blot_order.proofs.FillLemmas.{get-insert}
 
 -- ---- what the slots stand for, number by number
@@ -100,26 +95,37 @@ get_or-empties zero k = get_or_past [] k None (omega arith)
 get_or-empties (suc n) zero = refl
 get_or-empties (suc n) (suc k) = get_or-empties n k
 
--- filling up changes nothing that is held
-pub held_by-reaching : (n : ℕ) (slots : List (Option Held)) → held_by (reaching n slots) ≡ held_by slots
-held_by-reaching n slots =
-    same_slots (held_by slots) (reaching n slots) (λ k.
+-- filling up changes no slot
+pub slot_at-reaching : (n k : ℕ) (slots : List (Option Held)) → slot_at (reaching n slots) k ≡ slot_at slots k
+slot_at-reaching n k slots =
     elim (cases_Bool (nat_lt k (length slots))) [
-      | inl less ↦ get_or_append_left slots _ None k (ltb-true _ _ less) ∙ sym (get-held_by slots k)
+      | inl less ↦ get_or_append_left slots _ None k (ltb-true _ _ less)
       | inr more ↦
           let past : length slots ≤ k = ltb-false _ _ more in
           get_or-append_right slots (replicate (n + 1 - length slots) None) (length slots) k None refl past
-          ∙ get_or-empties (n + 1 - length slots) (k - length slots) ∙ sym (get_or_past slots k None past) ∙ sym (get-held_by slots k)
-    ])
+          ∙ get_or-empties (n + 1 - length slots) (k - length slots) ∙ sym (get_or_past slots k None past)
+    ]
+
+pub held_by-reaching : (n : ℕ) (slots : List (Option Held)) → held_by (reaching n slots) ≡ held_by slots
+held_by-reaching n slots = same_slots (held_by slots) (reaching n slots) (λ k. slot_at-reaching n k slots ∙ sym (get-held_by slots k))
+
+-- and brings no fill
+fills-empties : (n : ℕ) → fills_in_slots (replicate n None) ≡ []
+fills-empties zero = refl
+fills-empties (suc n) = fills-empties n
+
+pub fills_in_slots-reaching : (n : ℕ) (slots : List (Option Held)) → fills_in_slots (reaching n slots) ≡ fills_in_slots slots
+fills_in_slots-reaching n slots =
+    filter_map-append (option_and_then fill_put) slots (replicate (n + 1 - length slots) None)
+    ∙ ap (λ fills. fills_in_slots slots ++ fills) (fills-empties (n + 1 - length slots)) ∙ append-nil (fills_in_slots slots)
 
 -- a list that is filled up for a number has a slot for it
-length-reaching : (n : ℕ) (slots : List (Option Held)) → n < length (reaching n slots)
+pub length-reaching : (n : ℕ) (slots : List (Option Held)) → n < length (reaching n slots)
 length-reaching n slots = omega (arith, length-append slots (replicate (n + 1 - length slots) None), length-replicate {A = Option Held} (n + 1 - length slots) None)
 
--- the slot of a number set in slots that reach it
-pub held_by-set_reaching : (n : ℕ) (held : Held) (slots : List (Option Held)) → held_by (set (reaching n slots) n (Some held)) ≡ finite.insert (held_by slots) n held
-held_by-set_reaching n held slots =
-    held_by-set n held (reaching n slots) (length-reaching n slots) ∙ ap (λ fills. finite.insert fills n held) (held_by-reaching n slots)
+-- and no more than that, or than it had
+pub few-reaching : (n most : ℕ) (slots : List (Option Held)) → n < most → length slots ≤ most → length (reaching n slots) ≤ most
+few-reaching n most slots less few = omega (arith, length-append slots (replicate (n + 1 - length slots) None), length-replicate {A = Option Held} (n + 1 - length slots) None)
 
 -- something is held under a number only where there is a slot for it
 pub slot_within : (n : ℕ) (slots : List (Option Held)) (held : Held) → slot_at slots n ≡ Some held → n < length slots
@@ -150,6 +156,14 @@ slot_at-kept n slots fills fill view is =
     kept_is_there (slot_at slots n) fill
     (ap (option_and_then fill_kept) (sym (get-held_by slots n) ∙ ap (λ shown. finite.get shown n) view) ∙ is)
 
+-- none is put in the slot of a number under which none is
+pub put_under-unput : (n : ℕ) (slots : List (Option Held)) (fills : Fills) → held_by slots ≡ fills → put_at fills n ≡ None → put_under slots n ≡ None
+put_under-unput n slots fills view is = ap (option_and_then fill_put) (sym (get-held_by slots n) ∙ ap (λ shown. finite.get shown n) view) ∙ is
+
+-- what is kept in the slot of a number is what is kept under it
+pub kept_under : (n : ℕ) (slots : List (Option Held)) (fills : Fills) → held_by slots ≡ fills → kept_at fills n ≡ option_and_then fill_kept (slot_at slots n)
+kept_under n slots fills view = ap (option_and_then fill_kept) (ap (λ shown. finite.get shown n) (sym view) ∙ get-held_by slots n)
+
 pub put_within : (n : ℕ) (slots : List (Option Held)) (fills : Fills) (fill : Fill) → held_by slots ≡ fills → put_at fills n ≡ Some fill → n < length slots
 put_within n slots fills fill view is = slot_within n slots (Put fill) (slot_at-put n slots fills fill view is)
 
@@ -174,28 +188,3 @@ unfolding held_by
 fills_put-held_by slots =
     ap (λ entries. filter_map fill_put (map (λ entry. entry.1) entries)) (finite.entries-from_sorted nat_cmp (held_from 0 slots) (passes _ (sorted-held_from 0 slots)))
     ∙ put-held_from 0 slots
-
--- the fills of an order in two lists
-fills_of-append : (earlier later : List Fill) (order : OrderKey) → fills_of (earlier ++ later) order ≡ fills_of earlier order ++ fills_of later order
-fills_of-append earlier later order = filter-append (λ fill. same_order fill.order order) earlier later
-
--- the fills put of an order, in slots with one more
-pub fills_of-push :
-    (slots : List (Option Held)) (slot : Option Held) (order : OrderKey)
-    → fills_of (fills_in_slots (slots ++ slot ∷ [])) order ≡ fills_of (fills_in_slots slots) order ++ fills_of (fills_in_slots (slot ∷ [])) order
-fills_of-push slots slot order =
-    ap (λ fills. fills_of fills order) (filter_map-append (option_and_then fill_put) slots (slot ∷ []))
-    ∙ fills_of-append (fills_in_slots slots) (fills_in_slots (slot ∷ [])) order
-
--- the line of an order where the next slot puts a fill of its own
-pub line_of-put :
-    (fills : List Fill) (slot : Option Held) (fill : Fill) (order : OrderKey) (line : Option OrderLine)
-    → slot ≡ Some (Put fill) → line ≡ line_of fills → same_order fill.order order ≡ true
-    → Some (with_fill line fill) ≡ line_of (fills ++ fills_of (fills_in_slots (slot ∷ [])) order)
-line_of-put fills slot fill order line there is same = rw (there, is, same) (sym (line_of-push fills fill))
-
--- the line of an order from all slots that were read
-pub line_of-whole :
-    (line : Option OrderLine) (read slots : List (Option Held)) (index : ℕ) (order : OrderKey) → read ≡ slots → length read ≤ index
-    → line ≡ line_of (fills_of (fills_in_slots (take index read)) order) → line ≡ line_of (fills_of (fills_in_slots slots) order)
-line_of-whole line read slots index order same past is = is ∙ ap (λ s. line_of (fills_of (fills_in_slots s) order)) (take_all index read past ∙ same)

@@ -1,12 +1,13 @@
 -- The slots in which an order book stores its fills: slot n is that of number n, and the numbers past the
 -- last slot hold nothing.
-use Rattle.std.specs.Prelude.{ℕ, ◌+◌, ◌-◌, List, [], ◌∷◌, ◌++◌, length, get_or, replicate, Option, Some, None}
+use Rattle.std.specs.Prelude.{ℕ, Bool, false, ◌+◌, ◌-◌, List, [], ◌∷◌, ◌++◌, length, get_or, replicate, Option, Some, None}
 use Rattle.std.specs.FinMap as map
 use Rattle.std.specs.List.{filter_map}
-use Rattle.std.specs.Option.{option_and_then}
+use Rattle.std.specs.Option.{option_and_then, option_map}
 use Rattle.blot_types.specs.declared.fill.Fill.{Fill}
+use Rattle.blot_types.specs.declared.keys.OrderKey.{OrderKey}
+use Rattle.blot_types.specs.Keys.{same_order}
 use Rattle.blot_order.specs.declared.held.Held.{Held}
-use Rattle.blot_order.specs.declared.held.Held.TheVariants.{Put}
 use Rattle.blot_order.specs.Fills.{Fills, fill_put, fill_held}
 
 -- what slots hold, under the numbers from that of the first slot on
@@ -31,6 +32,19 @@ fills_in_slots slots = filter_map (option_and_then fill_put) slots
 abbrev pub reaching : ℕ → List (Option Held) → List (Option Held)
 reaching number slots = slots ++ replicate (number + 1 - length slots) None
 
--- what is held, put
-abbrev pub put_again : Held → Held
-put_again held = Put (fill_held held)
+-- the fill that is put under a number
+abbrev pub put_under : List (Option Held) → ℕ → Option Fill
+put_under slots number = option_and_then fill_put (slot_at slots number)
+
+-- whether a fill is one of an order
+abbrev pub is_of : OrderKey → Option Fill → Bool
+is_of order None = false
+is_of order (Some fill) = same_order fill.order order
+
+-- whether a fill of an order is put under a number
+abbrev pub puts : List (Option Held) → OrderKey → ℕ → Bool
+puts slots order number = is_of order (put_under slots number)
+
+-- whether a fill of an order is held under a number, put or kept
+abbrev pub holds : List (Option Held) → OrderKey → ℕ → Bool
+holds slots order number = is_of order (option_map fill_held (slot_at slots number))

@@ -1,13 +1,17 @@
 //! The fills by their number.
-ghost use Rattle.std.specs.Prelude.{◌≡◌, ℕ, ◌+◌, ◌≤◌, List, [], ◌++◌, ◌∷◌, Some, None, OnOk, OnErr, IsSome};
-ghost use Rattle.std.specs.Option.{ForSome, option_map};
+ghost use Rattle.std.specs.Prelude.{◌≡◌, ◌<◌, ◌≤◌, length, Contains, Some, None, OnOk, OnErr, IsSome};
+ghost use Rattle.std.specs.Option.{ForSome};
 ghost use Rattle.std.specs.FinMap as map;
-ghost use Rattle.blot_types.specs.Order.{line_of, fills_of, IsWithin};
+ghost use Rattle.blot_types.specs.Order.{line_of, fills_of};
+ghost use Rattle.blot_order.specs.Cells.{numbers_at, HoldsOrders};
 ghost use Rattle.blot_order.specs.Fills.{put_at, kept_at, with_put, with_kept, fills_put};
-ghost use Rattle.blot_order.specs.Slots.{put_again, fills_in_slots, reaching};
+ghost use Rattle.blot_order.specs.Slots.{held_by};
 
 use crate::Held;
+use crate::cells::{Cells, add_fill, list_number, sub_fill, totals_of};
+use crate::slots::{kept_at, put_at, reach};
 use blot_types::{EVENTS_MAX, Fill, OrderKey, OrderLine};
+use indexmap::IndexMap;
 use std::alloc::{AllocError as NoMemory, Global};
 use std::marker::Model;
 
@@ -15,13 +19,15 @@ use std::marker::Model;
 /// there: a fill that is put, or one that is kept since it was taken.
 #[derive(Drop)]
 pub struct Orders {
+    alloc: Global,
     // Slot n is that of number n; the numbers past the last slot hold nothing.
     slots: Vec<Option<Held>>,
+    // What the fills of each order that are put come to, and where they are.
+    cells: Cells,
 }
 
 impl Model for Orders {
-    ghost use Rattle.std.specs.Prelude.{◌≤◌, ◌+◌, length};
-    ghost use Rattle.blot_types.specs.declared.TheConstants.{EVENTS_MAX};
+    ghost use Rattle.blot_order.specs.Cells.{HoldsOrders};
     ghost use Rattle.blot_order.specs.Fills.{Fills, fills_code};
     ghost use Rattle.blot_order.specs.Slots.{held_by};
 
@@ -31,7 +37,7 @@ impl Model for Orders {
 
     ghost view = { λ orders. held_by orders.slots.items };
 
-    ghost invariant = { λ orders. length orders.slots.items ≤ EVENTS_MAX + 1 };
+    ghost invariant = { λ orders. HoldsOrders orders.cells.entries orders.slots.items };
 }
 
 impl Orders {
@@ -40,7 +46,9 @@ impl Orders {
         ensures { result ≡ map.empty }
     {
         Orders {
+            alloc,
             slots: Vec::new(alloc),
+            cells: IndexMap::new(alloc),
         }
     }
 
@@ -53,12 +61,14 @@ impl Orders {
         ensures err { OnErr result (self.new ≡ self.old) }
     {
         let index = number as usize;
-        reach(&mut self.slots, index)?;
+        let order = &fill.order;
+        make_room(&mut self.slots, &mut self.cells, self.alloc, number, order)?;
         self.slots[index] = Some(Held::Put(*fill));
+        add_fill(&mut self.cells, number, fill);
         Ok(())
     }
 
-    /// Makes the cell of a fill under a number that has none put: the fill is kept there, so that it is put without memory.
+    /// Makes room for a fill under a number that has none put: the fill is kept there, so that it is put without memory.
     /// Out of memory is the only error, and then nothing has changed.
     pub fn hold(&mut self, number: u64, fill: &Fill) -> Result<(), NoMemory>
         requires unput { put_at self.old number ≡ None }
@@ -67,7 +77,8 @@ impl Orders {
         ensures err { OnErr result (self.new ≡ self.old) }
     {
         let index = number as usize;
-        reach(&mut self.slots, index)?;
+        let order = &fill.order;
+        make_room(&mut self.slots, &mut self.cells, self.alloc, number, order)?;
         self.slots[index] = Some(Held::Kept(*fill));
         Ok(())
     }
@@ -78,6 +89,7 @@ impl Orders {
         ensures { self.new ≡ with_kept number fill.now self.old }
     {
         self.slots[number as usize] = Some(Held::Kept(*fill));
+        sub_fill(&mut self.cells, &self.slots, number, fill);
     }
 
     /// Puts the fill that is kept under a number again. It needs no memory.
@@ -85,8 +97,9 @@ impl Orders {
         requires { IsSome (kept_at self.old number) }
         ensures { ForSome (kept_at self.old number) (λ fill. self.new ≡ with_put number fill self.old) }
     {
-        let index = number as usize;
-        self.slots[index] = put_again(self.slots[index]);
+        let fill = kept_at(&self.slots, number);
+        self.slots[number as usize] = Some(Held::Put(fill));
+        add_fill(&mut self.cells, number, &fill);
     }
 
     /// The line of an order from its fills that are put, or none without one: the sums of all, what is left
@@ -95,44 +108,29 @@ impl Orders {
     pub fn get(&self, order: &OrderKey) -> Option<OrderLine>
         ensures { result ≡ line_of (fills_of (fills_put self.now) order.now) }
     {
-        let mut line = None;
-        for slot in &self.slots {
-            line = line_with(line, slot, order);
+        let totals = totals_of(&self.cells, order);
+        match put_at(&self.slots, totals.last) {
+            Some(last) => Some(totals.line_with(last)),
+            None => None,
         }
-        line
     }
 }
 
-// Fills the slots up with empty ones until there is one at an index.
-fn reach(slots: &mut Vec<Option<Held>>, index: usize) -> Result<(), NoMemory>
-    requires { index ≤ EVENTS_MAX }
-    ensures ok { OnOk result (slots.new.items ≡ reaching index slots.old.items) }
-    ensures err { OnErr result (slots.new.items ≡ slots.old.items) }
+// Makes the room that a fill of an order needs under a number. What is held stays, and what is counted.
+fn make_room(
+    slots: &mut Vec<Option<Held>>,
+    cells: &mut Cells,
+    alloc: Global,
+    number: u64,
+    order: &OrderKey,
+) -> Result<(), NoMemory>
+    requires within { number ≤ EVENTS_MAX }
+    requires holds { HoldsOrders cells.old.entries slots.old.items }
+    ensures held { held_by slots.new.items ≡ held_by slots.old.items }
+    ensures holds { HoldsOrders cells.new.entries slots.new.items }
+    ensures slot { OnOk result (number < length slots.new.items) }
+    ensures listed { OnOk result (Contains (numbers_at cells.new.entries order.now) number) }
 {
-    if slots.len() <= index {
-        slots.resize(index + 1, None)?;
-    }
-    Ok(())
-}
-
-// The slot with the fill that it holds put.
-fn put_again(slot: Option<Held>) -> Option<Held>
-    ensures { result ≡ option_map put_again slot }
-{
-    match slot {
-        Some(Held::Kept(fill)) => Some(Held::Put(fill)),
-        other => other,
-    }
-}
-
-// The line of an order with what one more slot puts.
-fn line_with(line: Option<OrderLine>, slot: &Option<Held>, order: &OrderKey) -> Option<OrderLine>
-    requires few { IsWithin EVENTS_MAX line }
-    ensures line { (fills : List Fill) → line ≡ line_of fills → result ≡ line_of (fills ++ fills_of (fills_in_slots (slot.now ∷ [])) order.now) }
-    ensures grows { (n : ℕ) → IsWithin n line → IsWithin (n + 1) result }
-{
-    match slot {
-        Some(Held::Put(fill)) if fill.order == *order => Some(OrderLine::with_fill(line, fill)),
-        _ => line,
-    }
+    reach(slots, number as usize)?;
+    list_number(cells, alloc, order, number)
 }

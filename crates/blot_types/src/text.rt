@@ -22,7 +22,7 @@ pub const TEXT_MAX: usize = 64;
 #[derive(Clone, Copy)]
 pub struct Text64 {
     buffer: [u8; TEXT_MAX],
-    len: usize,
+    len: u8,
 }
 
 impl Model for Text64 {
@@ -56,7 +56,7 @@ impl Text64 {
         }
         Some(Text64 {
             buffer: filled_up(bytes),
-            len: bytes.len(),
+            len: bytes.len() as u8,
         })
     }
 
@@ -65,7 +65,7 @@ impl Text64 {
         ensures value { result.now ≡ self.now }
         ensures text { IsTrue (is_text self.now) }
     {
-        &self.buffer[..self.len]
+        &self.buffer[..usize::from(self.len)]
     }
 }
 

@@ -91,6 +91,13 @@ impl<C: Undoable> Steps<C> {
         &self.state
     }
 
+    /// The state; its steps go.
+    pub fn into_state(self) -> C::State
+        ensures { result ≡ self.state }
+    {
+        self.state
+    }
+
     /// Takes a command under the next number, which it answers. No step is undone then. A command that is
     /// refused, or finds no memory, comes back, and the undone steps stay.
     pub fn apply(&mut self, command: C) -> Result<u64, StepFault<C>>

@@ -174,12 +174,12 @@ fn report<L: Ledger, O: Write>(
 {
     let mut seats = brokers;
     seats.push(operator)?;
-    let settled = match desk.close().settle(seats) {
-        Ok(settled) => settled,
+    let held = match desk.close().settle(seats) {
+        Ok(settled) => settled.held,
         Err((DeskFault::Unsettled, _, _)) => return Err(ServeFault::Unsettled),
         Err(_) => return Err(ServeFault::NoMemory),
     };
-    let text = day_report(alloc, &settled.held, day)?;
+    let text = day_report(alloc, held, day)?;
     match write_text(output, &text) {
         Ok(()) => Ok(()),
         Err(fault) => Err(ServeFault::Lines(fault)),

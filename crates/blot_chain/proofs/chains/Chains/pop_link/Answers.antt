@@ -1,8 +1,8 @@
-use Rattle.std.proofs.Common.{◌≡◌, ◌∷◌, [], ap, sym, ◌∙◌, reverse, subst}
+use Rattle.std.proofs.Common.{◌∷◌, [], ap, sym, ◌∙◌, reverse, subst}
 use Rattle.std.proofs.lemmas.List.{reverse-append}
 use Rattle.blot_chain.specs.Holds.{HoldsChains, shown_of}
 use Rattle.blot_chain.specs.Steps.{Shown, IsNewest}
-use Rattle.blot_chain.proofs.HoldsLemmas.{PopsLink, held-pop, pops-link}
+use Rattle.blot_chain.proofs.HoldsLemmas.{held-pop, pops-link}
 use Rattle.blot_chain.proofs.chains.Chains.pop_link.Goals as goal
 
 pub invariant_of-self : goal.invariant_of-self

@@ -1,9 +1,10 @@
 use Rattle.std.proofs.Common.{◌≡◌, ◌∷◌, [], ◌++◌, true, Some, None, ap, sym, subst, ◌∙◌, reverse, length}
 use Rattle.std.proofs.lemmas.List.{length-reverse}
+use Rattle.blot_places.specs.declared.slots.Slot.{Slot}
 use Rattle.blot_types.specs.declared.link.Link.{Link}
 use Rattle.blot_types.specs.Chains.{link_refusal, is_above_links}
-use Rattle.blot_chain.specs.declared.slots.Slot.{Slot}
-use Rattle.blot_chain.specs.Slots.{chain_root}
+use Rattle.blot_chain.specs.declared.rooted.Rooted.{Rooted}
+use Rattle.blot_chain.specs.Rooted.{chain_root}
 use Rattle.blot_chain.proofs.HoldsLemmas.{held-push}
 use Rattle.blot_chain.proofs.chains.Chains.push_link.Goals as goal
 
@@ -11,7 +12,7 @@ pub invariant_of-self-2 : goal.invariant_of-self-2
 invariant_of-self-2 c =
     let slots = c.self.inside.slots.items in
     let link : Link = record { number = c.args.number; key = c.args.key.now; role = c.args.role } in
-    let slot : Slot = record { link = link; root = c.args.root; is_live = true } in
+    let slot : Slot Rooted = record { item = record { link = link; root = c.args.root }; is_live = true } in
     let holds = c.self.invariant in
     held-push c.self.inside.index c.push.new.self slots c.push_reserved.new.self.items link c.args.root holds
     (c.push_reserved.ensures.items ∙ ap (λ items. items ++ slot ∷ []) c.reserve.ensures.items)

@@ -1,29 +1,23 @@
-use Rattle.std.proofs.Common.{◌≡◌, ◌+◌, ◌++◌, ◌∷◌, [], take, sym, ap, ◌∙◌}
-use Rattle.std.proofs.lemmas.List.{take_more}
-use Rattle.blot_types.specs.Order.{fills_of, line_of}
-use Rattle.blot_order.specs.Fills.{fills_put}
-use Rattle.blot_order.specs.Slots.{fills_in_slots}
-use Rattle.blot_order.proofs.SlotLemmas.{fills_of-push, fills_put-held_by, line_of-whole}
+use Rattle.std.proofs.Common.{Some, sym, ap, subst, ◌∙◌, pos, ◌≤ℤ◌}
+use Rattle.std.specs.Option.{option_copied, option_map}
+use Rattle.blot_order.specs.declared.totals.Totals.{Totals}
+use Rattle.blot_order.specs.Totals.{line_with}
+use Rattle.blot_order.proofs.HoldsLemmas.{line-read, small}
 use Rattle.blot_order.proofs.orders.Orders.get.Goals as goal
 
-pub loop-slot-preserved : goal.loop-slot-preserved
-loop-slot-preserved c =
-    let slots = c.deref-slot-items.result.now in
-    let slot = c.slot-item.result in
-    let order = c.args.order.now in
-    let before = take c.loop-slot.slot-index slots in
-    let more : take (c.loop-slot.slot-index + 1) slots ≡ before ++ slot ∷ [] =
-    rw c.slot-item.is (take_more slots c.loop-slot.slot-index slot c.loop-slot-test.true) in
-    let line = c.line_with-line.ensures.line (fills_of (fills_in_slots before) order) c.loop-slot.invariant.line in
-    record {
-      line = (line ∙ sym (ap line_of (fills_of-push before slot order))) ∙ sym (ap (λ read. line_of (fills_of (fills_in_slots read) order)) more);
-      few = c.line_with-line.ensures.grows c.loop-slot.slot-index c.loop-slot.invariant.few;
-    }
+pub line_with-requires : goal.line_with-requires
+line_with-requires c =
+    subst (λ (totals : Totals). pos 0 ≤ℤ totals.cum) (sym c.totals_of-totals.ensures)
+    (small c.self.inside.cells.entries c.self.inside.slots.items c.self.invariant c.args.order.now).cum_low
 
-pub returns : goal.returns
-returns c =
-    let items = c.self.inside.slots.items in
-    let order = c.args.order.now in
-    line_of-whole c.loop-slot.line c.deref-slot-items.result.now items c.loop-slot.slot-index order c.deref-slot-items.ensures.value c.loop-slot-test.false
-    c.loop-slot.invariant.line
-    ∙ ap (λ fills. line_of (fills_of fills order)) (sym (fills_put-held_by items) ∙ ap fills_put c.self.view_is)
+pub returns-in-Some : goal.returns-in-Some
+returns-in-Some c =
+    ap Some c.line_with.ensures ∙ ap (option_map (line_with c.totals_of-totals.result)) (sym (ap option_copied c.in-Some.is) ∙ c.put_at.ensures)
+    ∙ line-read c.self.inside.cells.entries c.self.inside.slots.items c.deref.result.now c.args.self.now c.args.order.now c.totals_of-totals.result
+    c.self.invariant c.self.view_is c.totals_of-totals.ensures c.deref.ensures.value
+
+pub returns-in-None : goal.returns-in-None
+returns-in-None c =
+    ap (option_map (line_with c.totals_of-totals.result)) (sym (ap option_copied c.in-None.is) ∙ c.put_at.ensures)
+    ∙ line-read c.self.inside.cells.entries c.self.inside.slots.items c.deref.result.now c.args.self.now c.args.order.now c.totals_of-totals.result
+    c.self.invariant c.self.view_is c.totals_of-totals.ensures c.deref.ensures.value

@@ -1,0 +1,121 @@
+//! Where the instructions that take up a key, that end the allocation of a key, and that name the chain of a
+//! root are.
+ghost use Rattle.std.specs.Prelude.{◌≡◌, ◌∷◌, [], List, drop, length, IfSome, IsTrue, OnOk, if◌then◌else◌};
+ghost use Rattle.blot_places.specs.declared.slots.Slot.{Slot};
+ghost use Rattle.blot_places.specs.Places.{HasRoom, places_in};
+ghost use Rattle.blot_types.specs.declared.allocation.Instruction.{Instruction};
+ghost use Rattle.blot_types.specs.declared.keys.AllocKey.{AllocKey};
+ghost use Rattle.blot_types.specs.Instructions.{are_apart, ends, reference_of};
+ghost use Rattle.blot_types.specs.Keys.{same_alloc};
+ghost use Rattle.blot_alloc.specs.Index.{HasRoomFor, IsIndexed};
+
+use crate::roots;
+use blot_places::{Places, Slot};
+use blot_types::{AllocKey, AllocRole, ExecKey, Instruction};
+use std::alloc::{AllocError as NoMemory, Global};
+
+/// The places of the instructions: by the key that one takes up, by that of the allocation that it ends, and
+/// by each root that it lists. It doesn't say which are live.
+#[derive(Drop)]
+pub(crate) struct Index {
+    pub(crate) takers: Places<AllocKey>,
+    pub(crate) endings: Places<AllocKey>,
+    pub(crate) holders: Places<ExecKey>,
+}
+
+impl Index {
+    /// Of no instructions. No memory is taken.
+    pub(crate) fn new(alloc: Global) -> Index
+        ensures { IsIndexed result [] }
+    {
+        Index {
+            takers: Places::new(alloc),
+            endings: Places::new(alloc),
+            holders: Places::new(alloc),
+        }
+    }
+
+    /// Makes room for the place of one more instruction. An error leaves what is indexed.
+    pub(crate) fn make_room(
+        &mut self,
+        alloc: Global,
+        key: &AllocKey,
+        role: &AllocRole,
+        roots: &[ExecKey],
+    ) -> Result<(), NoMemory>
+        ensures same { (slots : List (Slot Instruction)) → IsIndexed self.old slots → IsIndexed self.new slots }
+        ensures room { OnOk result (HasRoomFor self.new key.now role.now roots.now) }
+    {
+        self.takers.make_room(alloc, key)?;
+        make_ending_room(&mut self.endings, alloc, role)?;
+        roots::make_room(&mut self.holders, alloc, roots)
+    }
+
+    /// Puts in the place of one more slot, behind the others.
+    pub(crate) fn push(&mut self, slot: &Slot<Instruction>, place: usize)
+        requires room { HasRoomFor self.old slot.now.item.key slot.now.item.role slot.now.item.roots }
+        requires apart { IsTrue (are_apart slot.now.item.roots) }
+        ensures { (slots : List (Slot Instruction)) → IsIndexed self.old slots → place ≡ length slots → IsIndexed self.new (slot.now ∷ slots) }
+    {
+        self.takers.push(&slot.item.key, place);
+        push_ending(&mut self.endings, &slot.item.role, place);
+        roots::push(&mut self.holders, slot.item.roots.as_slice(), place);
+    }
+
+    /// Takes out the place of the newest slot.
+    pub(crate) fn pop(&mut self, slot: &Slot<Instruction>)
+        requires apart { IsTrue (are_apart slot.now.item.roots) }
+        ensures { (slots : List (Slot Instruction)) → IsIndexed self.old (slot.now ∷ slots) → IsIndexed self.new slots }
+    {
+        self.takers.pop(&slot.item.key);
+        pop_ending(&mut self.endings, &slot.item.role);
+        roots::pop(&mut self.holders, slot.item.roots.as_slice());
+    }
+}
+
+// Makes room for one more place under the key of the allocation that an instruction of this role ends, if it
+// ends one.
+fn make_ending_room(
+    endings: &mut Places<AllocKey>,
+    alloc: Global,
+    role: &AllocRole,
+) -> Result<(), NoMemory>
+    ensures same { (other : AllocKey) → places_in same_alloc endings.new other ≡ places_in same_alloc endings.old other }
+    ensures room { OnOk result (IfSome (reference_of role.now) (HasRoom same_alloc endings.new)) }
+{
+    match role {
+        AllocRole::Allocates => Ok(()),
+        AllocRole::Replaces(reference) | AllocRole::Cancels(reference) => {
+            endings.make_room(alloc, reference)
+        }
+    }
+}
+
+// Puts a place under the key of the allocation that an instruction of this role ends.
+fn push_ending(endings: &mut Places<AllocKey>, role: &AllocRole, place: usize)
+    requires { IfSome (reference_of role.now) (HasRoom same_alloc endings.old) }
+    ensures { (other : AllocKey)
+        → places_in same_alloc endings.new other
+        ≡ (if ends other role.now then place ∷ places_in same_alloc endings.old other else places_in same_alloc endings.old other) }
+{
+    match role {
+        AllocRole::Allocates => {}
+        AllocRole::Replaces(reference) | AllocRole::Cancels(reference) => {
+            endings.push(reference, place);
+        }
+    }
+}
+
+// Takes the newest place off the stack of the allocation that an instruction of this role ends.
+fn pop_ending(endings: &mut Places<AllocKey>, role: &AllocRole)
+    ensures { (other : AllocKey)
+        → places_in same_alloc endings.new other
+        ≡ (if ends other role.now
+        then drop 1 (places_in same_alloc endings.old other)
+        else places_in same_alloc endings.old other) }
+{
+    match role {
+        AllocRole::Allocates => {}
+        AllocRole::Replaces(reference) | AllocRole::Cancels(reference) => endings.pop(reference),
+    }
+}

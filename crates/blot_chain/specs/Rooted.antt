@@ -1,0 +1,76 @@
+-- The links with the roots of their chains, newest first: after one stand the earlier ones. Each stands in a slot, live or lifted.
+use Rattle.std.specs.Prelude.{◌≡◌, Bool, true, false, ◌&&◌, List, [], ◌∷◌, map, find, Option, Some, None, if◌then◌else◌}
+use Rattle.std.specs.Option.{option_and_then}
+use Rattle.std.specs.Bool.{⊤}
+use Rattle.blot_places.specs.declared.slots.Slot.{Slot}
+use Rattle.blot_places.specs.Slots.{items, live}
+use Rattle.blot_types.specs.declared.keys.ExecKey.{ExecKey}
+use Rattle.blot_types.specs.declared.link.Link.{Link}
+use Rattle.blot_types.specs.declared.link.Role.{Role}
+use Rattle.blot_types.specs.declared.link.Role.TheVariants.{Begins, Corrects, Busts}
+use Rattle.blot_types.specs.Chains.{root_in}
+use Rattle.blot_types.specs.Keys.{same_exec}
+use Rattle.blot_chain.specs.declared.rooted.Rooted.{Rooted}
+
+-- whether a link of this role brings a version to its chain: a Trade and a Correct do
+abbrev pub is_version : Role → Bool
+is_version Begins = true
+is_version (Corrects reference) = true
+is_version (Busts reference) = false
+
+-- whether a link of this role is a Bust
+abbrev pub is_bust : Role → Bool
+is_bust Begins = false
+is_bust (Corrects reference) = false
+is_bust (Busts reference) = true
+
+-- whether a stored link takes up this key
+abbrev pub has_key : ExecKey → Rooted → Bool
+has_key key item = same_exec item.link.key key
+
+-- whether it brings a version to the chain of this root
+abbrev pub is_version_of : ExecKey → Rooted → Bool
+is_version_of root item = is_version item.link.role && same_exec item.root root
+
+-- whether it busts the chain of this root
+abbrev pub is_bust_of : ExecKey → Rooted → Bool
+is_bust_of root item = is_bust item.link.role && same_exec item.root root
+
+-- the root of its own key: the key of a Bust has none
+abbrev pub kept_root : Rooted → Option ExecKey
+kept_root item = if is_version item.link.role then Some item.root else None
+
+-- the root of the chain of a link: a Trade begins that of its own key, a Correct and a Bust have the root of
+-- their reference
+abbrev pub chain_root : List Link → ExecKey → Role → Option ExecKey
+chain_root earlier key Begins = Some key
+chain_root earlier key (Corrects reference) = root_in earlier reference
+chain_root earlier key (Busts reference) = root_in earlier reference
+
+-- the links alone
+abbrev pub links_in : List Rooted → List Link
+links_in rooted = map (λ item. item.link) rooted
+
+-- beside each link stands the root of its chain
+abbrev pub AreRooted : List Rooted → Type 0
+AreRooted [] = ⊤
+AreRooted (item ∷ earlier) = (chain_root (links_in earlier) item.link.key item.link.role ≡ Some item.root) × AreRooted earlier
+
+-- the root of a key, as the newest slot of that key tells it, live or lifted
+abbrev pub slot_root : List (Slot Rooted) → ExecKey → Option ExecKey
+slot_root slots key = option_and_then kept_root (find (has_key key) (items slots))
+
+abbrev pub slot_chain : List (Slot Rooted) → ExecKey → Role → Option ExecKey
+slot_chain earlier key Begins = Some key
+slot_chain earlier key (Corrects reference) = slot_root earlier reference
+slot_chain earlier key (Busts reference) = slot_root earlier reference
+
+-- each slot has the root that the earlier slots tell, live or lifted
+abbrev pub HaveRoots : List (Slot Rooted) → Type 0
+HaveRoots [] = ⊤
+HaveRoots (slot ∷ earlier) = (slot_chain earlier slot.item.link.key slot.item.link.role ≡ Some slot.item.root) × HaveRoots earlier
+
+-- of the slots of a key none but the newest is live
+abbrev pub NewestLive : List (Slot Rooted) → Type 0
+NewestLive [] = ⊤
+NewestLive (slot ∷ earlier) = (find (has_key slot.item.link.key) (live earlier) ≡ None) × NewestLive earlier

@@ -1,0 +1,152 @@
+-- What the fills of an order that are put in slots come to, when one slot changes.
+use Rattle.std.proofs.Common.{◌≡◌, ℕ, zero, suc, ◌*◌, ◌^◌, ◌<◌, pos, ◌+ℤ◌, ◌-ℤ◌, ◌*ℤ◌, ◌≤ℤ◌, List, [], ◌∷◌, length, set, Option, Some, None, true, false, refl, sym, ap, ◌∙◌, arith, inl, inr, if◌then◌else◌}
+use Rattle.std.specs.Prelude.{ℤ, neg_ℤ, IfSome}
+use Rattle.std.specs.List.{last_or}
+use Rattle.std.specs.Option.{option_and_then}
+use Rattle.std.proofs.lemmas.Bool.{cases_Bool}
+use Rattle.std.proofs.lemmas.Int.{ints}
+use Rattle.std.proofs.lemmas.List.{get_or_past}
+use Rattle.blot_types.specs.declared.fill.Fill.{Fill}
+use Rattle.blot_types.specs.declared.keys.OrderKey.{OrderKey}
+use Rattle.blot_types.specs.Keys.{same_order}
+use Rattle.blot_types.specs.Order.{total, fills_of, cum_of, value_of}
+use Rattle.blot_types.proofs.SumLemmas.{total-cons}
+use Rattle.blot_order.specs.declared.held.Held.{Held}
+use Rattle.blot_order.specs.declared.held.Held.TheVariants.{Kept, Put}
+use Rattle.blot_order.specs.Cells.{IsLast}
+use Rattle.blot_order.specs.Fills.{fill_put}
+use Rattle.blot_order.specs.Slots.{fills_in_slots, is_of, put_under, puts}
+use Rattle.blot_order.specs.Totals.{Fits}
+
+-- ---- sums
+
+-- the sum of an amount over the fills of an order in slots
+abbrev pub sum_in : (Fill → ℤ) → OrderKey → List (Option Held) → ℤ
+sum_in amount order slots = total amount (fills_of (fills_in_slots slots) order)
+
+-- the amount of a fill, where it is put and of an order
+abbrev pub counted : (Fill → ℤ) → OrderKey → Option Fill → ℤ
+counted amount order None = pos 0
+counted amount order (Some fill) = if same_order fill.order order then amount fill else pos 0
+
+-- the amount of the first slot, and of the later ones
+sum_in-cons :
+    (amount : Fill → ℤ) (order : OrderKey) (slot : Option Held) (slots : List (Option Held))
+    → sum_in amount order (slot ∷ slots) ≡ (counted amount order (option_and_then fill_put slot) +ℤ sum_in amount order slots)
+sum_in-cons amount order None slots = omega (arith, ints)
+sum_in-cons amount order (Some (Kept fill)) slots = omega (arith, ints)
+sum_in-cons amount order (Some (Put fill)) slots =
+    elim (cases_Bool (same_order fill.order order)) [
+      | inl own ↦ rw own (total-cons amount fill (fills_of (fills_in_slots slots) order))
+      | inr other ↦ rw other (omega (arith, ints))
+    ]
+
+-- one slot changed
+pub sum_in-set :
+    (amount : Fill → ℤ) (order : OrderKey) (slots : List (Option Held)) (n : ℕ) (slot : Option Held) → n < length slots
+    → sum_in amount order (set slots n slot) ≡ ((sum_in amount order slots -ℤ counted amount order (put_under slots n)) +ℤ counted amount order (option_and_then fill_put slot))
+sum_in-set amount order [] n slot within = absurd (omega arith)
+sum_in-set amount order (first ∷ slots) zero slot within =
+    let new = sum_in-cons amount order slot slots in
+    let old = sum_in-cons amount order first slots in
+    omega (arith, ints, new, old)
+sum_in-set amount order (first ∷ slots) (suc n) slot within =
+    let new = sum_in-cons amount order first (set slots n slot) in
+    let old = sum_in-cons amount order first slots in
+    let rest = sum_in-set amount order slots n slot (omega arith) in
+    omega (arith, ints, new, old, rest)
+
+-- ---- bounds
+
+-- what fits is counted with at most 10^16 and 10^32 units, or not at all
+pub record IsSmallCount (order : OrderKey) (fill : Option Fill) : Type 0 where
+  pub cum_low : pos 0 ≤ℤ counted (λ f. pos f.qty) order fill
+  pub cum_high : counted (λ f. pos f.qty) order fill ≤ℤ pos (10 ^ 16)
+  pub value_low : neg_ℤ (pos (10 ^ 32)) ≤ℤ counted (λ f. pos f.qty *ℤ f.price) order fill
+  pub value_high : counted (λ f. pos f.qty *ℤ f.price) order fill ≤ℤ pos (10 ^ 32)
+
+small_count : (order : OrderKey) (fill : Option Fill) → IfSome fill Fits → IsSmallCount order fill
+small_count order None fits = record {
+  cum_low = omega (arith, ints);
+  cum_high = omega (arith, ints);
+  value_low = omega (arith, ints);
+  value_high = omega (arith, ints);
+}
+small_count order (Some fill) fits =
+    elim (cases_Bool (same_order fill.order order)) [
+      | inl own ↦ record {
+        cum_low = rw own (omega (arith, ints));
+        cum_high = rw own (omega (arith, ints, fits.qty));
+        value_low = rw own fits.value_low;
+        value_high = rw own fits.value_high;
+      }
+      | inr other ↦ record {
+        cum_low = rw other (omega (arith, ints));
+        cum_high = rw other (omega (arith, ints));
+        value_low = rw other (omega (arith, ints));
+        value_high = rw other (omega (arith, ints));
+      }
+    ]
+
+-- the sums over slots are those of at most as many fills
+pub record IsWithinSlots (order : OrderKey) (slots : List (Option Held)) : Type 0 where
+  pub cum_low : pos 0 ≤ℤ cum_of (fills_of (fills_in_slots slots) order)
+  pub cum_high : cum_of (fills_of (fills_in_slots slots) order) ≤ℤ pos (length slots * 10 ^ 16)
+  pub value_low : neg_ℤ (pos (length slots * 10 ^ 32)) ≤ℤ value_of (fills_of (fills_in_slots slots) order)
+  pub value_high : value_of (fills_of (fills_in_slots slots) order) ≤ℤ pos (length slots * 10 ^ 32)
+
+pub within_slots : (order : OrderKey) (slots : List (Option Held)) → ((n : ℕ) → IfSome (put_under slots n) Fits) → IsWithinSlots order slots
+within_slots order [] fits = record {
+  cum_low = omega (arith, ints);
+  cum_high = omega (arith, ints);
+  value_low = omega (arith, ints);
+  value_high = omega (arith, ints);
+}
+within_slots order (slot ∷ slots) fits =
+    let first = small_count order (option_and_then fill_put slot) (fits 0) in
+    let rest = within_slots order slots (λ n. fits (suc n)) in
+    let cum = sum_in-cons (λ f. pos f.qty) order slot slots in
+    let value = sum_in-cons (λ f. pos f.qty *ℤ f.price) order slot slots in
+    record {
+      cum_low = omega (arith, ints, cum, first.cum_low, rest.cum_low);
+      cum_high = omega (arith, ints, cum, first.cum_high, rest.cum_high);
+      value_low = omega (arith, ints, value, first.value_low, rest.value_low);
+      value_high = omega (arith, ints, value, first.value_high, rest.value_high);
+    }
+
+-- ---- the last fill
+
+-- no slot puts a fill of the order
+no_fills_of : (order : OrderKey) (slots : List (Option Held)) → ((n : ℕ) → puts slots order n ≡ false) → fills_of (fills_in_slots slots) order ≡ []
+no_fills_of order [] none = refl
+no_fills_of order (None ∷ slots) none = no_fills_of order slots (λ n. none (suc n))
+no_fills_of order (Some (Kept fill) ∷ slots) none = no_fills_of order slots (λ n. none (suc n))
+no_fills_of order (Some (Put fill) ∷ slots) none = rw (none 0) (no_fills_of order slots (λ n. none (suc n)))
+
+-- the fill in the last slot that puts one of the order is the last
+last_fill_of :
+    (order : OrderKey) (slots : List (Option Held)) (sofar : Option Fill) (last : ℕ) → IsLast slots order (Some last)
+    → last_or sofar (fills_of (fills_in_slots slots) order) ≡ put_under slots last
+last_fill_of order [] sofar last is =
+    let none : puts [] order last ≡ false = ap (λ slot. is_of order (option_and_then fill_put slot)) (get_or_past [] last None (omega arith)) in
+    let clash : true ≡ false = sym is.0 ∙ none in
+    absurd (cc clash)
+last_fill_of order (None ∷ slots) sofar zero is = absurd (cc (is.0))
+last_fill_of order (Some (Kept fill) ∷ slots) sofar zero is = absurd (cc (is.0))
+last_fill_of order (Some (Put fill) ∷ slots) sofar zero is =
+    rw (is.0) (ap (last_or (Some fill)) (no_fills_of order slots (λ n. is.1 (suc n) (omega arith))))
+last_fill_of order (None ∷ slots) sofar (suc last) is = last_fill_of order slots sofar last (is.0, λ n less. is.1 (suc n) (omega (arith, less)))
+last_fill_of order (Some (Kept fill) ∷ slots) sofar (suc last) is = last_fill_of order slots sofar last (is.0, λ n less. is.1 (suc n) (omega (arith, less)))
+last_fill_of order (Some (Put fill) ∷ slots) sofar (suc last) is =
+    let later = λ (before : Option Fill). last_fill_of order slots before last (is.0, λ n less. is.1 (suc n) (omega (arith, less))) in
+    elim (cases_Bool (same_order fill.order order)) [
+      | inl own ↦ rw own (later (Some fill))
+      | inr other ↦ rw other (later sofar)
+    ]
+
+-- the fill under the number of the last one is the last
+pub last_fill-is :
+    (order : OrderKey) (slots : List (Option Held)) (last : Option ℕ) → IsLast slots order last
+    → last_or None (fills_of (fills_in_slots slots) order) ≡ option_and_then (put_under slots) last
+last_fill-is order slots None is = ap (last_or None) (no_fills_of order slots is)
+last_fill-is order slots (Some last) is = last_fill_of order slots None last is

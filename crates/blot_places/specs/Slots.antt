@@ -1,0 +1,29 @@
+-- Slots, newest first: after a slot stand the earlier ones. A slot is live, or lifted out of what the list shows.
+use Rattle.std.specs.Prelude.{ℕ, Bool, false, not, List, [], ◌∷◌, map, find, length, slice_get, Option, if◌then◌else◌}
+use Rattle.std.specs.List.{filter}
+use Rattle.std.specs.Option.{option_and_then, option_map, option_map_or}
+use Rattle.blot_places.specs.declared.slots.Slot.{Slot}
+
+module _ {T : Type 0} where
+  -- the items of all slots, of the live ones, and of those that are lifted out
+  abbrev pub items : List (Slot T) → List T
+  items slots = map (λ slot. slot.item) slots
+
+  abbrev pub live : List (Slot T) → List T
+  live slots = items (filter (λ slot. slot.is_live) slots)
+
+  abbrev pub lifted : List (Slot T) → List T
+  lifted slots = items (filter (λ slot. not slot.is_live) slots)
+
+  -- the places of the items that pass a test, newest first: the oldest slot is at place 0
+  abbrev pub places_by : (T → Bool) → List (Slot T) → List ℕ
+  places_by test [] = []
+  places_by test (slot ∷ earlier) = if test slot.item then length earlier ∷ places_by test earlier else places_by test earlier
+
+  -- whether the slot at this place is live. Here and below the slots stand oldest first
+  abbrev pub is_live_at : List (Slot T) → ℕ → Bool
+  is_live_at slots place = option_map_or (λ slot. slot.is_live) (slice_get slots place) false
+
+  -- the item of the first live slot at one of these places
+  abbrev pub newest_live : List (Slot T) → List ℕ → Option T
+  newest_live slots places = option_map (λ slot. slot.item) (option_and_then (slice_get slots) (find (is_live_at slots) places))

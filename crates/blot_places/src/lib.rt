@@ -1,0 +1,10 @@
+//! Where things stand in a list that grows and shrinks at its end. A `Slot` holds one of them, live or lifted
+//! out of what the list shows; `Places` holds, under each key, the places of the slots that belong to it, and
+//! knows nothing of the slots. So a slot is lifted and put back without touching any place.
+#![tactic(auto)]
+
+mod places;
+mod slots;
+
+pub use places::Places;
+pub use slots::{Slot, newest_live};

@@ -1,0 +1,86 @@
+//! Stacks of places by key.
+ghost use Rattle.std.specs.Prelude.{◌≡◌, ◌∷◌, [], drop, false, reverse, OnOk, if◌then◌else◌};
+ghost use Rattle.blot_places.specs.Places.{HasRoom, places_in};
+
+use indexmap::IndexMap;
+use std::alloc::{AllocError as NoMemory, Global};
+use std::hash::Hash;
+use std::marker::Model;
+
+/// Under each key a stack of places. A key that was there once stays, with its room. A contract sees the
+/// places of each key, newest first, and for how many more there is room.
+#[derive(Drop)]
+pub struct Places<K: Eq + Hash> {
+    cells: IndexMap<K, Vec<usize>>,
+}
+
+impl<K: Eq + Hash> Model for Places<K> {
+    ghost use Rattle.std.specs.Prelude.{map};
+    ghost use Rattle.blot_places.specs.Places.{Stacks, stack_of};
+
+    ghost Value = { Stacks K };
+
+    ghost view = { λ places. record { cells = map (λ cell. (cell.0, stack_of cell.1)) places.cells.entries } };
+}
+
+impl<K: Eq + Hash + Copy> Places<K> {
+    /// No places. No memory is taken.
+    pub fn new(alloc: Global) -> Places<K>
+        ensures { (key : K) → places_in K.eq result key ≡ [] }
+    {
+        Places {
+            cells: IndexMap::new(alloc),
+        }
+    }
+
+    /// Makes room for one more place under a key. No place comes or goes, and an error is out of memory.
+    pub fn make_room(&mut self, alloc: Global, key: &K) -> Result<(), NoMemory>
+        ensures same { (other : K) → places_in K.eq self.new other ≡ places_in K.eq self.old other }
+        ensures room { OnOk result (HasRoom K.eq self.new key.now) }
+        ensures kept { OnOk result ((other : K) → HasRoom K.eq self.old other → HasRoom K.eq self.new other) }
+    {
+        if let Some(cell) = self.cells.get_mut(key) {
+            return cell.reserve(1);
+        }
+        let mut cell = Vec::new(alloc);
+        cell.reserve(1)?;
+        self.cells.insert(*key, cell)?;
+        Ok(())
+    }
+
+    /// Puts a place on the stack of a key. No memory is taken.
+    pub fn push(&mut self, key: &K, place: usize)
+        requires room { HasRoom K.eq self.old key.now }
+        ensures places { (other : K)
+            → places_in K.eq self.new other
+            ≡ (if K.eq key.now other then place ∷ places_in K.eq self.old other else places_in K.eq self.old other) }
+        ensures kept { (other : K) → K.eq key.now other ≡ false → HasRoom K.eq self.old other → HasRoom K.eq self.new other }
+    {
+        let Some(cell) = self.cells.get_mut(key) else {
+            unreachable!()
+        };
+        cell.push_reserved(place);
+    }
+
+    /// Takes the newest place off the stack of a key, if there is one. No memory is taken.
+    pub fn pop(&mut self, key: &K)
+        ensures { (other : K)
+            → places_in K.eq self.new other
+            ≡ (if K.eq key.now other then drop 1 (places_in K.eq self.old other) else places_in K.eq self.old other) }
+    {
+        let Some(cell) = self.cells.get_mut(key) else {
+            return;
+        };
+        cell.pop();
+    }
+
+    /// The places under a key, the newest last.
+    pub fn under(&self, key: &K) -> &[usize]
+        ensures { reverse result.now ≡ places_in K.eq self.now key.now }
+    {
+        match self.cells.get(key) {
+            Some(cell) => cell.as_slice(),
+            None => &[],
+        }
+    }
+}
