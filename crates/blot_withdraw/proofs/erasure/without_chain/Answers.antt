@@ -15,4 +15,4 @@ pub returns : goal.returns
 returns c =
     c.loop-entry.invariant
     ∙ ap (filter (λ entry. not (is_of_chain c.args.list.now c.args.root.now entry)))
-      (take_all c.loop-entry.entry-index c.args.list.now c.loop-entry-test.false)
+    (take_all c.loop-entry.entry-index c.args.list.now c.loop-entry-test.false)
