@@ -84,6 +84,28 @@ fn check_lines<L: Ledger>(
     Ok(())
 }
 
+// The lines of a sitting, after the first trade, at the one seat of a desk.
+fn sit_at<L: Ledger>(
+    rt: &impl Wait,
+    alloc: Global,
+    desk: &Desk<L>,
+    seats: &mut [Seat<L>],
+    sitting: &Sitting,
+) -> Result<(), Fail> {
+    let seat = seats.get_mut(0).ok_or("no seat")?;
+    submit_first(rt, desk, seat)?;
+    check_lines(rt, alloc, desk, seat, sitting)
+}
+
+// A desk is settled with its seats, and has recorded so many events.
+fn settle<L: Ledger>(desk: Desk<L>, seats: Vec<Seat<L>>, events: usize) -> Result<(), Fail> {
+    match desk.close().settle(seats) {
+        Ok(settled) if settled.held.history().len() == events => Ok(()),
+        Ok(_) => Err(Fail::new("other events")),
+        Err(refused) => Err(Fail::new(format_args!("{:?}", refused.0))),
+    }
+}
+
 // A sitting at a desk of its own, which is settled with its seat in the end.
 fn sit<L: Ledger>(
     rt: &impl Wait,
@@ -96,15 +118,8 @@ fn sit<L: Ledger>(
     requires one { blank.parts ≡ 1 }
 {
     let (desk, mut seats) = Desk::<L>::new(alloc, blank, 1)?;
-    let mut seat = seats.pop().ok_or("no seat")?;
-    submit_first(rt, &desk, &mut seat)?;
-    check_lines(rt, alloc, &desk, &mut seat, sitting)?;
-    seats.push(seat)?;
-    match desk.close().settle(seats) {
-        Ok(settled) if settled.held.history().len() == sitting.events => Ok(()),
-        Ok(_) => Err(Fail::new("other events")),
-        Err(refused) => Err(Fail::new(format_args!("{:?}", refused.0))),
-    }
+    sit_at(rt, alloc, &desk, &mut seats, sitting)?;
+    settle(desk, seats, sitting.events)
 }
 
 #[test]
