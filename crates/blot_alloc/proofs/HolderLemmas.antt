@@ -132,7 +132,7 @@ named-free earlier reference root (first ∷ roots) all any =
 find-same : {X : Type 0} (p q : X → Bool) (xs : List X) → ((x : X) → p x ≡ q x) → find p xs ≡ find q xs
 find-same p q xs same = ap (λ test. find test xs) (λ k x. same x k)
 
--- so behind an instruction that names it no earlier allocation holds it
+-- so after an instruction that names it no earlier allocation holds it
 held-behind :
     (i : Instruction) (earlier : List Instruction) (root : ExecKey) → Follows earlier i.key i.role i.roots → names root i ≡ true
     → find (holds_in (i ∷ earlier) root) earlier ≡ None
@@ -146,7 +146,7 @@ unnamed : (a b : Bool) → b ≡ false → (a && b) ≡ false
 unnamed true b none = none
 unnamed false b none = refl
 
--- what was found among the earlier ones, seen behind one instruction more
+-- what was found among the earlier ones, seen after one instruction more
 step : (i : Instruction) (earlier : List Instruction) (root : ExecKey) (found : Option Instruction) → option_map_or (names root) found true ≡ true
     → if_passes (holds_in (i ∷ earlier) root) (if_passes (is_live_in earlier) found) ≡ if_passes (is_live_in (i ∷ earlier)) found
 step i earlier root None named = refl

@@ -215,7 +215,7 @@ impl Allocs {
         brings_allocation(&instruction.role) && self.ended_by(&instruction.key).is_none()
     }
 
-    // Puts an instruction behind the others. All room is made before anything changes.
+    // Puts an instruction after the others. All room is made before anything changes.
     fn push(
         &mut self,
         number: u64,

@@ -51,7 +51,7 @@ impl Index {
         roots::make_room(&mut self.holders, alloc, roots)
     }
 
-    /// Puts in the place of one more slot, behind the others.
+    /// Puts in the place of one more slot, after the others.
     pub(crate) fn push(&mut self, slot: &Slot<Instruction>, place: usize)
         requires room { HasRoomFor self.old slot.now.item.key slot.now.item.role slot.now.item.roots }
         requires apart { IsTrue (are_apart slot.now.item.roots) }

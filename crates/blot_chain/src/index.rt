@@ -52,7 +52,7 @@ impl Index {
         make_room(&mut self.busts, alloc, is_bust(role), root)
     }
 
-    /// Puts in the place of one more slot, behind the others.
+    /// Puts in the place of one more slot, after the others.
     pub(crate) fn push(&mut self, slot: &Slot<Rooted>, place: usize)
         requires { HasRoomFor self.old slot.now.item.link.key slot.now.item.link.role slot.now.item.root }
         ensures { (slots : List (Slot Rooted)) → IsIndexed self.old slots → place ≡ length slots → IsIndexed self.new (slot.now ∷ slots) }

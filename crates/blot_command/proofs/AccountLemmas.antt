@@ -101,7 +101,7 @@ can_go-by None list entry cells is next ready carried =
     (subst (λ gone. CanMove out into (rebooked gone None) cells list) (sym (no-part list entry instruction.unversioned))
     (instruction-goes list entry cells is instruction next ready carried))
 
--- behind a shown list, once the cells of the entry are made
+-- after a shown list, once the cells of the entry are made
 pub can_come : (list : List Entry) (entry : Entry) (cells : Cells) → IsNextEntry list entry → ShowsPositions list cells → HasEntryCells cells entry.command → EntryFits entry.command → CanCome list entry cells
 can_come list entry cells next shows made fits =
     can_come-by (link_of entry) list entry cells refl next (ready-more list entry cells shows.ready made fits) shows.carried
@@ -161,7 +161,7 @@ reads list after entry found version link replaced own ended brought is linked f
   brought_is = brought_is;
 }
 
--- the entry comes behind a shown list, once its cells are made
+-- the entry comes after a shown list, once its cells are made
 pub comes-as :
     (list after : List Entry) (entry : Entry) (replaced own : Option Part) (ended brought : Option AllocKey) (old cells : Cells) → Reads list after entry replaced own ended brought → is_book (list ++ entry ∷ []) ≡ true
     → ShowsPositions list old → Opens old cells → HasEntryCells cells entry.command → EntryFits entry.command

@@ -175,7 +175,7 @@ listed-behind list i key t fresh listed =
       | inr other ↦ rw other listed
     ]
 
--- the allocation of an older key is there behind a newer instruction
+-- the allocation of an older key is there after a newer instruction
 brings-behind :
     (list after : List Entry) (i : Instruction) (last : List Allocation) (reference : Option AllocKey) (fewer more : ExecKey → Bool) (few many : List Allocation)
     → instructions_of after ≡ i ∷ instructions_of list → allocations_in after ≡ allocations_in list ++ last → alloc_taker_in (instructions_of list) i.key ≡ None

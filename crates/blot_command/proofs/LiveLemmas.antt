@@ -69,7 +69,7 @@ version-other list entry number none other =
 pub rise-of_book : (list : List Entry) → is_book list ≡ true → numbers_rise list ≡ true
 rise-of_book list book = (and_parts _ _ (and_parts _ _ book).0).0
 
--- an entry may stand behind a list in a book
+-- an entry may stand after a list in a book
 pub record IsNextEntry (list : List Entry) (entry : Entry) : Type 0 where
   pub whole : is_book (list ++ entry ∷ []) ≡ true
   pub book : is_book list ≡ true
@@ -182,7 +182,7 @@ uninstructed links number (AllocNew new) instructions = refl
 uninstructed links number (AllocReplace replace) instructions = refl
 uninstructed links number (AllocCancel cancel) instructions = refl
 
--- what a list holds with an entry behind it
+-- what a list holds with an entry after it
 pub record HoldsMore (list : List Entry) (entry : Entry) (links : List Link) (instructions : List Instruction) : Type 0 where
   pub links_are : links ≡ cons_option (link_of entry) (links_of list)
   pub instructions_are : instructions ≡ cons_option (instruction_by (links_of list) entry.number entry.command) (instructions_of list)
@@ -220,7 +220,7 @@ holds-less list rest entry links links' instructions instructions' holds is one 
     holds-without rest entry entry.command links links' instructions instructions' (is_book-front rest entry (sym (ap is_book is) ∙ holds.book))
     (holds-more list rest entry links instructions holds is) refl one two
 
--- an entry was linked, and memory ran out behind it
+-- an entry was linked, and memory ran out after it
 pub holds-linked :
     {T E : Type 0} (result : Result T E) (list : List Entry) (entry : Entry) (links links' : List Link) (instructions instructions' : List Instruction)
     → is_err result ≡ false → HoldsList list links instructions → OnOk result (links' ≡ cons_option (link_of entry) links)

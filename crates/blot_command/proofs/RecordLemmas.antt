@@ -95,7 +95,7 @@ without-unused n (version ∷ versions) free =
           (ap (λ rest. version ∷ rest) (without-unused n versions (rw other at free)))
     ]
 
--- the version behind the others, taken away again
+-- the version after the others, taken away again
 without-last : (version : Version) (versions : List Version) → IsUnused version.number versions → without (Some version.number) (versions ++ version ∷ []) ≡ versions
 without-last version versions free =
     filter-append (λ v. not (is_number v.number (Some version.number))) versions (version ∷ [])
@@ -366,7 +366,7 @@ rise-filter keep from (version ∷ later) rise =
       | inr goes ↦ rw goes (rise-later from (version.number + 1) (filter keep later) (omega (arith, leb-true from version.number parts.0)) rest)
     ]
 
--- versions that rise, with one of a greater number behind them
+-- versions that rise, with one of a greater number after them
 rise-push :
     (from n : ℕ) (links : List Link) (versions : List Version) (brought : Option Version) → rise_from from versions ≡ true → All (IsKnown n links) versions → from ≤ n
     → IfSome brought (λ v. v.number ≡ n) → rise_from from (versions ++ cons_option brought []) ≡ true

@@ -60,7 +60,7 @@ wanted-more entries execs index key sum within is so_far =
 pub one_fill : (fill : Fill) → cum_of (fill ∷ []) ≡ pos fill.qty
 one_fill fill = omega (arith, ints)
 
--- a rule that applies is the refusal, and one that doesn't leaves it to those behind it
+-- a rule that applies is the refusal, and one that doesn't leaves it to those after it
 pub rule_passed : {A B : Type 0} (name : A → B) (found : Option A) (rest : Option B) → found ≡ None → option_or (option_map name found) rest ≡ rest
 rule_passed name found rest none = rw none refl
 

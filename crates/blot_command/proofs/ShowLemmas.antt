@@ -72,7 +72,7 @@ fill_one k version =
       | inr other ↦ rw other refl
     ]
 
--- a version's fill put behind the others
+-- a version's fill put after the others
 pub Puts-put : (fills : Fills) (versions : List Version) (version : Version) → Puts fills versions → IsUnused version.number versions → Puts (with_put (Some version) fills) (versions ++ version ∷ [])
 Puts-put fills versions version puts unused k =
     put_at-with_put version.number k version.fill fills

@@ -65,7 +65,7 @@ impl Accounts {
         self.positions.get(account, symbol)
     }
 
-    /// Puts an entry behind the others, or hands it back where memory runs out.
+    /// Puts an entry after the others, or hands it back where memory runs out.
     pub(crate) fn push(&mut self, entry: Entry) -> Result<(), Entry>
         requires { IsTrue (is_book (self.old ++ entry ∷ [])) }
         ensures ok { OnOk result (self.new ≡ self.old ++ entry ∷ []) }

@@ -156,7 +156,7 @@ impl LiveList {
         self.allocs.roots_of(key)
     }
 
-    /// Puts an entry behind the others, or hands it back where memory runs out.
+    /// Puts an entry after the others, or hands it back where memory runs out.
     pub(crate) fn push(&mut self, entry: Entry) -> Result<(), Entry>
         requires { IsTrue (is_book (self.old ++ entry ∷ [])) }
         ensures ok { OnOk result (self.new ≡ self.old ++ entry ∷ []) }

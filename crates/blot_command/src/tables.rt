@@ -100,7 +100,7 @@ impl Tables {
         self.accounts.live().refusal(command)
     }
 
-    /// Puts an entry behind the others, or hands it back where memory runs out.
+    /// Puts an entry after the others, or hands it back where memory runs out.
     pub(crate) fn record(&mut self, entry: Entry) -> Result<(), Entry>
         requires { IsTrue (is_book (self.old.list ++ entry ∷ [])) }
         ensures ok { OnOk result (self.new.list ≡ self.old.list ++ entry ∷ []) }

@@ -82,7 +82,7 @@ run_on run event = record { book = (step_of run.book event).book; replies = run.
 abbrev pub run_of : List Event → Run
 run_of events = fold run_on (record { book = empty_book; replies = [] }) events
 
--- the reply to an event, behind a run of some events
+-- the reply to an event, after a run of some events
 pub record IsReply (event : Event) (reply : Reply) : Type 0 where
   pub earlier : List Event
   pub reply_is : reply ≡ (step_of (run_of earlier).book event).reply

@@ -13,7 +13,7 @@ pub record IsOneMore (before after : List Receipt) (event : Event) (reply : Repl
 
 -- ---- the newest number of a seat
 
--- whether a number is undone behind a reply; a number that is accepted or done again isn't
+-- whether a number is undone after a reply; a number that is accepted or done again isn't
 abbrev pub undone_by : ℕ → Bool → Reply → Bool
 undone_by number undone (Undone other) = if other == number then true else undone
 undone_by number undone (Redone other) = if other == number then false else undone

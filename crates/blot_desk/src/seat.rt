@@ -146,7 +146,7 @@ fn is_undone(number: u64, receipts: &[Receipt]) -> bool
     undone
 }
 
-// Whether a number is undone behind a reply.
+// Whether a number is undone after a reply.
 fn undone_by(number: u64, undone: bool, reply: &Reply) -> bool
     ensures { result ≡ undone_by number undone reply.now }
 {

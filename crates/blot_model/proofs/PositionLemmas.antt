@@ -34,7 +34,7 @@ position-append [] ys = refl
 position-append (x ∷ xs) [] = ap position_by (append-nil (x ∷ xs))
 position-append (x ∷ xs) (y ∷ ys) = line-append x y xs ys
 
--- the parts of two lists, one behind the other
+-- the parts of two lists, one after the other
 pub sums-append : (account symbol : List ℕ) (xs ys : List Part) → sums_at account symbol (xs ++ ys) ≡ joined (sums_at account symbol xs) (sums_at account symbol ys)
 sums-append account symbol xs ys =
     ap position_by (filter-append (is_at account symbol) xs ys) ∙ position-append (filter (is_at account symbol) xs) (filter (is_at account symbol) ys)

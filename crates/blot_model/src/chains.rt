@@ -84,7 +84,7 @@ fn link_keyed(entry: &Entry, key: &ExecKey) -> Option<Link>
     }
 }
 
-// Whether a link behind these entries is a Bust of the chain of a root.
+// Whether a link after these entries is a Bust of the chain of a root.
 fn is_bust(earlier: &[Entry], link: &Link, root: &ExecKey) -> bool
     ensures { result ≡ busts (links_of earlier.now) root.now link.now.role }
 {
@@ -94,7 +94,7 @@ fn is_bust(earlier: &[Entry], link: &Link, root: &ExecKey) -> bool
     }
 }
 
-// Whether a link behind these entries brings a version to the chain of a root.
+// Whether a link after these entries brings a version to the chain of a root.
 fn is_version(earlier: &[Entry], link: &Link, root: &ExecKey) -> bool
     ensures { result ≡ is_root root.now (own_root_by (root_in (links_of earlier.now)) link.now.key link.now.role) }
 {

@@ -12,6 +12,7 @@ mod parts;
 mod positions;
 mod refusals;
 mod rules;
+mod withdrawal;
 
 pub use allocations::named_roots;
 pub use chains::{bust_of, current, number_of, root_of};
@@ -19,3 +20,4 @@ pub use executions::survivors;
 pub use orders::order_of;
 pub use positions::position_of;
 pub use refusals::{accepts, legal};
+pub use withdrawal::blocked_of;

@@ -88,7 +88,7 @@ live-link list entry link is =
     ∙ ap (live_by (instructions_of list))
     (allocations-push list entry ∙ ap (λ found. allocations_in list ++ cons_option found []) (link_alone (links_in (reverse list)) entry link is).1 ∙ append-nil (allocations_in list))
 
--- a key that the links take up keeps its root behind a link of another key
+-- a key that the links take up keeps its root after a link of another key
 root-kept : (links : List Link) (link : Link) (key : ExecKey) → taker_in links link.key ≡ None → is_some (taker_in links key) ≡ true → root_in (link ∷ links) key ≡ root_in links key
 root-kept links link key fresh taken = let other : takes_up key link ≡ false = taken_other links link.key key fresh taken in rw other refl
 

@@ -49,7 +49,7 @@ no_length xs is = rw is (omega arith)
 
 -- ---- one more instruction
 
--- an allocation is live behind one more instruction where it was live, and that doesn't end it
+-- an allocation is live after one more instruction where it was live, and that doesn't end it
 pub live-step : (i : Instruction) (earlier : List Instruction) (j : Instruction) → is_live_in (i ∷ earlier) j ≡ (is_live_in earlier j && not (ends j.key i.role))
 live-step i earlier j =
     elim (cases_Bool (ends j.key i.role)) [
@@ -71,7 +71,7 @@ ends-reference key Allocates = refl
 ends-reference key (Replaces reference) = refl
 ends-reference key (Cancels reference) = refl
 
--- so the live allocations behind it that name a chain are those other than the one that it refers to
+-- so the live allocations after it that name a chain are those other than the one that it refers to
 holds-beside : (i : Instruction) (earlier : List Instruction) (root : ExecKey) (j : Instruction) → holds_in (i ∷ earlier) root j ≡ holds_beside earlier (reference_of i.role) root j
 holds-beside i earlier root j = holds-step i earlier root j ∙ ap (λ test. holds_in earlier root j && not test) (ends-reference j.key i.role)
 

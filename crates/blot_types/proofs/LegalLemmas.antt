@@ -76,7 +76,7 @@ list_all-reverse test (x ∷ xs) =
     ap (list_all test) (reverse-append (x ∷ []) xs) ∙ list_all-append test (reverse xs) (x ∷ []) in
     grind (arith, same, split)
 
--- a book accepts a command, and its number is above the others: then it stands behind them in a book
+-- a book accepts a command, and its number is above the others: then it stands after them in a book
 pub is_book-push :
     (list : List Entry) (entry : Entry) → is_book list ≡ true → refusal_of list entry.command ≡ None
     → All (λ earlier. earlier < entry.number) (map (λ e. e.number) list) → entry.number ≤ EVENTS_MAX → is_book (list ++ entry ∷ []) ≡ true
@@ -104,7 +104,7 @@ is_above_entries-weaker m n (entry ∷ entries) more above =
     let parts : (nat_lt entry.number m ≡ true) × (is_above_entries m entries ≡ true) = and_parts _ _ above in
     and_from _ _ (lt-ltb _ _ (omega (arith, more, ltb-true _ _ parts.0))) (is_above_entries-weaker m n entries more parts.1)
 
--- a list whose numbers rise below n, with an entry of number n behind it, has numbers that rise below n + 1
+-- a list whose numbers rise below n, with an entry of number n after it, has numbers that rise below n + 1
 pub rises-push :
     (list : List Entry) (entry : Entry) → is_above_entries entry.number (reverse list) ≡ true → numbers_rise list ≡ true
     → (is_above_entries (entry.number + 1) (reverse (list ++ entry ∷ [])) ≡ true) × (numbers_rise (list ++ entry ∷ []) ≡ true)

@@ -6,7 +6,7 @@ use Rattle.std.proofs.lemmas.List.{append-nil}
 use Rattle.blot_types.specs.declared.TheConstants.{ITEMS_MAX}
 use Rattle.blot_types.specs.Making.{Made, Grows, Holds, Makes, IsShort}
 
--- what stands behind some items
+-- what stands after some items
 abbrev pub joined : {T F : Type 0} → List T → Result (List T) F → Result (List T) F
 joined items (Ok rest) = Ok (items ++ rest)
 joined items (Err fault) = Err fault
@@ -21,7 +21,7 @@ pub record IsFront {T F : Type 0} (made : Made T) (rest meant : Result (List T) 
   pub items : made.complete ≡ true → joined made.items rest ≡ meant
   pub faults : result_err rest ≡ result_err meant
 
--- what stands behind some items may take their last with it
+-- what stands after some items may take their last with it
 joined-more : {T F : Type 0} (items : List T) (item : T) (rest : Result (List T) F) → joined (items ++ item ∷ []) rest ≡ joined items (with_first item rest)
 joined-more items item (Ok rest) = ap (λ all. Ok all) (append_assoc items (item ∷ []) rest)
 joined-more items item (Err fault) = refl

@@ -23,7 +23,7 @@ pub last_or-some : {A : Type 0} → (y : A) (ys : List A) → (z : A) × (last_o
 last_or-some y [] = (y, refl)
 last_or-some y (x ∷ xs) = last_or-some x xs
 
--- the line with one more fill behind the others
+-- the line with one more fill after the others
 pub line_of-push : (fills : List Fill) (fill : Fill) → line_of (fills ++ fill ∷ []) ≡ Some (with_fill (line_of fills) fill)
 line_of-push [] fill = refl
 line_of-push (first ∷ fills) fill =

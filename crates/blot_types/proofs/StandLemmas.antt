@@ -22,13 +22,13 @@ and-false true = refl
 and-false false = refl
 
 -- a test is never passed together with its contrary
-and-not : (a b : Bool) → ((a && b) && not b) ≡ false
+pub and-not : (a b : Bool) → ((a && b) && not b) ≡ false
 and-not true true = refl
 and-not true false = refl
 and-not false b = refl
 
 -- where no version of a number can both be this chain's last and another's
-and-apart : (a b c : Bool) → (b ≡ true → c ≡ false) → (a && b) ≡ ((a && b) && not c)
+pub and-apart : (a b c : Bool) → (b ≡ true → c ≡ false) → (a && b) ≡ ((a && b) && not c)
 and-apart true true c apart = rw (apart refl) refl
 and-apart true false c apart = refl
 and-apart false b c apart = refl

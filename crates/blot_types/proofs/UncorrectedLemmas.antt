@@ -43,7 +43,7 @@ own_correct links mine key root Begins fresh is own =
 own_correct links mine key root (Corrects reference) fresh is own = refl
 own_correct links mine key root (Busts reference) fresh is own = cc
 
--- the links behind keep their roots
+-- the links after keep their roots
 abbrev IsTaken : List Link → Link → Type 0
 IsTaken links link = is_some (taker_in links link.key) ≡ true
 
@@ -100,7 +100,7 @@ taken-among : (later earlier : List Link) (link : Link) → IsTaken (later ++ li
 taken-among [] earlier link = rw (same_exec-refl link.key) refl
 taken-among (other ∷ later) earlier link = taken-more other (later ++ link ∷ earlier) link (taken-among later earlier link)
 
--- the version of a link is the chain's last where none behind it corrects the chain
+-- the version of a link is the chain's last where none after it corrects the chain
 pub last-uncorrected :
     (later earlier : List Link) (link : Link) (root : ExecKey) → is_chained (later ++ link ∷ earlier) ≡ true → falls (later ++ link ∷ earlier) ≡ true
     → root_in (later ++ link ∷ earlier) link.key ≡ Some root

@@ -1,7 +1,7 @@
 -- The chains of executions: a Trade begins one, each Correct brings it a new version, a Bust ends it.
 --
 -- "The entries before it" is natural on a list newest first. So a word that ends in `_in` reads the links
--- newest first: behind a link stand the earlier ones.
+-- newest first: after a link stand the earlier ones.
 use Rattle.std.specs.Prelude.{ℕ, Bool, true, false, ◌&&◌, List, [], ◌∷◌, Option, Some, None, find, is_none, nat_lt, if◌then◌else◌}
 use Rattle.std.specs.List.{cons_option, list_all}
 use Rattle.std.specs.Option.{option_map, option_or, option_and_then}

@@ -1,5 +1,5 @@
 -- The allocations that instructions bring: an AllocNew brings one, an AllocReplace one in the place of another,
--- an AllocCancel ends one. Each word reads the instructions newest first: behind one stand the earlier ones.
+-- an AllocCancel ends one. Each word reads the instructions newest first: after one stand the earlier ones.
 use Rattle.std.specs.Prelude.{ℕ, Bool, true, false, ◌&&◌, not, List, [], ◌∷◌, filter, Option, Some, None, find, is_none, nat_lt}
 use Rattle.std.specs.List.{list_any, list_all, flat_map}
 use Rattle.std.specs.Option.{option_map, option_map_or}

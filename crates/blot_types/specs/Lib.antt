@@ -13,3 +13,4 @@ pub mod Standing
 pub mod Survivors
 pub mod Text
 pub mod Told
+pub mod Withdrawal

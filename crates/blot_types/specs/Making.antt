@@ -7,7 +7,7 @@ pub record Made (T : Type 0) : Type 0 where
   pub items : List T
   pub complete : Bool
 
--- where the new list is complete, so was the old one, and the item stands behind it
+-- where the new list is complete, so was the old one, and the item stands after it
 abbrev pub Grows : {T : Type 0} → T → Made T → Made T → Type 0
 Grows item old new = new.complete ≡ true → (old.complete ≡ true) × (new.items ≡ old.items ++ item ∷ [])
 

@@ -56,7 +56,7 @@ fn without_chain(alloc: Global, list: &[Entry], root: &ExecKey) -> Result<Tables
     Ok(tables)
 }
 
-// Puts a copy of an entry behind the others.
+// Puts a copy of an entry after the others.
 fn put(alloc: Global, tables: &mut Tables, entry: &Entry) -> Result<(), NoMemory>
     requires { IsTrue (is_book (tables.old.list ++ entry.now ∷ [])) }
     ensures { OnOk result (tables.new.list ≡ tables.old.list ++ entry.now ∷ []) }

@@ -1,4 +1,4 @@
--- An entry behind others, in a book, is above them, and they accept it.
+-- An entry after others, in a book, is above them, and they accept it.
 use Rattle.std.proofs.Common.{◌≡◌, Some, None, ap, ◌∙◌, inl, inr}
 use Rattle.blot_types.specs.declared.command.Command.{Command}
 use Rattle.blot_types.specs.declared.refused.Refused.{Refused as Reason}

@@ -1,0 +1,95 @@
+//! How often each kind of command was taken, and each refusal came.
+
+use blot_types::{Command, Refused};
+use std::test::Fail;
+
+/// How often each kind of command was taken, and each refusal came, each in its order.
+#[derive(Drop)]
+pub struct Tally {
+    taken: [u32; 6],
+    refused: [u32; 13],
+}
+
+// The place of a kind of command.
+fn place_of_kind(command: &Command) -> usize {
+    match command {
+        Command::Trade(_) => 0,
+        Command::Correct(_) => 1,
+        Command::Bust(_) => 2,
+        Command::AllocNew(_) => 3,
+        Command::AllocReplace(_) => 4,
+        Command::AllocCancel(_) => 5,
+    }
+}
+
+// The place of a refusal.
+fn place_of_refusal(refused: &Refused) -> usize {
+    match refused {
+        Refused::DuplicateExec(_) => 0,
+        Refused::DuplicateAlloc(_) => 1,
+        Refused::UnknownAlloc => 2,
+        Refused::DeadAlloc(_) => 3,
+        Refused::UnknownExec(_) => 4,
+        Refused::BustedExec(_) => 5,
+        Refused::RepeatedExec(_) => 6,
+        Refused::ExecTaken(_) => 7,
+        Refused::Instrument(_) => 8,
+        Refused::Quantity(_, _) => 9,
+        Refused::NothingToUndo => 10,
+        Refused::Moved(_) => 11,
+        Refused::NothingToRedo => 12,
+    }
+}
+
+impl Tally {
+    /// Nothing came yet.
+    pub fn new() -> Tally {
+        Tally {
+            taken: [0; 6],
+            refused: [0; 13],
+        }
+    }
+
+    /// A command was taken, or refused.
+    pub fn count(&mut self, command: &Command, refusal: Option<Refused>) {
+        match refusal {
+            None => self.count_taken(command),
+            Some(refused) => self.count_refused(refused),
+        }
+    }
+
+    /// A command was taken.
+    pub fn count_taken(&mut self, command: &Command) {
+        let place = place_of_kind(command);
+        self.taken[place] = self.taken[place].saturating_add(1);
+    }
+
+    /// An event was refused.
+    pub fn count_refused(&mut self, refused: Refused) {
+        let place = place_of_refusal(&refused);
+        self.refused[place] = self.refused[place].saturating_add(1);
+    }
+
+    /// Each kind of command was taken.
+    pub fn expect_each_kind(&self) -> Result<(), Fail> {
+        expect_each(&self.taken, "kind")
+    }
+
+    /// Each of the first refusals came: ten of a book, all of a desk.
+    pub fn expect_each_refusal(&self, count: usize) -> Result<(), Fail> {
+        match self.refused.get(..count) {
+            Some(refused) => expect_each(refused, "refusal"),
+            None => Err(Fail::new("no such count of refusals")),
+        }
+    }
+}
+
+/// Each of these came.
+pub fn expect_each(counts: &[u32], what: &str) -> Result<(), Fail> {
+    for (place, count) in counts.iter().enumerate() {
+        if *count == 0 {
+            return Err(Fail::new(format_args!("no {what} {place} among {counts:?}")));
+        }
+    }
+    Ok(())
+}
