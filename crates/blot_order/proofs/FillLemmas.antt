@@ -34,10 +34,6 @@ pub put_at-with_kept : (n k : ℕ) (fill : Fill) (fills : Fills) → put_at (wit
 put_at-with_kept n k fill fills =
     ap (option_and_then fill_put) (get-insert fills n k (Kept fill)) ∙ through (option_and_then fill_put) (k == n) (Some (Kept fill)) (finite.get fills k)
 
-pub kept_at-with_put : (n k : ℕ) (fill : Fill) (fills : Fills) → kept_at (with_put n fill fills) k ≡ (if k == n then None else kept_at fills k)
-kept_at-with_put n k fill fills =
-    ap (option_and_then fill_kept) (get-insert fills n k (Put fill)) ∙ through (option_and_then fill_kept) (k == n) (Some (Put fill)) (finite.get fills k)
-
 pub kept_at-with_kept : (n k : ℕ) (fill : Fill) (fills : Fills) → kept_at (with_kept n fill fills) k ≡ (if k == n then Some fill else kept_at fills k)
 kept_at-with_kept n k fill fills =
     ap (option_and_then fill_kept) (get-insert fills n k (Kept fill)) ∙ through (option_and_then fill_kept) (k == n) (Some (Kept fill)) (finite.get fills k)
@@ -50,6 +46,18 @@ pub held_at-with_kept : (n k : ℕ) (fill : Fill) (fills : Fills) → held_at (w
 held_at-with_kept n k fill fills =
     ap (option_map fill_held) (get-insert fills n k (Kept fill)) ∙ through (option_map fill_held) (k == n) (Some (Kept fill)) (finite.get fills k)
 
+-- a fill that is kept and then put
+pub with_put-with_kept : (n : ℕ) (fill : Fill) (fills : Fills) → with_put n fill (with_kept n fill fills) ≡ with_put n fill fills
+with_put-with_kept n fill fills =
+    finite.same_map nat_cmp_total finite.nat_cmp-IsAntisymmetric _ _ (λ k.
+    get-insert (with_kept n fill fills) n k (Put fill)
+    ∙ ap (λ found. if k == n then Some (Put fill) else found) (get-insert fills n k (Kept fill))
+    ∙ elim (cases_Bool (k == n)) [
+      | inl same ↦ rw same refl
+      | inr other ↦ rw other refl
+    ]
+    ∙ sym (get-insert fills n k (Put fill)))
+
 -- the same number, and every other one
 
 same_number : {A : Type 0} (n : ℕ) (a b : A) → (if n == n then a else b) ≡ a
@@ -61,26 +69,8 @@ other_number n k a b other = ap (λ test. if test then a else b) (ne_eqb k n oth
 pub put_at-with_put_same : (n : ℕ) (fill : Fill) (fills : Fills) → put_at (with_put n fill fills) n ≡ Some fill
 put_at-with_put_same n fill fills = put_at-with_put n n fill fills ∙ same_number n (Some fill) (put_at fills n)
 
-pub put_at-with_put_other : (n k : ℕ) (fill : Fill) (fills : Fills) → k ≢ n → put_at (with_put n fill fills) k ≡ put_at fills k
-put_at-with_put_other n k fill fills other = put_at-with_put n k fill fills ∙ other_number n k (Some fill) (put_at fills k) other
-
-pub put_at-with_kept_same : (n : ℕ) (fill : Fill) (fills : Fills) → put_at (with_kept n fill fills) n ≡ None
-put_at-with_kept_same n fill fills = put_at-with_kept n n fill fills ∙ same_number n None (put_at fills n)
-
-pub put_at-with_kept_other : (n k : ℕ) (fill : Fill) (fills : Fills) → k ≢ n → put_at (with_kept n fill fills) k ≡ put_at fills k
-put_at-with_kept_other n k fill fills other = put_at-with_kept n k fill fills ∙ other_number n k None (put_at fills k) other
-
-pub kept_at-with_put_same : (n : ℕ) (fill : Fill) (fills : Fills) → kept_at (with_put n fill fills) n ≡ None
-kept_at-with_put_same n fill fills = kept_at-with_put n n fill fills ∙ same_number n None (kept_at fills n)
-
-pub kept_at-with_put_other : (n k : ℕ) (fill : Fill) (fills : Fills) → k ≢ n → kept_at (with_put n fill fills) k ≡ kept_at fills k
-kept_at-with_put_other n k fill fills other = kept_at-with_put n k fill fills ∙ other_number n k None (kept_at fills k) other
-
 pub kept_at-with_kept_same : (n : ℕ) (fill : Fill) (fills : Fills) → kept_at (with_kept n fill fills) n ≡ Some fill
 kept_at-with_kept_same n fill fills = kept_at-with_kept n n fill fills ∙ same_number n (Some fill) (kept_at fills n)
-
-pub kept_at-with_kept_other : (n k : ℕ) (fill : Fill) (fills : Fills) → k ≢ n → kept_at (with_kept n fill fills) k ≡ kept_at fills k
-kept_at-with_kept_other n k fill fills other = kept_at-with_kept n k fill fills ∙ other_number n k (Some fill) (kept_at fills k) other
 
 pub held_at-with_put_same : (n : ℕ) (fill : Fill) (fills : Fills) → held_at (with_put n fill fills) n ≡ Some fill
 held_at-with_put_same n fill fills = held_at-with_put n n fill fills ∙ same_number n (Some fill) (held_at fills n)

@@ -1,7 +1,6 @@
-mod CellLemmas
-mod CountLemmas
 pub mod FillLemmas
 mod HoldsLemmas
 mod NumberLemmas
 pub mod SlotLemmas
-mod TakenLemmas
+mod SumLemmas
+mod TallyLemmas

@@ -1,6 +1,6 @@
 -- The slots of an order book and the fills by number that they stand for.
 use Rattle.std.proofs.Common.{◌≡◌, ℕ, zero, suc, ◌+◌, ◌-◌, ◌<◌, ◌≤◌, List, [], ◌∷◌, ◌++◌, length, set, replicate, map, Option, Some, None, Bool, true, false, refl, sym, ap, ◌∙◌, arith, inl, inr}
-use Rattle.std.specs.Prelude.{◌==◌, nat_lt, if◌then◌else◌, IsSome}
+use Rattle.std.specs.Prelude.{◌==◌, nat_lt, if◌then◌else◌}
 use Rattle.std.specs.Bool.{passes}
 use Rattle.std.specs.Cmp.{nat_cmp_total, unsigned_tied}
 use Rattle.std.specs.FinMap as finite
@@ -161,18 +161,11 @@ pub put_under-unput : (n : ℕ) (slots : List (Option Held)) (fills : Fills) →
 put_under-unput n slots fills view is = ap (option_and_then fill_put) (sym (get-held_by slots n) ∙ ap (λ shown. finite.get shown n) view) ∙ is
 
 -- what is kept in the slot of a number is what is kept under it
-pub kept_under : (n : ℕ) (slots : List (Option Held)) (fills : Fills) → held_by slots ≡ fills → kept_at fills n ≡ option_and_then fill_kept (slot_at slots n)
-kept_under n slots fills view = ap (option_and_then fill_kept) (ap (λ shown. finite.get shown n) (sym view) ∙ get-held_by slots n)
+pub kept_at-held_by : (n : ℕ) (slots : List (Option Held)) (fills : Fills) → held_by slots ≡ fills → kept_at fills n ≡ option_and_then fill_kept (slot_at slots n)
+kept_at-held_by n slots fills view = ap (option_and_then fill_kept) (ap (λ shown. finite.get shown n) (sym view) ∙ get-held_by slots n)
 
 pub put_within : (n : ℕ) (slots : List (Option Held)) (fills : Fills) (fill : Fill) → held_by slots ≡ fills → put_at fills n ≡ Some fill → n < length slots
 put_within n slots fills fill view is = slot_within n slots (Put fill) (slot_at-put n slots fills fill view is)
-
-within_found : (n : ℕ) (slots : List (Option Held)) (fills : Fills) → held_by slots ≡ fills → (found : Option Fill) → kept_at fills n ≡ found → IsSome found → n < length slots
-within_found n slots fills view None found is = cc
-within_found n slots fills view (Some fill) found is = slot_within n slots (Kept fill) (slot_at-kept n slots fills fill view found)
-
-pub kept_within : (n : ℕ) (slots : List (Option Held)) (fills : Fills) → held_by slots ≡ fills → IsSome (kept_at fills n) → n < length slots
-kept_within n slots fills view is = within_found n slots fills view (kept_at fills n) refl is
 
 -- ---- the fills that are put
 

@@ -1,57 +1,88 @@
--- The cells of the orders: what the fills of an order that are put come to, and the numbers under which its fills are held.
-use Rattle.std.specs.Prelude.{◌≡◌, ℕ, ◌+◌, ◌<◌, ◌≤◌, ◌&&◌, true, false, List, [], length, reverse, find, Contains, nat_eq, nat_lt, Option, Some, None, IsSome, IfSome, if◌then◌else◌}
+-- The cells of the orders: what the fills of an order come to, those that are put and those that are kept.
+use Rattle.std.specs.Prelude.{◌≡◌, ℕ, ◌+◌, ◌-◌, ◌<◌, ◌≤◌, Bool, List, [], length, Contains, Option, None, IfSome, if◌then◌else◌}
+use Rattle.std.specs.List.{last_or}
 use Rattle.std.specs.Map.{lookup}
-use Rattle.std.specs.Option.{option_eq, option_map_or}
+use Rattle.std.specs.Option.{option_and_then, option_map, unwrap_or}
 use Rattle.blot_types.specs.declared.TheConstants.{EVENTS_MAX}
+use Rattle.blot_types.specs.declared.fill.Fill.{Fill}
 use Rattle.blot_types.specs.declared.keys.OrderKey.{OrderKey}
+use Rattle.blot_types.specs.declared.lines.OrderLine.{OrderLine}
 use Rattle.blot_types.specs.Keys.{same_order}
 use Rattle.blot_types.specs.Order.{fills_of, cum_of, value_of}
-use Rattle.blot_order.specs.declared.cells.Cell.{Cell}
 use Rattle.blot_order.specs.declared.held.Held.{Held}
 use Rattle.blot_order.specs.declared.totals.Totals.{Totals}
-use Rattle.blot_order.specs.Numbers.{Rise}
-use Rattle.blot_order.specs.Slots.{fills_in_slots, put_under, puts, holds}
-use Rattle.blot_order.specs.Totals.{no_fills, Fits}
+use Rattle.blot_order.specs.Numbers.{Rise, with_number, without_number}
+use Rattle.blot_order.specs.Slots.{fills_in_slots, put_under, numbers_from, count_kept}
+use Rattle.blot_order.specs.Totals.{no_fills, with_one, without_one, line_with, Fits, AreSmall}
 
--- the totals of an order; without a cell those of no fills
-abbrev pub totals_at : List (OrderKey × Cell) → OrderKey → Totals
-totals_at cells order = option_map_or (λ cell. cell.totals) (lookup (same_order order) cells) no_fills
+-- what the fills of an order come to: the sums of those that are put, their numbers, and how many are kept
+pub record Tally : Type 0 where
+  pub totals : Totals
+  pub numbers : List ℕ
+  pub kept : ℕ
 
--- the numbers of an order
-abbrev pub numbers_at : List (OrderKey × Cell) → OrderKey → List ℕ
-numbers_at cells order = option_map_or (λ cell. cell.numbers.items) (lookup (same_order order) cells) []
+-- the tally of no fills
+abbrev pub no_tally : Tally
+no_tally = record { totals = no_fills; numbers = []; kept = 0 }
 
--- a cell was made for an order
-abbrev pub HasCell : List (OrderKey × Cell) → OrderKey → Type 0
-HasCell cells order = IsSome (lookup (same_order order) cells)
+-- the tally of an order, by the fills in slots
+abbrev pub tally_of : List (Option Held) → OrderKey → Tally
+tally_of slots order = record {
+  totals = record { cum = cum_of (fills_of (fills_in_slots slots) order); value = value_of (fills_of (fills_in_slots slots) order) };
+  numbers = numbers_from 0 order slots;
+  kept = count_kept order slots;
+}
 
--- the totals are as they were, and each number that was listed is
-pub record ListsMore (old new : List (OrderKey × Cell)) : Type 0 where
-  pub totals : (order : OrderKey) → totals_at new order ≡ totals_at old order
-  pub stay : (order : OrderKey) (number : ℕ) → Contains (numbers_at old order) number → Contains (numbers_at new order) number
-  pub rise : (order : OrderKey) → Rise (numbers_at old order) → Rise (numbers_at new order)
+-- a tally with one more fill that is kept, and with one less
+abbrev pub with_one_kept : Tally → Tally
+with_one_kept tally = record { totals = tally.totals; numbers = tally.numbers; kept = tally.kept + 1 }
 
--- the last number below one under which a fill of an order is put
-abbrev pub last_below : List (Option Held) → OrderKey → ℕ → List ℕ → Option ℕ
-last_below slots order number numbers = find (λ other. nat_lt other number && puts slots order other) (reverse numbers)
+abbrev pub without_one_kept : Tally → Tally
+without_one_kept tally = record { totals = tally.totals; numbers = tally.numbers; kept = tally.kept - 1 }
 
--- the number of an order's last fill, once none is put under a number any more: the last so far, where that is another one
-abbrev pub last_without : List (Option Held) → OrderKey → ℕ → Option ℕ → List ℕ → Option ℕ
-last_without slots order number last numbers = if option_eq nat_eq last (Some number) then last_below slots order number numbers else last
+-- a tally once a fill that is kept is put under its number, and once one that is put is taken and kept
+abbrev pub with_fill_put : ℕ → Fill → Tally → Tally
+with_fill_put number fill tally = record { totals = with_one fill tally.totals; numbers = with_number number tally.numbers; kept = tally.kept - 1 }
 
--- the greatest number under which a fill of an order is put, or none where none is
-abbrev pub IsLast : List (Option Held) → OrderKey → Option ℕ → Type 0
-IsLast slots order None = (number : ℕ) → puts slots order number ≡ false
-IsLast slots order (Some last) = (puts slots order last ≡ true) × ((number : ℕ) → last < number → puts slots order number ≡ false)
+abbrev pub with_fill_taken : ℕ → Fill → Tally → Tally
+with_fill_taken number fill tally = record { totals = without_one fill tally.totals; numbers = without_number number tally.numbers; kept = tally.kept + 1 }
 
--- The cells of the fills in slots: for each order the sums are those of its fills that are put, `last` is the number of the
--- last of them, each number that holds a fill of it is listed, and the listed numbers rise. What is put is small, and there
--- are few slots, so no sum is large.
-pub record HoldsOrders (cells : List (OrderKey × Cell)) (slots : List (Option Held)) : Type 0 where
+-- the line of a tally whose fills are in slots: its sums, and what the fill under its last number says; none where no fill is put
+abbrev pub line_in : List (Option Held) → Tally → Option OrderLine
+line_in slots tally = option_map (line_with tally.totals) (option_and_then (put_under slots) (last_or None tally.numbers))
+
+-- a fill that is kept can be put: one is counted, the numbers rise, and the sums are small
+pub record CanPut (tally : Tally) : Type 0 where
+  pub kept : 0 < tally.kept
+  pub rise : Rise tally.numbers
+  pub small : AreSmall tally.totals
+
+-- a fill that is put can be taken: its number is listed, the numbers rise, and the sums are small
+pub record CanTake (number : ℕ) (tally : Tally) : Type 0 where
+  pub listed : Contains tally.numbers number
+  pub rise : Rise tally.numbers
+  pub small : AreSmall tally.totals
+
+-- the tally of an order in its cell; without a cell that of no fills
+abbrev pub tally_at : List (OrderKey × Tally) → OrderKey → Tally
+tally_at cells order = unwrap_or (lookup (same_order order) cells) no_tally
+
+-- the tallies of the orders that pass a test are changed, and those of the others are as they were
+abbrev pub ChangesWhere : (OrderKey → Bool) → (Tally → Tally) → List (OrderKey × Tally) → List (OrderKey × Tally) → Type 0
+ChangesWhere test change old new = (order : OrderKey) → tally_at new order ≡ (if test order then change (tally_at old order) else tally_at old order)
+
+-- the same of one order
+abbrev pub Changes : OrderKey → (Tally → Tally) → List (OrderKey × Tally) → List (OrderKey × Tally) → Type 0
+Changes order = ChangesWhere (same_order order)
+
+-- a fill that is kept is counted as one of its order, if there is one
+abbrev pub CountsKept : List (OrderKey × Tally) → Option Fill → Type 0
+CountsKept cells kept = IfSome kept (λ fill. 0 < (tally_at cells fill.order).kept)
+
+-- The cells are those of the fills in slots: the cell of each order has the sums of its fills that are put, their numbers, and the
+-- count of those that are kept, for which it has room (that is the invariant of `Cell`). What is put is small, and there are few
+-- slots, so no sum is large.
+pub record HoldsOrders (cells : List (OrderKey × Tally)) (slots : List (Option Held)) : Type 0 where
   pub few : length slots ≤ EVENTS_MAX + 1
   pub fits : (number : ℕ) → IfSome (put_under slots number) Fits
-  pub cum : (order : OrderKey) → (totals_at cells order).cum ≡ cum_of (fills_of (fills_in_slots slots) order)
-  pub value : (order : OrderKey) → (totals_at cells order).value ≡ value_of (fills_of (fills_in_slots slots) order)
-  pub last : (order : OrderKey) → IsLast slots order (totals_at cells order).last
-  pub listed : (order : OrderKey) (number : ℕ) → holds slots order number ≡ true → Contains (numbers_at cells order) number
-  pub rise : (order : OrderKey) → Rise (numbers_at cells order)
+  pub tallies : (order : OrderKey) → tally_at cells order ≡ tally_of slots order

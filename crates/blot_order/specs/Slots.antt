@@ -1,14 +1,14 @@
 -- The slots in which an order book stores its fills: slot n is that of number n, and the numbers past the
 -- last slot hold nothing.
-use Rattle.std.specs.Prelude.{ℕ, Bool, false, ◌+◌, ◌-◌, List, [], ◌∷◌, ◌++◌, length, get_or, replicate, Option, Some, None}
+use Rattle.std.specs.Prelude.{ℕ, Bool, false, ◌+◌, ◌-◌, List, [], ◌∷◌, ◌++◌, length, get_or, replicate, Option, Some, None, if◌then◌else◌}
 use Rattle.std.specs.FinMap as map
-use Rattle.std.specs.List.{filter_map}
-use Rattle.std.specs.Option.{option_and_then, option_map}
+use Rattle.std.specs.List.{filter, filter_map}
+use Rattle.std.specs.Option.{option_and_then}
 use Rattle.blot_types.specs.declared.fill.Fill.{Fill}
 use Rattle.blot_types.specs.declared.keys.OrderKey.{OrderKey}
 use Rattle.blot_types.specs.Keys.{same_order}
 use Rattle.blot_order.specs.declared.held.Held.{Held}
-use Rattle.blot_order.specs.Fills.{Fills, fill_put, fill_held}
+use Rattle.blot_order.specs.Fills.{Fills, fill_put, fill_kept}
 
 -- what slots hold, under the numbers from that of the first slot on
 abbrev pub held_from : ℕ → List (Option Held) → List (ℕ × Held)
@@ -36,15 +36,31 @@ reaching number slots = slots ++ replicate (number + 1 - length slots) None
 abbrev pub put_under : List (Option Held) → ℕ → Option Fill
 put_under slots number = option_and_then fill_put (slot_at slots number)
 
+-- the fill that is kept under a number
+abbrev pub kept_under : List (Option Held) → ℕ → Option Fill
+kept_under slots number = option_and_then fill_kept (slot_at slots number)
+
 -- whether a fill is one of an order
 abbrev pub is_of : OrderKey → Option Fill → Bool
 is_of order None = false
 is_of order (Some fill) = same_order fill.order order
 
--- whether a fill of an order is put under a number
-abbrev pub puts : List (Option Held) → OrderKey → ℕ → Bool
-puts slots order number = is_of order (put_under slots number)
+-- whether a slot puts a fill of an order, and whether it keeps one
+abbrev pub puts : OrderKey → Option Held → Bool
+puts order slot = is_of order (option_and_then fill_put slot)
 
--- whether a fill of an order is held under a number, put or kept
-abbrev pub holds : List (Option Held) → OrderKey → ℕ → Bool
-holds slots order number = is_of order (option_map fill_held (slot_at slots number))
+abbrev pub keeps : OrderKey → Option Held → Bool
+keeps order slot = is_of order (option_and_then fill_kept slot)
+
+-- whether a fill of an order is kept under a number
+abbrev pub keeps_under : List (Option Held) → ℕ → OrderKey → Bool
+keeps_under slots number order = is_of order (kept_under slots number)
+
+-- the numbers under which a fill of an order is put, from that of the first slot on
+abbrev pub numbers_from : ℕ → OrderKey → List (Option Held) → List ℕ
+numbers_from number order [] = []
+numbers_from number order (slot ∷ slots) = if puts order slot then number ∷ numbers_from (number + 1) order slots else numbers_from (number + 1) order slots
+
+-- how many slots keep a fill of an order
+abbrev pub count_kept : OrderKey → List (Option Held) → ℕ
+count_kept order slots = length (filter (keeps order) slots)

@@ -1,5 +1,5 @@
 -- What the fills of an order that are put come to, as they come and go.
-use Rattle.std.specs.Prelude.{ℕ, ◌≤◌, ◌^◌, ℤ, pos, neg_ℤ, ◌+ℤ◌, ◌-ℤ◌, ◌*ℤ◌, ◌≤ℤ◌, ◌<ℤ◌, Option, Some, None, nat_lt, if◌then◌else◌}
+use Rattle.std.specs.Prelude.{◌≤◌, ◌^◌, ℤ, pos, neg_ℤ, ◌+ℤ◌, ◌-ℤ◌, ◌*ℤ◌, ◌≤ℤ◌, ◌<ℤ◌}
 use Rattle.std.specs.Int.{int_max}
 use Rattle.blot_types.specs.declared.fill.Fill.{Fill}
 use Rattle.blot_types.specs.declared.lines.OrderLine.{OrderLine}
@@ -7,28 +7,15 @@ use Rattle.blot_order.specs.declared.totals.Totals.{Totals}
 
 -- the totals of no fills
 abbrev pub no_fills : Totals
-no_fills = record { cum = pos 0; value = pos 0; last = None }
+no_fills = record { cum = pos 0; value = pos 0 }
 
--- the greater of the last number so far and one more
-abbrev pub later : Option ℕ → ℕ → ℕ
-later None number = number
-later (Some last) number = if nat_lt number last then last else number
+-- the totals with one more fill
+abbrev pub with_one : Fill → Totals → Totals
+with_one fill totals = record { cum = totals.cum +ℤ pos fill.qty; value = totals.value +ℤ (pos fill.qty *ℤ fill.price) }
 
--- the totals with one more fill, put under a number
-abbrev pub with_one : ℕ → Fill → Totals → Totals
-with_one number fill totals = record {
-  cum = totals.cum +ℤ pos fill.qty;
-  value = totals.value +ℤ (pos fill.qty *ℤ fill.price);
-  last = Some (later totals.last number);
-}
-
--- the totals with one fill less, and the number of what is the last one then
-abbrev pub without_one : Fill → Option ℕ → Totals → Totals
-without_one fill last totals = record {
-  cum = totals.cum -ℤ pos fill.qty;
-  value = totals.value -ℤ (pos fill.qty *ℤ fill.price);
-  last = last;
-}
+-- the totals with one fill less
+abbrev pub without_one : Fill → Totals → Totals
+without_one fill totals = record { cum = totals.cum -ℤ pos fill.qty; value = totals.value -ℤ (pos fill.qty *ℤ fill.price) }
 
 -- the line of an order with these totals: symbol, sign and size are those of its last fill
 abbrev pub line_with : Totals → Fill → OrderLine

@@ -1,124 +1,73 @@
 //! The cells of the orders.
-ghost use Rattle.std.specs.Prelude.{◌≡◌, Contains, None, if◌then◌else◌, OnOk};
+ghost use Rattle.std.specs.Prelude.{◌≡◌, ◌+◌, ◌<◌, ◌≤◌, None, OnOk, OnErr};
 ghost use Rattle.std.specs.Map.{lookup};
-ghost use Rattle.blot_types.specs.declared.keys.OrderKey.{OrderKey};
+ghost use Rattle.blot_types.specs.declared.TheConstants.{EVENTS_MAX};
 ghost use Rattle.blot_types.specs.Keys.{same_order};
-ghost use Rattle.blot_order.specs.Cells.{totals_at, numbers_at, last_without, HasCell, ListsMore};
-ghost use Rattle.blot_order.specs.Numbers.{Rise};
-ghost use Rattle.blot_order.specs.Totals.{with_one, without_one, Fits, AreSmall};
+ghost use Rattle.blot_order.specs.Cells.{tally_at, with_one_kept, without_one_kept, with_fill_put, with_fill_taken, Changes, CanPut, CanTake};
+ghost use Rattle.blot_order.specs.Totals.{Fits};
 
-use crate::Held;
-use crate::numbers::{insert_number, place_of};
-use crate::slots::last_put;
-use crate::totals::Totals;
+use crate::cell::Cell;
 use blot_types::{Fill, OrderKey};
 use indexmap::IndexMap;
 use std::alloc::{AllocError as NoMemory, Global};
 
-/// What the fills of an order that are put come to, and the numbers under which its fills are held, rising.
-/// A number stays when its slot is given to a fill of another order.
-#[derive(Drop)]
-pub(crate) struct Cell {
-    totals: Totals,
-    numbers: Vec<u64>,
-}
-
 /// The cells of the orders that had a fill. A cell that was made stays.
 pub(crate) type Cells = IndexMap<OrderKey, Cell>;
 
-/// The totals of an order; without a cell those of no fills.
-pub(crate) fn totals_of(cells: &Cells, order: &OrderKey) -> Totals
-    ensures { result ≡ totals_at cells.now.entries order.now }
-{
-    match cells.get(order) {
-        Some(cell) => cell.totals,
-        None => Totals::none(),
-    }
-}
-
-/// Lists a number among those of an order, in a cell that is made where there is none. No fill is counted.
-pub(crate) fn list_number(
-    cells: &mut Cells,
-    alloc: Global,
-    order: &OrderKey,
-    number: u64,
-) -> Result<(), NoMemory>
-    requires rise { Rise (numbers_at cells.old.entries order.now) }
-    ensures more { ListsMore cells.old.entries cells.new.entries }
-    ensures listed { OnOk result (Contains (numbers_at cells.new.entries order.now) number) }
+/// Counts one more fill of an order that is kept, in a cell that is made where there is none. An error leaves each tally.
+pub(crate) fn add_kept(cells: &mut Cells, alloc: Global, order: &OrderKey) -> Result<(), NoMemory>
+    requires { (tally_at cells.old.entries order.now).kept ≤ EVENTS_MAX + 1 }
+    ensures ok { OnOk result (Changes order.now with_one_kept cells.old.entries cells.new.entries) }
+    ensures err { OnErr result (Changes order.now (λ tally. tally) cells.old.entries cells.new.entries) }
 {
     match cells.get_mut(order) {
-        Some(cell) => insert_number(&mut cell.numbers, number),
-        None => make_cell(cells, alloc, order, number),
+        Some(cell) => cell.add_kept(),
+        None => make_cell(cells, alloc, order),
     }
 }
 
-// Makes the cell of an order that has none, with its first number.
-fn make_cell(
-    cells: &mut Cells,
-    alloc: Global,
-    order: &OrderKey,
-    number: u64,
-) -> Result<(), NoMemory>
+// Makes the cell of an order that has none, with one fill that is kept.
+fn make_cell(cells: &mut Cells, alloc: Global, order: &OrderKey) -> Result<(), NoMemory>
     requires { lookup (same_order order.now) cells.old.entries ≡ None }
-    ensures more { ListsMore cells.old.entries cells.new.entries }
-    ensures listed { OnOk result (Contains (numbers_at cells.new.entries order.now) number) }
+    ensures ok { OnOk result (Changes order.now with_one_kept cells.old.entries cells.new.entries) }
+    ensures err { OnErr result (cells.new.entries ≡ cells.old.entries) }
 {
-    let mut numbers = Vec::new(alloc);
-    numbers.push(number)?;
-    let totals = Totals::none();
-    cells.insert(*order, Cell { totals, numbers })?;
+    let mut cell = Cell::new(alloc);
+    cell.add_kept()?;
+    cells.insert(*order, cell)?;
     Ok(())
 }
 
-/// Counts a fill that is put under a number, in the cell of its order.
-pub(crate) fn add_fill(cells: &mut Cells, number: u64, fill: &Fill)
-    requires made { HasCell cells.old.entries fill.now.order }
-    requires small { AreSmall (totals_at cells.old.entries fill.now.order) }
-    ensures totals { (other : OrderKey)
-        → totals_at cells.new.entries other
-        ≡ (if same_order fill.now.order other
-        then with_one number fill.now (totals_at cells.old.entries other)
-        else totals_at cells.old.entries other) }
-    ensures numbers { (other : OrderKey) → numbers_at cells.new.entries other ≡ numbers_at cells.old.entries other }
+/// Counts one fill of an order less that is kept.
+pub(crate) fn sub_kept(cells: &mut Cells, order: &OrderKey)
+    requires { 0 < (tally_at cells.old.entries order.now).kept }
+    ensures { Changes order.now without_one_kept cells.old.entries cells.new.entries }
+{
+    match cells.get_mut(order) {
+        Some(cell) => cell.sub_kept(),
+        None => unreachable!(),
+    }
+}
+
+/// Puts a fill that is kept under its number, in the cell of its order.
+pub(crate) fn put_fill(cells: &mut Cells, number: u64, fill: &Fill)
+    requires { CanPut (tally_at cells.old.entries fill.now.order) }
+    ensures tallies { Changes fill.now.order (with_fill_put number fill.now) cells.old.entries cells.new.entries }
     ensures fits { Fits fill.now }
 {
-    let Some(cell) = cells.get_mut(&fill.order) else {
-        unreachable!()
-    };
-    cell.totals = cell.totals.with_one(number, fill);
-}
-
-/// Takes a fill that was put under a number out of what its order comes to. Its slot keeps it already.
-pub(crate) fn sub_fill(cells: &mut Cells, slots: &[Option<Held>], number: u64, fill: &Fill)
-    requires made { HasCell cells.old.entries fill.now.order }
-    requires small { AreSmall (totals_at cells.old.entries fill.now.order) }
-    requires rise { Rise (numbers_at cells.old.entries fill.now.order) }
-    ensures totals { (other : OrderKey)
-        → totals_at cells.new.entries other
-        ≡ (if same_order fill.now.order other
-        then without_one
-        fill.now
-        (last_without slots.now other number (totals_at cells.old.entries other).last (numbers_at cells.old.entries other))
-        (totals_at cells.old.entries other)
-        else totals_at cells.old.entries other) }
-    ensures numbers { (other : OrderKey) → numbers_at cells.new.entries other ≡ numbers_at cells.old.entries other }
-{
-    let Some(cell) = cells.get_mut(&fill.order) else {
-        unreachable!()
-    };
-    let last = last_without(slots, &fill.order, number, cell);
-    cell.totals = cell.totals.without_one(fill, last);
-}
-
-// The number of an order's last fill, once none is put under a number any more.
-fn last_without(slots: &[Option<Held>], order: &OrderKey, number: u64, cell: &Cell) -> Option<u64>
-    requires { Rise cell.now.numbers.items }
-    ensures { result ≡ last_without slots.now order.now number cell.now.totals.last cell.now.numbers.items }
-{
-    if cell.totals.last != Some(number) {
-        return cell.totals.last;
+    match cells.get_mut(&fill.order) {
+        Some(cell) => cell.put(number, fill),
+        None => unreachable!(),
     }
-    let numbers = &cell.numbers;
-    last_put(slots, order, &numbers[..place_of(numbers, number)])
+}
+
+/// Takes a fill that is put under a number and keeps it, in the cell of its order.
+pub(crate) fn take_fill(cells: &mut Cells, number: u64, fill: &Fill)
+    requires { CanTake number (tally_at cells.old.entries fill.now.order) }
+    ensures { Changes fill.now.order (with_fill_taken number fill.now) cells.old.entries cells.new.entries }
+{
+    match cells.get_mut(&fill.order) {
+        Some(cell) => cell.take(number, fill),
+        None => unreachable!(),
+    }
 }

@@ -3,6 +3,7 @@
 //! that are put, in rising order of number; what they come to is counted as they come and go.
 #![tactic(auto)]
 
+mod cell;
 mod cells;
 mod held;
 mod numbers;

@@ -1,25 +1,35 @@
-//! Numbers that rise, each once.
-ghost use Rattle.std.specs.Prelude.{◌≡◌, ℕ, ◌<◌, ◌≤◌, length, slice_index_or, Contains, OnOk};
-ghost use Rattle.blot_order.specs.Numbers.{Rise};
+//! Numbers that rise.
+ghost use Rattle.std.specs.Prelude.{◌≡◌, ℕ, ◌+◌, ◌<◌, ◌≤◌, length, vec_capacity, slice_index_or, Contains};
+ghost use Rattle.blot_order.specs.Numbers.{Rise, with_number, without_number};
 
-use std::alloc::AllocError as NoMemory;
-
-/// Puts a number in its place among others, where it isn't there yet. An error leaves them as they were.
-pub(crate) fn insert_number(numbers: &mut Vec<u64>, number: u64) -> Result<(), NoMemory>
+/// Puts a number in its place among others, where there is room for it.
+pub(crate) fn insert_number(numbers: &mut Vec<u64>, number: u64)
     requires rise { Rise numbers.old.items }
-    ensures rise { Rise numbers.new.items }
-    ensures stay { (other : ℕ) → Contains numbers.old.items other → Contains numbers.new.items other }
-    ensures listed { OnOk result (Contains numbers.new.items number) }
+    requires room { length numbers.old.items < vec_capacity numbers.old }
+    ensures items { numbers.new.items ≡ with_number number numbers.old.items }
+    ensures length { length numbers.new.items ≡ length numbers.old.items + 1 }
+    ensures capacity { vec_capacity numbers.old ≤ vec_capacity numbers.new }
 {
     let place = place_of(numbers, number);
-    if numbers.get(place).copied() != Some(number) {
-        numbers.insert(place, number)?;
-    }
-    Ok(())
+    let Ok(()) = numbers.insert(place, number) else {
+        unreachable!()
+    };
+}
+
+/// Takes a number from its place among others.
+pub(crate) fn remove_number(numbers: &mut Vec<u64>, number: u64)
+    requires rise { Rise numbers.old.items }
+    requires listed { Contains numbers.old.items number }
+    ensures items { numbers.new.items ≡ without_number number numbers.old.items }
+    ensures length { length numbers.new.items + 1 ≡ length numbers.old.items }
+    ensures capacity { vec_capacity numbers.old ≤ vec_capacity numbers.new }
+{
+    let place = place_of(numbers, number);
+    numbers.remove(place);
 }
 
 /// The first place at which a number isn't below this one.
-pub(crate) fn place_of(numbers: &[u64], number: u64) -> usize
+fn place_of(numbers: &[u64], number: u64) -> usize
     requires { Rise numbers.now }
     ensures within { result ≤ length numbers.now }
     ensures below { (k : ℕ) (d : ℕ) → k < result → slice_index_or numbers.now k d < number }

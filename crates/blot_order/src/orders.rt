@@ -1,15 +1,15 @@
 //! The fills by their number.
-ghost use Rattle.std.specs.Prelude.{◌≡◌, ◌<◌, ◌≤◌, length, Contains, Some, None, OnOk, OnErr, IsSome};
+ghost use Rattle.std.specs.Prelude.{◌≡◌, ◌≤◌, Some, None, OnOk, OnErr, IsSome};
 ghost use Rattle.std.specs.Option.{ForSome};
 ghost use Rattle.std.specs.FinMap as map;
 ghost use Rattle.blot_types.specs.Order.{line_of, fills_of};
-ghost use Rattle.blot_order.specs.Cells.{numbers_at, HoldsOrders};
+ghost use Rattle.blot_order.specs.Cells.{without_one_kept, ChangesWhere, CountsKept, HoldsOrders};
 ghost use Rattle.blot_order.specs.Fills.{put_at, kept_at, with_put, with_kept, fills_put};
-ghost use Rattle.blot_order.specs.Slots.{held_by};
+ghost use Rattle.blot_order.specs.Slots.{held_by, kept_under, keeps_under};
 
 use crate::Held;
-use crate::cells::{Cells, add_fill, list_number, sub_fill, totals_of};
-use crate::slots::{kept_at, put_at, reach};
+use crate::cells::{Cells, add_kept, put_fill, sub_kept, take_fill};
+use crate::slots::{kept_at, reach};
 use blot_types::{EVENTS_MAX, Fill, OrderKey, OrderLine};
 use indexmap::IndexMap;
 use std::alloc::{AllocError as NoMemory, Global};
@@ -22,7 +22,7 @@ pub struct Orders {
     alloc: Global,
     // Slot n is that of number n; the numbers past the last slot hold nothing.
     slots: Vec<Option<Held>>,
-    // What the fills of each order that are put come to, and where they are.
+    // What the fills of each order come to.
     cells: Cells,
 }
 
@@ -60,11 +60,8 @@ impl Orders {
         ensures ok { OnOk result (self.new ≡ with_put number fill.now self.old) }
         ensures err { OnErr result (self.new ≡ self.old) }
     {
-        let index = number as usize;
-        let order = &fill.order;
-        make_room(&mut self.slots, &mut self.cells, self.alloc, number, order)?;
-        self.slots[index] = Some(Held::Put(*fill));
-        add_fill(&mut self.cells, number, fill);
+        keep_fill(&mut self.slots, &mut self.cells, self.alloc, number, fill)?;
+        put_kept(&mut self.slots, &mut self.cells, number, fill);
         Ok(())
     }
 
@@ -76,11 +73,7 @@ impl Orders {
         ensures ok { OnOk result (self.new ≡ with_kept number fill.now self.old) }
         ensures err { OnErr result (self.new ≡ self.old) }
     {
-        let index = number as usize;
-        let order = &fill.order;
-        make_room(&mut self.slots, &mut self.cells, self.alloc, number, order)?;
-        self.slots[index] = Some(Held::Kept(*fill));
-        Ok(())
+        keep_fill(&mut self.slots, &mut self.cells, self.alloc, number, fill)
     }
 
     /// Takes the fill that is put under a number, and keeps it there. It needs no memory.
@@ -89,7 +82,7 @@ impl Orders {
         ensures { self.new ≡ with_kept number fill.now self.old }
     {
         self.slots[number as usize] = Some(Held::Kept(*fill));
-        sub_fill(&mut self.cells, &self.slots, number, fill);
+        take_fill(&mut self.cells, number, fill);
     }
 
     /// Puts the fill that is kept under a number again. It needs no memory.
@@ -98,8 +91,7 @@ impl Orders {
         ensures { ForSome (kept_at self.old number) (λ fill. self.new ≡ with_put number fill self.old) }
     {
         let fill = kept_at(&self.slots, number);
-        self.slots[number as usize] = Some(Held::Put(fill));
-        add_fill(&mut self.cells, number, &fill);
+        put_kept(&mut self.slots, &mut self.cells, number, &fill);
     }
 
     /// The line of an order from its fills that are put, or none without one: the sums of all, what is left
@@ -108,29 +100,53 @@ impl Orders {
     pub fn get(&self, order: &OrderKey) -> Option<OrderLine>
         ensures { result ≡ line_of (fills_of (fills_put self.now) order.now) }
     {
-        let totals = totals_of(&self.cells, order);
-        match put_at(&self.slots, totals.last) {
-            Some(last) => Some(totals.line_with(last)),
+        match self.cells.get(order) {
+            Some(cell) => cell.line(&self.slots),
             None => None,
         }
     }
 }
 
-// Makes the room that a fill of an order needs under a number. What is held stays, and what is counted.
-fn make_room(
+// Keeps a fill under a number that has none put, in place of one that is kept there. What may fail comes first.
+fn keep_fill(
     slots: &mut Vec<Option<Held>>,
     cells: &mut Cells,
     alloc: Global,
     number: u64,
-    order: &OrderKey,
+    fill: &Fill,
 ) -> Result<(), NoMemory>
-    requires within { number ≤ EVENTS_MAX }
     requires holds { HoldsOrders cells.old.entries slots.old.items }
-    ensures held { held_by slots.new.items ≡ held_by slots.old.items }
+    requires unput { put_at (held_by slots.old.items) number ≡ None }
+    requires within { number ≤ EVENTS_MAX }
     ensures holds { HoldsOrders cells.new.entries slots.new.items }
-    ensures slot { OnOk result (number < length slots.new.items) }
-    ensures listed { OnOk result (Contains (numbers_at cells.new.entries order.now) number) }
+    ensures ok { OnOk result (held_by slots.new.items ≡ with_kept number fill.now (held_by slots.old.items)) }
+    ensures err { OnErr result (held_by slots.new.items ≡ held_by slots.old.items) }
 {
-    reach(slots, number as usize)?;
-    list_number(cells, alloc, order, number)
+    let index = number as usize;
+    reach(slots, index)?;
+    add_kept(cells, alloc, &fill.order)?;
+    forget_kept(cells, slots, number);
+    slots[index] = Some(Held::Kept(*fill));
+    Ok(())
+}
+
+// Counts one less of the order whose fill is kept under a number, if one is.
+fn forget_kept(cells: &mut Cells, slots: &[Option<Held>], number: u64)
+    requires { CountsKept cells.old.entries (kept_under slots.now number) }
+    ensures { ChangesWhere (keeps_under slots.now number) without_one_kept cells.old.entries cells.new.entries }
+{
+    if let Some(Some(Held::Kept(fill))) = slots.get(number as usize) {
+        sub_kept(cells, &fill.order);
+    }
+}
+
+// Puts the fill that is kept under a number.
+fn put_kept(slots: &mut Vec<Option<Held>>, cells: &mut Cells, number: u64, fill: &Fill)
+    requires holds { HoldsOrders cells.old.entries slots.old.items }
+    requires kept { kept_at (held_by slots.old.items) number ≡ Some fill.now }
+    ensures holds { HoldsOrders cells.new.entries slots.new.items }
+    ensures fills { held_by slots.new.items ≡ with_put number fill.now (held_by slots.old.items) }
+{
+    slots[number as usize] = Some(Held::Put(*fill));
+    put_fill(cells, number, fill);
 }

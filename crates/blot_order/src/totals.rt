@@ -1,6 +1,6 @@
 //! What the fills of an order that are put come to.
 ghost use Rattle.std.specs.Prelude.{◌≡◌, pos, ◌+ℤ◌, ◌-ℤ◌, ◌≤ℤ◌};
-ghost use Rattle.blot_order.specs.Totals.{no_fills, later, with_one, without_one, line_with, Fits, FitsSum, AreSmall};
+ghost use Rattle.blot_order.specs.Totals.{no_fills, with_one, without_one, line_with, Fits, FitsSum, AreSmall};
 
 use blot_decimal::{QtySum, Value};
 use blot_types::{Fill, OrderLine};
@@ -12,8 +12,6 @@ pub(crate) struct Totals {
     pub(crate) cum: i128,
     /// The sum of quantity times price, in units of 10^-14.
     pub(crate) value: i128,
-    /// The greatest number under which one is put.
-    pub(crate) last: Option<u64>,
 }
 
 impl Totals {
@@ -21,35 +19,29 @@ impl Totals {
     pub(crate) fn none() -> Totals
         ensures { result ≡ no_fills }
     {
-        Totals {
-            cum: 0,
-            value: 0,
-            last: None,
-        }
+        Totals { cum: 0, value: 0 }
     }
 
-    /// The totals with one more fill, put under a number.
-    pub(crate) fn with_one(self, number: u64, fill: &Fill) -> Totals
+    /// The totals with one more fill.
+    pub(crate) fn with_one(self, fill: &Fill) -> Totals
         requires { AreSmall self }
-        ensures totals { result ≡ with_one number fill.now self }
+        ensures totals { result ≡ with_one fill.now self }
         ensures fits { Fits fill.now }
     {
         Totals {
             cum: plus(self.cum, i128::from(fill.qty.units())),
             value: plus(self.value, fill.qty.times(fill.price).units()),
-            last: Some(later(self.last, number)),
         }
     }
 
-    /// The totals with one fill less, and the number of what is the last one then.
-    pub(crate) fn without_one(self, fill: &Fill, last: Option<u64>) -> Totals
+    /// The totals with one fill less.
+    pub(crate) fn without_one(self, fill: &Fill) -> Totals
         requires { AreSmall self }
-        ensures { result ≡ without_one fill.now last self }
+        ensures { result ≡ without_one fill.now self }
     {
         Totals {
             cum: minus(self.cum, i128::from(fill.qty.units())),
             value: minus(self.value, fill.qty.times(fill.price).units()),
-            last,
         }
     }
 
@@ -67,16 +59,6 @@ impl Totals {
             symbol: last.symbol,
             sign: last.sign,
         }
-    }
-}
-
-// The greater of the last number so far and one more.
-fn later(last: Option<u64>, number: u64) -> u64
-    ensures { result ≡ later last number }
-{
-    match last {
-        Some(last) if number < last => last,
-        _ => number,
     }
 }
 

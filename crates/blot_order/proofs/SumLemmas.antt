@@ -1,11 +1,9 @@
--- What the fills of an order that are put in slots come to, when one slot changes.
-use Rattle.std.proofs.Common.{◌≡◌, ℕ, zero, suc, ◌*◌, ◌^◌, ◌<◌, pos, ◌+ℤ◌, ◌-ℤ◌, ◌*ℤ◌, ◌≤ℤ◌, List, [], ◌∷◌, length, set, Option, Some, None, true, false, refl, sym, ap, ◌∙◌, arith, inl, inr, if◌then◌else◌}
+-- The sums of the fills of an order that are put in slots, when one slot changes, and that they are never large.
+use Rattle.std.proofs.Common.{◌≡◌, ℕ, zero, suc, ◌*◌, ◌^◌, ◌<◌, pos, ◌+ℤ◌, ◌-ℤ◌, ◌*ℤ◌, ◌≤ℤ◌, List, [], ◌∷◌, length, set, Option, Some, None, arith, inl, inr, if◌then◌else◌}
 use Rattle.std.specs.Prelude.{ℤ, neg_ℤ, IfSome}
-use Rattle.std.specs.List.{last_or}
 use Rattle.std.specs.Option.{option_and_then}
 use Rattle.std.proofs.lemmas.Bool.{cases_Bool}
 use Rattle.std.proofs.lemmas.Int.{ints}
-use Rattle.std.proofs.lemmas.List.{get_or_past}
 use Rattle.blot_types.specs.declared.fill.Fill.{Fill}
 use Rattle.blot_types.specs.declared.keys.OrderKey.{OrderKey}
 use Rattle.blot_types.specs.Keys.{same_order}
@@ -13,9 +11,8 @@ use Rattle.blot_types.specs.Order.{total, fills_of, cum_of, value_of}
 use Rattle.blot_types.proofs.SumLemmas.{total-cons}
 use Rattle.blot_order.specs.declared.held.Held.{Held}
 use Rattle.blot_order.specs.declared.held.Held.TheVariants.{Kept, Put}
-use Rattle.blot_order.specs.Cells.{IsLast}
 use Rattle.blot_order.specs.Fills.{fill_put}
-use Rattle.blot_order.specs.Slots.{fills_in_slots, is_of, put_under, puts}
+use Rattle.blot_order.specs.Slots.{fills_in_slots, put_under}
 use Rattle.blot_order.specs.Totals.{Fits}
 
 -- ---- sums
@@ -113,40 +110,3 @@ within_slots order (slot ∷ slots) fits =
       value_low = omega (arith, ints, value, first.value_low, rest.value_low);
       value_high = omega (arith, ints, value, first.value_high, rest.value_high);
     }
-
--- ---- the last fill
-
--- no slot puts a fill of the order
-no_fills_of : (order : OrderKey) (slots : List (Option Held)) → ((n : ℕ) → puts slots order n ≡ false) → fills_of (fills_in_slots slots) order ≡ []
-no_fills_of order [] none = refl
-no_fills_of order (None ∷ slots) none = no_fills_of order slots (λ n. none (suc n))
-no_fills_of order (Some (Kept fill) ∷ slots) none = no_fills_of order slots (λ n. none (suc n))
-no_fills_of order (Some (Put fill) ∷ slots) none = rw (none 0) (no_fills_of order slots (λ n. none (suc n)))
-
--- the fill in the last slot that puts one of the order is the last
-last_fill_of :
-    (order : OrderKey) (slots : List (Option Held)) (sofar : Option Fill) (last : ℕ) → IsLast slots order (Some last)
-    → last_or sofar (fills_of (fills_in_slots slots) order) ≡ put_under slots last
-last_fill_of order [] sofar last is =
-    let none : puts [] order last ≡ false = ap (λ slot. is_of order (option_and_then fill_put slot)) (get_or_past [] last None (omega arith)) in
-    let clash : true ≡ false = sym is.0 ∙ none in
-    absurd (cc clash)
-last_fill_of order (None ∷ slots) sofar zero is = absurd (cc (is.0))
-last_fill_of order (Some (Kept fill) ∷ slots) sofar zero is = absurd (cc (is.0))
-last_fill_of order (Some (Put fill) ∷ slots) sofar zero is =
-    rw (is.0) (ap (last_or (Some fill)) (no_fills_of order slots (λ n. is.1 (suc n) (omega arith))))
-last_fill_of order (None ∷ slots) sofar (suc last) is = last_fill_of order slots sofar last (is.0, λ n less. is.1 (suc n) (omega (arith, less)))
-last_fill_of order (Some (Kept fill) ∷ slots) sofar (suc last) is = last_fill_of order slots sofar last (is.0, λ n less. is.1 (suc n) (omega (arith, less)))
-last_fill_of order (Some (Put fill) ∷ slots) sofar (suc last) is =
-    let later = λ (before : Option Fill). last_fill_of order slots before last (is.0, λ n less. is.1 (suc n) (omega (arith, less))) in
-    elim (cases_Bool (same_order fill.order order)) [
-      | inl own ↦ rw own (later (Some fill))
-      | inr other ↦ rw other (later sofar)
-    ]
-
--- the fill under the number of the last one is the last
-pub last_fill-is :
-    (order : OrderKey) (slots : List (Option Held)) (last : Option ℕ) → IsLast slots order last
-    → last_or None (fills_of (fills_in_slots slots) order) ≡ option_and_then (put_under slots) last
-last_fill-is order slots None is = ap (last_or None) (no_fills_of order slots is)
-last_fill-is order slots (Some last) is = last_fill_of order slots None last is
