@@ -1,7 +1,7 @@
 -- The fill of the last version of a chain, as the code finds it; and sums of such fills.
-use Rattle.std.proofs.Common.{◌≡◌, ℕ, ◌+◌, ◌<◌, pos, ◌+ℤ◌, arith, true, List, [], ◌∷◌, ◌++◌, take, get_or, length, reverse, Option, Some, None, refl, sym, ap, ◌∙◌}
+use Rattle.std.proofs.Common.{◌≡◌, ℕ, ◌+◌, ◌<◌, pos, ◌+ℤ◌, arith, true, false, List, [], ◌∷◌, ◌++◌, take, get_or, length, reverse, Option, Some, None, refl, sym, ap, ◌∙◌}
 use Rattle.std.specs.Prelude.{ℤ}
-use Rattle.std.specs.List.{cons_option, filter_map}
+use Rattle.std.specs.List.{cons_option, filter_map, list_any}
 use Rattle.std.specs.Option.{option_map, option_or, option_and_then}
 use Rattle.std.proofs.lemmas.Int.{ints}
 use Rattle.std.proofs.lemmas.List.{reverse-reverse, take_more}
@@ -13,6 +13,7 @@ use Rattle.blot_types.specs.declared.command.Entry.{Entry}
 use Rattle.blot_types.specs.declared.fill.Fill.{Fill}
 use Rattle.blot_types.specs.declared.keys.ExecKey.{ExecKey}
 use Rattle.blot_types.specs.declared.lines.Version.{Version}
+use Rattle.blot_types.specs.declared.link.Link.{Link}
 use Rattle.blot_types.specs.Chains.{root_in, current_in}
 use Rattle.blot_types.specs.Legal.{numbers_rise, refusal_of}
 use Rattle.blot_types.specs.declared.refused.Refused.TheVariants.{DuplicateAlloc}
@@ -20,7 +21,7 @@ use Rattle.blot_types.specs.Allocations.{instructions_of}
 use Rattle.blot_types.specs.Instructions.{alloc_taker_in}
 use Rattle.blot_types.proofs.AcceptLemmas.{or_parts}
 use Rattle.blot_types.specs.Order.{cum_of}
-use Rattle.blot_types.specs.Refusals.{version_in, current_fill, mismatch}
+use Rattle.blot_types.specs.Refusals.{version_in, current_fill, mismatch, same_chain}
 use Rattle.blot_types.specs.Survivors.{links_of}
 use Rattle.blot_types.proofs.SumLemmas.{total-append}
 use Rattle.blot_types.proofs.SurvivorLemmas.{version_in-rising}
@@ -89,3 +90,10 @@ refusal-replace entries replace fresh known =
 -- equal quantities are found equal
 pub same_mismatch : (wanted found wanted' found' block : ℤ) → wanted ≡ wanted' → found ≡ found' → mismatch wanted block found ≡ mismatch wanted' block found'
 same_mismatch wanted found wanted' found' block a b = rw (a, b) refl
+
+-- a key without a root is of no chain
+pub rootless-alone : (links : List Link) (key : ExecKey) (others : List ExecKey) → root_in links key ≡ None → list_any (same_chain links key) others ≡ false
+rootless-alone links key [] none = refl
+rootless-alone links key (other ∷ others) none =
+    let apart : same_chain links key other ≡ false = rw none refl in
+    rw apart (rootless-alone links key others none)

@@ -22,9 +22,9 @@ taken_back embed project back book rest entry inverse (earlier, command, number,
     let step = undoes.step in
     let law = lawful_by embed project back in
     let same = same_from_push rest earlier entry (record { number = number; command = embed command }) (sym is ∙ step.list_is) in
-    let stood : before book.list inverse ≡ earlier = rw (step.list_is, step.inverse_is) (law.before_after earlier command number step.is_next) in
+    let stood : before book.list inverse ≡ earlier = rw (step.list_is, step.inverse_is) (law.before_after earlier command number step.valid step.is_next) in
     let given : option_and_then project (command_at book.list inverse) ≡ Some command =
-    rw (step.list_is, step.inverse_is) (law.command_back earlier command number step.is_next) in
+    rw (step.list_is, step.inverse_is) (law.command_back earlier command number step.valid step.is_next) in
     (same.0 ∙ sym stood, given ∙ sym (back command) ∙ ap (λ e. project e.command) (sym same.1))
 
 -- and it is one of that kind
@@ -41,7 +41,7 @@ pub is_of_kind :
 is_of_kind embed project back book inverse command (earlier, c, number, undoes) is =
     let step = undoes.step in
     let law = lawful_by embed project back in
-    let given : option_and_then project (command_at book.list inverse) ≡ Some c = rw (step.list_is, step.inverse_is) (law.command_back earlier c number step.is_next) in
+    let given : option_and_then project (command_at book.list inverse) ≡ Some c = rw (step.list_is, step.inverse_is) (law.command_back earlier c number step.valid step.is_next) in
     kind_of project (command_at book.list inverse) command c given is
 
 -- such a book isn't empty

@@ -48,8 +48,8 @@ find-push list entry below =
 -- the law, for a kind that is read back from the command that it is
 pub lawful_by : {C : Type 0} (embed : C → Command) (project : Command → Option C) → ((c : C) → project (embed c) ≡ Some c) → IsLawful (meaning_by embed project)
 lawful_by {C} embed project back = record {
-  before_after = λ list c n next. before-push list (record { number = n; command = embed c }) next.above;
-  command_back = λ list c n next.
+  before_after = λ list c n valid next. before-push list (record { number = n; command = embed c }) next.above;
+  command_back = λ list c n valid next.
       ap (λ found. option_and_then project (option_map (λ entry. entry.command) found)) (find-push list (record { number = n; command = embed c }) next.above) ∙ back c;
   valid_after = λ list c n valid within next.
       is_book-push list (record { number = n; command = embed c }) valid (not_refused _ next.accepted) next.above within;

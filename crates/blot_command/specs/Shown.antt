@@ -12,16 +12,21 @@ use Rattle.blot_types.specs.declared.keys.ExecKey.{ExecKey}
 use Rattle.blot_types.specs.declared.lines.Version.{Version}
 use Rattle.blot_types.specs.declared.link.Link.{Link}
 use Rattle.blot_types.specs.Allocations.{allocation_of, instructions_of}
+use Rattle.blot_types.specs.Chains.{replaced_by}
 use Rattle.blot_types.specs.Instructions.{is_keyed}
 use Rattle.blot_types.specs.Keys.{same_alloc}
 use Rattle.blot_types.specs.Legal.{is_book}
-use Rattle.blot_types.specs.Survivors.{links_of, versions_of, survivors}
+use Rattle.blot_types.specs.Survivors.{link_of, links_of, versions_of, survivors}
 use Rattle.blot_types.specs.declared.TheConstants.{EVENTS_MAX}
 use Rattle.blot_order.specs.Fills.{Fills, put_at, kept_at, held_at, with_put as with_put_at, with_kept as with_kept_at}
 
 -- the version of a number, of those that a list's entries bring
 abbrev pub version_numbered : List Entry → ℕ → Option Version
 version_numbered list number = find (λ version. version.number == number) (versions_of list)
+
+-- the version whose place an entry takes after a list, or which it busts
+abbrev pub version_replaced : List Entry → Entry → Option Version
+version_replaced list entry = option_and_then (version_numbered list) (replaced_by (links_of list) (link_of entry))
 
 -- the fill of the version of a number
 abbrev pub fill_numbered : ℕ → List Version → Option Fill

@@ -54,11 +54,11 @@ pub record IsStep {S L C I R : Type 0} (m : Meaning S L C I R) (list : L) (comma
   pub inverse_is : inverse ≡ m.inverse_of list command number
   pub list_is : next ≡ m.after list command number
 
--- the law: what stands before what stands after is the list itself, and the command comes back; after a valid list
--- and a number up to EVENTS_MAX a valid list stands
+-- the law, on a valid list: what stands before what stands after is the list itself, and the command comes back; after a
+-- number up to EVENTS_MAX a valid list stands
 pub record IsLawful {S L C I R : Type 0} (m : Meaning S L C I R) : Type 0 where
-  pub before_after : (list : L) (c : C) (n : ℕ) → IsNext m list c n → m.before (m.after list c n) (m.inverse_of list c n) ≡ list
-  pub command_back : (list : L) (c : C) (n : ℕ) → IsNext m list c n → m.command_of (m.after list c n) (m.inverse_of list c n) ≡ Some c
+  pub before_after : (list : L) (c : C) (n : ℕ) → m.is_valid list ≡ true → IsNext m list c n → m.before (m.after list c n) (m.inverse_of list c n) ≡ list
+  pub command_back : (list : L) (c : C) (n : ℕ) → m.is_valid list ≡ true → IsNext m list c n → m.command_of (m.after list c n) (m.inverse_of list c n) ≡ Some c
   pub valid_after : (list : L) (c : C) (n : ℕ) → m.is_valid list ≡ true → n ≤ EVENTS_MAX → IsNext m list c n → m.is_valid (m.after list c n) ≡ true
 
 -- what a state keeps for the steps below a number stays kept

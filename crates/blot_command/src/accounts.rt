@@ -4,6 +4,7 @@ ghost use Rattle.std.specs.Option.{option_map};
 ghost use Rattle.blot_types.specs.Laws.{HasBoundedTotals};
 ghost use Rattle.blot_types.specs.Legal.{is_book};
 ghost use Rattle.blot_types.specs.Position.{part_of, position_of};
+ghost use Rattle.blot_command.specs.Shown.{version_replaced};
 ghost use Rattle.blot_command.specs.Booking.{changed_all, CanChangeAll, chains_to_house, chains_from_house, allocated, released};
 
 use crate::booking::{open_cells, put_lines, put_part, rebook, take_lines, take_part};
@@ -65,9 +66,10 @@ impl Accounts {
         self.positions.get(account, symbol)
     }
 
-    /// Puts an entry after the others, or hands it back where memory runs out.
-    pub(crate) fn push(&mut self, entry: Entry) -> Result<(), Entry>
-        requires { IsTrue (is_book (self.old ++ entry ∷ [])) }
+    /// Puts an entry after the others, or hands it back where memory runs out. It replaces this version, if one.
+    pub(crate) fn push(&mut self, entry: Entry, replaced: &Option<Version>) -> Result<(), Entry>
+        requires book { IsTrue (is_book (self.old ++ entry ∷ [])) }
+        requires replaces { replaced.now ≡ version_replaced self.old entry }
         ensures ok { OnOk result (self.new ≡ self.old ++ entry ∷ []) }
         ensures err { OnErr result (self.new ≡ self.old) }
         ensures returned { IfErr result (λ back. back ≡ entry) }
@@ -78,7 +80,7 @@ impl Accounts {
         let version = entry.version();
         let ended = entry.command.alloc_reference();
         let brought = entry.command.brought_key();
-        let gone = part_of(&self.live, &self.live.replaced(&entry.link()));
+        let gone = part_of(&self.live, replaced);
         match self.live.push(entry) {
             Ok(()) => {
                 let come = part_of(&self.live, &version);

@@ -4,7 +4,7 @@ ghost use Rattle.std.specs.List.{list_any, filter_map};
 ghost use Rattle.std.specs.Option.{option_map, option_map_or, option_and_then, option_or};
 ghost use Rattle.blot_types.specs.declared.refused.Refused.TheVariants.{DuplicateExec, DuplicateAlloc, UnknownAlloc, DeadAlloc, UnknownExec, BustedExec, RepeatedExec, ExecTaken, Instrument};
 ghost use Rattle.blot_types.specs.Allocations.{instructions_of};
-ghost use Rattle.blot_types.specs.Chains.{taker_in, root_in, current_in, bust_in, chain_refusal, link_refusal};
+ghost use Rattle.blot_types.specs.Chains.{taker_in, root_in, is_root, current_in, bust_in, chain_refusal, link_refusal};
 ghost use Rattle.blot_types.specs.Instructions.{alloc_taker_in, is_allocation_in, ended_in};
 ghost use Rattle.blot_types.specs.Legal.{numbers_rise, refusal_of};
 ghost use Rattle.blot_types.specs.Order.{cum_of};
@@ -177,16 +177,19 @@ fn repeated_exec(chains: &Chains, execs: &[ExecKey]) -> Option<ExecKey>
 fn is_repeated(chains: &Chains, key: &ExecKey, before: &[ExecKey]) -> bool
     ensures { result ≡ list_any (same_chain chains.now.list key.now) before.now }
 {
-    before.iter().any(|other| is_same_chain(chains, key, other))
+    match chains.root_of(key) {
+        None => false,
+        Some(root) => before.iter().any(|other| is_of_chain(chains, &root, other)),
+    }
 }
 
-// Whether two keys are of one chain.
-fn is_same_chain(chains: &Chains, key: &ExecKey, other: &ExecKey) -> bool
-    ensures { result ≡ same_chain chains.now.list key.now other.now }
+// Whether a key is of the chain of a root.
+fn is_of_chain(chains: &Chains, root: &ExecKey, key: &ExecKey) -> bool
+    ensures { result ≡ is_root root.now (root_in chains.now.list key.now) }
 {
-    match (chains.root_of(key), chains.root_of(other)) {
-        (Some(root), Some(other)) => other == root,
-        _ => false,
+    match chains.root_of(key) {
+        None => false,
+        Some(other) => other == *root,
     }
 }
 

@@ -112,7 +112,7 @@ impl Tables {
         let Ok(()) = hold(&mut self.orders, &version) else {
             return Err(entry);
         };
-        match self.accounts.push(entry) {
+        match self.accounts.push(entry, &replaced) {
             Ok(()) => {
                 take(&mut self.orders, &replaced);
                 un_take(&mut self.orders, &version);

@@ -13,13 +13,13 @@ use Rattle.blot_undo.specs.Laws.{LeadTo, GoesBack}
 pub back_again :
     {S L C I R : Type 0} (m : Meaning S L C I R) → IsLawful m → (list next : L) (command : C) (number : ℕ) (inverse : I)
     → IsStep m list command number inverse next → m.before next inverse ≡ list
-back_again m lawful list next command number inverse step = rw (step.list_is, step.inverse_is) (lawful.before_after list command number step.is_next)
+back_again m lawful list next command number inverse step = rw (step.list_is, step.inverse_is) (lawful.before_after list command number step.valid step.is_next)
 
 -- and its inverse gives the command back
 pub given_back :
     {S L C I R : Type 0} (m : Meaning S L C I R) → IsLawful m → (list next : L) (command : C) (number : ℕ) (inverse : I)
     → IsStep m list command number inverse next → m.command_of next inverse ≡ Some command
-given_back m lawful list next command number inverse step = rw (step.list_is, step.inverse_is) (lawful.command_back list command number step.is_next)
+given_back m lawful list next command number inverse step = rw (step.list_is, step.inverse_is) (lawful.command_back list command number step.valid step.is_next)
 
 -- the book of a list, done and undone steps and the next number
 abbrev pub book : {L C I : Type 0} → L → List (Done I) → List (Undone C) → ℕ → Book L C I

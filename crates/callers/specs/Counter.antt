@@ -29,7 +29,7 @@ less-added total amount = omega arith
 -- and that it is lawful
 pub add_lawful : IsLawful add_meaning
 add_lawful = record {
-  before_after = λ total add number next. less-added total add.amount;
-  command_back = λ total add number next. refl;
+  before_after = λ total add number valid next. less-added total add.amount;
+  command_back = λ total add number valid next. refl;
   valid_after = λ total add number valid within next. refl;
 }

@@ -37,9 +37,9 @@ taken places put accepted =
 -- and that it is lawful
 pub put_lawful : IsLawful put_meaning
 put_lawful = record {
-  before_after = λ places put number next.
+  before_after = λ places put number valid next.
       set-set places put.place (Some put.value) (slice_index_or places put.place None) ∙ set-get_or places put.place None;
-  command_back = λ places put number next.
+  command_back = λ places put number valid next.
       ap (option_map (λ value. record { place = put.place; value = value })) (get_or-set_same places put.place (Some put.value) None (taken places put next.accepted));
   valid_after = λ places put number valid within next. refl;
 }

@@ -1,5 +1,7 @@
-use Rattle.std.proofs.Common.{◌++◌, ◌∷◌, [], ap, ◌∙◌, sym, subst}
+use Rattle.std.proofs.Common.{◌++◌, ◌∷◌, [], refl, ap, ◌∙◌, sym, subst}
 use Rattle.blot_types.specs.Legal.{is_book}
+use Rattle.blot_types.specs.Survivors.{link_of}
+use Rattle.blot_command.specs.Shown.{version_replaced}
 use Rattle.blot_command.specs.Booking.{rebooked, released, allocated}
 use Rattle.blot_command.specs.Carried.{ShowsPositions}
 use Rattle.blot_command.proofs.ReadyLemmas.{shows-opened}
@@ -16,9 +18,9 @@ rebook-requires c =
     let come = c.part_of-come.result in
     let ended = c.alloc_reference-ended.result in
     let brought = c.brought_key-brought.result in
-    let book = ap (λ l. is_book (l ++ entry ∷ [])) c.self.view_is ∙ c.requires in
+    let book = ap (λ l. is_book (l ++ entry ∷ [])) c.self.view_is ∙ c.requires.book in
     let it =
-    reads list after entry c.replaced.result c.version-version.result c.link.result gone come ended brought c.in-Ok-push.ensures.ok c.link.ensures c.replaced.ensures c.part_of-gone.ensures
+    reads list after entry c.args.replaced.now c.version-version.result (link_of entry) gone come ended brought c.in-Ok-push.ensures.ok refl (c.requires.replaces ∙ sym (ap (λ l. version_replaced l entry) c.self.view_is)) c.part_of-gone.ensures
     c.version-version.ensures c.part_of-come.ensures c.alloc_reference-ended.ensures c.brought_key-brought.ensures in
     let moves = comes-as list after entry gone come ended brought c.self.inside.positions cells it book c.self.invariant c.in-Ok.ensures.opens c.in-Ok.ensures.made c.in-Ok.ensures.fits in
     moves.first
@@ -33,9 +35,9 @@ release-requires c =
     let come = c.part_of-come.result in
     let ended = c.alloc_reference-ended.result in
     let brought = c.brought_key-brought.result in
-    let book = ap (λ l. is_book (l ++ entry ∷ [])) c.self.view_is ∙ c.requires in
+    let book = ap (λ l. is_book (l ++ entry ∷ [])) c.self.view_is ∙ c.requires.book in
     let it =
-    reads list after entry c.replaced.result c.version-version.result c.link.result gone come ended brought c.in-Ok-push.ensures.ok c.link.ensures c.replaced.ensures c.part_of-gone.ensures
+    reads list after entry c.args.replaced.now c.version-version.result (link_of entry) gone come ended brought c.in-Ok-push.ensures.ok refl (c.requires.replaces ∙ sym (ap (λ l. version_replaced l entry) c.self.view_is)) c.part_of-gone.ensures
     c.version-version.ensures c.part_of-come.ensures c.alloc_reference-ended.ensures c.brought_key-brought.ensures in
     let moves = comes-as list after entry gone come ended brought c.self.inside.positions cells it book c.self.invariant c.in-Ok.ensures.opens c.in-Ok.ensures.made c.in-Ok.ensures.fits in
     move-second (rebooked gone come) (released after ended) (allocated after brought) cells c.rebook.new.positions after moves c.rebook.ensures
@@ -50,9 +52,9 @@ allocate-requires c =
     let come = c.part_of-come.result in
     let ended = c.alloc_reference-ended.result in
     let brought = c.brought_key-brought.result in
-    let book = ap (λ l. is_book (l ++ entry ∷ [])) c.self.view_is ∙ c.requires in
+    let book = ap (λ l. is_book (l ++ entry ∷ [])) c.self.view_is ∙ c.requires.book in
     let it =
-    reads list after entry c.replaced.result c.version-version.result c.link.result gone come ended brought c.in-Ok-push.ensures.ok c.link.ensures c.replaced.ensures c.part_of-gone.ensures
+    reads list after entry c.args.replaced.now c.version-version.result (link_of entry) gone come ended brought c.in-Ok-push.ensures.ok refl (c.requires.replaces ∙ sym (ap (λ l. version_replaced l entry) c.self.view_is)) c.part_of-gone.ensures
     c.version-version.ensures c.part_of-come.ensures c.alloc_reference-ended.ensures c.brought_key-brought.ensures in
     let moves = comes-as list after entry gone come ended brought c.self.inside.positions cells it book c.self.invariant c.in-Ok.ensures.opens c.in-Ok.ensures.made c.in-Ok.ensures.fits in
     move-third (rebooked gone come) (released after ended) (allocated after brought) cells c.rebook.new.positions c.release.new.positions after moves c.rebook.ensures c.release.ensures
@@ -67,9 +69,9 @@ invariant_of-self-in-Ok-push c =
     let come = c.part_of-come.result in
     let ended = c.alloc_reference-ended.result in
     let brought = c.brought_key-brought.result in
-    let book = ap (λ l. is_book (l ++ entry ∷ [])) c.self.view_is ∙ c.requires in
+    let book = ap (λ l. is_book (l ++ entry ∷ [])) c.self.view_is ∙ c.requires.book in
     let it =
-    reads list after entry c.replaced.result c.version-version.result c.link.result gone come ended brought c.in-Ok-push.ensures.ok c.link.ensures c.replaced.ensures c.part_of-gone.ensures
+    reads list after entry c.args.replaced.now c.version-version.result (link_of entry) gone come ended brought c.in-Ok-push.ensures.ok refl (c.requires.replaces ∙ sym (ap (λ l. version_replaced l entry) c.self.view_is)) c.part_of-gone.ensures
     c.version-version.ensures c.part_of-come.ensures c.alloc_reference-ended.ensures c.brought_key-brought.ensures in
     let moves = comes-as list after entry gone come ended brought c.self.inside.positions cells it book c.self.invariant c.in-Ok.ensures.opens c.in-Ok.ensures.made c.in-Ok.ensures.fits in
     move-shows (rebooked gone come) (released after ended) (allocated after brought) cells c.rebook.new.positions c.release.new.positions c.allocate.new.positions after moves c.rebook.ensures c.release.ensures c.allocate.ensures
