@@ -24,7 +24,6 @@ use Rattle.blot_command.specs.Carried.{Opens, HasEntryCells, EntryFits, IsReady,
 use Rattle.blot_command.specs.Shown.{version_numbered}
 use Rattle.blot_command.proofs.EntryMoveLemmas.{replaced_part, own_part, link-comes, link-goes, is_instruction, instruction-comes, instruction-goes}
 use Rattle.blot_command.proofs.LiveLemmas.{IsNextEntry, next-entry}
-use Rattle.blot_command.proofs.MoveLemmas.{goes, comes}
 use Rattle.blot_command.proofs.ReadyLemmas.{ready-stays, shows-opened, ready-more, ready-less, CarriesList, CanMove}
 
 -- ---- any entry

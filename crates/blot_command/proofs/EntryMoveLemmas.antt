@@ -41,7 +41,7 @@ use Rattle.blot_types.proofs.SurvivorLemmas.{without}
 use Rattle.blot_position.specs.Positions.{Cells, has_cell}
 use Rattle.blot_command.specs.Booking.{changed_all, rebooked, allocated, released}
 use Rattle.blot_command.specs.Carried.{HasFillCells, IsReady}
-use Rattle.blot_command.proofs.CarryLemmas.{Whole, SameWhole, IsCount, Carries-same, one_at}
+use Rattle.blot_position.proofs.CarryLemmas.{Whole, SameWhole, IsCount, Carries-same, one_at}
 use Rattle.blot_command.proofs.HouseLemmas.{beside, count-under}
 use Rattle.blot_command.proofs.LiveLemmas.{IsNextEntry}
 use Rattle.blot_command.proofs.MoveLemmas.{AreFew, stocked-stays, CarriesBeside, goes, comes}

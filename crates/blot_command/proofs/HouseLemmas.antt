@@ -27,8 +27,9 @@ use Rattle.blot_types.proofs.StandLemmas.{and-true, and-false}
 use Rattle.blot_types.proofs.SumLemmas.{total-cons}
 use Rattle.blot_position.specs.Positions.{Cells, has_cell}
 use Rattle.blot_command.specs.Booking.{Change, put_in, taken_out, changed, changed_all, to_house, from_house, chains_to_house, chains_from_house}
-use Rattle.blot_command.specs.Carried.{Carries, HasFillCells}
-use Rattle.blot_command.proofs.CarryLemmas.{Whole, more, SameWhole, one_at, IsCount, Carries-same, Carries-put, Carries-take, Light, Light-put, Light-take, Light-same, IsLightEnough, can_put, can_take}
+use Rattle.blot_position.specs.Carried.{Carries}
+use Rattle.blot_command.specs.Carried.{HasFillCells}
+use Rattle.blot_position.proofs.CarryLemmas.{Whole, more, SameWhole, one_at, IsCount, Carries-same, Carries-put, Carries-take, Light, Light-put, Light-take, Light-same, IsLightEnough, has-room, has-part}
 use Rattle.blot_command.proofs.ReachLemmas.{Reaches, reach-append, reach-same, reach-nothing, less_enough, stays, one_low}
 
 -- ---- what is found among the versions
@@ -68,10 +69,12 @@ reach-swap gone come cells count qty rest carried light some small_gone small_co
     let same_count : (count + 1) + 1 ≡ count + 2 = omega arith in
     record {
       can = (
-        can_take gone rest cells (count + 1) (qty + unsigned_abs gone.qty) carried light_rest enough_rest,
+        has-part gone rest cells (count + 1) (qty + unsigned_abs gone.qty) carried light_rest enough_rest,
         (
-          can_put come rest after (count + 1) ((qty + unsigned_abs gone.qty) + unsigned_abs come.qty) carried_rest light_come enough_come
-              (stays (taken_out gone ∷ []) cells come.account come.symbol made),
+          (
+            stays (taken_out gone ∷ []) cells come.account come.symbol made,
+            has-room come rest after (count + 1) ((qty + unsigned_abs gone.qty) + unsigned_abs come.qty) carried_rest light_come enough_come,
+          ),
           tt,
         ),
       );

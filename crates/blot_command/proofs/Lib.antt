@@ -1,6 +1,5 @@
 pub mod AccountLemmas
 pub mod BoundLemmas
-pub mod CarryLemmas
 pub mod ChangeListLemmas
 pub mod EntryMoveLemmas
 pub mod HouseLemmas

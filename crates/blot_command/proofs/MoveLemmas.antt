@@ -25,8 +25,9 @@ use Rattle.blot_types.proofs.PartLemmas.{parts_under}
 use Rattle.blot_types.proofs.StandLemmas.{and-true}
 use Rattle.blot_position.specs.Positions.{Cells, has_cell}
 use Rattle.blot_command.specs.Booking.{Change, changed_all, lines_put, lines_taken, chains_to_house, chains_from_house, allocated, allocated_by, released, released_by}
-use Rattle.blot_command.specs.Carried.{Carries, HasTermsCells}
-use Rattle.blot_command.proofs.CarryLemmas.{Whole, SameWhole, IsCount, Carries-same, Light-same, IsLightEnough}
+use Rattle.blot_position.specs.Carried.{Carries}
+use Rattle.blot_command.specs.Carried.{HasTermsCells}
+use Rattle.blot_position.proofs.CarryLemmas.{Whole, SameWhole, IsCount, Carries-same, Light-same, IsLightEnough}
 use Rattle.blot_command.proofs.HouseLemmas.{beside, IsBooked, booked-stays, AlwaysLight, Light-weaker, relight, with_roots, without_roots, reach-house, reach-home}
 use Rattle.blot_command.proofs.ReachLemmas.{Reaches, reach-append, reach-same, reach-nothing, reach-put, reach-take, sizes, stays, AreMade}
 use Rattle.blot_command.proofs.WeightLemmas.{AllBooked, AreBooked, moves_whole, Light-both, Light-moves, Light-under}

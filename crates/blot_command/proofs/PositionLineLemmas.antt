@@ -16,7 +16,8 @@ use Rattle.blot_position.specs.declared.sums.Sums.{Sums}
 use Rattle.blot_position.specs.Positions.{Cells, sums_at}
 use Rattle.blot_position.specs.Sums.{line_by}
 use Rattle.blot_position.proofs.PositionLemmas.{sums_at-empty}
-use Rattle.blot_command.specs.Carried.{Carries, HasFillCells, HasTermsCells, ShowsPositions}
+use Rattle.blot_position.specs.Carried.{Carries}
+use Rattle.blot_command.specs.Carried.{HasFillCells, HasTermsCells, ShowsPositions}
 
 ones : (parts : List Part) → total (λ part. pos 1) parts ≡ pos (length parts)
 ones [] = refl

@@ -9,10 +9,10 @@ use Rattle.blot_types.specs.Position.{is_at, IsSmall}
 use Rattle.blot_types.proofs.SumLemmas.{total-cons}
 use Rattle.blot_position.specs.Positions.{Cells, has_cell}
 use Rattle.blot_position.proofs.PositionLemmas.{has_cell-stays_with_part, has_cell-stays_without_part}
-use Rattle.blot_command.specs.Booking.{Change, put_in, taken_out, changed_by, changed, changed_all, CanChangeAll}
-use Rattle.blot_command.specs.Carried.{Carries}
+use Rattle.blot_command.specs.Booking.{Change, put_in, taken_out, changed_by, changed, changed_all, CanChange, CanChangeAll}
+use Rattle.blot_position.specs.Carried.{Carries}
 use Rattle.blot_command.proofs.ChangeListLemmas.{changed_all-append, can-joined}
-use Rattle.blot_command.proofs.CarryLemmas.{Whole, more, SameWhole, one_at, IsCount, Carries-same, Carries-put, Carries-take, Light, Light-put, Light-take, Light-same, IsLightEnough, can_put, can_take}
+use Rattle.blot_position.proofs.CarryLemmas.{Whole, more, SameWhole, one_at, IsCount, Carries-same, Carries-put, Carries-take, Light, Light-put, Light-take, Light-same, IsLightEnough, has-room, has-part}
 
 -- ---- lists of changes
 
@@ -81,7 +81,7 @@ reach-put (part ∷ parts) cells count qty whole carried light small made enough
     let carried_one : Carries (more part whole) after = Carries-put part whole cells carried in
     let enough_one : IsLightEnough (count + 1) (qty + unsigned_abs part.qty) =
     less_enough (count + length (part ∷ parts)) (count + 1) (qty + sizes (part ∷ parts)) (qty + unsigned_abs part.qty) (omega arith) (omega arith) enough in
-    let can = can_put part whole cells count (qty + unsigned_abs part.qty) carried light_one enough_one (All-head (λ p. has_cell cells p.account p.symbol ≡ true) part parts made) in
+    let can : CanChange (put_in part) cells = (All-head (λ p. has_cell cells p.account p.symbol ≡ true) part parts made, has-room part whole cells count (qty + unsigned_abs part.qty) carried light_one enough_one) in
     let made_rest : AreMade parts after =
     All-weaker (λ p. has_cell cells p.account p.symbol ≡ true) (λ p. has_cell after p.account p.symbol ≡ true)
     (λ p here. has_cell-stays_with_part part.account part.symbol p.account p.symbol part.qty part.value cells here) parts
@@ -133,7 +133,7 @@ reach-take (part ∷ parts) cells count qty rest carried light some small enough
     let light_left : Light (count + 1) (qty + unsigned_abs part.qty) left = Light-take part left count qty one some_left light_one in
     let enough_one : IsLightEnough (count + 1) (qty + unsigned_abs part.qty) =
     less_enough (count + length (part ∷ parts)) (count + 1) (qty + sizes (part ∷ parts)) (qty + unsigned_abs part.qty) (omega arith) (omega arith) enough in
-    let can = can_take part left cells (count + 1) (qty + unsigned_abs part.qty) carried_one light_left enough_one in
+    let can = has-part part left cells (count + 1) (qty + unsigned_abs part.qty) carried_one light_left enough_one in
     let enough_rest : IsLightEnough ((count + 1) + length parts) ((qty + unsigned_abs part.qty) + sizes parts) =
     less_enough (count + length (part ∷ parts)) ((count + 1) + length parts) (qty + sizes (part ∷ parts)) ((qty + unsigned_abs part.qty) + sizes parts) (omega arith) (omega arith) enough in
     let later = reach-take parts after (count + 1) (qty + unsigned_abs part.qty) rest (Carries-take part left cells some_left carried_one) light_left some (All-tail IsSmall part parts small) enough_rest in

@@ -27,10 +27,11 @@ use Rattle.blot_types.proofs.ChangeLemmas.{is_named_root, allocations_in, alloca
 use Rattle.blot_types.proofs.LegalLemmas.{length_numbered}
 use Rattle.blot_position.specs.Positions.{Cells, has_cell}
 use Rattle.blot_command.specs.Booking.{Change, put_in, taken_out, changed_all, CanChangeAll, rebooked}
-use Rattle.blot_command.specs.Carried.{Carries, Opens, HasFillCells, HasTermsCells, HasEntryCells, EntryFits, IsReady, ShowsPositions}
-use Rattle.blot_command.proofs.CarryLemmas.{Whole, SameWhole, IsCount, Carries-same, Carries-cells, Light, Light-same, IsLightEnough}
+use Rattle.blot_position.specs.Carried.{Carries}
+use Rattle.blot_command.specs.Carried.{Opens, HasFillCells, HasTermsCells, HasEntryCells, EntryFits, IsReady, ShowsPositions}
+use Rattle.blot_position.proofs.CarryLemmas.{Whole, SameWhole, IsCount, Carries-same, Carries-cells, Light, Light-same, IsLightEnough}
 use Rattle.blot_command.proofs.HouseLemmas.{beside, relight}
-use Rattle.blot_command.proofs.MoveLemmas.{light_enough, always-light, IsStocked, terms-stay, goes, comes}
+use Rattle.blot_command.proofs.MoveLemmas.{light_enough, always-light, IsStocked, terms-stay}
 use Rattle.blot_command.proofs.ReachLemmas.{Reaches, reach-append, reach-same, reach-put, reach-take, sizes, stays, AreMade}
 use Rattle.blot_command.proofs.WeightLemmas.{AllBooked, AreBooked, all_booked, moves_whole}
 

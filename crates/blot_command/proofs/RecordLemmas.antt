@@ -20,7 +20,7 @@ use Rattle.blot_order.proofs.FillLemmas.{rise_from, held_at-with_kept_same, held
 use Rattle.blot_order.specs.Fills.{Fills, put_at, held_at}
 use Rattle.blot_command.specs.Shown.{version_numbered, fill_numbered, Shows, with_put, with_kept, CanPut, IsPut, IsKept}
 use Rattle.blot_command.proofs.LiveLemmas.{IsNextEntry}
-use Rattle.blot_command.proofs.ShowLemmas.{Puts, IsUnused, Puts-put, Puts-kept, Puts-again, held-kept, held-again, held-put, held-own, put-own, kept-from_held, fill_numbered-append, fill_one, find-without}
+use Rattle.blot_command.proofs.ShowLemmas.{Puts, IsUnused, Puts-put, Puts-kept, Puts-again, held-kept, held-again, held-put, held-own, kept-from_held, fill_numbered-append, fill_one, find-without}
 
 -- ---- the version that the entry brings
 

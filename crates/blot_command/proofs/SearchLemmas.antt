@@ -1,15 +1,13 @@
 -- What is found among entries by its number. The numbers rise.
-use Rattle.std.proofs.Common.{◌≡◌, ◌≢◌, ℕ, zero, suc, ◌+◌, ◌-◌, ◌<◌, ◌≤◌, ◌==◌, true, false, List, [], ◌∷◌, ◌++◌, length, reverse, get_or, Option, Some, None, refl, sym, ap, subst, ◌∙◌, arith, ⊎_elim, inl, inr}
-use Rattle.std.specs.Prelude.{find, is_none}
-use Rattle.std.specs.List.{cons_option, filter_map}
-use Rattle.std.specs.Option.{option_and_then, option_map, option_or}
+use Rattle.std.proofs.Common.{◌≡◌, ◌≢◌, ℕ, zero, suc, ◌-◌, ◌<◌, ◌≤◌, ◌==◌, true, List, [], ◌∷◌, length, reverse, get_or, Option, Some, None, refl, sym, ap, subst, ◌∙◌, arith, ⊎_elim, inl, inr}
+use Rattle.std.specs.Prelude.{find}
+use Rattle.std.specs.List.{cons_option}
+use Rattle.std.specs.Option.{option_and_then, option_or}
 use Rattle.std.proofs.lemmas.Bool.{cases_Bool, and_parts, ltb-true, cases_eq, cases_lt, eq-eqb, eqb-true, eqb-false, ne_eqb}
-use Rattle.std.proofs.lemmas.List.{length-reverse, get_or-reverse, get_or_default, reverse-append, reverse-reverse}
+use Rattle.std.proofs.lemmas.List.{length-reverse, get_or-reverse, get_or_default, reverse-reverse}
 use Rattle.std.proofs.lemmas.List.Elements.{filter_map-append}
 use Rattle.std.proofs.lemmas.List.Folds.{find-append}
-use Rattle.blot_types.specs.declared.allocation.Instruction.{Instruction}
 use Rattle.blot_types.specs.declared.command.Entry.{Entry}
-use Rattle.blot_types.specs.declared.keys.AllocKey.{AllocKey}
 use Rattle.blot_types.specs.declared.lines.Version.{Version}
 use Rattle.blot_types.specs.Legal.{is_above_entries, rises_in, numbers_rise}
 use Rattle.blot_types.specs.Survivors.{version_of, versions_of}

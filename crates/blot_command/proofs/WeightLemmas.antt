@@ -1,13 +1,11 @@
 -- How large the amounts are that the positions of a list carry.
 use Rattle.std.proofs.Common.{◌≡◌, ℕ, ◌+◌, ◌*◌, ◌^◌, ◌≤◌, pos, ◌+ℤ◌, arith, Bool, List, [], ◌∷◌, length, refl, sym}
-use Rattle.std.specs.Prelude.{ℤ, neg_ℤ, unsigned_abs, All}
+use Rattle.std.specs.Prelude.{unsigned_abs, All}
 use Rattle.std.specs.List.{flat_map}
 use Rattle.std.proofs.lemmas.Int.{ints}
 use Rattle.std.proofs.lemmas.List.Elements.{All-nil, All-cons, All-head, All-tail}
 use Rattle.blot_types.specs.declared.allocation.Line.{Line}
 use Rattle.blot_types.specs.declared.allocation.Terms.{Terms}
-use Rattle.blot_types.specs.declared.fill.Sign.{Sign}
-use Rattle.blot_types.specs.declared.fill.Sign.TheVariants.{Buy, Sell}
 use Rattle.blot_types.specs.declared.keys.ExecKey.{ExecKey}
 use Rattle.blot_types.specs.declared.part.Part.{Part}
 use Rattle.blot_types.specs.declared.lines.Version.{Version}
@@ -20,7 +18,7 @@ use Rattle.blot_types.specs.Refusals.{booked}
 use Rattle.blot_types.proofs.BookedLemmas.{BooksBlock}
 use Rattle.blot_types.proofs.PartLemmas.{neg-size, signed-size, part_under, parts_under, named_at}
 use Rattle.blot_types.proofs.SumLemmas.{total-cons}
-use Rattle.blot_command.proofs.CarryLemmas.{Whole, more, SameWhole, Light, Light-put, Light-same}
+use Rattle.blot_position.proofs.CarryLemmas.{Whole, more, SameWhole, Light, Light-put, Light-same}
 use Rattle.blot_command.proofs.ReachLemmas.{sizes}
 use Rattle.blot_command.proofs.HouseLemmas.{Light-weaker}
 

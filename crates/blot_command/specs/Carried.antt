@@ -1,26 +1,16 @@
--- What the cells of the positions carry.
-use Rattle.std.specs.Prelude.{◌≡◌, ℕ, false, true, ℤ, pos, List, All, IfSome, if◌then◌else◌}
+-- The cells that the entries of a list need, and what these carry.
+use Rattle.std.specs.Prelude.{◌≡◌, ℕ, false, true, List, All, IfSome}
 use Rattle.std.specs.List.{filter_map}
 use Rattle.blot_types.specs.declared.allocation.Terms.{Terms}
 use Rattle.blot_types.specs.declared.command.Command.{Command}
 use Rattle.blot_types.specs.declared.command.Entry.{Entry}
 use Rattle.blot_types.specs.declared.fill.Fill.{Fill}
-use Rattle.blot_types.specs.declared.part.Part.{Part}
 use Rattle.blot_types.specs.Allocations.{allocation_of}
 use Rattle.blot_types.specs.Order.{total}
-use Rattle.blot_types.specs.Position.{house, account_of, is_at, parts_of, FillFits, TermsFit}
+use Rattle.blot_types.specs.Position.{house, account_of, parts_of, FillFits, TermsFit}
 use Rattle.blot_types.specs.Survivors.{version_by, versions_of}
+use Rattle.blot_position.specs.Carried.{Carries}
 use Rattle.blot_position.specs.Positions.{Cells, sums_at, has_cell}
-
--- an amount of a part, where it is of the position of an account in a symbol
-abbrev pub amount_at : (Part → ℤ) → List ℕ → List ℕ → Part → ℤ
-amount_at amount account symbol part = if is_at account symbol part then amount part else pos 0
-
--- the cells hold, by account and symbol, the number and the sums of some parts; `whole` sums any amount of them
-pub record Carries (whole : (Part → ℤ) → ℤ) (cells : Cells) : Type 0 where
-  pub parts : (account symbol : List ℕ) → pos (sums_at cells account symbol).parts ≡ whole (amount_at (λ part. pos 1) account symbol)
-  pub qty : (account symbol : List ℕ) → (sums_at cells account symbol).qty ≡ whole (amount_at (λ part. part.qty) account symbol)
-  pub value : (account symbol : List ℕ) → (sums_at cells account symbol).value ≡ whole (amount_at (λ part. part.value) account symbol)
 
 -- the cells of a fill are made: that of its own account, and that of the house account
 pub record HasFillCells (cells : Cells) (fill : Fill) : Type 0 where

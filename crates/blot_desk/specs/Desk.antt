@@ -8,6 +8,7 @@ use Rattle.blot_types.specs.declared.TheConstants.{EVENTS_MAX}
 use Rattle.blot_types.specs.Legal.{refusal_of}
 use Rattle.blot_types.specs.Order.{order_of}
 use Rattle.blot_types.specs.Position.{position_of}
+use Rattle.blot_command.specs.Book.{Inverse}
 use Rattle.blot_command.specs.Kinds.{command_meaning}
 use Rattle.blot_undo.specs.Book.{Book, apply_of, undo_of as undone_book, redo_of as redone_book, newest_done, newest_undone}
 use Rattle.blot_desk.specs.declared.event.Event.{Event}
@@ -18,7 +19,7 @@ use Rattle.blot_desk.specs.declared.event.Reply.TheVariants.{Accepted, Refused, 
 
 -- the book of a desk: the live list, the done and the undone steps, newest first, and the next number
 abbrev pub DeskBook : Type 0
-DeskBook = Book (List Entry) Command ℕ
+DeskBook = Book (List Entry) Command Inverse
 
 -- the empty book: the first number is 1
 abbrev pub empty_book : DeskBook

@@ -1,2 +1,3 @@
+pub mod CarryLemmas
 pub mod CellLemmas
 pub mod PositionLemmas

@@ -1,3 +1,4 @@
+pub mod Carried
 pub mod Cells
 pub mod Positions
 pub mod Sums

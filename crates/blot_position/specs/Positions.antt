@@ -4,7 +4,6 @@ use Rattle.std.specs.Coded.{Coded}
 use Rattle.std.specs.FinMap as map
 use Rattle.std.specs.Option.{unwrap_or}
 use Rattle.blot_types.specs.contracts.keys.PositionKey as position_rust
-use Rattle.blot_types.specs.declared.keys.PositionKey.{PositionKey}
 use Rattle.blot_types.specs.Keys.{same_text, position_at, position_cmp}
 use Rattle.blot_position.specs.contracts.sums.Sums as sums_rust
 use Rattle.blot_position.specs.declared.sums.Sums.{Sums}

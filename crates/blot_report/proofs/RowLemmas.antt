@@ -14,9 +14,9 @@ use Rattle.blot_types.specs.Order.{total}
 use Rattle.blot_types.proofs.SumLemmas.{total-append, total-cons}
 use Rattle.blot_position.specs.Positions.{Cells, sums_at, with_part}
 use Rattle.blot_position.specs.Sums.{HasRoom}
-use Rattle.blot_command.specs.Carried.{Carries}
+use Rattle.blot_position.specs.Carried.{Carries}
 use Rattle.blot_types.specs.Position.{IsSmall}
-use Rattle.blot_command.proofs.CarryLemmas.{more, SameWhole, Carries-same, Carries-put, Light, Light-same, has-room}
+use Rattle.blot_position.proofs.CarryLemmas.{more, SameWhole, Carries-same, Carries-put, Light, Light-same, has-room}
 use Rattle.blot_command.proofs.HouseLemmas.{Light-weaker}
 use Rattle.blot_command.proofs.PositionLineLemmas.{line-carried, carries-nothing}
 use Rattle.blot_command.proofs.ReachLemmas.{sizes}

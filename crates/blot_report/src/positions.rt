@@ -2,7 +2,7 @@
 ghost use Rattle.std.specs.Prelude.{◌≡◌, IfOk};
 ghost use Rattle.std.specs.List.{filter_map};
 ghost use Rattle.blot_types.specs.Order.{total};
-ghost use Rattle.blot_command.specs.Carried.{Carries};
+ghost use Rattle.blot_position.specs.Carried.{Carries};
 ghost use Rattle.blot_report.specs.Lines.{position_key, positions_among, position_rows};
 ghost use Rattle.blot_report.specs.Sums.{IsLight, cell_row};
 

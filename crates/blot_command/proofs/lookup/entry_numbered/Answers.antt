@@ -1,4 +1,4 @@
-use Rattle.std.proofs.Common.{◌≡◌, ◌≤◌, length, arith, sym, ◌∙◌, ap}
+use Rattle.std.proofs.Common.{◌≤◌, length, arith, sym, ◌∙◌, ap}
 use Rattle.blot_types.specs.declared.command.Entry.{Entry}
 use Rattle.blot_command.proofs.SearchLemmas.{find-at, find-below, find-past, rise}
 use Rattle.blot_command.proofs.lookup.entry_numbered.Goals as goal

@@ -1,6 +1,6 @@
 use Rattle.std.proofs.Common.{◌++◌, ◌∷◌, [], ap, ◌∙◌}
 use Rattle.blot_types.specs.Legal.{is_book}
-use Rattle.blot_command.proofs.LiveLemmas.{can-link, holds-linked}
+use Rattle.blot_command.proofs.LiveLemmas.{can-link}
 use Rattle.blot_command.proofs.live.LiveList.push.Goals as goal
 
 pub link_entry-requires : goal.link_entry-requires

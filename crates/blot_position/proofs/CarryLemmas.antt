@@ -5,11 +5,10 @@ use Rattle.std.proofs.lemmas.Int.{ints}
 use Rattle.blot_types.specs.declared.part.Part.{Part}
 use Rattle.blot_types.specs.Position.{is_at, IsSmall}
 use Rattle.blot_position.specs.declared.sums.Sums.{Sums}
-use Rattle.blot_position.specs.Positions.{Cells, sums_at, has_cell, same_position}
-use Rattle.blot_position.specs.Sums.{with_one, without_one, FitsSum, HasRoom}
+use Rattle.blot_position.specs.Positions.{Cells, sums_at, same_position, with_part, without_part}
+use Rattle.blot_position.specs.Sums.{with_one, without_one, FitsSum, HasRoom, HasPart}
 use Rattle.blot_position.proofs.PositionLemmas.{sums_at-with_part, sums_at-without_part, same_position-refl}
-use Rattle.blot_command.specs.Booking.{put_in, taken_out, changed, CanChange}
-use Rattle.blot_command.specs.Carried.{amount_at, Carries}
+use Rattle.blot_position.specs.Carried.{amount_at, Carries}
 
 -- ---- the sums of parts
 
@@ -63,7 +62,7 @@ with_value : (test : Bool) (qty value : ℤ) (sums : Sums) → (if test then wit
 with_value true qty value sums = refl
 with_value false qty value sums = omega (arith, ints)
 
-pub Carries-put : (part : Part) (whole : Whole) (cells : Cells) → Carries whole cells → Carries (more part whole) (changed (put_in part) cells)
+pub Carries-put : (part : Part) (whole : Whole) (cells : Cells) → Carries whole cells → Carries (more part whole) (with_part part.account part.symbol part.qty part.value cells)
 Carries-put part whole cells carried = record {
   parts = λ a s.
       ap (λ (sums : Sums). pos sums.parts) (sums_at-with_part part.account part.symbol a s part.qty part.value cells)
@@ -92,7 +91,7 @@ less_value false qty value sums rest is = omega (arith, ints, is)
 abbrev pub IsCount : Whole → Type 0
 IsCount whole = (account symbol : List ℕ) → pos 0 ≤ℤ whole (one_at account symbol)
 
-pub Carries-take : (part : Part) (rest : Whole) (cells : Cells) → IsCount rest → Carries (more part rest) cells → Carries rest (changed (taken_out part) cells)
+pub Carries-take : (part : Part) (rest : Whole) (cells : Cells) → IsCount rest → Carries (more part rest) cells → Carries rest (without_part part.account part.symbol part.qty part.value cells)
 Carries-take part rest cells count carried = record {
   parts = λ a s.
       ap (λ (sums : Sums). pos sums.parts) (sums_at-without_part part.account part.symbol a s part.qty part.value cells)
@@ -193,14 +192,11 @@ has-room part whole cells count qty carried light enough =
       fits_value = abs_fits _ (subst (λ sum. unsigned_abs sum ≤ 10 ^ 38) (sym sum_value) (omega (arith, values, limit)));
     }
 
-pub can_put :
-    (part : Part) (whole : Whole) (cells : Cells) (count qty : ℕ) → Carries whole cells → Light (count + 1) qty (more part whole) → IsLightEnough (count + 1) qty
-    → has_cell cells part.account part.symbol ≡ true → CanChange (put_in part) cells
-can_put part whole cells count qty carried light enough made = (made, has-room part whole cells count qty carried light enough)
-
-pub can_take :
-    (part : Part) (rest : Whole) (cells : Cells) (count qty : ℕ) → Carries (more part rest) cells → Light count qty rest → IsLightEnough count qty → CanChange (taken_out part) cells
-can_take part rest cells count qty carried light enough =
+-- there is a part to take
+pub has-part :
+    (part : Part) (rest : Whole) (cells : Cells) (count qty : ℕ) → Carries (more part rest) cells → Light count qty rest → IsLightEnough count qty
+    → HasPart (sums_at cells part.account part.symbol) part.qty part.value
+has-part part rest cells count qty carried light enough =
     let a = part.account in
     let s = part.symbol in
     let here : is_at a s part ≡ true = same_here part in
