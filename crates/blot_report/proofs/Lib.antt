@@ -1,10 +1,12 @@
 mod DayLawLemmas
 mod DayRows
+mod KeyLemmas
 mod LinkedLemmas
 mod ListLemmas
 mod OrderLemmas
 mod PartLemmas
 mod RowLemmas
 mod ShowLemmas
+mod SortedLemmas
 mod TextLemmas
 mod WeightLemmas

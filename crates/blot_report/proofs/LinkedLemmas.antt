@@ -1,13 +1,14 @@
 -- The fronts of a book, and what the links and instructions of a list find of its entries.
-use Rattle.std.proofs.Common.{◌≡◌, ℕ, ◌+◌, ◌<◌, true, List, [], ◌∷◌, ◌++◌, length, map, take, drop, get_or, Option, Some, None, ℤ, refl, sym, ap, ◌∙◌, inl, inr}
+use Rattle.std.proofs.Common.{◌≡◌, ℕ, ◌+◌, ◌<◌, ◌≤◌, arith, true, List, [], ◌∷◌, ◌++◌, length, map, take, drop, get_or, Option, Some, None, ℤ, refl, sym, ap, ◌∙◌, inl, inr}
 use Rattle.std.specs.Prelude.{filter, is_none}
 use Rattle.std.specs.List.{cons_option, filter_map, flat_map}
 use Rattle.std.proofs.lemmas.Bool.{cases_Bool}
-use Rattle.std.proofs.lemmas.List.{append-nil, append_assoc, take_more, take-append-drop}
+use Rattle.std.proofs.lemmas.List.{append-nil, append_assoc, length-map, take_more, take-append-drop}
 use Rattle.blot_types.specs.declared.allocation.Instruction.{Instruction}
 use Rattle.blot_types.specs.declared.command.Entry.{Entry}
 use Rattle.blot_types.specs.declared.lines.Version.{Version}
 use Rattle.blot_types.specs.declared.link.Link.{Link}
+use Rattle.blot_types.specs.declared.TheConstants.{EVENTS_MAX}
 use Rattle.blot_types.specs.Allocations.{Allocation, allocation_of, instruction_by, instructions_of}
 use Rattle.blot_types.specs.Instructions.{ended_in}
 use Rattle.blot_types.specs.Legal.{is_book, HoldsList}
@@ -17,8 +18,11 @@ use Rattle.blot_types.proofs.EntryLemmas.{links_of-push}
 use Rattle.blot_types.proofs.LegalLemmas.{is_book-front}
 use Rattle.blot_command.specs.Linking.{CanLink}
 use Rattle.blot_command.proofs.LiveLemmas.{can-link}
-use Rattle.blot_report.specs.Day.{is_on, is_allocated_on}
-use Rattle.blot_report.specs.Linked.{survivor_by, terms_by}
+use Rattle.blot_types.specs.Position.{part_of, part_of_fill}
+use Rattle.blot_report.specs.declared.executions.Survivor.{Survivor}
+use Rattle.blot_report.specs.Day.{is_on, is_allocated_on, survivors_on, fills_on}
+use Rattle.blot_report.specs.Linked.{Standing, fill_in, part_in, standing_at, standing_by, standing_in, terms_by}
+use Rattle.blot_report.proofs.WeightLemmas.{few-on}
 
 -- ---- the fronts of a book
 
@@ -59,11 +63,12 @@ holds-next list index entry links links' instructions instructions' next holds o
 
 -- ---- the survivors of a day
 
-survivor-kept :
-    (links : List Link) (day : ℤ) (found : Option Version) (rest : List Version)
-    → cons_option (survivor_by links day found) (filter (is_on day) (filter (stands_in links) rest)) ≡ filter (is_on day) (filter (stands_in links) (cons_option found rest))
-survivor-kept links day None rest = refl
-survivor-kept links day (Some version) rest =
+standing-kept :
+    (links : List Link) (instructions : List Instruction) (day : ℤ) (found : Option Version) (rest : List Version)
+    → cons_option (standing_by links instructions day found) (map (standing_at links instructions) (filter (is_on day) (filter (stands_in links) rest)))
+    ≡ map (standing_at links instructions) (filter (is_on day) (filter (stands_in links) (cons_option found rest)))
+standing-kept links instructions day None rest = refl
+standing-kept links instructions day (Some version) rest =
     elim (cases_Bool (stands_in links version)) [
       | inl stands ↦
           elim (cases_Bool (is_on day version)) [
@@ -77,13 +82,52 @@ survivor-kept links day (Some version) rest =
           ]
     ]
 
-pub survivors-found :
-    (links : List Link) (day : ℤ) (list : List Entry)
-    → filter_map (λ entry. survivor_by links day (version_of entry)) list ≡ filter (is_on day) (filter (stands_in links) (filter_map version_of list))
-survivors-found links day [] = refl
-survivors-found links day (entry ∷ list) =
-    ap (cons_option (survivor_by links day (version_of entry))) (survivors-found links day list)
-    ∙ survivor-kept links day (version_of entry) (filter_map version_of list)
+standings-found :
+    (links : List Link) (instructions : List Instruction) (day : ℤ) (list : List Entry)
+    → filter_map (λ entry. standing_by links instructions day (version_of entry)) list
+    ≡ map (standing_at links instructions) (filter (is_on day) (filter (stands_in links) (filter_map version_of list)))
+standings-found links instructions day [] = refl
+standings-found links instructions day (entry ∷ list) =
+    ap (cons_option (standing_by links instructions day (version_of entry))) (standings-found links instructions day list)
+    ∙ standing-kept links instructions day (version_of entry) (filter_map version_of list)
+
+-- what is told of them, where the links and the instructions are those of the list
+told :
+    (list : List Entry) (day : ℤ) (links : List Link) (instructions : List Instruction) → HoldsList list links instructions
+    → filter_map (λ entry. standing_by links instructions day (version_of entry)) list ≡ map (standing_at (links_of list) (instructions_of list)) (survivors_on list day)
+told list day links instructions holds =
+    standings-found links instructions day list
+    ∙ (λ i. map (standing_at (holds.links_are i) (holds.instructions_are i)) (filter (is_on day) (filter (stands_in (holds.links_are i)) (filter_map version_of list))))
+
+mapped-twice : {A B C : Type 0} (f : B → C) (g : A → B) (xs : List A) → map f (map g xs) ≡ map (λ x. f (g x)) xs
+mapped-twice f g [] = refl
+mapped-twice f g (x ∷ xs) = ap (λ rest. f (g x) ∷ rest) (mapped-twice f g xs)
+
+-- the fills of survivors, and what they add to the positions
+pub fills-told :
+    (list : List Entry) (day : ℤ) (links : List Link) (instructions : List Instruction) (survivors : List Survivor) → HoldsList list links instructions
+    → map standing_in survivors ≡ filter_map (λ entry. standing_by links instructions day (version_of entry)) list → map fill_in survivors ≡ fills_on list day
+fills-told list day links instructions survivors holds is =
+    sym (mapped-twice (λ (s : Standing). s.fill) standing_in survivors) ∙ ap (map (λ (s : Standing). s.fill)) (is ∙ told list day links instructions holds)
+    ∙ mapped-twice (λ (s : Standing). s.fill) (standing_at (links_of list) (instructions_of list)) (survivors_on list day)
+
+-- they are few
+pub few-told : (list : List Entry) (day : ℤ) (survivors : List Survivor) → is_book list ≡ true → map fill_in survivors ≡ fills_on list day → length survivors ≤ EVENTS_MAX + 1
+few-told list day survivors book is =
+    let filled = length-map survivors fill_in in
+    let same = ap length is in
+    let versions = length-map (survivors_on list day) (λ (v : Version). v.fill) in
+    let few = few-on list day book in
+    omega (arith, filled, same, versions, few)
+
+pub parts-told :
+    (list : List Entry) (day : ℤ) (links : List Link) (instructions : List Instruction) (survivors : List Survivor) → HoldsList list links instructions
+    → map standing_in survivors ≡ filter_map (λ entry. standing_by links instructions day (version_of entry)) list
+    → map part_in survivors ≡ map (part_of list) (survivors_on list day)
+parts-told list day links instructions survivors holds is =
+    sym (mapped-twice (λ (s : Standing). part_of_fill s.is_named s.fill) standing_in survivors)
+    ∙ ap (map (λ (s : Standing). part_of_fill s.is_named s.fill)) (is ∙ told list day links instructions holds)
+    ∙ mapped-twice (λ (s : Standing). part_of_fill s.is_named s.fill) (standing_at (links_of list) (instructions_of list)) (survivors_on list day)
 
 -- ---- the live allocations of a day
 

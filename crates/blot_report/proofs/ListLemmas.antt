@@ -1,11 +1,14 @@
 -- What a loop has found, with one item more, and where nothing is left.
-use Rattle.std.proofs.Common.{◌≡◌, ℕ, ◌+◌, ◌<◌, ◌≤◌, List, [], ◌∷◌, ◌++◌, length, map, take, drop, get_or, Option, refl, sym, ap, subst, ◌∙◌}
-use Rattle.std.specs.Prelude.{fold, All}
-use Rattle.std.specs.BTreeSet.{insert_key}
-use Rattle.std.specs.List.{cons_option, filter_map, flat_map}
-use Rattle.std.specs.declared.cmp.Ordering.{Ordering}
+use Rattle.std.proofs.Common.{◌≡◌, ℕ, ◌+◌, ◌<◌, ◌≤◌, Bool, ◌||◌, List, [], ◌∷◌, ◌++◌, length, map, take, drop, get_or, Option, Result, Ok, Err, refl, sym, ap, subst, ◌∙◌}
+use Rattle.std.specs.Prelude.{All, IfOk}
+use Rattle.std.specs.List.{cons_option, filter_map, flat_map, list_any}
 use Rattle.std.proofs.lemmas.List.{append-nil, append_assoc, drop_all, take_more}
 use Rattle.std.proofs.lemmas.List.Elements.{All-push, filter_map-append}
+
+-- what an Ok says, said in another way
+pub if_ok : {T E : Type 0} (r : Result T E) (P Q : T → Type 0) → ((x : T) → P x → Q x) → IfOk r P → IfOk r Q
+if_ok (Ok x) P Q f p = f x p
+if_ok (Err e) P Q f p = p
 
 pub found-all :
     {A B : Type 0} (f : A → Option B) (items : List A) (index : ℕ) (found : List B) → found ++ filter_map f (drop index items) ≡ filter_map f items → length items ≤ index
@@ -48,16 +51,10 @@ pub flat_found-more :
     → flat_map g (filter_map f (take (index + 1) items)) ≡ flat_map g (filter_map f (take index items)) ++ flat_map g (cons_option (f item) [])
 flat_found-more g f items index item within is = ap (flat_map g) (found-more f items index item within is) ∙ flat-append g (filter_map f (take index items)) (cons_option (f item) [])
 
--- sorted keys, with one key more
-fold-push : {A B : Type 0} (g : B → A → B) (start : B) (xs : List A) (x : A) → fold g start (xs ++ x ∷ []) ≡ g (fold g start xs) x
-fold-push g start [] x = refl
-fold-push g start (y ∷ xs) x = fold-push g (g start y) xs x
-
-pub sorted-more :
-    {A K : Type 0} (cmp : K → K → Ordering) (f : A → K) (items : List A) (index : ℕ) (item : A) → index < length items → item ≡ get_or items index item
-    → fold (insert_key cmp) [] (map f (take (index + 1) items)) ≡ insert_key cmp (fold (insert_key cmp) [] (map f (take index items))) (f item)
-sorted-more cmp f items index item within is =
-    ap (fold (insert_key cmp) []) (mapped-more f items index item within is) ∙ fold-push (insert_key cmp) [] (map f (take index items)) (f item)
+-- a test that some item passes, through a function
+pub any-mapped : {A B : Type 0} (p : B → Bool) (f : A → B) (xs : List A) → list_any p (map f xs) ≡ list_any (λ x. p (f x)) xs
+any-mapped p f [] = refl
+any-mapped p f (x ∷ xs) = ap (λ any. p (f x) || any) (any-mapped p f xs)
 
 -- all of some items are well, and one more is
 pub All-more : {A B : Type 0} (P : B → Type 0) (f : A → B) (items : List A) (index : ℕ) (item : A) → index < length items → item ≡ get_or items index item → All P (map f (take index items)) → P (f item) → All P (map f (take (index + 1) items))

@@ -1,6 +1,6 @@
 -- The lines of orders as they grow, and the rows that they give.
-use Rattle.std.proofs.Common.{◌≡◌, ℕ, ◌+◌, ◌<◌, ◌≤◌, arith, Bool, true, false, List, [], ◌∷◌, ◌++◌, length, map, take, get_or, Option, Some, None, refl, sym, ap, subst, ◌∙◌, inl, inr}
-use Rattle.std.specs.Prelude.{filter, if◌then◌else◌}
+use Rattle.std.proofs.Common.{◌≡◌, ℕ, ◌+◌, ◌<◌, arith, true, List, [], ◌∷◌, ◌++◌, length, map, take, get_or, Some, refl, sym, ap, subst, ◌∙◌, inl, inr}
+use Rattle.std.specs.Prelude.{if◌then◌else◌}
 use Rattle.std.specs.Cmp.Lexicographic.{same_text as text_told}
 use Rattle.std.specs.List.{cons_option, filter_map}
 use Rattle.std.specs.Option.{option_map}
@@ -11,11 +11,12 @@ use Rattle.std.proofs.lemmas.List.Elements.{filter-append}
 use Rattle.blot_types.specs.declared.fill.Fill.{Fill}
 use Rattle.blot_types.specs.declared.keys.OrderKey.{OrderKey}
 use Rattle.blot_types.specs.declared.lines.OrderLine.{OrderLine}
-use Rattle.blot_types.specs.declared.lines.Version.{Version}
 use Rattle.blot_types.specs.Keys.{same_order, same_text}
 use Rattle.blot_types.specs.Order.{line_of, fills_of, with_fill, IsWithin}
 use Rattle.blot_types.proofs.OrderLemmas.{line_of-push, IsWithin-weaker}
+use Rattle.blot_report.specs.declared.executions.Survivor.{Survivor}
 use Rattle.blot_report.specs.Lines.{order_row}
+use Rattle.blot_report.specs.Linked.{fill_in}
 use Rattle.blot_report.specs.Orders.{line_at, with_line, AreLinesOf, line_row}
 
 -- orders that the test calls one are equal
@@ -26,9 +27,9 @@ same_order-true a b same =
     let ids : a.id ≡ b.id = text_told a.id b.id (sym parts.1) in
     λ i. record { peer = peers i; id = ids i }
 
--- the fills of versions
-abbrev pub fills_in : List Version → List Fill
-fills_in versions = map (λ version. version.fill) versions
+-- the fills of survivors
+abbrev pub fills_in : List Survivor → List Fill
+fills_in survivors = map fill_in survivors
 
 one-fill : (fill : Fill) (order : OrderKey) → fills_of (fill ∷ []) order ≡ (if same_order fill.order order then fill ∷ [] else [])
 one-fill fill order =
@@ -58,9 +59,9 @@ line-more lines fills fill order are =
           ∙ are order ∙ sym (ap line_of more)
     ]
 
--- the lines of the first versions, each of at most as many fills
-pub record HoldsFirst (lines : List (OrderKey × OrderLine)) (versions : List Version) (index : ℕ) : Type 0 where
-  pub are : AreLinesOf lines (fills_in (take index versions))
+-- the lines of the first survivors, each of at most as many fills
+pub record HoldsFirst (lines : List (OrderKey × OrderLine)) (survivors : List Survivor) (index : ℕ) : Type 0 where
+  pub are : AreLinesOf lines (fills_in (take index survivors))
   pub few : (order : OrderKey) → IsWithin index (line_at lines order)
 
 -- one fill more, for every order
@@ -77,31 +78,31 @@ few-more old fill index order few grows =
     ]
 
 pub holds-more :
-    (old new : List (OrderKey × OrderLine)) (versions : List Version) (index : ℕ) (version : Version)
-    → HoldsFirst old versions index → index < length versions → version ≡ get_or versions index version
-    → ((order : OrderKey) → line_at new order ≡ with_line version.fill old order)
-    → ((n : ℕ) → IsWithin n (line_at old version.fill.order) → IsWithin (n + 1) (with_line version.fill old version.fill.order))
-    → HoldsFirst new versions (index + 1)
-holds-more old new versions index version holds within is written grows =
-    let next : take (index + 1) versions ≡ take index versions ++ version ∷ [] = rw is (take_more versions index version within) in
-    let fills : fills_in (take (index + 1) versions) ≡ fills_in (take index versions) ++ version.fill ∷ [] =
-    ap fills_in next ∙ map-append (λ v. v.fill) (take index versions) (version ∷ []) in
+    (old new : List (OrderKey × OrderLine)) (survivors : List Survivor) (index : ℕ) (survivor : Survivor)
+    → HoldsFirst old survivors index → index < length survivors → survivor ≡ get_or survivors index survivor
+    → ((order : OrderKey) → line_at new order ≡ with_line survivor.fill.now old order)
+    → ((n : ℕ) → IsWithin n (line_at old survivor.fill.now.order) → IsWithin (n + 1) (with_line survivor.fill.now old survivor.fill.now.order))
+    → HoldsFirst new survivors (index + 1)
+holds-more old new survivors index survivor holds within is written grows =
+    let next : take (index + 1) survivors ≡ take index survivors ++ survivor ∷ [] = rw is (take_more survivors index survivor within) in
+    let fills : fills_in (take (index + 1) survivors) ≡ fills_in (take index survivors) ++ survivor.fill.now ∷ [] =
+    ap fills_in next ∙ map-append fill_in (take index survivors) (survivor ∷ []) in
     record {
-      are = λ order. written order ∙ line-more old (fills_in (take index versions)) version.fill order holds.are ∙ sym (ap (λ f. line_of (fills_of f order)) fills);
-      few = λ order. subst (IsWithin (index + 1)) (sym (written order)) (few-more old version.fill index order holds.few grows);
+      are = λ order. written order ∙ line-more old (fills_in (take index survivors)) survivor.fill.now order holds.are ∙ sym (ap (λ f. line_of (fills_of f order)) fills);
+      few = λ order. subst (IsWithin (index + 1)) (sym (written order)) (few-more old survivor.fill.now index order holds.few grows);
     }
 
 -- no fill yet
-pub holds-none : (lines : List (OrderKey × OrderLine)) (versions : List Version) → lines ≡ [] → HoldsFirst lines versions 0
-holds-none lines versions none =
-    subst (λ l. HoldsFirst l versions 0) (sym none) (record {
+pub holds-none : (lines : List (OrderKey × OrderLine)) (survivors : List Survivor) → lines ≡ [] → HoldsFirst lines survivors 0
+holds-none lines survivors none =
+    subst (λ l. HoldsFirst l survivors 0) (sym none) (record {
       are = λ order. refl;
       few = λ order. record { cum_low = omega (arith, ints); cum_high = omega (arith, ints); value_low = omega (arith, ints); value_high = omega (arith, ints) };
     })
 
 -- all of them
-pub holds-all : (lines : List (OrderKey × OrderLine)) (versions : List Version) (index : ℕ) → HoldsFirst lines versions index → take index versions ≡ versions → AreLinesOf lines (fills_in versions)
-holds-all lines versions index holds all order = holds.are order ∙ ap (λ vs. line_of (fills_of (fills_in vs) order)) all
+pub holds-all : (lines : List (OrderKey × OrderLine)) (survivors : List Survivor) (index : ℕ) → HoldsFirst lines survivors index → take index survivors ≡ survivors → AreLinesOf lines (fills_in survivors)
+holds-all lines survivors index holds all order = holds.are order ∙ ap (λ vs. line_of (fills_of (fills_in vs) order)) all
 
 -- the rows of lines are those of the fills
 pub rows-same : (lines : List (OrderKey × OrderLine)) (fills : List Fill) (keys : List OrderKey) → AreLinesOf lines fills → filter_map (line_row lines) keys ≡ filter_map (order_row fills) keys

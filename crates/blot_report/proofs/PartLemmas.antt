@@ -9,13 +9,12 @@ use Rattle.blot_types.specs.declared.allocation.Line.{Line}
 use Rattle.blot_types.specs.declared.allocation.Terms.{Terms}
 use Rattle.blot_types.specs.declared.command.Entry.{Entry}
 use Rattle.blot_types.specs.declared.part.Part.{Part}
-use Rattle.blot_types.specs.declared.lines.Version.{Version}
 use Rattle.blot_types.specs.declared.link.Link.{Link}
 use Rattle.blot_types.specs.Allocations.{Allocation, allocation_of}
 use Rattle.blot_types.specs.Position.{part_of_line, from_house, moves_of_line, moves_of, part_of, IsSmall, TermsFit}
 use Rattle.blot_types.specs.Legal.{HoldsList}
 use Rattle.blot_report.specs.Day.{survivors_on, allocations_on, day_parts_of}
-use Rattle.blot_report.specs.Linked.{part_by, terms_by}
+use Rattle.blot_report.specs.Linked.{terms_by}
 use Rattle.blot_report.specs.Sums.{IsLight}
 use Rattle.blot_report.proofs.LinkedLemmas.{live_on, terms-found, flat-mapped}
 use Rattle.blot_report.proofs.ListLemmas.{behind, flat-more, found-more, flat_found-more}
@@ -78,34 +77,29 @@ all-unmapped P f [] all = All-nil (λ x. P (f x))
 all-unmapped P f (x ∷ xs) all =
     All-cons (λ y. P (f y)) x xs (All-head P (f x) (map f xs) all) (all-unmapped P f xs (All-tail P (f x) (map f xs) all))
 
--- the links and the instructions of a list tell what its survivors add, and which allocations are live
-fills-told : (list : List Entry) (day : ℤ) (links : List Link) (instructions : List Instruction) (versions : List Version) → HoldsList list links instructions → versions ≡ survivors_on list day
-    → map (part_by links instructions) versions ≡ map (part_of list) (survivors_on list day)
-fills-told list day links instructions versions holds survivors = λ i. map (part_by (holds.links_are i) (holds.instructions_are i)) (survivors i)
-
+-- the instructions of a list tell which allocations are live
 terms-told : (list : List Entry) (day : ℤ) (links : List Link) (instructions : List Instruction) → HoldsList list links instructions
     → filter_map (λ entry. terms_by instructions day (allocation_of entry.command)) list ≡ map (λ a. a.terms) (allocations_on list day)
 terms-told list day links instructions holds =
     terms-found instructions day list ∙ ap (λ i. map (λ (a : Allocation). a.terms) (live_on i day (filter_map (λ (e : Entry). allocation_of e.command) list))) holds.instructions_are
 
--- the parts of a day are put
-pub record ArePut (list : List Entry) (day : ℤ) (links : List Link) (instructions : List Instruction) (versions : List Version) (parts : List Part) : Type 0 where
+-- the parts of a day are put: those of its fills, and then the moves
+pub record ArePut (list : List Entry) (day : ℤ) (links : List Link) (instructions : List Instruction) (fills parts : List Part) : Type 0 where
   pub holds : HoldsList list links instructions
-  pub survivors : versions ≡ survivors_on list day
-  pub put : parts ≡ map (part_by links instructions) versions ++ flat_map moves_of (filter_map (λ entry. terms_by instructions day (allocation_of entry.command)) list)
+  pub own : fills ≡ map (part_of list) (survivors_on list day)
+  pub put : parts ≡ fills ++ flat_map moves_of (filter_map (λ entry. terms_by instructions day (allocation_of entry.command)) list)
 
-pub parts-put : (list : List Entry) (day : ℤ) (links : List Link) (instructions : List Instruction) (versions : List Version) (parts : List Part) → ArePut list day links instructions versions parts
+pub parts-put : (list : List Entry) (day : ℤ) (links : List Link) (instructions : List Instruction) (fills parts : List Part) → ArePut list day links instructions fills parts
     → parts ≡ day_parts_of list day
-parts-put list day links instructions versions parts put =
-    put.put
-    ∙ (λ i. fills-told list day links instructions versions put.holds put.survivors i ++ flat_map moves_of (terms-told list day links instructions put.holds i))
+parts-put list day links instructions fills parts put =
+    put.put ∙ (λ i. put.own i ++ flat_map moves_of (terms-told list day links instructions put.holds i))
     ∙ ap (λ moves. map (part_of list) (survivors_on list day) ++ moves) (flat-mapped moves_of (λ (a : Allocation). a.terms) (allocations_on list day))
 
-pub light-put : (list : List Entry) (day : ℤ) (links : List Link) (instructions : List Instruction) (versions : List Version) (parts : List Part) → ArePut list day links instructions versions parts
-    → All IsSmall (map (part_by links instructions) versions) → All TermsFit (filter_map (λ entry. terms_by instructions day (allocation_of entry.command)) list) → IsLight parts
-light-put list day links instructions versions parts put small fit =
-    subst IsLight (sym (parts-put list day links instructions versions parts put))
-    (light-on list day put.holds.book (subst (All IsSmall) (fills-told list day links instructions versions put.holds put.survivors) small)
+pub light-put : (list : List Entry) (day : ℤ) (links : List Link) (instructions : List Instruction) (fills parts : List Part) → ArePut list day links instructions fills parts
+    → All IsSmall fills → All TermsFit (filter_map (λ entry. terms_by instructions day (allocation_of entry.command)) list) → IsLight parts
+light-put list day links instructions fills parts put small fit =
+    subst IsLight (sym (parts-put list day links instructions fills parts put))
+    (light-on list day put.holds.book (subst (All IsSmall) put.own small)
     (all-unmapped TermsFit (λ (a : Allocation). a.terms) (allocations_on list day) (subst (All TermsFit) (terms-told list day links instructions put.holds) fit)))
 
 -- what was put behind nothing, and then more

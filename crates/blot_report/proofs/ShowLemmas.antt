@@ -1,22 +1,15 @@
 -- The lines of a day show each order and each position of it.
 use Rattle.std.proofs.Common.{◌≡◌, ℕ, ℤ, Bool, true, false, ◌&&◌, ◌||◌, List, [], ◌∷◌, map, Option, Some, None, refl, sym, ap, subst, ◌∙◌, inl, inr}
-use Rattle.std.specs.Prelude.{filter, find, fold, if◌then◌else◌}
-use Rattle.std.specs.BTreeSet.{insert_key}
-use Rattle.std.specs.Cmp.Lexicographic.{slice_cmp}
+use Rattle.std.specs.Prelude.{filter, find, if◌then◌else◌}
 use Rattle.std.specs.List.{cons_option, filter_map, list_any}
 use Rattle.std.specs.Option.{option_map}
-use Rattle.std.specs.Ordering.{nat_cmp, match_ordering}
-use Rattle.std.specs.declared.cmp.Ordering.{Ordering}
-use Rattle.std.specs.declared.cmp.Ordering.TheVariants.{Less, Equal, Greater}
 use Rattle.std.proofs.lemmas.Bool.{cases_Bool}
-use Rattle.std.proofs.lemmas.Map.Lookups.{exact_bytes, exact_pairs}
 use Rattle.blot_types.specs.declared.command.Entry.{Entry}
 use Rattle.blot_types.specs.declared.fill.Fill.{Fill}
 use Rattle.blot_types.specs.declared.keys.OrderKey.{OrderKey}
 use Rattle.blot_types.specs.declared.lines.OrderLine.{OrderLine}
 use Rattle.blot_types.specs.declared.part.Part.{Part}
 use Rattle.blot_types.specs.declared.lines.PositionLine.{PositionLine}
-use Rattle.blot_types.specs.declared.lines.Version.{Version}
 use Rattle.blot_types.specs.Keys.{same_order, same_text, position_cmp}
 use Rattle.blot_types.proofs.KeyLemmas.{position_cmp-exact}
 use Rattle.blot_types.specs.Order.{line_of, fills_of}
@@ -26,53 +19,14 @@ use Rattle.blot_report.specs.declared.lines.DayLines.{DayLines}
 use Rattle.blot_report.specs.declared.lines.OrderRow.{OrderRow}
 use Rattle.blot_types.specs.declared.keys.PositionKey.{PositionKey}
 use Rattle.blot_report.specs.declared.lines.PositionRow.{PositionRow}
-use Rattle.blot_report.specs.Day.{survivors_on, fills_on, day_parts_of}
+use Rattle.blot_report.specs.Day.{fills_on, day_parts_of}
+use Rattle.blot_report.proofs.KeyLemmas.{order_cmp-exact}
+use Rattle.blot_report.proofs.ListLemmas.{any-mapped}
+use Rattle.blot_report.proofs.SortedLemmas.{any-sorted}
 use Rattle.blot_report.specs.Laws.{ShowsDay, order_line_in, position_line_in}
 use Rattle.blot_report.specs.Lines.{order_cmp, orders_among, order_rows, position_key, positions_among, position_rows, day_lines_of}
 
--- ---- what is among sorted keys
-
--- an order of keys ties no two of them
-abbrev IsExact : {K : Type 0} → (K → K → Ordering) → Type 0
-IsExact {K} cmp = (a b : K) → cmp a b ≡ Equal → a ≡ b
-
-or-swap : (a b c : Bool) → (a || (b || c)) ≡ (b || (a || c))
-or-swap true true c = refl
-or-swap true false c = refl
-or-swap false b c = refl
-
-or-twice : (a b : Bool) → (a || (a || b)) ≡ (a || b)
-or-twice true b = refl
-or-twice false b = refl
-
--- a test that some key passes, with one key more
-any-inserted :
-    {K : Type 0} (cmp : K → K → Ordering) (p : K → Bool) (xs : List K) (k : K) → IsExact cmp → list_any p (insert_key cmp xs k) ≡ (p k || list_any p xs)
-any-inserted cmp p [] k exact = refl
-any-inserted {K} cmp p (x ∷ xs) k exact = by (cmp k x) (exact k x) (any-inserted cmp p xs k exact)
-  where
-    by : (order : Ordering) → (order ≡ Equal → k ≡ x) → list_any p (insert_key cmp xs k) ≡ (p k || list_any p xs)
-        → list_any p (match_ordering order (k ∷ x ∷ xs) (x ∷ xs) (x ∷ insert_key cmp xs k)) ≡ (p k || (p x || list_any p xs))
-    by Less same rest = refl
-    by Equal same rest = sym (ap (λ key. p key || (p x || list_any p xs)) (same refl) ∙ or-twice (p x) (list_any p xs))
-    by Greater same rest = ap (λ any. p x || any) rest ∙ or-swap (p x) (p k) (list_any p xs)
-
-or-left : (a b c : Bool) → ((a || b) || c) ≡ (b || (a || c))
-or-left true true c = refl
-or-left true false c = refl
-or-left false b c = refl
-
-any-sorted :
-    {K : Type 0} (cmp : K → K → Ordering) (p : K → Bool) (front keys : List K) → IsExact cmp
-    → list_any p (fold (insert_key cmp) front keys) ≡ (list_any p keys || list_any p front)
-any-sorted cmp p front [] exact = refl
-any-sorted cmp p front (k ∷ keys) exact =
-    any-sorted cmp p (insert_key cmp front k) keys exact ∙ ap (λ any. list_any p keys || any) (any-inserted cmp p front k exact)
-    ∙ sym (or-left (p k) (list_any p keys) (list_any p front))
-
-any-mapped : {A B : Type 0} (p : B → Bool) (f : A → B) (xs : List A) → list_any p (map f xs) ≡ list_any (λ x. p (f x)) xs
-any-mapped p f [] = refl
-any-mapped p f (x ∷ xs) = ap (λ any. p (f x) || any) (any-mapped p f xs)
+-- ---- what is among keys
 
 or-parts : (a b : Bool) → (a || b) ≡ false → (a ≡ false) × (b ≡ false)
 or-parts true b none = cc
@@ -146,23 +100,14 @@ found {K} {V} {R} line row same value test key (k ∷ keys) looks = by (line k) 
 
 -- ---- orders
 
-order_cmp-exact : IsExact order_cmp
-order_cmp-exact a b tied =
-    let both : (a.peer, a.id) ≡ (b.peer, b.id) = exact_pairs (slice_cmp nat_cmp) (slice_cmp nat_cmp) exact_bytes exact_bytes (a.peer, a.id) (b.peer, b.id) tied in
-    λ i. record { peer = (both i).0; id = (both i).1 }
-
 same_order-true : (a b : OrderKey) → same_order a b ≡ true → a ≡ b
 same_order-true a b same = (let parts = same_position-true a.peer a.id b.peer b.id same in λ i. record { peer = parts.0 i; id = parts.1 i })
-
-or-false : (a : Bool) → (a || false) ≡ a
-or-false true = refl
-or-false false = refl
 
 no-line : (fills : List Fill) (order : OrderKey) → list_any (λ k. same_order k order) (orders_among fills) ≡ false → line_of (fills_of fills order) ≡ None
 no-line fills order none =
     let keys = map (λ (f : Fill). f.order) fills in
     let among : list_any (λ k. same_order k order) (orders_among fills) ≡ list_any (λ (f : Fill). same_order f.order order) fills =
-    any-sorted order_cmp (λ k. same_order k order) [] keys order_cmp-exact ∙ or-false (list_any (λ k. same_order k order) keys)
+    any-sorted order_cmp (λ k. same_order k order) keys order_cmp-exact
     ∙ any-mapped (λ k. same_order k order) (λ (f : Fill). f.order) fills in
     ap line_of (filter-none (λ (f : Fill). same_order f.order order) fills (sym among ∙ none))
 
@@ -189,7 +134,7 @@ no-parts : (parts : List Part) (account symbol : List ℕ) → list_any (is_posi
 no-parts parts account symbol none =
     let keys = map position_key parts in
     let among : list_any (is_position account symbol) (positions_among parts) ≡ list_any (is_at account symbol) parts =
-    any-sorted position_cmp (is_position account symbol) [] keys position_cmp-exact ∙ or-false (list_any (is_position account symbol) keys)
+    any-sorted position_cmp (is_position account symbol) keys position_cmp-exact
     ∙ any-mapped (is_position account symbol) position_key parts in
     ap position_by (filter-none (is_at account symbol) parts (sym among ∙ none))
 
@@ -213,13 +158,12 @@ shows list day = record {
 pub shows-day : (list : List Entry) (day : ℤ) (lines : DayLines) → lines ≡ day_lines_of list day → ShowsDay list day lines
 shows-day list day lines is = subst (ShowsDay list day) (sym is) (shows list day)
 
--- the rows of a day's survivors and of its parts are the lines of the day
+-- the rows of a day's fills and of its parts are the lines of the day
 pub lines-found :
-    (list entries : List Entry) (day : ℤ) (versions : List Version) (parts : List Part) (orders : List OrderRow) (positions : List PositionRow) → entries ≡ list
-    → versions ≡ survivors_on entries day → parts ≡ day_parts_of entries day → orders ≡ order_rows (map (λ v. v.fill) versions) → positions ≡ position_rows parts
+    (list entries : List Entry) (day : ℤ) (fills : List Fill) (parts : List Part) (orders : List OrderRow) (positions : List PositionRow) → entries ≡ list
+    → fills ≡ fills_on entries day → parts ≡ day_parts_of entries day → orders ≡ order_rows fills → positions ≡ position_rows parts
     → record { day = day; orders = orders; positions = positions } ≡ day_lines_of list day
-lines-found list entries day versions parts orders positions same survivors put ordered placed =
-    let first : orders ≡ order_rows (fills_on list day) =
-    ordered ∙ ap (λ vs. order_rows (map (λ (v : Version). v.fill) vs)) (survivors ∙ ap (λ l. survivors_on l day) same) in
+lines-found list entries day fills parts orders positions same filled put ordered placed =
+    let first : orders ≡ order_rows (fills_on list day) = ordered ∙ ap order_rows (filled ∙ ap (λ l. fills_on l day) same) in
     let second : positions ≡ position_rows (day_parts_of list day) = placed ∙ ap position_rows (put ∙ ap (λ l. day_parts_of l day) same) in
     λ i. record { day = day; orders = first i; positions = second i }

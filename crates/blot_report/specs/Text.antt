@@ -13,7 +13,7 @@ use Rattle.blot_report.specs.declared.lines.DayLines.{DayLines}
 use Rattle.blot_report.specs.declared.lines.OrderRow.{OrderRow}
 use Rattle.blot_report.specs.declared.lines.PositionRow.{PositionRow}
 
--- a word and the tab behind it
+-- a word and the tab after it
 abbrev pub word : List ℕ → List ℕ
 word bytes = bytes ++ 9 ∷ []
 

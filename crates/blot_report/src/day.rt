@@ -26,9 +26,9 @@ pub fn day_lines(alloc: Global, snapshot: &Snapshot, day: Day) -> Result<DayLine
 {
     let entries = snapshot.entries();
     let linked = Linked::of(alloc, entries)?;
-    let versions = survivors_on(alloc, entries, &linked, day)?;
-    let parts = parts_on(alloc, entries, &linked, &versions, day)?;
-    let orders = order_rows(alloc, &versions)?;
+    let survivors = survivors_on(alloc, entries, &linked, day)?;
+    let parts = parts_on(alloc, entries, &linked, &survivors, day)?;
+    let orders = order_rows(alloc, &survivors)?;
     let positions = position_rows(alloc, &parts)?;
     Ok(DayLines {
         day,

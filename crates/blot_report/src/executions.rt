@@ -1,40 +1,95 @@
 //! The executions that stand on a day.
-ghost use Rattle.std.specs.Prelude.{◌≡◌, IfOk};
+ghost use Rattle.std.specs.Prelude.{◌≡◌, map, Some, IfOk};
+ghost use Rattle.std.specs.List.{filter_map};
+ghost use Rattle.std.specs.Option.{option_map};
+ghost use Rattle.blot_types.specs.Position.{part_of};
 ghost use Rattle.blot_types.specs.Survivors.{version_of};
 ghost use Rattle.blot_types.specs.Legal.{HoldsList};
-ghost use Rattle.blot_report.specs.Day.{survivors_on};
-ghost use Rattle.blot_report.specs.Linked.{survivor_by};
+ghost use Rattle.blot_report.specs.Day.{survivors_on, fills_on};
+ghost use Rattle.blot_report.specs.Linked.{fill_in, part_in, standing_in, standing_of, standing_by};
 
 use crate::linked::Linked;
 use blot_time::Day;
-use blot_types::{Entry, Version};
+use blot_types::{Command, Entry, ExecKey, Fill};
 use std::alloc::{AllocError as NoMemory, Global};
 
-/// The executions of a book that stand and are of a day, in list order. An error is out of memory.
-pub(crate) fn survivors_on(
-    alloc: Global,
-    entries: &[Entry],
-    linked: &Linked,
-    day: Day,
-) -> Result<Vec<Version>, NoMemory>
-    requires { HoldsList entries.now linked.now.chains.list linked.now.allocs.list }
-    ensures { IfOk result (λ versions. versions.items ≡ survivors_on entries.now day) }
-{
-    let mut versions = Vec::new(alloc);
-    for entry in entries {
-        if let Some(version) = survivor(linked, entry, day) {
-            versions.push(version)?;
-        }
-    }
-    Ok(versions)
+/// The fill of an execution that stands, and whether a live allocation names its chain.
+#[derive(Clone, Copy)]
+pub(crate) struct Survivor<'a> {
+    pub(crate) fill: &'a Fill,
+    pub(crate) is_named: bool,
 }
 
-// The version that an entry brings, where it is of the day and stands.
-fn survivor(linked: &Linked, entry: &Entry, day: Day) -> Option<Version>
-    ensures { result ≡ survivor_by linked.now.chains.list day (version_of entry.now) }
+/// The executions of a book that stand and are of a day, in list order. An error is out of memory.
+pub(crate) fn survivors_on<'a>(
+    alloc: Global,
+    entries: &'a [Entry],
+    linked: &Linked,
+    day: Day,
+) -> Result<Vec<Survivor<'a>>, NoMemory>
+    requires { HoldsList entries.now linked.now.chains.list linked.now.allocs.list }
+    ensures fills { IfOk result (λ survivors. map fill_in survivors.items ≡ fills_on entries.now day) }
+    ensures parts { IfOk result (λ survivors. map part_in survivors.items ≡ map (part_of entries.now) (survivors_on entries.now day)) }
 {
-    match entry.version() {
-        Some(version) if version.fill.day == day && linked.stands(&version) => Some(version),
-        _ => None,
+    survivors_among(alloc, entries, linked, day)
+}
+
+// Those that some of the entries bring.
+fn survivors_among<'a>(
+    alloc: Global,
+    entries: &'a [Entry],
+    linked: &Linked,
+    day: Day,
+) -> Result<Vec<Survivor<'a>>, NoMemory>
+    ensures { IfOk result (λ survivors. map standing_in survivors.items
+        ≡ filter_map (λ entry. standing_by linked.now.chains.list linked.now.allocs.list day (version_of entry)) entries.now) }
+{
+    let mut survivors = Vec::new(alloc);
+    for entry in entries {
+        if let Some(survivor) = survivor_by(linked, entry, day) {
+            survivors.push(survivor)?;
+        }
     }
+    Ok(survivors)
+}
+
+// The one that an entry brings, where it is of the day and stands.
+fn survivor_by<'a>(linked: &Linked, entry: &'a Entry, day: Day) -> Option<Survivor<'a>>
+    ensures { option_map standing_in result ≡ standing_by linked.now.chains.list linked.now.allocs.list day (version_of entry.now) }
+{
+    match &entry.command {
+        Command::Trade(trade) => standing_fill(linked, entry.number, &trade.key, &trade.fill, day),
+        Command::Correct(correct) => {
+            standing_fill(linked, entry.number, &correct.key, &correct.fill, day)
+        }
+        Command::Bust(_)
+        | Command::AllocNew(_)
+        | Command::AllocReplace(_)
+        | Command::AllocCancel(_) => None,
+    }
+}
+
+// The one of a key, which the entry of a number fills, where it is of the day and stands. The root of its chain is
+// looked up once.
+fn standing_fill<'a>(
+    linked: &Linked,
+    number: u64,
+    key: &ExecKey,
+    fill: &'a Fill,
+    day: Day,
+) -> Option<Survivor<'a>>
+    ensures { option_map standing_in result
+        ≡ standing_of linked.now.chains.list linked.now.allocs.list day (record { number = number; key = key.now; fill = fill.now }) }
+{
+    if fill.day != day {
+        return None;
+    }
+    let root = linked.root_of(key)?;
+    if !linked.stands(number, &root) {
+        return None;
+    }
+    Some(Survivor {
+        fill,
+        is_named: linked.is_named(&root),
+    })
 }

@@ -1,15 +1,15 @@
 //! The chains and the allocations of a book's entries, and what they say of an execution or an allocation.
-ghost use Rattle.std.specs.Prelude.{◌≡◌, IsTrue, IfOk, is_none};
-ghost use Rattle.blot_types.specs.Instructions.{ended_in};
+ghost use Rattle.std.specs.Prelude.{◌≡◌, Some, IsTrue, IfOk, is_none};
+ghost use Rattle.blot_types.specs.Chains.{root_in};
+ghost use Rattle.blot_types.specs.Instructions.{ended_in, named_in};
+ghost use Rattle.blot_types.specs.Keys.{is_among};
 ghost use Rattle.blot_types.specs.Legal.{is_book, HoldsList};
-ghost use Rattle.blot_types.specs.Survivors.{stands_in};
-ghost use Rattle.blot_types.specs.Position.{IsSmall};
-ghost use Rattle.blot_report.specs.Linked.{is_named_by, part_by};
+ghost use Rattle.blot_types.specs.Survivors.{stands_under};
 
 use blot_alloc::Allocs;
 use blot_chain::Chains;
 use blot_command::link_entry;
-use blot_types::{AllocKey, Entry, ExecKey, Part, Version};
+use blot_types::{AllocKey, Entry, ExecKey};
 use std::alloc::{AllocError as NoMemory, Global};
 
 /// The chains and the allocations of a book's entries.
@@ -33,14 +33,25 @@ impl Linked {
         Ok(Linked { chains, allocs })
     }
 
-    /// Whether a version stands: its chain isn't busted, and it is the chain's last.
-    pub(crate) fn stands(&self, version: &Version) -> bool
-        ensures { result ≡ stands_in self.now.chains.list version.now }
+    /// The root of the chain of a key, if an execution takes the key up.
+    pub(crate) fn root_of(&self, key: &ExecKey) -> Option<ExecKey>
+        ensures { result ≡ root_in self.now.chains.list key.now }
     {
-        let Some(root) = self.chains.root_of(&version.key) else {
-            return false;
-        };
-        self.chains.bust_of(&root).is_none() && self.chains.current(&root) == Some(version.number)
+        self.chains.root_of(key)
+    }
+
+    /// Whether the version of a number stands under a root: the chain isn't busted, and this is its last version.
+    pub(crate) fn stands(&self, number: u64, root: &ExecKey) -> bool
+        ensures { result ≡ stands_under self.now.chains.list number (Some root.now) }
+    {
+        self.chains.bust_of(root).is_none() && self.chains.current(root) == Some(number)
+    }
+
+    /// Whether a live allocation names the chain of a root.
+    pub(crate) fn is_named(&self, root: &ExecKey) -> bool
+        ensures { result ≡ is_among (named_in self.now.allocs.list) root.now }
+    {
+        self.allocs.holder_of(root).is_some()
     }
 
     /// Whether the allocation of a key is live, where there is one.
@@ -48,23 +59,5 @@ impl Linked {
         ensures { result ≡ is_none (ended_in self.now.allocs.list key.now) }
     {
         self.allocs.ended_by(key).is_none()
-    }
-
-    /// What a version adds to the positions.
-    pub(crate) fn part_of(&self, version: &Version) -> Part
-        ensures part { result ≡ part_by self.now.chains.list self.now.allocs.list version.now }
-        ensures small { IsSmall result }
-    {
-        Part::of_fill(self.is_named(&version.key), &version.fill)
-    }
-
-    // Whether the chain of a key is named by a live allocation.
-    fn is_named(&self, key: &ExecKey) -> bool
-        ensures { result ≡ is_named_by self.now.chains.list self.now.allocs.list key.now }
-    {
-        match self.chains.root_of(key) {
-            None => false,
-            Some(root) => self.allocs.holder_of(&root).is_some(),
-        }
     }
 }

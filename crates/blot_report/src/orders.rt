@@ -1,38 +1,45 @@
 //! The rows of orders.
-ghost use Rattle.std.specs.Prelude.{◌≡◌, ℕ, ◌+◌, ◌≤◌, length, map, IfOk, OnOk};
-ghost use Rattle.std.specs.List.{filter_map};
+ghost use Rattle.std.specs.Prelude.{◌≡◌, ℕ, ◌+◌, ◌≤◌, List, length, map, IfOk, OnOk};
+ghost use Rattle.std.specs.List.{filter_map, IsDistinct};
+ghost use Rattle.std.specs.Map.{keys_of};
+ghost use Rattle.blot_types.specs.declared.fill.Fill.{Fill};
 ghost use Rattle.blot_types.specs.declared.keys.OrderKey.{OrderKey};
+ghost use Rattle.blot_types.specs.Keys.{same_order};
 ghost use Rattle.blot_types.specs.Order.{IsWithin};
 ghost use Rattle.blot_report.specs.Lines.{orders_among, order_rows};
+ghost use Rattle.blot_report.specs.Linked.{fill_in};
 ghost use Rattle.blot_report.specs.Orders.{line_at, line_row, with_line, AreLinesOf};
 
 use crate::OrderRow;
-use blot_types::{EVENTS_MAX, Fill, OrderKey, OrderLine, Version};
+use crate::executions::Survivor;
+use blot_types::{EVENTS_MAX, Fill, OrderKey, OrderLine};
 use indexmap::IndexMap;
 use std::alloc::{AllocError as NoMemory, Global};
-use std::collections::BTreeSet;
 
 // The line of each order, as far as its fills have come.
 type Lines = IndexMap<OrderKey, OrderLine>;
 
-/// The rows of the orders that versions fill, by peer and then by OrderID. An error is out of memory.
-pub(crate) fn order_rows(alloc: Global, versions: &[Version]) -> Result<Vec<OrderRow>, NoMemory>
-    requires { length versions.now ≤ EVENTS_MAX + 1 }
-    ensures { IfOk result (λ rows. rows.items ≡ order_rows (map (λ version. version.fill) versions.now)) }
+/// The rows of the orders that survivors fill, by peer and then by OrderID. An error is out of memory.
+pub(crate) fn order_rows(
+    alloc: Global,
+    survivors: &[Survivor<'_>],
+) -> Result<Vec<OrderRow>, NoMemory>
+    requires { length survivors.now ≤ EVENTS_MAX + 1 }
+    ensures { IfOk result (λ rows. rows.items ≡ order_rows (map fill_in survivors.now)) }
 {
-    let lines = lines_of(alloc, versions)?;
-    let keys = orders_among(alloc, versions)?;
+    let lines = lines_of(alloc, survivors)?;
+    let keys = sorted_orders(alloc, &lines)?;
     rows_of(alloc, &lines, &keys)
 }
 
-// The lines of the orders that versions fill.
-fn lines_of(alloc: Global, versions: &[Version]) -> Result<Lines, NoMemory>
-    requires { length versions.now ≤ EVENTS_MAX + 1 }
-    ensures { IfOk result (λ lines. AreLinesOf lines.entries (map (λ version. version.fill) versions.now)) }
+// The lines of the orders that survivors fill.
+fn lines_of(alloc: Global, survivors: &[Survivor<'_>]) -> Result<Lines, NoMemory>
+    requires { length survivors.now ≤ EVENTS_MAX + 1 }
+    ensures { IfOk result (λ lines. AreLinesOf lines.entries (map fill_in survivors.now)) }
 {
     let mut lines = IndexMap::new(alloc);
-    for version in versions {
-        add_fill(&mut lines, &version.fill)?;
+    for survivor in survivors {
+        add_fill(&mut lines, survivor.fill)?;
     }
     Ok(lines)
 }
@@ -55,22 +62,21 @@ fn line_of(lines: &Lines, order: &OrderKey) -> Option<OrderLine>
     lines.get(order).copied()
 }
 
-// The orders that versions fill, sorted, each once.
-fn orders_among(alloc: Global, versions: &[Version]) -> Result<Vec<OrderKey>, NoMemory>
-    ensures { IfOk result (λ keys. keys.items ≡ orders_among (map (λ version. version.fill) versions.now)) }
+// The orders that have a line, sorted.
+fn sorted_orders(alloc: Global, lines: &Lines) -> Result<Vec<OrderKey>, NoMemory>
+    ensures { IfOk result (λ keys. (fills : List Fill) → AreLinesOf lines.now.entries fills → keys.items ≡ orders_among fills) }
 {
-    let mut keys = BTreeSet::new(alloc);
-    for version in versions {
-        keys.insert(version.fill.order)?;
-    }
-    keys_of(alloc, &keys)
+    let mut keys = orders_of(alloc, lines)?;
+    keys.sort_unstable();
+    Ok(keys)
 }
 
-// The keys of a set, in their order.
-fn keys_of(alloc: Global, keys: &BTreeSet<OrderKey>) -> Result<Vec<OrderKey>, NoMemory>
-    ensures { IfOk result (λ list. list.items ≡ keys.now.keys) }
+// The orders that have a line, each once.
+fn orders_of(alloc: Global, lines: &Lines) -> Result<Vec<OrderKey>, NoMemory>
+    ensures keys { IfOk result (λ keys. keys.items ≡ keys_of lines.now.entries) }
+    ensures once { IsDistinct same_order (keys_of lines.now.entries) }
 {
-    keys.iter().copied().collect(alloc)
+    lines.keys().copied().collect(alloc)
 }
 
 // The rows of some orders: one for each that has a line.

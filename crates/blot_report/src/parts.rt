@@ -3,15 +3,16 @@ ghost use Rattle.std.specs.Prelude.{◌≡◌, ◌++◌, map, All, IfOk, OnOk};
 ghost use Rattle.std.specs.List.{filter_map, flat_map};
 ghost use Rattle.std.specs.Option.{option_copied};
 ghost use Rattle.blot_types.specs.Allocations.{allocation_of};
-ghost use Rattle.blot_types.specs.Position.{moves_of, IsSmall, TermsFit};
+ghost use Rattle.blot_types.specs.Position.{moves_of, part_of, IsSmall, TermsFit};
 ghost use Rattle.blot_types.specs.Legal.{HoldsList};
 ghost use Rattle.blot_report.specs.Day.{survivors_on, day_parts_of};
-ghost use Rattle.blot_report.specs.Linked.{part_by, is_live_on, terms_by};
+ghost use Rattle.blot_report.specs.Linked.{part_in, is_live_on, terms_by};
 ghost use Rattle.blot_report.specs.Sums.{IsLight};
 
+use crate::executions::Survivor;
 use crate::linked::Linked;
 use blot_time::Day;
-use blot_types::{AllocKey, Command, Entry, Part, Terms, Version};
+use blot_types::{AllocKey, Command, Entry, Part, Terms};
 use std::alloc::{AllocError as NoMemory, Global};
 
 /// The parts of a day: those of its survivors, and those of the lines of its live allocations. An error is out of
@@ -20,32 +21,32 @@ pub(crate) fn parts_on(
     alloc: Global,
     entries: &[Entry],
     linked: &Linked,
-    versions: &[Version],
+    survivors: &[Survivor<'_>],
     day: Day,
 ) -> Result<Vec<Part>, NoMemory>
     requires book { HoldsList entries.now linked.now.chains.list linked.now.allocs.list }
-    requires survivors { versions.now ≡ survivors_on entries.now day }
+    requires survivors { map part_in survivors.now ≡ map (part_of entries.now) (survivors_on entries.now day) }
     ensures parts { IfOk result (λ parts. parts.items ≡ day_parts_of entries.now day) }
     ensures light { IfOk result (λ parts. IsLight parts.items) }
 {
     let mut parts = Vec::new(alloc);
-    put_fills(&mut parts, linked, versions)?;
+    put_fills(&mut parts, survivors)?;
     put_allocations(&mut parts, linked, entries, day)?;
     Ok(parts)
 }
 
-// Puts what versions add behind other parts.
-fn put_fills(parts: &mut Vec<Part>, linked: &Linked, versions: &[Version]) -> Result<(), NoMemory>
-    ensures parts { OnOk result (parts.new.items ≡ parts.old.items ++ map (part_by linked.now.chains.list linked.now.allocs.list) versions.now) }
-    ensures small { OnOk result (All IsSmall (map (part_by linked.now.chains.list linked.now.allocs.list) versions.now)) }
+// Puts what survivors add after other parts.
+fn put_fills(parts: &mut Vec<Part>, survivors: &[Survivor<'_>]) -> Result<(), NoMemory>
+    ensures parts { OnOk result (parts.new.items ≡ parts.old.items ++ map part_in survivors.now) }
+    ensures small { OnOk result (All IsSmall (map part_in survivors.now)) }
 {
-    for version in versions {
-        parts.push(linked.part_of(version))?;
+    for survivor in survivors {
+        parts.push(Part::of_fill(survivor.is_named, survivor.fill))?;
     }
     Ok(())
 }
 
-// Puts what the live allocations of a day move behind other parts.
+// Puts what the live allocations of a day move after other parts.
 fn put_allocations(
     parts: &mut Vec<Part>,
     linked: &Linked,
@@ -89,7 +90,7 @@ fn is_live_on(linked: &Linked, key: &AllocKey, terms: &Terms, day: Day) -> bool
     terms.day == day && linked.is_live(key)
 }
 
-// Puts what the lines of terms move behind other parts.
+// Puts what the lines of terms move after other parts.
 fn put_moves(parts: &mut Vec<Part>, terms: &Terms) -> Result<(), NoMemory>
     ensures parts { OnOk result (parts.new.items ≡ parts.old.items ++ moves_of terms.now) }
     ensures fit { OnOk result (TermsFit terms.now) }

@@ -1,16 +1,16 @@
 //! The rows of positions.
 ghost use Rattle.std.specs.Prelude.{◌≡◌, IfOk};
-ghost use Rattle.std.specs.List.{filter_map};
+ghost use Rattle.std.specs.List.{filter_map, IsDistinct};
 ghost use Rattle.blot_types.specs.Order.{total};
 ghost use Rattle.blot_position.specs.Carried.{Carries};
 ghost use Rattle.blot_report.specs.Lines.{position_key, positions_among, position_rows};
-ghost use Rattle.blot_report.specs.Sums.{IsLight, cell_row};
+ghost use Rattle.blot_report.specs.Sums.{IsLight, HasKeys, cell_row, same_key};
 
 use crate::PositionRow;
 use blot_position::Positions;
 use blot_types::{Part, PositionKey};
+use indexmap::IndexSet;
 use std::alloc::{AllocError as NoMemory, Global};
-use std::collections::BTreeSet;
 
 /// The rows of the positions that parts are of, by account and then by symbol. An error is out of memory.
 pub(crate) fn position_rows(alloc: Global, parts: &[Part]) -> Result<Vec<PositionRow>, NoMemory>
@@ -18,7 +18,7 @@ pub(crate) fn position_rows(alloc: Global, parts: &[Part]) -> Result<Vec<Positio
     ensures { IfOk result (λ rows. rows.items ≡ position_rows parts.now) }
 {
     let positions = positions_of(alloc, parts)?;
-    let keys = positions_among(alloc, parts)?;
+    let keys = sorted_positions(alloc, parts)?;
     rows_of(alloc, &positions, &keys)
 }
 
@@ -35,14 +35,32 @@ fn positions_of(alloc: Global, parts: &[Part]) -> Result<Positions, NoMemory>
 }
 
 // The positions that parts are of, sorted, each once.
-fn positions_among(alloc: Global, parts: &[Part]) -> Result<Vec<PositionKey>, NoMemory>
+fn sorted_positions(alloc: Global, parts: &[Part]) -> Result<Vec<PositionKey>, NoMemory>
     ensures { IfOk result (λ keys. keys.items ≡ positions_among parts.now) }
 {
-    let mut keys = BTreeSet::new(alloc);
+    let found = keys_among(alloc, parts)?;
+    let mut keys = keys_of(alloc, &found)?;
+    keys.sort_unstable();
+    Ok(keys)
+}
+
+// The keys of a set.
+fn keys_of(alloc: Global, found: &IndexSet<PositionKey>) -> Result<Vec<PositionKey>, NoMemory>
+    ensures keys { IfOk result (λ keys. keys.items ≡ found.now.keys) }
+    ensures once { IsDistinct same_key found.now.keys }
+{
+    found.iter().copied().collect(alloc)
+}
+
+// The positions that parts are of, each once.
+fn keys_among(alloc: Global, parts: &[Part]) -> Result<IndexSet<PositionKey>, NoMemory>
+    ensures { IfOk result (λ found. HasKeys found.keys parts.now) }
+{
+    let mut found = IndexSet::new(alloc);
     for part in parts {
-        keys.insert(key_of(part))?;
+        found.insert(key_of(part))?;
     }
-    keys_of(alloc, &keys)
+    Ok(found)
 }
 
 // The position that a part is of.
@@ -53,13 +71,6 @@ fn key_of(part: &Part) -> PositionKey
         account: part.account,
         symbol: part.symbol,
     }
-}
-
-// The keys of a set, in their order.
-fn keys_of(alloc: Global, keys: &BTreeSet<PositionKey>) -> Result<Vec<PositionKey>, NoMemory>
-    ensures { IfOk result (λ list. list.items ≡ keys.now.keys) }
-{
-    keys.iter().copied().collect(alloc)
 }
 
 // The rows of some positions: one for each that has a part.

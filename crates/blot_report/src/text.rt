@@ -4,7 +4,7 @@ ghost use Rattle.blot_report.specs.Text.{word, sign_text, order_amounts, order_t
 
 use crate::{DayLines, OrderRow, PositionRow};
 use blot_time::Day;
-use blot_types::{OrderKey, OrderLine, PositionLine, Sign, Text64};
+use blot_types::{OrderKey, OrderLine, PositionKey, PositionLine, Sign, Text64};
 use std::alloc::{AllocError as NoMemory, Global};
 
 /// The text of a report: its day, the lines of the orders and those of the positions, and how many these are. An
@@ -13,16 +13,71 @@ pub fn report_text(alloc: Global, lines: &DayLines) -> Result<Vec<u8>, NoMemory>
     ensures { IfOk result (λ text. text.items ≡ report_text lines.now) }
 {
     let mut text = Vec::new(alloc);
+    let mut numbers = String::new(alloc);
     put_first_line(&mut text, lines.day)?;
-    put_order_lines(alloc, &mut text, lines.orders.as_slice())?;
-    put_position_lines(alloc, &mut text, lines.positions.as_slice())?;
-    put_end_line(alloc, &mut text, lines)?;
+    put_order_lines(&mut numbers, &mut text, lines.orders.as_slice())?;
+    put_position_lines(&mut numbers, &mut text, lines.positions.as_slice())?;
+    put_end_line(&mut numbers, &mut text, lines)?;
     Ok(text)
 }
 
-/// Puts the line of an order behind a text. An error is out of memory, and what the text has then isn't said.
+/// Puts the line of an order after a text. An error is out of memory, and what the text has then isn't said.
 pub fn put_order_line(
     alloc: Global,
+    text: &mut Vec<u8>,
+    order: &OrderKey,
+    line: &OrderLine,
+) -> Result<(), NoMemory>
+    ensures { OnOk result (text.new.items ≡ text.old.items ++ order_text order.now line.now) }
+{
+    put_order(&mut String::new(alloc), text, order, line)
+}
+
+/// Puts the line of a position after a text. An error is out of memory, and what the text has then isn't said.
+pub fn put_position_line(
+    alloc: Global,
+    text: &mut Vec<u8>,
+    account: &Text64,
+    symbol: &Text64,
+    line: &PositionLine,
+) -> Result<(), NoMemory>
+    ensures { OnOk result (text.new.items ≡ text.old.items ++ position_text account.now symbol.now line.now) }
+{
+    put_position(&mut String::new(alloc), text, account, symbol, line)
+}
+
+// Puts the lines of orders after a text. The numbers of each line are written into one string, which is emptied first.
+fn put_order_lines(
+    numbers: &mut String,
+    text: &mut Vec<u8>,
+    rows: &[OrderRow],
+) -> Result<(), NoMemory>
+    ensures { OnOk result (text.new.items ≡ text.old.items ++ order_lines_text rows.now) }
+{
+    for row in rows {
+        put_order(numbers, text, &row.order, &row.line)?;
+    }
+    Ok(())
+}
+
+// Puts the lines of positions after a text.
+fn put_position_lines(
+    numbers: &mut String,
+    text: &mut Vec<u8>,
+    rows: &[PositionRow],
+) -> Result<(), NoMemory>
+    ensures { OnOk result (text.new.items ≡ text.old.items ++ position_lines_text rows.now) }
+{
+    for row in rows {
+        let PositionKey { account, symbol } = &row.position;
+        put_position(numbers, text, account, symbol, &row.line)?;
+    }
+    Ok(())
+}
+
+// Puts the line of an order after a text.
+fn put_order(
+    numbers: &mut String,
     text: &mut Vec<u8>,
     order: &OrderKey,
     line: &OrderLine,
@@ -34,12 +89,12 @@ pub fn put_order_line(
     put_word(text, order.id.bytes())?;
     put_word(text, line.symbol.bytes())?;
     put_word(text, sign_word(line.sign))?;
-    put_order_amounts(alloc, text, line)
+    put_order_amounts(numbers, text, line)
 }
 
-/// Puts the line of a position behind a text. An error is out of memory, and what the text has then isn't said.
-pub fn put_position_line(
-    alloc: Global,
+// Puts the line of a position after a text.
+fn put_position(
+    numbers: &mut String,
     text: &mut Vec<u8>,
     account: &Text64,
     symbol: &Text64,
@@ -50,40 +105,10 @@ pub fn put_position_line(
     put_word(text, b"position")?;
     put_word(text, account.bytes())?;
     put_word(text, symbol.bytes())?;
-    put_position_amounts(alloc, text, line)
+    put_position_amounts(numbers, text, line)
 }
 
-// Puts the lines of orders behind a text.
-fn put_order_lines(alloc: Global, text: &mut Vec<u8>, rows: &[OrderRow]) -> Result<(), NoMemory>
-    ensures { OnOk result (text.new.items ≡ text.old.items ++ order_lines_text rows.now) }
-{
-    for row in rows {
-        put_order_line(alloc, text, &row.order, &row.line)?;
-    }
-    Ok(())
-}
-
-// Puts the lines of positions behind a text.
-fn put_position_lines(
-    alloc: Global,
-    text: &mut Vec<u8>,
-    rows: &[PositionRow],
-) -> Result<(), NoMemory>
-    ensures { OnOk result (text.new.items ≡ text.old.items ++ position_lines_text rows.now) }
-{
-    for row in rows {
-        put_position_line(
-            alloc,
-            text,
-            &row.position.account,
-            &row.position.symbol,
-            &row.line,
-        )?;
-    }
-    Ok(())
-}
-
-// Puts the first line of a report behind a text.
+// Puts the first line of a report after a text.
 fn put_first_line(text: &mut Vec<u8>, day: Day) -> Result<(), NoMemory>
     ensures { OnOk result (text.new.items ≡ text.old.items ++ first_text day) }
 {
@@ -93,14 +118,15 @@ fn put_first_line(text: &mut Vec<u8>, day: Day) -> Result<(), NoMemory>
     Ok(())
 }
 
-// Puts the last line of a report behind a text.
-fn put_end_line(alloc: Global, text: &mut Vec<u8>, lines: &DayLines) -> Result<(), NoMemory>
+// Puts the last line of a report after a text.
+fn put_end_line(numbers: &mut String, text: &mut Vec<u8>, lines: &DayLines) -> Result<(), NoMemory>
     ensures { OnOk result (text.new.items ≡ text.old.items ++ end_text (length lines.now.orders + length lines.now.positions)) }
 {
     let count = lines.orders.as_slice().len() + lines.positions.as_slice().len();
     put_word(text, b"end")?;
-    let number = format!(in alloc; "{count}\n")?;
-    text.extend_from_slice(number.as_bytes())?;
+    numbers.clear();
+    write!(numbers, "{count}\n")?;
+    text.extend_from_slice(numbers.as_bytes())?;
     Ok(())
 }
 
@@ -114,7 +140,7 @@ fn sign_word(sign: Sign) -> &'static [u8]
     }
 }
 
-// Puts a word and a tab behind a text.
+// Puts a word and a tab after a text.
 fn put_word(text: &mut Vec<u8>, bytes: &[u8]) -> Result<(), NoMemory>
     ensures { OnOk result (text.new.items ≡ text.old.items ++ word bytes.now) }
 {
@@ -123,8 +149,12 @@ fn put_word(text: &mut Vec<u8>, bytes: &[u8]) -> Result<(), NoMemory>
     Ok(())
 }
 
-// Puts the amounts of an order's line behind a text, and ends the line.
-fn put_order_amounts(alloc: Global, text: &mut Vec<u8>, line: &OrderLine) -> Result<(), NoMemory>
+// Puts the amounts of an order's line after a text, and ends the line.
+fn put_order_amounts(
+    numbers: &mut String,
+    text: &mut Vec<u8>,
+    line: &OrderLine,
+) -> Result<(), NoMemory>
     ensures { OnOk result (text.new.items ≡ text.old.items ++ order_amounts line.now) }
 {
     let OrderLine {
@@ -133,21 +163,23 @@ fn put_order_amounts(alloc: Global, text: &mut Vec<u8>, line: &OrderLine) -> Res
         value,
         ..
     } = *line;
-    let amounts = format!(in alloc; "{cum}\t{leaves}\t{value}\n")?;
-    text.extend_from_slice(amounts.as_bytes())?;
+    numbers.clear();
+    write!(numbers, "{cum}\t{leaves}\t{value}\n")?;
+    text.extend_from_slice(numbers.as_bytes())?;
     Ok(())
 }
 
-// Puts the amounts of a position's line behind a text, and ends the line.
+// Puts the amounts of a position's line after a text, and ends the line.
 fn put_position_amounts(
-    alloc: Global,
+    numbers: &mut String,
     text: &mut Vec<u8>,
     line: &PositionLine,
 ) -> Result<(), NoMemory>
     ensures { OnOk result (text.new.items ≡ text.old.items ++ position_amounts line.now) }
 {
     let PositionLine { qty, value } = *line;
-    let amounts = format!(in alloc; "{qty}\t{value}\n")?;
-    text.extend_from_slice(amounts.as_bytes())?;
+    numbers.clear();
+    write!(numbers, "{qty}\t{value}\n")?;
+    text.extend_from_slice(numbers.as_bytes())?;
     Ok(())
 }

@@ -1,15 +1,15 @@
-use Rattle.std.proofs.Common.{ap, ◌∙◌}
-use Rattle.std.specs.Prelude.{filter}
-use Rattle.blot_types.specs.Survivors.{version_of, versions_of, stands_in}
-use Rattle.blot_report.specs.Day.{is_on}
-use Rattle.blot_report.specs.Linked.{survivor_by}
-use Rattle.blot_report.proofs.LinkedLemmas.{survivors-found}
-use Rattle.blot_report.proofs.ListLemmas.{found-all}
+use Rattle.blot_report.proofs.LinkedLemmas.{fills-told, parts-told}
+use Rattle.blot_report.proofs.ListLemmas.{if_ok}
 use Rattle.blot_report.proofs.executions.survivors_on.Goals as goal
 
-pub returns : goal.returns
-returns c =
-    let list = c.args.entries.now in
-    let links = c.args.linked.now.chains.list in
-    found-all (λ entry. survivor_by links c.args.day (version_of entry)) list c.loop-entry.entry-index c.loop-entry.versions.items c.loop-entry.invariant c.loop-entry-test.false
-    ∙ survivors-found links c.args.day list ∙ ap (λ l. filter (is_on c.args.day) (filter (stands_in l) (versions_of list))) c.requires.links_are
+pub returns-clause-fills : goal.returns-clause-fills
+returns-clause-fills c =
+    if_ok c.survivors_among.result _ _
+    (λ survivors is. fills-told c.args.entries.now c.args.day c.args.linked.now.chains.list c.args.linked.now.allocs.list survivors.items c.requires is)
+    c.survivors_among.ensures
+
+pub returns-clause-parts : goal.returns-clause-parts
+returns-clause-parts c =
+    if_ok c.survivors_among.result _ _
+    (λ survivors is. parts-told c.args.entries.now c.args.day c.args.linked.now.chains.list c.args.linked.now.allocs.list survivors.items c.requires is)
+    c.survivors_among.ensures

@@ -1,21 +1,20 @@
 use Rattle.std.proofs.Common.{◌++◌, ◌∷◌, [], map, take, ap, subst, sym, ◌∙◌}
 use Rattle.blot_types.specs.Position.{IsSmall}
-use Rattle.blot_report.specs.Linked.{part_by}
+use Rattle.blot_report.specs.Linked.{part_in}
 use Rattle.blot_report.proofs.ListLemmas.{behind, mapped-more, All-more}
 use Rattle.blot_report.proofs.parts.put_fills.Goals as goal
 
-pub loop-version-preserved : goal.loop-version-preserved
-loop-version-preserved c =
-    let f = part_by c.args.linked.now.chains.list c.args.linked.now.allocs.list in
+pub loop-survivor-preserved : goal.loop-survivor-preserved
+loop-survivor-preserved c =
     let initial = c.args.parts.now.items in
-    let versions = c.args.versions.now in
-    let index = c.loop-version.version-index in
-    let version = c.version-item.result in
-    let within = c.loop-version-test.true in
-    let items = c.loop-version.parts.items in
+    let survivors = c.args.survivors.now in
+    let index = c.loop-survivor.survivor-index in
+    let survivor = c.survivor-item.result in
+    let within = c.loop-survivor-test.true in
+    let items = c.loop-survivor.parts.items in
     record {
-      items = behind initial (map f (take index versions)) (f version ∷ []) items c.push.new.self.items c.loop-version.invariant.items
-          (c.in_ok-push.ensures.items ∙ ap (λ part. items ++ part ∷ []) c.part_of.ensures.part)
-          ∙ ap (λ done. initial ++ done) (sym (mapped-more f versions index version within c.version-item.is));
-      small = All-more IsSmall f versions index version within c.version-item.is c.loop-version.invariant.small (subst IsSmall c.part_of.ensures.part c.part_of.ensures.small);
+      items = behind initial (map part_in (take index survivors)) (part_in survivor ∷ []) items c.push.new.self.items c.loop-survivor.invariant.items
+          (c.in_ok-push.ensures.items ∙ ap (λ part. items ++ part ∷ []) c.of_fill.ensures.part)
+          ∙ ap (λ done. initial ++ done) (sym (mapped-more part_in survivors index survivor within c.survivor-item.is));
+      small = All-more IsSmall part_in survivors index survivor within c.survivor-item.is c.loop-survivor.invariant.small (subst IsSmall c.of_fill.ensures.part c.of_fill.ensures.small);
     }

@@ -1,6 +1,6 @@
-use Rattle.std.proofs.Common.{◌∙◌}
+use Rattle.std.proofs.Common.{ℕ, List, ◌∙◌}
 use Rattle.blot_report.proofs.TextLemmas.{on_ok, four_behind}
-use Rattle.blot_report.proofs.text.put_position_line.Goals as goal
+use Rattle.blot_report.proofs.text.put_position.Goals as goal
 
 pub returns : goal.returns
 returns c =
@@ -8,6 +8,8 @@ returns c =
     let w2 = c.in_ok-put_word-2.ensures in
     let w3 = c.in_ok-put_word-3.ensures in
     on_ok c.put_position_amounts.result
-    (λ last. last ∙ rw (w3, w2, w1, c.bytes.ensures.value, c.bytes-2.ensures.value)
-    (four_behind c.args.text.now.items _ _ _ _))
+    (λ last.
+    (◌∙◌ {A = List ℕ} last
+    (rw (w3, w2, w1, c.bytes.ensures.value, c.bytes-2.ensures.value)
+    (four_behind c.args.text.now.items _ _ _ _))))
     c.put_position_amounts.ensures

@@ -1,6 +1,6 @@
 use Rattle.std.proofs.Common.{ℕ, List, ◌∙◌}
 use Rattle.blot_report.proofs.TextLemmas.{on_ok, six_behind}
-use Rattle.blot_report.proofs.text.put_order_line.Goals as goal
+use Rattle.blot_report.proofs.text.put_order.Goals as goal
 
 pub returns : goal.returns
 returns c =

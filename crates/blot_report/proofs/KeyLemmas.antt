@@ -1,0 +1,121 @@
+-- The keys of orders and positions: their orders are total and tie no two keys, and a tie is what the tests call one.
+use Rattle.std.proofs.Common.{◌≡◌, ℕ, ◌+◌, ◌<◌, Bool, true, false, ◌&&◌, ◌||◌, List, [], ◌∷◌, length, map, take, get_or, Option, Some, None, refl, sym, ap, subst, ◌∙◌, inl, inr}
+use Rattle.std.specs.Prelude.{filter, is_some, cond}
+use Rattle.std.specs.Cmp.{IsTotalOrder, on_total, then_total}
+use Rattle.std.specs.Cmp.Lexicographic.{slice_cmp, nat_list_cmp_total, nat_list_eq_equiv, texts_ties}
+use Rattle.std.specs.List.{list_any, last_or, IsDistinct}
+use Rattle.std.specs.List.Sorted.{IsPermutation, IsSorted}
+use Rattle.std.specs.Map.{keys_of}
+use Rattle.std.specs.Option.{option_map}
+use Rattle.std.specs.Ordering.{eq_by_cmp, is_eq, nat_cmp, ordering_then}
+use Rattle.std.specs.declared.cmp.Ordering.{Ordering}
+use Rattle.std.specs.declared.cmp.Ordering.TheVariants.{Less, Equal, Greater}
+use Rattle.std.proofs.lemmas.Bool.{cases_Bool}
+use Rattle.std.proofs.lemmas.List.Folds.{list_any-append}
+use Rattle.std.proofs.lemmas.Map.Lookups.{CmpEqualImpliesEq, exact_bytes, exact_pairs}
+use Rattle.std.proofs.lemmas.Map.Made.{is_some-lookup}
+use Rattle.blot_types.specs.declared.fill.Fill.{Fill}
+use Rattle.blot_types.specs.declared.keys.OrderKey.{OrderKey}
+use Rattle.blot_types.specs.declared.keys.PositionKey.{PositionKey}
+use Rattle.blot_types.specs.declared.lines.OrderLine.{OrderLine}
+use Rattle.blot_types.specs.declared.part.Part.{Part}
+use Rattle.blot_types.specs.Keys.{same_order, same_text, position_cmp}
+use Rattle.blot_types.specs.Order.{line_by, fills_of}
+use Rattle.blot_types.proofs.KeyLemmas.{position_cmp-exact, position_cmp-total}
+use Rattle.blot_report.specs.Lines.{order_cmp, orders_among, position_key, positions_among}
+use Rattle.blot_report.specs.Orders.{AreLinesOf}
+use Rattle.blot_report.specs.Sums.{same_key, HasKeys}
+use Rattle.blot_report.proofs.ListLemmas.{any-mapped, mapped-more}
+use Rattle.blot_report.proofs.SortedLemmas.{sorted-once}
+
+-- ---- the orders of keys
+
+pub order_cmp-total : IsTotalOrder order_cmp
+order_cmp-total = then_total (on_total (λ (key : OrderKey). key.peer) nat_list_cmp_total) (on_total (λ (key : OrderKey). key.id) nat_list_cmp_total)
+
+pub order_cmp-exact : CmpEqualImpliesEq order_cmp
+order_cmp-exact a b tied =
+    let both : (a.peer, a.id) ≡ (b.peer, b.id) = exact_pairs (slice_cmp nat_cmp) (slice_cmp nat_cmp) exact_bytes exact_bytes (a.peer, a.id) (b.peer, b.id) tied in
+    λ i. record { peer = (both i).0; id = (both i).1 }
+
+then-tied : (first second : Ordering) → (is_eq first && is_eq second) ≡ is_eq (ordering_then first second)
+then-tied Less second = refl
+then-tied Equal second = refl
+then-tied Greater second = refl
+
+texts-tied : (a b c d : List ℕ) → (same_text a b && same_text c d) ≡ is_eq (ordering_then (slice_cmp nat_cmp a b) (slice_cmp nat_cmp c d))
+texts-tied a b c d = (λ i. texts_ties a b i && texts_ties c d i) ∙ then-tied (slice_cmp nat_cmp a b) (slice_cmp nat_cmp c d)
+
+orders-tied : same_order ≡ eq_by_cmp order_cmp
+orders-tied = λ i a b. texts-tied a.peer b.peer a.id b.id i
+
+positions-tied : same_key ≡ eq_by_cmp position_cmp
+positions-tied = λ i a b. texts-tied a.account b.account a.symbol b.symbol i
+
+same_order-sym : (a b : OrderKey) → same_order a b ≡ same_order b a
+same_order-sym a b = rw (nat_list_eq_equiv.symm a.peer b.peer, nat_list_eq_equiv.symm a.id b.id)
+
+same_key-sym : (a b : PositionKey) → same_key a b ≡ same_key b a
+same_key-sym a b = rw (nat_list_eq_equiv.symm a.account b.account, nat_list_eq_equiv.symm a.symbol b.symbol)
+
+-- ---- keys sorted once
+
+last-some : {A : Type 0} (found : Option A) (xs : List A) → is_some found ≡ true → is_some (last_or found xs) ≡ true
+last-some found [] some = some
+last-some found (x ∷ xs) some = last-some (Some x) xs refl
+
+some-kept : {A : Type 0} (p : A → Bool) (xs : List A) → is_some (last_or None (filter p xs)) ≡ list_any p xs
+some-kept p [] = refl
+some-kept p (x ∷ xs) =
+    elim (cases_Bool (p x)) [
+      | inl here ↦ rw here (last-some (Some x) (filter p xs) refl)
+      | inr other ↦ rw other (some-kept p xs)
+    ]
+
+some-mapped : {A B : Type 0} (f : A → B) (found : Option A) → is_some (option_map f found) ≡ is_some found
+some-mapped f None = refl
+some-mapped f (Some x) = refl
+
+-- the keys of lines are the orders of their fills
+lines-keyed :
+    (lines : List (OrderKey × OrderLine)) (fills : List Fill) (order : OrderKey) → AreLinesOf lines fills
+    → list_any (same_order order) (keys_of lines) ≡ list_any (same_order order) (map (λ fill. fill.order) fills)
+lines-keyed lines fills order are =
+    sym (is_some-lookup (same_order order) lines) ∙ ap is_some (are order) ∙ some-mapped (line_by (fills_of fills order)) (last_or None (fills_of fills order))
+    ∙ some-kept (λ (fill : Fill). same_order fill.order order) fills ∙ (λ i. list_any (λ (fill : Fill). same_order-sym fill.order order i) fills)
+    ∙ sym (any-mapped (same_order order) (λ (fill : Fill). fill.order) fills)
+
+-- the orders that have a line, sorted
+pub orders-sorted :
+    (lines : List (OrderKey × OrderLine)) (keys : List OrderKey) (fills : List Fill) → IsDistinct same_order (keys_of lines) → IsPermutation (keys_of lines) keys
+    → IsSorted order_cmp keys → AreLinesOf lines fills → keys ≡ orders_among fills
+orders-sorted lines keys fills distinct moved rises are =
+    let own = keys_of lines in
+    let came = map (λ (fill : Fill). fill.order) fills in
+    sorted-once order_cmp came own keys order_cmp-total order_cmp-exact (subst (λ same. IsDistinct same own) orders-tied distinct)
+    (λ key. subst (λ same. list_any (same key) own ≡ list_any (same key) came) orders-tied (lines-keyed lines fills key are)) moved rises
+
+-- the positions that parts are of, sorted
+pub positions-sorted :
+    (found keys : List PositionKey) (parts : List Part) → HasKeys found parts → IsDistinct same_key found → IsPermutation found keys → IsSorted position_cmp keys
+    → keys ≡ positions_among parts
+positions-sorted found keys parts has distinct moved rises =
+    let came = map position_key parts in
+    sorted-once position_cmp came found keys position_cmp-total position_cmp-exact (subst (λ same. IsDistinct same found) positions-tied distinct)
+    (λ key. subst (λ same. list_any (same key) found ≡ list_any (same key) came) positions-tied (has key)) moved rises
+
+-- the positions of the first parts, with one part more
+pub keys-more :
+    (old new : List PositionKey) (parts : List Part) (index : ℕ) (part : Part) → HasKeys old (take index parts) → index < length parts → part ≡ get_or parts index part
+    → ((key : PositionKey) → list_any (same_key key) new ≡ cond (same_key (position_key part) key) true (list_any (same_key key) old))
+    → HasKeys new (take (index + 1) parts)
+keys-more old new parts index part has within is put key =
+    put key ∙ joined (same_key (position_key part) key) (list_any (same_key key) old) (same_key-sym (position_key part) key) (has key)
+    ∙ sym (ap (list_any (same_key key)) (mapped-more position_key parts index part within is)
+    ∙ list_any-append (same_key key) (map position_key (take index parts)) (position_key part ∷ []))
+  where
+    joined : (test any : Bool) {turned among : Bool} → test ≡ turned → any ≡ among → cond test true any ≡ (among || (turned || false))
+    joined true true one two = rw (← one, ← two) refl
+    joined true false one two = rw (← one, ← two) refl
+    joined false true one two = rw (← one, ← two) refl
+    joined false false one two = rw (← one, ← two) refl
