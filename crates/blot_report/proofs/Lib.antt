@@ -5,6 +5,7 @@ mod LinkedLemmas
 mod ListLemmas
 mod OrderLemmas
 mod PartLemmas
+mod PieceLemmas
 mod RowLemmas
 mod ShowLemmas
 mod SortedLemmas

@@ -3,5 +3,6 @@ pub mod Laws
 pub mod Lines
 pub mod Linked
 pub mod Orders
+pub mod Pieces
 pub mod Sums
 pub mod Text

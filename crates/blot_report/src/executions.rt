@@ -9,9 +9,12 @@ ghost use Rattle.blot_report.specs.Day.{survivors_on, fills_on};
 ghost use Rattle.blot_report.specs.Linked.{fill_in, part_in, standing_in, standing_of, standing_by};
 
 use crate::linked::Linked;
+use crate::pieces::{PIECE, joined};
 use blot_time::Day;
 use blot_types::{Command, Entry, ExecKey, Fill};
+use rayon::prelude::*;
 use std::alloc::{AllocError as NoMemory, Global};
+use std::thread::Threads;
 
 /// The fill of an execution that stands, and whether a live allocation names its chain.
 #[derive(Clone, Copy)]
@@ -32,6 +35,44 @@ pub(crate) fn survivors_on<'a>(
     ensures parts { IfOk result (λ survivors. map part_in survivors.items ≡ map (part_of entries.now) (survivors_on entries.now day)) }
 {
     survivors_among(alloc, entries, linked, day)
+}
+
+/// The same, where each piece of the entries is a worker's.
+pub(crate) fn survivors_in_pieces<'a, R: Threads + Sync>(
+    rt: &R,
+    alloc: Global,
+    entries: &'a [Entry],
+    linked: &Linked,
+    day: Day,
+) -> Result<Vec<Survivor<'a>>, NoMemory>
+    requires { HoldsList entries.now linked.now.chains.list linked.now.allocs.list }
+    ensures fills { IfOk result (λ survivors. map fill_in survivors.items ≡ fills_on entries.now day) }
+    ensures parts { IfOk result (λ survivors. map part_in survivors.items ≡ map (part_of entries.now) (survivors_on entries.now day)) }
+{
+    survivors_by_worker(rt, alloc, entries, linked, day)
+}
+
+// Those that the entries bring, where each piece of these is a worker's.
+fn survivors_by_worker<'a, R: Threads + Sync>(
+    rt: &R,
+    alloc: Global,
+    entries: &'a [Entry],
+    linked: &Linked,
+    day: Day,
+) -> Result<Vec<Survivor<'a>>, NoMemory>
+    ensures { IfOk result (λ survivors. map standing_in survivors.items
+        ≡ filter_map (λ entry. standing_by linked.now.chains.list linked.now.allocs.list day (version_of entry)) entries.now) }
+{
+    let pieces = entries
+        .par_chunks(PIECE)
+        .map(
+            |piece: &[Entry]| -> Result<Vec<Survivor<'_>>, NoMemory>
+                ensures { IfOk result (λ survivors. map standing_in survivors.items
+                    ≡ filter_map (λ entry. standing_by linked.entry.now.chains.list linked.entry.now.allocs.list day (version_of entry)) piece.now) }
+            { survivors_among(alloc, piece, linked, day) },
+        )
+        .collect::<Result<Vec<Vec<Survivor<'a>>>, NoMemory>>(rt, alloc)??;
+    joined(alloc, pieces)
 }
 
 // Those that some of the entries bring.

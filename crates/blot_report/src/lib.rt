@@ -7,10 +7,13 @@ mod executions;
 mod lines;
 mod linked;
 mod orders;
+mod parallel;
 mod parts;
+mod pieces;
 mod positions;
 mod text;
 
 pub use day::day_lines;
 pub use lines::{DayLines, OrderRow, PositionRow, Rows};
+pub use parallel::day_lines_parallel;
 pub use text::{put_order_line, put_position_line, report_text};

@@ -12,9 +12,11 @@ ghost use Rattle.blot_report.specs.Orders.{line_at, line_row, with_line, AreLine
 
 use crate::OrderRow;
 use crate::executions::Survivor;
+use crate::pieces::in_pieces;
 use blot_types::{EVENTS_MAX, Fill, OrderKey, OrderLine};
 use indexmap::IndexMap;
 use std::alloc::{AllocError as NoMemory, Global};
+use std::thread::Threads;
 
 // The line of each order, as far as its fills have come.
 type Lines = IndexMap<OrderKey, OrderLine>;
@@ -30,6 +32,39 @@ pub(crate) fn order_rows(
     let lines = lines_of(alloc, survivors)?;
     let keys = sorted_orders(alloc, &lines)?;
     rows_of(alloc, &lines, &keys)
+}
+
+/// The same, where each piece of the orders is a worker's.
+pub(crate) fn order_rows_in_pieces<R: Threads + Sync>(
+    rt: &R,
+    alloc: Global,
+    survivors: &[Survivor<'_>],
+) -> Result<Vec<OrderRow>, NoMemory>
+    requires { length survivors.now ≤ EVENTS_MAX + 1 }
+    ensures { IfOk result (λ rows. rows.items ≡ order_rows (map fill_in survivors.now)) }
+{
+    let lines = lines_of(alloc, survivors)?;
+    let keys = sorted_orders(alloc, &lines)?;
+    rows_in_pieces(rt, alloc, &lines, &keys)
+}
+
+// The rows of some orders, where each piece of them is a worker's.
+fn rows_in_pieces<R: Threads + Sync>(
+    rt: &R,
+    alloc: Global,
+    lines: &Lines,
+    keys: &[OrderKey],
+) -> Result<Vec<OrderRow>, NoMemory>
+    ensures { IfOk result (λ rows. rows.items ≡ filter_map (line_row lines.now.entries) keys.now) }
+{
+    in_pieces(
+        rt,
+        alloc,
+        keys,
+        |piece: &[OrderKey]| -> Result<Vec<OrderRow>, NoMemory>
+            ensures { IfOk result (λ rows. rows.items ≡ filter_map (line_row lines.entry.now.entries) piece.now) }
+        { rows_of(alloc, lines, piece) },
+    )
 }
 
 // The lines of the orders that survivors fill.

@@ -7,10 +7,12 @@ ghost use Rattle.blot_report.specs.Lines.{position_key, positions_among, positio
 ghost use Rattle.blot_report.specs.Sums.{IsLight, HasKeys, cell_row, same_key};
 
 use crate::PositionRow;
+use crate::pieces::in_pieces;
 use blot_position::Positions;
 use blot_types::{Part, PositionKey};
 use indexmap::IndexSet;
 use std::alloc::{AllocError as NoMemory, Global};
+use std::thread::Threads;
 
 /// The rows of the positions that parts are of, by account and then by symbol. An error is out of memory.
 pub(crate) fn position_rows(alloc: Global, parts: &[Part]) -> Result<Vec<PositionRow>, NoMemory>
@@ -20,6 +22,39 @@ pub(crate) fn position_rows(alloc: Global, parts: &[Part]) -> Result<Vec<Positio
     let positions = positions_of(alloc, parts)?;
     let keys = sorted_positions(alloc, parts)?;
     rows_of(alloc, &positions, &keys)
+}
+
+/// The same, where each piece of the positions is a worker's.
+pub(crate) fn position_rows_in_pieces<R: Threads + Sync>(
+    rt: &R,
+    alloc: Global,
+    parts: &[Part],
+) -> Result<Vec<PositionRow>, NoMemory>
+    requires { IsLight parts.now }
+    ensures { IfOk result (λ rows. rows.items ≡ position_rows parts.now) }
+{
+    let positions = positions_of(alloc, parts)?;
+    let keys = sorted_positions(alloc, parts)?;
+    rows_in_pieces(rt, alloc, &positions, &keys)
+}
+
+// The rows of some positions, where each piece of them is a worker's.
+fn rows_in_pieces<R: Threads + Sync>(
+    rt: &R,
+    alloc: Global,
+    positions: &Positions,
+    keys: &[PositionKey],
+) -> Result<Vec<PositionRow>, NoMemory>
+    ensures { IfOk result (λ rows. rows.items ≡ filter_map (cell_row positions.now) keys.now) }
+{
+    in_pieces(
+        rt,
+        alloc,
+        keys,
+        |piece: &[PositionKey]| -> Result<Vec<PositionRow>, NoMemory>
+            ensures { IfOk result (λ rows. rows.items ≡ filter_map (cell_row positions.entry.now) piece.now) }
+        { rows_of(alloc, positions, piece) },
+    )
 }
 
 // The positions with these parts added.
