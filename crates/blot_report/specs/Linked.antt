@@ -1,11 +1,13 @@
 -- What stands on a day, as the chains and the instructions of a list tell it.
 use Rattle.std.specs.Prelude.{ℤ, Bool, false, ◌&&◌, List, Option, Some, None, is_none, if◌then◌else◌}
+use Rattle.std.specs.List.{filter_map}
 use Rattle.std.specs.Option.{option_map_or}
 use Rattle.std.specs.Ordering.{int_eq}
 use Rattle.blot_types.specs.declared.allocation.Instruction.{Instruction}
 use Rattle.blot_types.specs.declared.allocation.Terms.{Terms}
 use Rattle.blot_types.specs.declared.keys.AllocKey.{AllocKey}
 use Rattle.blot_types.specs.declared.keys.ExecKey.{ExecKey}
+use Rattle.blot_types.specs.declared.command.Entry.{Entry}
 use Rattle.blot_types.specs.declared.fill.Fill.{Fill}
 use Rattle.blot_types.specs.declared.part.Part.{Part}
 use Rattle.blot_types.specs.declared.lines.Version.{Version}
@@ -15,7 +17,7 @@ use Rattle.blot_types.specs.Chains.{root_in}
 use Rattle.blot_types.specs.Instructions.{ended_in, named_in}
 use Rattle.blot_types.specs.Keys.{is_among}
 use Rattle.blot_types.specs.Position.{part_of_fill}
-use Rattle.blot_types.specs.Survivors.{stands_in}
+use Rattle.blot_types.specs.Survivors.{stands_in, version_of}
 use Rattle.blot_report.specs.declared.executions.Survivor.{Survivor}
 use Rattle.blot_report.specs.Day.{is_on}
 
@@ -52,6 +54,10 @@ standing_of links instructions day version = if is_on day version && stands_in l
 abbrev pub standing_by : List Link → List Instruction → ℤ → Option Version → Option Standing
 standing_by links instructions day None = None
 standing_by links instructions day (Some version) = standing_of links instructions day version
+
+-- those of what entries bring, in list order
+abbrev pub standings_by : List Link → List Instruction → ℤ → List Entry → List Standing
+standings_by links instructions day entries = filter_map (λ entry. standing_by links instructions day (version_of entry)) entries
 
 -- whether an allocation of a key and terms is of a day and live
 abbrev pub is_live_on : List Instruction → ℤ → AllocKey → Terms → Bool

@@ -1,12 +1,11 @@
 //! The executions that stand on a day.
 ghost use Rattle.std.specs.Prelude.{◌≡◌, map, Some, IfOk};
-ghost use Rattle.std.specs.List.{filter_map};
 ghost use Rattle.std.specs.Option.{option_map};
 ghost use Rattle.blot_types.specs.Position.{part_of};
 ghost use Rattle.blot_types.specs.Survivors.{version_of};
 ghost use Rattle.blot_types.specs.Legal.{HoldsList};
 ghost use Rattle.blot_report.specs.Day.{survivors_on, fills_on};
-ghost use Rattle.blot_report.specs.Linked.{fill_in, part_in, standing_in, standing_of, standing_by};
+ghost use Rattle.blot_report.specs.Linked.{fill_in, part_in, standing_in, standing_of, standing_by, standings_by};
 
 use crate::linked::Linked;
 use crate::pieces::{PIECE, joined};
@@ -61,14 +60,14 @@ fn survivors_by_worker<'a, R: Threads + Sync>(
     day: Day,
 ) -> Result<Vec<Survivor<'a>>, NoMemory>
     ensures { IfOk result (λ survivors. map standing_in survivors.items
-        ≡ filter_map (λ entry. standing_by linked.now.chains.list linked.now.allocs.list day (version_of entry)) entries.now) }
+        ≡ standings_by linked.now.chains.list linked.now.allocs.list day entries.now) }
 {
     let pieces = entries
         .par_chunks(PIECE)
         .map(
             |piece: &[Entry]| -> Result<Vec<Survivor<'_>>, NoMemory>
                 ensures { IfOk result (λ survivors. map standing_in survivors.items
-                    ≡ filter_map (λ entry. standing_by linked.entry.now.chains.list linked.entry.now.allocs.list day (version_of entry)) piece.now) }
+                    ≡ standings_by linked.entry.now.chains.list linked.entry.now.allocs.list day piece.now) }
             { survivors_among(alloc, piece, linked, day) },
         )
         .collect::<Result<Vec<Vec<Survivor<'a>>>, NoMemory>>(rt, alloc)??;
@@ -83,7 +82,7 @@ fn survivors_among<'a>(
     day: Day,
 ) -> Result<Vec<Survivor<'a>>, NoMemory>
     ensures { IfOk result (λ survivors. map standing_in survivors.items
-        ≡ filter_map (λ entry. standing_by linked.now.chains.list linked.now.allocs.list day (version_of entry)) entries.now) }
+        ≡ standings_by linked.now.chains.list linked.now.allocs.list day entries.now) }
 {
     let mut survivors = Vec::new(alloc);
     for entry in entries {
