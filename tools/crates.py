@@ -3,6 +3,7 @@
   listed()                 the crates of crates.txt, each with those of them that it stands on itself
   below(crate, crates)     all that a crate stands on, each once, lower ones first
   copy_to(room, ...)       the crate in a repository of its own, over its libraries as they are proved in out/
+  copy_libraries(room, ..) libraries alone, and add_line(room, line) for a crate of one's own over them
 """
 import os
 import pathlib
@@ -38,15 +39,27 @@ def linked(old, new):
         shutil.copy2(old, new)
 
 
-def copy_to(room, crate, libraries):
-    """Copies a crate, without its wrong bodies and out/, and its libraries, each with what is proved of it."""
+def copy_libraries(room, libraries):
+    """Copies libraries, each with what is proved of it and without its wrong bodies."""
     shutil.copy2(TOP / 'HANDLES', room)
     named = lines()
-    (room / 'crates.txt').write_text(''.join(f'{named[it]}\n' for it in [*libraries, crate]))
+    (room / 'crates.txt').write_text(''.join(f'{named[it]}\n' for it in libraries))
     for name in libraries:
         folder = room / 'crates' / name
         shutil.copytree(CRATES / name, folder, ignore=shutil.ignore_patterns('out', 'must-fail'))
         if (CRATES / name / 'out' / 'rlib').is_dir():
             shutil.copytree(CRATES / name / 'out' / 'rlib', folder / 'out' / 'rlib', copy_function=linked)
+
+
+def add_line(room, line):
+    """Lists one crate more."""
+    with (room / 'crates.txt').open('a') as listing:
+        listing.write(f'{line}\n')
+
+
+def copy_to(room, crate, libraries):
+    """Copies a crate, without its wrong bodies and out/, and its libraries."""
+    copy_libraries(room, libraries)
+    add_line(room, lines()[crate])
     shutil.copytree(CRATES / crate, room / 'crates' / crate, ignore=shutil.ignore_patterns('out', 'must-fail'))
     return room / 'crates' / crate

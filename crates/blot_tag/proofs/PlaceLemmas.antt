@@ -1,20 +1,19 @@
 -- Where the frames of a text stand in it.
-use Rattle.std.proofs.Common.{◌≡◌, ℕ, zero, suc, ◌+◌, ◌-◌, ◌<◌, ◌≤◌, true, false, List, [], ◌∷◌, ◌++◌, length, take, drop, Result, Ok, Err, refl, sym, ap, subst, ◌∙◌, arith, inl, inr}
+use Rattle.std.proofs.Common.{◌≡◌, ℕ, zero, suc, ◌+◌, ◌-◌, ◌<◌, ◌≤◌, true, false, List, [], ◌∷◌, ◌++◌, length, take, drop, Result, Err, refl, sym, ap, subst, ◌∙◌, arith, inl, inr}
 use Rattle.std.specs.Prelude.{nat_eq}
 use Rattle.std.specs.Cmp.Lexicographic.{bytes_decides}
 use Rattle.std.specs.List.{starts_with}
 use Rattle.std.proofs.lemmas.Bool.{cases_Bool, cases_lt}
-use Rattle.std.proofs.lemmas.List.{append_assoc, drop-drop, drop-append-le, drop_all, take-append-drop}
+use Rattle.std.proofs.lemmas.List.{append_assoc, drop-append-le, drop_all, take-append-drop}
 use Rattle.std.proofs.lemmas.List.Sums.{sum_by-cons}
 use Rattle.std.proofs.Math.Seq.{take-append_seam, drop-append_seam}
 use Rattle.blot_tag.specs.Frames.{IsFrame, IsGarbled}
-use Rattle.blot_tag.specs.Looking.{look_of}
-use Rattle.blot_tag.specs.Places.{Placed, place_in, placed_in, placed_of, after_bytes, passed_by, passed_last, IsLaidOut, ArePlaced}
+use Rattle.blot_tag.specs.Places.{Placed, place_in, placed_in, placed_of, after_bytes, passed_by, IsLaidOut, ArePlaced}
 use Rattle.blot_tag.specs.Reading.{Reading, TakesFirst, FindsNone}
-use Rattle.blot_tag.specs.Walking.{Walk, takes, passes_by, stops_at, walk_of, frames_of, skipped_of, rest_of, joined_with, IsWalk, at_frame, at_prefix, at_neither}
+use Rattle.blot_tag.specs.Walking.{Walk, takes, passes_by, walk_of, frames_of, skipped_of, joined_with, IsWalk, at_frame, at_prefix, at_neither}
 use Rattle.blot_tag.specs.declared.look.Miss.{Miss}
 use Rattle.blot_tag.specs.declared.look.Miss.TheVariants.{Neither, Partial}
-use Rattle.blot_tag.proofs.FrameLemmas.{look_of-frame, look_of-neither, look_of-not_garbled, look_of-garbled}
+use Rattle.blot_tag.proofs.FrameLemmas.{look_of-neither, look_of-not_garbled, look_of-garbled}
 use Rattle.blot_tag.proofs.WalkLemmas.{is_walk, walk_of-append, look_of-nil}
 
 -- ---- one frame

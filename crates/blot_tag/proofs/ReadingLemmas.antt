@@ -1,13 +1,14 @@
 -- What a step over the unread bytes finds.
-use Rattle.std.proofs.Common.{◌≡◌, ℕ, ◌+◌, ◌-◌, ◌≤◌, ◌++◌, List, [], length, take, drop, slice_get, unwrap_or, Option, Some, None, IfSome, Ok, Err, refl, sym, ap, subst, ◌∙◌, arith}
+use Rattle.std.proofs.Common.{◌≡◌, ℕ, ◌+◌, ◌≤◌, List, length, take, drop, slice_get, unwrap_or, Option, Some, None, IfSome, Ok, Err, refl, sym, ap, subst, ◌∙◌, arith}
 use Rattle.std.proofs.lemmas.List.{drop-drop, take-append-drop, length-drop}
-use Rattle.std.specs.Option.{ok_or}
+use Rattle.std.specs.Option.{ok_or, option_map}
 use Rattle.blot_tag.specs.Frames.{IsFrame}
 use Rattle.blot_tag.specs.Looking.{look_of}
-use Rattle.blot_tag.specs.Buffers.{behind_found}
+use Rattle.blot_tag.specs.Buffers.{reading_of, bytes_at, span_of, behind_found}
 use Rattle.blot_tag.specs.Finding.{NeitherBefore, IsFound}
 use Rattle.blot_tag.specs.Walking.{passes_by, frames_of}
 use Rattle.blot_tag.specs.Reading.{Reading, counted, TakesFirst, FindsNone, Advances}
+use Rattle.blot_tag.specs.declared.buffer.Buffer.{Buffer}
 use Rattle.blot_tag.specs.declared.find.Found.{Found}
 use Rattle.blot_tag.specs.declared.look.Miss.TheVariants.{Partial}
 use Rattle.blot_tag.proofs.FrameLemmas.{look_of-ok, look_of-partial, look_of-garbled}
@@ -40,38 +41,32 @@ finds_part unread place skipped inside before here =
       skipped = refl;
     }
 
--- the same, in the words of the code, which keeps an offset into its bytes
-pub takes_found : (bytes seen frame : List ℕ) (start n skipped : ℕ) (found : Found) → seen ≡ drop start bytes → IsFound seen found → found.length ≡ Some n → frame ≡ take n (drop (start + found.place) bytes) → TakesFirst (record { unread = drop start bytes; skipped = skipped }) frame (behind_found (record { unread = drop start bytes; skipped = skipped }) found)
-takes_found bytes seen frame start n skipped found seen_is is some frame_is =
-    let place = found.place in
-    let unread = drop start bytes in
+-- the same, by the length that was found
+stepped : (unread : List ℕ) (place skipped : ℕ) (found : Option ℕ) → place + unwrap_or found 0 ≤ length unread → NeitherBefore place unread → look_of (drop place unread) ≡ ok_or found Partial → Advances (record { unread = unread; skipped = skipped }) (option_map (λ n. take n (drop place unread)) found) (record { unread = drop (place + unwrap_or found 0) unread; skipped = counted skipped place })
+stepped unread place skipped (Some n) inside before here =
     let old : Reading = record { unread = unread; skipped = skipped } in
-    let size : unwrap_or found.length 0 ≡ n = ap (λ length. unwrap_or length 0) some in
-    let inside : place ≤ length unread = omega (arith, is.inside, ap length seen_is) in
-    let taken = takes_frame unread place n skipped inside
-    (subst (NeitherBefore place) seen_is is.before)
-    (ap (λ text. look_of (drop place text)) (sym seen_is) ∙ is.here ∙ ap (λ length. ok_or length Partial) some) in
-    let rest : drop n (drop place unread) ≡ drop (place + unwrap_or found.length 0) unread = drop-drop n place unread ∙ ap (λ k. drop (place + k) unread) (sym size) in
-    let copied : take n (drop place unread) ≡ frame = ap (take n) (drop-drop place start bytes) ∙ sym frame_is in
-    subst (λ text. TakesFirst old frame (record { unread = text; skipped = counted skipped place })) rest
-    (subst (λ f. TakesFirst old f (record { unread = drop n (drop place unread); skipped = counted skipped place })) copied taken)
-
-pub finds_found : (bytes seen : List ℕ) (start skipped : ℕ) (found : Found) → seen ≡ drop start bytes → IsFound seen found → found.length ≡ None → FindsNone (record { unread = drop start bytes; skipped = skipped }) (behind_found (record { unread = drop start bytes; skipped = skipped }) found)
-finds_found bytes seen start skipped found seen_is is none =
-    let place = found.place in
-    let unread = drop start bytes in
+    subst (λ text. TakesFirst old (take n (drop place unread)) (record { unread = text; skipped = counted skipped place })) (drop-drop n place unread)
+    (takes_frame unread place n skipped (omega arith) before here)
+stepped unread place skipped None inside before here =
     let old : Reading = record { unread = unread; skipped = skipped } in
-    let size : place ≡ place + unwrap_or found.length 0 = omega (arith, ap (λ length. unwrap_or length 0) none) in
-    let inside : place ≤ length unread = omega (arith, is.inside, ap length seen_is) in
-    subst (λ k. FindsNone old (record { unread = drop k unread; skipped = counted skipped place })) size
-    (finds_part unread place skipped inside
-    (subst (NeitherBefore place) seen_is is.before)
-    (ap (λ text. look_of (drop place text)) (sym seen_is) ∙ is.here ∙ ap (λ length. ok_or length Partial) none))
+    subst (λ k. FindsNone old (record { unread = drop k unread; skipped = counted skipped place })) (omega arith)
+    (finds_part unread place skipped (omega arith) before here)
 
--- the frame is a copy of the bytes from place `at` on
-pub copied : (copy cleared bytes seen : List ℕ) (at n : ℕ) → copy ≡ cleared ++ take (at + n - at) (drop at seen) → cleared ≡ [] → seen ≡ bytes → copy ≡ take n (drop at bytes)
-copied copy cleared bytes seen at n is empty same =
-    is ∙ ap (λ xs. xs ++ take (at + n - at) (drop at seen)) empty ∙ ap (λ k. take k (drop at seen)) (omega arith) ∙ ap (λ xs. take n (drop at xs)) same
+-- the frame that was found, among the bytes of the buffer
+found_bytes : (buffer : Buffer) (place : ℕ) (found : Option ℕ) → option_map (λ n. take n (drop place (reading_of buffer).unread)) found ≡ option_map (bytes_at buffer) (option_map (λ n. record { start = buffer.start + place; length = n }) found)
+found_bytes buffer place (Some n) = ap (λ text. Some (take n text)) (drop-drop place buffer.start buffer.bytes.items)
+found_bytes buffer place None = refl
+
+-- in the words of the code, which keeps an offset into its bytes
+pub steps_by : (buffer : Buffer) (seen : List ℕ) (found : Found) → seen ≡ (reading_of buffer).unread → IsFound seen found → Advances (reading_of buffer) (option_map (bytes_at buffer) (span_of buffer found)) (behind_found (reading_of buffer) found)
+steps_by buffer seen found seen_is is =
+    let reading = reading_of buffer in
+    let place = found.place in
+    subst (λ frame. Advances reading frame (behind_found reading found)) (found_bytes buffer place found.length)
+    (stepped reading.unread place reading.skipped found.length
+    (omega (arith, is.inside, ap length seen_is))
+    (subst (NeitherBefore place) seen_is is.before)
+    (ap (λ text. look_of (drop place text)) (sym seen_is) ∙ is.here))
 
 -- the frame of a step is the first of the walk, and valid
 pub Advances-first : (old new : Reading) (frame : Option (List ℕ)) → Advances old frame new → frame ≡ slice_get (frames_of old.unread) 0

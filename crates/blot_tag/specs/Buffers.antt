@@ -1,16 +1,26 @@
 -- What a buffer holds, as the reader's callers see it.
-use Rattle.std.specs.Prelude.{List, ℕ, ◌+◌, drop, unwrap_or, Option, Some, None, if◌then◌else◌}
+use Rattle.std.specs.Prelude.{List, ℕ, ◌+◌, ◌≤◌, take, drop, length, unwrap_or, Option}
+use Rattle.std.specs.Option.{option_map}
 use Rattle.blot_tag.specs.Reading.{Reading, counted}
 use Rattle.blot_tag.specs.declared.buffer.Buffer.{Buffer}
+use Rattle.blot_tag.specs.declared.buffer.Span.{Span}
 use Rattle.blot_tag.specs.declared.find.Found.{Found}
 
 -- the unread bytes, and how many were passed over
 abbrev pub reading_of : Buffer → Reading
 reading_of buffer = record { unread = drop buffer.start buffer.bytes.items; skipped = buffer.skipped }
 
--- the frame that was copied last
-abbrev pub given_of : Buffer → Option (List ℕ)
-given_of buffer = if buffer.has_frame then Some buffer.frame.items else None
+-- the bytes that stand at a place of the buffer
+abbrev pub bytes_at : Buffer → Span → List ℕ
+bytes_at buffer span = take span.length (drop span.start buffer.bytes.items)
+
+-- the place lies within the buffer
+abbrev pub IsWithin : Buffer → Span → Type 0
+IsWithin buffer span = span.start + span.length ≤ length buffer.bytes.items
+
+-- where the frame stands that was found among the unread bytes
+abbrev pub span_of : Buffer → Found → Option Span
+span_of buffer found = option_map (λ length. record { start = buffer.start + found.place; length = length }) found.length
 
 -- what is left after the frame, or after what was passed over
 abbrev pub behind_found : Reading → Found → Reading

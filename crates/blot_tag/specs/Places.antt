@@ -1,5 +1,5 @@
 -- Where the frames of a text stand in it.
-use Rattle.std.specs.Prelude.{◌≡◌, ℕ, zero, suc, ◌+◌, ◌-◌, List, [], ◌∷◌, length, take, drop, nat_eq, if◌then◌else◌}
+use Rattle.std.specs.Prelude.{◌≡◌, ℕ, suc, ◌+◌, ◌-◌, List, [], ◌∷◌, length, take, drop, nat_eq, if◌then◌else◌}
 use Rattle.std.specs.List.{starts_with, sum_by}
 use Rattle.blot_tag.specs.Walking.{frames_of, skipped_of, rest_of}
 

@@ -1,5 +1,5 @@
 //! The bytes that a reader holds.
-ghost use Rattle.std.specs.Prelude.{◌≡◌, ℕ, ◌+◌, ◌≤◌, ◌++◌, length, drop, slice_get, unwrap_or, vec_len, IfOk, IfSome, OnOk, OnErr};
+ghost use Rattle.std.specs.Prelude.{◌≡◌, ℕ, ◌+◌, ◌≤◌, ◌++◌, length, drop, slice_get, unwrap_or, vec_len, IfSome, OnOk, OnErr};
 ghost use Rattle.std.specs.Option.{option_map};
 ghost use Rattle.blot_tag.specs.Frames.{IsFrame};
 ghost use Rattle.blot_tag.specs.Reading.{Advances};
@@ -10,17 +10,21 @@ use crate::find::{Found, find};
 use crate::frame::Frame;
 use std::alloc::AllocError as NoMemory;
 
-/// Unread bytes, and the text of the frame that was taken last.
+/// The bytes of a stream from some place on: first those that were read, and then the unread ones.
 #[derive(Drop)]
 pub(crate) struct Buffer {
-    /// The first `start` bytes were taken or passed over.
     pub(crate) bytes: Vec<u8>,
+    /// The first `start` bytes were taken or passed over.
     pub(crate) start: usize,
     pub(crate) skipped: u64,
-    pub(crate) frame: Vec<u8>,
-    /// Whether the last step took a frame.
-    pub(crate) has_frame: bool,
     pub(crate) ghost in_range: { start ≤ vec_len bytes },
+}
+
+/// Where a frame stands among the bytes of a buffer.
+#[derive(Clone, Copy)]
+pub(crate) struct Span {
+    pub(crate) start: usize,
+    pub(crate) length: usize,
 }
 
 // Drops the first `count` bytes.
@@ -34,9 +38,10 @@ fn drop_front(bytes: &mut Vec<u8>, count: usize)
 }
 
 impl Buffer {
-    ghost use Rattle.blot_tag.specs.Buffers.{reading_of, given_of, behind_found};
+    ghost use Rattle.blot_tag.specs.Buffers.{reading_of, bytes_at, IsWithin, span_of, behind_found};
 
-    /// Adds a piece at the end of the unread bytes.
+    /// Adds a piece at the end of the unread bytes. Where those that were read are at least as many, they are given up,
+    /// and the unread ones move to the front.
     pub(crate) fn extend(&mut self, piece: &[u8]) -> Result<(), NoMemory>
         ensures ok { OnOk result (reading_of self.new
             ≡ record (reading_of self.old) { unread = (reading_of self.old).unread ++ piece.now }) }
@@ -50,57 +55,56 @@ impl Buffer {
         Ok(())
     }
 
-    // Copies the first frame, and says where it is.
-    fn copy_first(&mut self) -> Result<Found, NoMemory>
-        ensures kept { reading_of self.new ≡ reading_of self.old }
-        ensures inside { IfOk result
-            (λ found. found.place + unwrap_or found.length 0 ≤ length (reading_of self.old).unread) }
-        ensures finds { IfOk result
-            (λ found. Advances (reading_of self.old) (given_of self.new) (behind_found (reading_of self.old) found)) }
+    // The first frame, or part of one, among the unread bytes.
+    fn find_first(&self) -> Found
+        ensures inside { result.place + unwrap_or result.length 0 ≤ length (reading_of self.now).unread }
+        ensures finds { Advances (reading_of self.now) (option_map (bytes_at self.now) (span_of self.now result))
+            (behind_found (reading_of self.now) result) }
     {
-        let found = find(&self.bytes[self.start..]);
-        let Some(length) = found.length else {
-            self.has_frame = false;
-            return Ok(found);
-        };
+        find(&self.bytes[self.start..])
+    }
+
+    // Where the frame that was found stands.
+    fn span_of(&self, found: Found) -> Option<Span>
+        requires { found.place + unwrap_or found.length 0 ≤ length (reading_of self.now).unread }
+        ensures span { result ≡ span_of self.now found }
+        ensures inside { IfSome result (IsWithin self.now) }
+    {
         let start = self.start + found.place;
-        self.frame.clear();
-        self.frame
-            .extend_from_slice(&self.bytes[start..start + length])?;
-        self.has_frame = true;
-        Ok(found)
+        found.length.map(|length| Span { start, length })
     }
 
-    /// Copies the first frame, which stays unread.
-    pub(crate) fn peek(&mut self) -> Result<(), NoMemory>
-        ensures kept { reading_of self.new ≡ reading_of self.old }
-        ensures first { OnOk result (given_of self.new ≡ slice_get (frames_of (reading_of self.old).unread) 0) }
-        ensures valid { OnOk result (IfSome (given_of self.new) IsFrame) }
+    /// Where the first frame stands, which stays unread.
+    pub(crate) fn peek(&self) -> Option<Span>
+        ensures first { option_map (bytes_at self.now) result ≡ slice_get (frames_of (reading_of self.now).unread) 0 }
+        ensures valid { IfSome (option_map (bytes_at self.now) result) IsFrame }
+        ensures inside { IfSome result (IsWithin self.now) }
     {
-        self.copy_first()?;
-        Ok(())
+        let found = self.find_first();
+        self.span_of(found)
     }
 
-    /// Takes the first frame, or passes over what can't become one.
-    pub(crate) fn advance(&mut self) -> Result<(), NoMemory>
-        ensures ok { OnOk result (Advances (reading_of self.old) (given_of self.new) (reading_of self.new)) }
-        ensures err { OnErr result (reading_of self.new ≡ reading_of self.old) }
+    /// Takes the first frame, or passes over what can't become one. It says where the frame stands.
+    pub(crate) fn advance(&mut self) -> Option<Span>
+        ensures step { Advances (reading_of self.old) (option_map (bytes_at self.new) result) (reading_of self.new) }
+        ensures inside { IfSome result (IsWithin self.new) }
     {
-        let found = self.copy_first()?;
+        let found = self.find_first();
+        let span = self.span_of(found);
         self.start += found.place + found.length.unwrap_or(0);
         self.skipped = self.skipped.saturating_add(found.place as u64);
-        Ok(())
+        span
     }
 
-    /// The frame that the last step took.
-    pub(crate) fn given(&self) -> Option<Frame<'_>>
-        requires { IfSome (given_of self.now) IsFrame }
-        ensures { option_map text_of result ≡ given_of self.now }
+    /// The frame that stands there.
+    pub(crate) fn frame_at(&self, span: Option<Span>) -> Option<Frame<'_>>
+        requires inside { IfSome span (IsWithin self.now) }
+        requires valid { IfSome (option_map (bytes_at self.now) span) IsFrame }
+        ensures { option_map text_of result ≡ option_map (bytes_at self.now) span }
     {
-        if self.has_frame {
-            Some(Frame::new(&self.frame))
-        } else {
-            None
+        match span {
+            Some(Span { start, length }) => Some(Frame::new(&self.bytes[start..start + length])),
+            None => None,
         }
     }
 }

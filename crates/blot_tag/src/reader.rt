@@ -1,5 +1,5 @@
 //! The frames of a stream.
-ghost use Rattle.std.specs.Prelude.{◌≡◌, ◌↔◌, ◌≤◌, [], ◌++◌, length, drop, slice_get, vec_len, IfOk, IfSome, OnOk, OnErr};
+ghost use Rattle.std.specs.Prelude.{◌≡◌, ◌↔◌, ◌≤◌, [], ◌++◌, length, drop, slice_get, vec_len, IsOk, IfOk, IfSome, OnOk, OnErr};
 ghost use Rattle.std.specs.Option.{option_map};
 ghost use Rattle.blot_tag.specs.Views.{text_of};
 ghost use Rattle.blot_tag.specs.Frames.{IsFrame};
@@ -43,8 +43,6 @@ impl Reader {
                 bytes: Vec::new(alloc),
                 start: 0,
                 skipped: 0,
-                frame: Vec::new(alloc),
-                has_frame: false,
             },
         }
     }
@@ -61,24 +59,27 @@ impl Reader {
     }
 
     /// Takes the first frame of the unread bytes, and leaves those after it. Where there is no frame it
-    /// gives none, and what could become one with more bytes stays unread.
+    /// gives none, and what could become one with more bytes stays unread. The frame borrows its text from the
+    /// reader. It takes no memory, so there is never an error.
     pub fn next(&mut self) -> Result<Option<Frame<'_>>, NoMemory>
+        ensures ok { IsOk result }
         ensures first { IfOk result (λ frame. option_map text_of frame ≡ slice_get (frames_of self.old.unread) 0) }
         ensures valid { IfOk result (λ found. IfSome found (λ frame. IsFrame (text_of frame))) }
         ensures* leaves { sem 𝓛 (Rests the_row self.entry (Leaves self.old result)) }
     {
-        self.buffer.advance()?;
-        Ok(self.buffer.given())
+        let span = self.buffer.advance();
+        Ok(self.buffer.frame_at(span))
     }
 
-    /// The frame that `next` would give, which stays unread.
+    /// The frame that `next` would give, which stays unread. It takes no memory either.
     pub fn peek(&mut self) -> Result<Option<Frame<'_>>, NoMemory>
+        ensures ok { IsOk result }
         ensures first { IfOk result (λ frame. option_map text_of frame ≡ slice_get (frames_of self.old.unread) 0) }
         ensures valid { IfOk result (λ found. IfSome found (λ frame. IsFrame (text_of frame))) }
         ensures* leaves { sem 𝓛 (Rests the_row self.entry (λ new. new ≡ self.old)) }
     {
-        self.buffer.peek()?;
-        Ok(self.buffer.given())
+        let span = self.buffer.peek();
+        Ok(self.buffer.frame_at(span))
     }
 
     /// How many bytes `next` has passed over so far: those before the last frame that it gave or, where it
