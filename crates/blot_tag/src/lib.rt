@@ -12,6 +12,7 @@ mod fields;
 mod find;
 mod frame;
 mod frame_text;
+mod lanes;
 mod look;
 mod reader;
 mod split;

@@ -9,6 +9,7 @@ ghost use Rattle.blot_tag.specs.Views.{tag_value, split_of};
 use crate::bytes::{CHECK_SUM_LENGTH, SOH, place_near};
 use crate::digits::{is_number, number_of, tag_number};
 use crate::field::{Field, SplitFault, SplitReason};
+use crate::lanes::place_of_soh;
 
 // The field doesn't begin with a tag and `=`.
 const NO_TAG: SplitFault = SplitFault {
@@ -111,7 +112,7 @@ fn split_at_soh(text: &[u8]) -> (&[u8], &[u8])
     ensures before { result.0.now ≡ before_first is_soh text.now }
     ensures after { result.1.now ≡ after_first is_soh text.now }
 {
-    let place = place_near(SOH, text);
+    let place = place_of_soh(text);
     if place < text.len() {
         (&text[..place], &text[place + 1..])
     } else {
