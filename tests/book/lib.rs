@@ -17,6 +17,7 @@ mod long;
 mod many;
 mod model;
 mod pairs;
+mod reports;
 mod seats;
 mod shown;
 mod single;
