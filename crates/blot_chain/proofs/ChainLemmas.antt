@@ -8,7 +8,7 @@ use Rattle.blot_types.specs.declared.keys.ExecKey.{ExecKey}
 use Rattle.blot_types.specs.declared.link.Link.{Link}
 use Rattle.blot_types.specs.declared.link.Role.{Role}
 use Rattle.blot_types.specs.declared.link.Role.TheVariants.{Begins, Corrects, Busts}
-use Rattle.blot_types.specs.Chains.{takes_up, taker_in, own_root, root_in, is_root, busts, bust_in, current_in, link_refusal, is_chained, is_above_links, falls}
+use Rattle.blot_types.specs.Chains.{takes_up, taker_in, own_root, root_in, is_root, busts, bust_in, current_in, link_refusal, is_chained}
 use Rattle.blot_types.specs.Keys.{same_exec}
 use Rattle.blot_types.specs.Laws.{IsOneTrade}
 use Rattle.blot_types.proofs.ChainLemmas.{accepted_key, none_is}
@@ -150,6 +150,3 @@ one_trade (link ∷ earlier) key root chained is =
 pub one_trade-found : (links : List Link) (key : ExecKey) (found : Option ExecKey) → is_chained links ≡ true → found ≡ root_in links key → IfSome found (λ root. IsOneTrade links root)
 one_trade-found links key None chained is = tt
 one_trade-found links key (Some root) chained is = one_trade links key root chained (sym is)
-
-pub falling-parts : (link : Link) (earlier : List Link) → falls (link ∷ earlier) ≡ true → (is_above_links link.number earlier ≡ true) × (falls earlier ≡ true)
-falling-parts link earlier fall = and_parts _ _ fall

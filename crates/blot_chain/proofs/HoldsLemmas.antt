@@ -1,13 +1,15 @@
 -- What the chains keep with one link more, and one less; and what their look-ups find.
-use Rattle.std.proofs.Common.{◌≡◌, true, List, [], ◌∷◌, ◌++◌, reverse, Option, Some, None, refl, sym, ap, subst, ◌∙◌}
+use Rattle.std.proofs.Common.{◌≡◌, ℕ, ◌<◌, true, List, [], ◌∷◌, ◌++◌, reverse, Option, Some, None, refl, sym, ap, subst, ◌∙◌, inl, inr, arith}
 use Rattle.std.specs.Prelude.{find, is_none}
 use Rattle.std.specs.Option.{option_map, option_and_then}
-use Rattle.std.proofs.lemmas.Bool.{and_from}
+use Rattle.std.proofs.lemmas.Bool.{cases_Bool, and_from, and_parts, ltb-true}
 use Rattle.std.proofs.lemmas.List.{reverse-append}
 use Rattle.blot_places.specs.declared.slots.Slot.{Slot}
 use Rattle.blot_places.specs.Places.{places_in}
-use Rattle.blot_places.specs.Slots.{items, lifted, live, newest_live}
-use Rattle.blot_places.proofs.SlotLemmas.{lifted_on, live_here, newest_live-find, unlifted-items, unlifted_live}
+use Rattle.blot_places.specs.Slots.{is_above, items, lifted, live, newest_live, numbers_fall}
+use Rattle.blot_places.proofs.MarkLemmas.{above-both, above-side}
+use Rattle.blot_places.proofs.ShownLemmas.{above-through, falling-parts}
+use Rattle.blot_places.proofs.SlotLemmas.{lifted_here, lifted_on, live_here, live_on, newest_live-find}
 use Rattle.blot_types.specs.declared.keys.ExecKey.{ExecKey}
 use Rattle.blot_types.specs.declared.link.Link.{Link}
 use Rattle.blot_types.specs.declared.link.Role.{Role}
@@ -18,9 +20,9 @@ use Rattle.blot_chain.specs.declared.index.Index.{Index}
 use Rattle.blot_chain.specs.declared.rooted.Rooted.{Rooted}
 use Rattle.blot_chain.specs.Holds.{HoldsChains, shown_of}
 use Rattle.blot_chain.specs.Index.{IsIndexed}
-use Rattle.blot_chain.specs.Steps.{Adds, IsNewest}
-use Rattle.blot_chain.specs.Rooted.{has_key, is_version_of, is_bust_of, kept_root, chain_root, links_in, AreRooted}
-use Rattle.blot_chain.proofs.ChainLemmas.{chained-parts, falling-parts, find-root, find-current, find-bust, find-taker}
+use Rattle.blot_chain.specs.Steps.{Adds, IsNewest, number_of}
+use Rattle.blot_chain.specs.Rooted.{has_key, is_version_of, is_bust_of, kept_root, chain_root, link_number, links_in, AreRooted}
+use Rattle.blot_chain.proofs.ChainLemmas.{chained-parts, find-root, find-current, find-bust, find-taker}
 use Rattle.blot_chain.proofs.RootedLemmas.{chain-told, live-rooted}
 
 -- ---- the look-ups
@@ -60,6 +62,11 @@ taker-held index slots key holds =
     ∙ ap (option_map (λ (item : Rooted). item.link.number)) (newest_live-find (has_key key) slots)
     ∙ find-taker (live (reverse slots)) key
 
+-- ---- a number above links, and above what slots hold
+
+pub above-links : (n : ℕ) (rooted : List Rooted) → is_above_links n (links_in rooted) ≡ is_above link_number n rooted
+above-links n rooted = above-through (λ (item : Rooted). item.link) number_of n rooted
+
 -- ---- one link more
 
 pub none-found : (found : Option Rooted) → option_map (λ item. item.link.number) found ≡ None → found ≡ None
@@ -74,19 +81,20 @@ pub held-push :
     → HoldsChains index (reverse slots) → written ≡ slots ++ record { item = record { link = link; root = root }; is_live = true } ∷ []
     → IsIndexed new (record { item = record { link = link; root = root }; is_live = true } ∷ reverse slots)
     → link_refusal (shown_of (reverse slots)).list link.key link.role ≡ None
-    → is_above_links link.number (shown_of (reverse slots)).list ≡ true
+    → is_above_links link.number (shown_of (reverse slots)).list ≡ true → is_above_links link.number (shown_of (reverse slots)).kept ≡ true
     → chain_root (shown_of (reverse slots)).list link.key link.role ≡ Some root
     → HoldsChains new (reverse written)
-held-push index new slots written link root holds is indexed accepted above rooted =
+held-push index new slots written link root holds is indexed accepted above above_kept rooted =
     let slot : Slot Rooted = record { item = record { link = link; root = root }; is_live = true } in
     let earlier : List (Slot Rooted) = reverse slots in
     let all : HoldsChains new (slot ∷ earlier) = record {
-      fall = and_from _ _ (subst (λ rooted. is_above_links link.number (links_in rooted) ≡ true) (unlifted-items earlier holds.unlifted) above) holds.fall;
+      fall = and_from _ _
+          (above-both link_number link.number earlier (sym (above-links link.number (live earlier)) ∙ above) (sym (above-links link.number (lifted earlier)) ∙ above_kept))
+          holds.fall;
       roots = (chain-told earlier link.key link.role root holds.newest (rooted-live index earlier holds) rooted, holds.roots);
       indexed = indexed;
       chained = and_from _ _ (ap is_none accepted) holds.chained;
       newest = (vacant (live earlier) link.key (accepted_key (links_in (live earlier)) link.key link.role accepted).0, holds.newest);
-      unlifted = holds.unlifted;
     } in
     subst (HoldsChains new) (sym (ap reverse is ∙ reverse-append slots (slot ∷ []))) all
 
@@ -95,28 +103,53 @@ held-push index new slots written link root holds is indexed accepted above root
 pub record PopsLink (key : ExecKey) (role : Role) (slot : Slot Rooted) (earlier : List (Slot Rooted)) : Type 0 where
   pub lives : slot.is_live ≡ true
   pub adds : Adds key role (shown_of earlier).list (shown_of (slot ∷ earlier)).list
+  pub kept : (shown_of (slot ∷ earlier)).kept ≡ (shown_of earlier).kept
 
 first_link : (a b : Link) (xs ys : List Link) → a ∷ xs ≡ b ∷ ys → a ≡ b
 first_link a b xs ys is = cc
 
+-- a newest link above those that are kept stands in the newest slot
+newest-lives :
+    (key : ExecKey) (role : Role) (slot : Slot Rooted) (earlier : List (Slot Rooted)) → numbers_fall link_number (items (slot ∷ earlier)) ≡ true
+    → IsNewest key role (shown_of (slot ∷ earlier)) → slot.is_live ≡ true
+newest-lives key role slot earlier fall newest =
+    elim (cases_Bool slot.is_live) [
+      | inl is ↦ is
+      | inr off ↦
+          let n : ℕ = newest.0 in
+          let own : ℕ = slot.item.link.number in
+          let link : Link = record { number = n; key = key; role = role } in
+          let kept : is_above link_number n (slot.item ∷ lifted earlier) ≡ true =
+          ap (is_above link_number n) (sym (lifted_here slot earlier off)) ∙ sym (above-links n (lifted (slot ∷ earlier))) ∙ newest.3 in
+          let below : own < n = ltb-true _ _ (and_parts _ _ kept).0 in
+          let lists : links_in (live earlier) ≡ link ∷ newest.1 = ap links_in (sym (live_on slot earlier off)) ∙ newest.2 in
+          let above : is_above_links own (link ∷ newest.1) ≡ true =
+          ap (is_above_links own) (sym lists) ∙ above-links own (live earlier) ∙ above-side link_number own true earlier (falling-parts link_number slot.item (items earlier) fall).0 in
+          let less : n < own = ltb-true _ _ (and_parts _ _ above).0 in
+          absurd (omega (arith, below, less))
+    ]
+
 pub pops-link :
-    (key : ExecKey) (role : Role) (slot : Slot Rooted) (earlier : List (Slot Rooted)) → lifted (slot ∷ earlier) ≡ [] → IsNewest key role (shown_of (slot ∷ earlier)).list
-    → PopsLink key role slot earlier
-pops-link key role slot earlier unlifted newest =
-    let is : slot.is_live ≡ true = unlifted_live slot earlier unlifted in
-    let link : Link = record { number = (newest.1).0; key = key; role = role } in
-    let lists : slot.item.link ∷ links_in (live earlier) ≡ link ∷ newest.0 = ap links_in (sym (live_here slot earlier is)) ∙ (newest.1).1 in
-    let same : slot.item.link ≡ link = first_link slot.item.link link (links_in (live earlier)) newest.0 lists in
-    record { lives = is; adds = ((newest.1).0, ap links_in (live_here slot earlier is) ∙ ap (λ first. first ∷ links_in (live earlier)) same) }
+    (key : ExecKey) (role : Role) (slot : Slot Rooted) (earlier : List (Slot Rooted)) → numbers_fall link_number (items (slot ∷ earlier)) ≡ true
+    → IsNewest key role (shown_of (slot ∷ earlier)) → PopsLink key role slot earlier
+pops-link key role slot earlier fall newest =
+    let is : slot.is_live ≡ true = newest-lives key role slot earlier fall newest in
+    let link : Link = record { number = newest.0; key = key; role = role } in
+    let lists : slot.item.link ∷ links_in (live earlier) ≡ link ∷ newest.1 = ap links_in (sym (live_here slot earlier is)) ∙ newest.2 in
+    let same : slot.item.link ≡ link = first_link slot.item.link link (links_in (live earlier)) newest.1 lists in
+    record {
+      lives = is;
+      adds = (newest.0, ap links_in (live_here slot earlier is) ∙ ap (λ first. first ∷ links_in (live earlier)) same);
+      kept = ap links_in (lifted_on slot earlier is);
+    }
 
 pub held-pop :
     (index new : Index) (slot : Slot Rooted) (earlier : List (Slot Rooted)) → HoldsChains index (slot ∷ earlier) → slot.is_live ≡ true
     → IsIndexed new earlier → HoldsChains new earlier
 held-pop index new slot earlier holds is indexed = record {
-  fall = (falling-parts slot.item.link (links_in (items earlier)) holds.fall).1;
+  fall = (falling-parts link_number slot.item (items earlier) holds.fall).1;
   roots = holds.roots.1;
   indexed = indexed;
   chained = (chained-parts slot.item.link (links_in (live earlier)) (ap (λ slots. is_chained (links_in slots)) (sym (live_here slot earlier is)) ∙ holds.chained)).1;
   newest = holds.newest.1;
-  unlifted = sym (lifted_on slot earlier is) ∙ holds.unlifted;
 }

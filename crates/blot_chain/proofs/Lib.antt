@@ -1,3 +1,4 @@
 pub mod ChainLemmas
 pub mod HoldsLemmas
+pub mod LiftLemmas
 pub mod RootedLemmas

@@ -1,5 +1,5 @@
 -- The links with the roots of their chains, newest first: after one stand the earlier ones. Each stands in a slot, live or lifted.
-use Rattle.std.specs.Prelude.{◌≡◌, Bool, true, false, ◌&&◌, List, [], ◌∷◌, map, find, Option, Some, None, if◌then◌else◌}
+use Rattle.std.specs.Prelude.{◌≡◌, ℕ, Bool, true, false, ◌&&◌, List, [], ◌∷◌, map, find, Option, Some, None, if◌then◌else◌}
 use Rattle.std.specs.Option.{option_and_then}
 use Rattle.std.specs.Bool.{⊤}
 use Rattle.blot_places.specs.declared.slots.Slot.{Slot}
@@ -46,6 +46,10 @@ abbrev pub chain_root : List Link → ExecKey → Role → Option ExecKey
 chain_root earlier key Begins = Some key
 chain_root earlier key (Corrects reference) = root_in earlier reference
 chain_root earlier key (Busts reference) = root_in earlier reference
+
+-- the number of its link
+abbrev pub link_number : Rooted → ℕ
+link_number item = item.link.number
 
 -- the links alone
 abbrev pub links_in : List Rooted → List Link

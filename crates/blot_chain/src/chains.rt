@@ -1,21 +1,21 @@
-//! The links of executions: added, taken back, asked.
-ghost use Rattle.std.specs.Prelude.{◌≡◌, [], ◌∷◌, Some, None, IfSome, IsTrue, OnOk, OnErr};
+//! The links of executions: added, taken back, lifted out, asked.
+ghost use Rattle.std.specs.Prelude.{◌≡◌, [], ◌∷◌, Some, None, IfSome, IsSome, IsTrue, OnOk, OnErr};
 ghost use Rattle.blot_types.specs.declared.link.Role.TheVariants.{Begins, Corrects, Busts};
-ghost use Rattle.blot_types.specs.Chains.{root_in, current_in, bust_in, taker_in, chain_refusal, link_refusal, is_above_links};
+ghost use Rattle.blot_types.specs.Chains.{root_in, current_in, bust_in, taker_in, chain_refusal, link_refusal, is_above_links, is_chained};
 ghost use Rattle.blot_types.specs.Laws.{IsOneTrade};
 ghost use Rattle.blot_chain.specs.Rooted.{chain_root};
-ghost use Rattle.blot_chain.specs.Steps.{IsNewest, Adds};
+ghost use Rattle.blot_chain.specs.Steps.{Adds, CanReturn, IsNewest, lifted_out, link_at, put_back};
 
 use crate::index::{Index, number_at, root_at};
 use crate::rooted::Rooted;
-use blot_places::Slot;
+use blot_places::{Slot, mark};
 use blot_types::{ExecKey, Link, Role};
 use std::alloc::{AllocError as NoMemory, Global};
 use std::marker::Model;
 
 /// The links of the executions that are taken up, in the order in which they came, and where the links of a key and of the
-/// chain of a root are among them. A contract sees their list, newest first, in which each link was accepted after those
-/// before it, and the numbers fall.
+/// chain of a root are among them. A link that is lifted out keeps its slot. A contract sees the list and the kept links,
+/// both newest first. In the list each link was accepted after those before it, and the numbers fall.
 #[derive(Drop)]
 pub struct Chains {
     alloc: Global,
@@ -25,10 +25,11 @@ pub struct Chains {
 
 impl Model for Chains {
     ghost use Rattle.std.specs.Prelude.{reverse};
-    ghost use Rattle.blot_chain.specs.Steps.{Shown};
+    ghost use Rattle.blot_places.specs.Shown.{Shown};
+    ghost use Rattle.blot_types.specs.declared.link.Link.{Link};
     ghost use Rattle.blot_chain.specs.Holds.{HoldsChains, shown_of};
 
-    ghost Value = { Shown };
+    ghost Value = { Shown Link };
 
     ghost view = { λ chains. shown_of (reverse chains.slots.items) };
 
@@ -38,7 +39,7 @@ impl Model for Chains {
 impl Chains {
     /// No chains. No memory is taken.
     pub fn new(alloc: Global) -> Chains
-        ensures { result.list ≡ [] }
+        ensures { result ≡ record { list = []; kept = [] } }
     {
         Chains {
             alloc,
@@ -47,20 +48,22 @@ impl Chains {
         }
     }
 
-    /// Adds a Trade, which begins a chain. Its key is taken up by no link so far, and its number is above
-    /// theirs. An error leaves the chains as they were. FIX 4.4 volume 4, ExecType(150).
+    /// Adds a Trade, which begins a chain. No listed link takes up its key, and its number is above those of
+    /// all, listed or kept. An error leaves the chains as they were. FIX 4.4 volume 4, ExecType(150).
     pub fn add(&mut self, number: u64, key: &ExecKey) -> Result<(), NoMemory>
         requires accepted { link_refusal self.old.list key.now Begins ≡ None }
         requires above { IsTrue (is_above_links number self.old.list) }
+        requires above_kept { IsTrue (is_above_links number self.old.kept) }
         ensures ok { OnOk result (self.new.list ≡ record { number = number; key = key.now; role = Begins } ∷ self.old.list) }
+        ensures kept { self.new.kept ≡ self.old.kept }
         ensures err { OnErr result (self.new ≡ self.old) }
     {
         self.push_link(number, key, Role::Begins, *key)
     }
 
-    /// Adds a Correct, which brings a version to the chain of the reference. Its key is taken up by no link
-    /// so far, its number is above theirs, and the reference has a root, which isn't busted. An error leaves
-    /// the chains as they were. FIX 4.4 volume 4, ExecRefID(19).
+    /// Adds a Correct, which brings a version to the chain of the reference. No listed link takes up its key,
+    /// its number is above those of all, listed or kept, and the reference has a root, which isn't busted. An
+    /// error leaves the chains as they were. FIX 4.4 volume 4, ExecRefID(19).
     pub fn correct(
         &mut self,
         number: u64,
@@ -69,20 +72,24 @@ impl Chains {
     ) -> Result<(), NoMemory>
         requires accepted { link_refusal self.old.list key.now (Corrects reference.now) ≡ None }
         requires above { IsTrue (is_above_links number self.old.list) }
+        requires above_kept { IsTrue (is_above_links number self.old.kept) }
         ensures ok { OnOk result (self.new.list ≡ record { number = number; key = key.now; role = Corrects reference.now } ∷ self.old.list) }
+        ensures kept { self.new.kept ≡ self.old.kept }
         ensures err { OnErr result (self.new ≡ self.old) }
     {
         let root = self.chain_of(reference);
         self.push_link(number, key, Role::Corrects(*reference), root)
     }
 
-    /// Adds a Bust, which ends the chain of the reference. Its key is taken up by no link so far, its number
-    /// is above theirs, and the reference has a root, which isn't busted. An error leaves the chains as they
-    /// were. FIX 4.4 volume 4, ExecRefID(19).
+    /// Adds a Bust, which ends the chain of the reference. No listed link takes up its key, its number is above
+    /// those of all, listed or kept, and the reference has a root, which isn't busted. An error leaves the
+    /// chains as they were. FIX 4.4 volume 4, ExecRefID(19).
     pub fn bust(&mut self, number: u64, key: &ExecKey, reference: &ExecKey) -> Result<(), NoMemory>
         requires accepted { link_refusal self.old.list key.now (Busts reference.now) ≡ None }
         requires above { IsTrue (is_above_links number self.old.list) }
+        requires above_kept { IsTrue (is_above_links number self.old.kept) }
         ensures ok { OnOk result (self.new.list ≡ record { number = number; key = key.now; role = Busts reference.now } ∷ self.old.list) }
+        ensures kept { self.new.kept ≡ self.old.kept }
         ensures err { OnErr result (self.new ≡ self.old) }
     {
         let root = self.chain_of(reference);
@@ -91,26 +98,52 @@ impl Chains {
 
     /// Takes back a Trade of this key, the newest link. No memory is taken. This project's rule.
     pub fn un_add(&mut self, key: &ExecKey)
-        requires newest { IsNewest key.now Begins self.old.list }
-        ensures { Adds key.now Begins self.new.list self.old.list }
+        requires newest { IsNewest key.now Begins self.old }
+        ensures adds { Adds key.now Begins self.new.list self.old.list }
+        ensures kept { self.new.kept ≡ self.old.kept }
     {
         self.pop_link(key, Role::Begins);
     }
 
     /// Takes back a Correct of this key and reference, the newest link. No memory is taken. This project's rule.
     pub fn un_correct(&mut self, key: &ExecKey, reference: &ExecKey)
-        requires newest { IsNewest key.now (Corrects reference.now) self.old.list }
-        ensures { Adds key.now (Corrects reference.now) self.new.list self.old.list }
+        requires newest { IsNewest key.now (Corrects reference.now) self.old }
+        ensures adds { Adds key.now (Corrects reference.now) self.new.list self.old.list }
+        ensures kept { self.new.kept ≡ self.old.kept }
     {
         self.pop_link(key, Role::Corrects(*reference));
     }
 
     /// Takes back a Bust of this key and reference, the newest link. No memory is taken. This project's rule.
     pub fn un_bust(&mut self, key: &ExecKey, reference: &ExecKey)
-        requires newest { IsNewest key.now (Busts reference.now) self.old.list }
-        ensures { Adds key.now (Busts reference.now) self.new.list self.old.list }
+        requires newest { IsNewest key.now (Busts reference.now) self.old }
+        ensures adds { Adds key.now (Busts reference.now) self.new.list self.old.list }
+        ensures kept { self.new.kept ≡ self.old.kept }
     {
         self.pop_link(key, Role::Busts(*reference));
+    }
+
+    /// Lifts the link of a number out of the list, whatever came later, and keeps its slot: put back, it stands
+    /// where it stood. The link is listed, and the list without it is chained. No memory is taken. This
+    /// project's rule.
+    pub fn lift(&mut self, number: u64)
+        requires listed { IsSome (link_at number self.old.list) }
+        requires chained { IsTrue (is_chained (lifted_out number self.old).list) }
+        ensures lifted { self.new ≡ lifted_out number self.old }
+        ensures back { put_back number self.new ≡ self.old }
+        ensures kept { CanReturn number self.new }
+    {
+        mark(&mut self.slots, number, false);
+    }
+
+    /// Puts the link of a number, which is kept, back at its place in the list. No kept link above it takes up
+    /// its key, and the list with it is chained. No memory is taken. This project's rule.
+    pub fn un_lift(&mut self, number: u64)
+        requires kept { CanReturn number self.old }
+        requires chained { IsTrue (is_chained (put_back number self.old).list) }
+        ensures { self.new ≡ put_back number self.old }
+    {
+        mark(&mut self.slots, number, true);
     }
 
     /// The root of a key, that of the Trade in which its references end. None where no link takes up the
@@ -166,8 +199,10 @@ impl Chains {
     ) -> Result<(), NoMemory>
         requires accepted { link_refusal self.old.list key.now role ≡ None }
         requires above { IsTrue (is_above_links number self.old.list) }
+        requires above_kept { IsTrue (is_above_links number self.old.kept) }
         requires rooted { chain_root self.old.list key.now role ≡ Some root }
         ensures ok { OnOk result (self.new.list ≡ record { number = number; key = key.now; role = role } ∷ self.old.list) }
+        ensures kept { self.new.kept ≡ self.old.kept }
         ensures err { OnErr result (self.new ≡ self.old) }
     {
         self.slots.reserve(1)?;
@@ -189,8 +224,9 @@ impl Chains {
 
     // Takes the newest link out. It has this key and role, so nothing is compared.
     fn pop_link(&mut self, key: &ExecKey, role: Role)
-        requires newest { IsNewest key.now role self.old.list }
-        ensures { Adds key.now role self.new.list self.old.list }
+        requires newest { IsNewest key.now role self.old }
+        ensures adds { Adds key.now role self.new.list self.old.list }
+        ensures kept { self.new.kept ≡ self.old.kept }
     {
         match self.slots.pop() {
             Some(slot) => self.index.pop(&slot),

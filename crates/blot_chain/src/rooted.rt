@@ -2,6 +2,7 @@
 ghost use Rattle.std.specs.Prelude.{◌≡◌};
 ghost use Rattle.blot_chain.specs.Rooted.{is_bust, is_version, kept_root};
 
+use blot_places::Numbered;
 use blot_types::{ExecKey, Link, Role};
 
 /// A link with the root of the chain that it begins, corrects or busts.
@@ -21,6 +22,16 @@ impl Rooted {
         } else {
             None
         }
+    }
+}
+
+impl Numbered for Rooted {
+    ghost use Rattle.blot_chain.specs.Rooted.{link_number};
+
+    ghost number_of = { link_number };
+
+    fn number(&self) -> u64 {
+        self.link.number
     }
 }
 

@@ -9,6 +9,7 @@ use Rattle.blot_types.specs.declared.link.Link.{Link}
 use Rattle.blot_types.specs.Allocations.{instruction_by}
 use Rattle.blot_types.specs.Chains.{link_refusal, is_above_links}
 use Rattle.blot_types.specs.Instructions.{may_follow, is_above_instructions}
+use Rattle.blot_types.specs.Legal.{HoldsList}
 use Rattle.blot_types.specs.Survivors.{link_of}
 
 -- a link may come next: it is accepted, and its number is above the others
@@ -54,3 +55,8 @@ without_instruction (Bust bust) instructions = instructions
 without_instruction (AllocNew new) instructions = rest_of instructions
 without_instruction (AllocReplace replace) instructions = rest_of instructions
 without_instruction (AllocCancel cancel) instructions = rest_of instructions
+
+-- the links and the instructions are those of a book, and no link is kept beside the others
+pub record HoldsEntries (list : List Entry) (links kept : List Link) (instructions : List Instruction) : Type 0 where
+  pub holds : HoldsList list links instructions
+  pub unlifted : kept ≡ []

@@ -1,5 +1,5 @@
 //! An entry as the chains and the allocations see it: added to them, and taken back.
-ghost use Rattle.std.specs.Prelude.{◌≡◌, IfOk, OnOk, OnErr};
+ghost use Rattle.std.specs.Prelude.{◌≡◌, [], IfOk, OnOk, OnErr};
 ghost use Rattle.std.specs.List.{cons_option, filter_map};
 ghost use Rattle.blot_types.specs.Allocations.{instruction_by};
 ghost use Rattle.blot_types.specs.Chains.{root_in};
@@ -11,17 +11,19 @@ use blot_chain::Chains;
 use blot_types::{Command, Entry, ExecKey, Items};
 use std::alloc::{AllocError as NoMemory, Global};
 
-/// Adds an entry that the chains and the allocations accept. Out of memory is the only error, and then
-/// nothing has changed.
+/// Adds an entry that the chains and the allocations accept. No link is lifted out of the chains. Out of
+/// memory is the only error, and then nothing has changed.
 pub fn link_entry(
     alloc: Global,
     chains: &mut Chains,
     allocs: &mut Allocs,
     entry: &Entry,
 ) -> Result<(), NoMemory>
-    requires { CanLink entry.now chains.old.list allocs.old.list }
+    requires next { CanLink entry.now chains.old.list allocs.old.list }
+    requires unlifted { chains.old.kept ≡ [] }
     ensures chains { OnOk result (chains.new.list ≡ cons_option (link_of entry.now) chains.old.list) }
     ensures allocs { OnOk result (allocs.new.list ≡ cons_option (instruction_by chains.old.list entry.now.number entry.now.command) allocs.old.list) }
+    ensures kept { chains.new.kept ≡ chains.old.kept }
     ensures same_chains { OnErr result (chains.new ≡ chains.old) }
     ensures same_allocs { OnErr result (allocs.new ≡ allocs.old) }
 {
@@ -59,10 +61,12 @@ fn roots_of(
     Ok(Items::new(roots))
 }
 
-/// Takes back the entry that was added last.
+/// Takes back the entry that was added last. No link is lifted out of the chains.
 pub(crate) fn unlink_entry(chains: &mut Chains, allocs: &mut Allocs, entry: &Entry)
-    requires { IsLinkedLast entry.now chains.old.list allocs.old.list }
+    requires last { IsLinkedLast entry.now chains.old.list allocs.old.list }
+    requires unlifted { chains.old.kept ≡ [] }
     ensures chains { chains.new.list ≡ without_link entry.now.command chains.old.list }
+    ensures kept { chains.new.kept ≡ chains.old.kept }
     ensures allocs { allocs.new.list ≡ without_instruction entry.now.command allocs.old.list }
 {
     match &entry.command {

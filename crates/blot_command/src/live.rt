@@ -22,7 +22,8 @@ use std::alloc::{AllocError as NoMemory, Global};
 use std::marker::Model;
 
 /// The live list of entries, in rising order of number, with the chains of its executions and the
-/// instructions of its allocations. A contract sees it as the list, which is always legal.
+/// instructions of its allocations. No link is lifted out of the chains. A contract sees it as the list, which is
+/// always legal.
 #[derive(Drop)]
 pub(crate) struct LiveList {
     entries: Vec<Entry>,
@@ -33,13 +34,13 @@ pub(crate) struct LiveList {
 impl Model for LiveList {
     ghost use Rattle.std.specs.Prelude.{List};
     ghost use Rattle.blot_types.specs.declared.command.Entry.{Entry};
-    ghost use Rattle.blot_types.specs.Legal.{HoldsList};
+    ghost use Rattle.blot_command.specs.Linking.{HoldsEntries};
 
     ghost Value = { List Entry };
 
     ghost view = { λ live. live.entries.items };
 
-    ghost invariant = { λ live. HoldsList live.entries.items live.chains.list live.allocs.list };
+    ghost invariant = { λ live. HoldsEntries live.entries.items live.chains.list live.chains.kept live.allocs.list };
 }
 
 impl LiveList {

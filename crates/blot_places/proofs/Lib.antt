@@ -1,2 +1,5 @@
+pub mod MarkLemmas
 mod PlaceLemmas
+mod SearchLemmas
+pub mod ShownLemmas
 pub mod SlotLemmas

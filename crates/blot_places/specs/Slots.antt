@@ -1,6 +1,6 @@
 -- Slots, newest first: after a slot stand the earlier ones. A slot is live, or lifted out of what the list shows.
-use Rattle.std.specs.Prelude.{ℕ, Bool, false, not, List, [], ◌∷◌, map, find, length, slice_get, Option, if◌then◌else◌}
-use Rattle.std.specs.List.{filter}
+use Rattle.std.specs.Prelude.{ℕ, Bool, true, false, ◌&&◌, not, nat_eq, nat_lt, List, [], ◌∷◌, map, find, length, slice_get, Option, if◌then◌else◌}
+use Rattle.std.specs.List.{filter, list_all}
 use Rattle.std.specs.Option.{option_and_then, option_map, option_map_or}
 use Rattle.blot_places.specs.declared.slots.Slot.{Slot}
 
@@ -27,3 +27,21 @@ module _ {T : Type 0} where
   -- the item of the first live slot at one of these places
   abbrev pub newest_live : List (Slot T) → List ℕ → Option T
   newest_live slots places = option_map (λ slot. slot.item) (option_and_then (slice_get slots) (find (is_live_at slots) places))
+
+-- where items have numbers. A list of items stands newest first again; a mark looks at no order
+module _ {T : Type 0} (number_of : T → ℕ) where
+  -- whether a number is above those of the items
+  abbrev pub is_above : ℕ → List T → Bool
+  is_above number items = list_all (λ item. nat_lt (number_of item) number) items
+
+  -- whether the numbers fall from the newest item to the oldest
+  abbrev pub numbers_fall : List T → Bool
+  numbers_fall [] = true
+  numbers_fall (item ∷ earlier) = is_above (number_of item) earlier && numbers_fall earlier
+
+  -- the slot of this number is live now, or lifted; any other stays as it is
+  abbrev pub mark : ℕ → Bool → Slot T → Slot T
+  mark number is_live slot = if nat_eq (number_of slot.item) number then record slot { is_live = is_live } else slot
+
+  abbrev pub marked : ℕ → Bool → List (Slot T) → List (Slot T)
+  marked number is_live slots = map (mark number is_live) slots

@@ -1,7 +1,19 @@
 //! Slots, each with one item.
-ghost use Rattle.std.specs.Prelude.{◌≡◌, find, reverse};
+ghost use Rattle.std.specs.Prelude.{◌≡◌, ℕ, ◌<◌, ◌≤◌, find, length, reverse, slice_index_or, IsTrue};
 ghost use Rattle.std.specs.Option.{option_copied};
-ghost use Rattle.blot_places.specs.Slots.{is_live_at, newest_live};
+ghost use Rattle.blot_places.specs.declared.slots.Slot.{Slot};
+ghost use Rattle.blot_places.specs.Slots.{is_live_at, items, mark, marked, newest_live, numbers_fall};
+
+/// What has a number.
+pub trait Numbered {
+    ghost use Rattle.std.specs.Prelude.{ℕ};
+
+    ghost number_of: { Self → ℕ };
+
+    /// Its number.
+    fn number(&self) -> u64
+        ensures { result ≡ number_of self.now };
+}
 
 /// What stands at a place, and whether it is live, or lifted out of what the list shows.
 #[derive(Drop)]
@@ -36,5 +48,37 @@ fn is_live_at<T>(slots: &[Slot<T>], place: usize) -> bool
     match slots.get(place) {
         Some(slot) => slot.is_live,
         None => false,
+    }
+}
+
+/// Marks the slot of a number live or lifted, where there is one. The numbers rise. No memory is taken.
+pub fn mark<T: Numbered>(slots: &mut [Slot<T>], number: u64, is_live: bool)
+    requires { IsTrue (numbers_fall T.number_of (items (reverse slots.old))) }
+    ensures { slots.new ≡ marked T.number_of number is_live slots.old }
+{
+    let place = place_of(slots, number);
+    if place == slots.len() {
+        return;
+    }
+    mark_one(&mut slots[place], number, is_live);
+}
+
+// The first place at which the number isn't below this one.
+fn place_of<T: Numbered>(slots: &[Slot<T>], number: u64) -> usize
+    requires { IsTrue (numbers_fall T.number_of (items (reverse slots.now))) }
+    ensures within { result ≤ length slots.now }
+    ensures below { (k : ℕ) (d : Slot T) → k < result → T.number_of (slice_index_or slots.now k d).item < number }
+    ensures above { (k : ℕ) (d : Slot T)
+        → result ≤ k → k < length slots.now → number ≤ T.number_of (slice_index_or slots.now k d).item }
+{
+    slots.partition_point(|slot| slot.item.number() < number)
+}
+
+// Marks a slot, where it is that of the number.
+fn mark_one<T: Numbered>(slot: &mut Slot<T>, number: u64, is_live: bool)
+    ensures { slot.new ≡ mark T.number_of number is_live slot.old }
+{
+    if slot.item.number() == number {
+        slot.is_live = is_live;
     }
 }

@@ -20,4 +20,5 @@ invariant_of-self-2 c =
     (c.len-place.ensures ∙ c.reserve.new.self.ok.0 ∙ ap length c.reserve.ensures.items ∙ sym (length-reverse slots)))
     (subst (λ shown. link_refusal shown.list c.args.key.now c.args.role ≡ None) (sym c.self.view_is) c.requires.accepted)
     (subst (λ shown. is_above_links c.args.number shown.list ≡ true) (sym c.self.view_is) c.requires.above)
+    (subst (λ shown. is_above_links c.args.number shown.kept ≡ true) (sym c.self.view_is) c.requires.above_kept)
     (subst (λ shown. chain_root shown.list c.args.key.now c.args.role ≡ Some c.args.root) (sym c.self.view_is) c.requires.rooted)

@@ -7,6 +7,6 @@ use Rattle.blot_command.proofs.live.LiveList.is_named.Goals as goal
 pub returns-in-Some : goal.returns-in-Some
 returns-in-Some c =
     c.is_some.ensures ∙ ap is_some c.holder_of.ensures.holder
-    ∙ named-root c.self.inside.entries.items c.args.key.now c.in-Some.root c.self.inside.chains.list c.self.inside.allocs.list c.self.invariant
+    ∙ named-root c.self.inside.entries.items c.args.key.now c.in-Some.root c.self.inside.chains.list c.self.inside.allocs.list c.self.invariant.holds
     (sym c.root_of.ensures.root ∙ c.in-Some.is)
     ∙ ap (λ list. is_named list c.args.key.now) c.self.view_is

@@ -10,7 +10,7 @@ pub returns-in-None : goal.returns-in-None
 returns-in-None c =
     let key = c.args.key.now in
     ap (option_and_then (terms_at c.self.inside.entries.items key)) (sym c.in-None.is ∙ c.number_of.ensures)
-    ∙ terms-found c.self.inside.entries.items c.self.inside.chains.list c.self.inside.allocs.list key c.self.invariant
+    ∙ terms-found c.self.inside.entries.items c.self.inside.chains.list c.self.inside.allocs.list key c.self.invariant.holds
     ∙ ap (λ list. terms_keyed list key) c.self.view_is
 
 pub returns-in-None-entry : goal.returns-in-None-entry
@@ -19,7 +19,7 @@ returns-in-None-entry c =
     let list = c.self.inside.entries.items in
     ap (option_and_then (λ entry. terms_of_key key entry.command)) (sym (ap option_copied c.in-None-entry.is) ∙ c.entry.ensures ∙ ap (find (has_number c.in-Some.number)) (sym c.self.view_is))
     ∙ ap (option_and_then (terms_at list key)) (sym c.in-Some.is ∙ c.number_of.ensures)
-    ∙ terms-found list c.self.inside.chains.list c.self.inside.allocs.list key c.self.invariant
+    ∙ terms-found list c.self.inside.chains.list c.self.inside.allocs.list key c.self.invariant.holds
     ∙ ap (λ l. terms_keyed l key) c.self.view_is
 
 pub returns-in-Some-entry : goal.returns-in-Some-entry
@@ -29,5 +29,5 @@ returns-in-Some-entry c =
     c.terms_under.ensures
     ∙ ap (option_and_then (λ entry. terms_of_key key entry.command)) (sym (ap option_copied c.in-Some-entry.is) ∙ c.entry.ensures ∙ ap (find (has_number c.in-Some.number)) (sym c.self.view_is))
     ∙ ap (option_and_then (terms_at list key)) (sym c.in-Some.is ∙ c.number_of.ensures)
-    ∙ terms-found list c.self.inside.chains.list c.self.inside.allocs.list key c.self.invariant
+    ∙ terms-found list c.self.inside.chains.list c.self.inside.allocs.list key c.self.invariant.holds
     ∙ ap (λ l. terms_keyed l key) c.self.view_is
