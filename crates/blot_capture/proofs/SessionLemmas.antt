@@ -1,8 +1,12 @@
 -- What a frame comes to at its session.
 use Rattle.std.proofs.Common.{◌≡◌, ℕ, Bool, true, false, List, [], ◌∷◌, ◌++◌, map, Option, Some, None, Result, Ok, refl, sym, ap, subst, ◌∙◌, inl, inr}
-use Rattle.std.specs.Prelude.{ℤ, is_some, if◌then◌else◌}
+use Rattle.std.specs.Prelude.{ℤ, pos, is_some, if◌then◌else◌}
+use Rattle.std.specs.Option.{option_map, option_map_or}
+use Rattle.std.specs.Result.{result_unwrap_or}
 use Rattle.std.proofs.lemmas.Bool.{cond_both, cases_Bool}
 use Rattle.std.proofs.lemmas.List.{append-nil}
+use Rattle.blot_time.specs.Moment.{moment_of}
+use Rattle.blot_time.specs.declared.fault.TimeFault.{TimeFault}
 use Rattle.blot_types.specs.declared.command.Command.{Command}
 use Rattle.blot_types.specs.declared.refused.Refused.{Refused as Refusal}
 use Rattle.blot_types.specs.Legal.{refusal_of}
@@ -148,3 +152,11 @@ one-taken state text =
     one-chosen true [] one = tt
     one-chosen true (numbered ∷ []) one = tt
     one-chosen true (numbered ∷ next ∷ taken) one = absurd one
+
+-- ---- the moment of a frame
+
+-- a SendingTime that was read is the frame's moment
+pub sent-at : (found : Option (List ℕ)) (sending : ℤ) → option_map moment_of found ≡ Some (Ok sending)
+    → sending ≡ option_map_or (λ value. result_unwrap_or (moment_of value) (pos 0)) found (pos 0)
+sent-at None sending is = absurd cc
+sent-at (Some value) sending is = let read : moment_of value ≡ Ok sending = cc in sym (ap (λ (time : Result ℤ TimeFault). result_unwrap_or time (pos 0)) read)

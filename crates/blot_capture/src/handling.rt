@@ -1,10 +1,13 @@
 //! A frame at the session of its sender, and what that delivers at the desk.
 ghost use Rattle.std.specs.Prelude.{◌≡◌, ◌≢◌, [], ◌∷◌, Ok, Err, Some, OnOk, IfOk, IfErr};
+ghost use Rattle.blot_tag.specs.Fields.{fields_of};
 ghost use Rattle.blot_tag.specs.Views.{text_of};
+ghost use Rattle.blot_fields.specs.First.{IsSentAt};
+ghost use Rattle.blot_fields.specs.Numbers.{IsNumbered};
 ghost use Rattle.blot_session.specs.Calls.{Awaits, DeliversAlone, on_reply};
 ghost use Rattle.blot_session.specs.declared.met.Met.{Met};
 ghost use Rattle.blot_session.specs.declared.replies.SeenReply.TheVariants.{Accepted};
-ghost use Rattle.blot_session.specs.Runs.{behind_calls};
+ghost use Rattle.blot_session.specs.Runs.{behind_calls, said_by};
 ghost use Rattle.blot_session.specs.States.{IsIdle, IsAwaiting};
 ghost use Rattle.blot_desk.specs.declared.event.Event.TheVariants.{Submit};
 ghost use Rattle.blot_desk.specs.Desk.{recorded_of};
@@ -15,8 +18,9 @@ ghost use Rattle.blot_capture.specs.Replay.{submitted, Stopped, fault_of};
 ghost use Rattle.blot_capture.specs.Trace.{actions_after, actions_at, became_at, became_of, reply_to};
 
 use crate::handled::Handled;
-use crate::moment::sending_of;
+use crate::moment::sending_by;
 use blot_desk::{DeskFault, Event, Held, Reply};
+use blot_fields::{FieldFault, Message, decode, is_out_of_memory};
 use blot_gateway::seen_by;
 use blot_session::{Action, NotTaken, Phase, SeenReply, Session, delivered};
 use blot_stream::ReplayFault;
@@ -43,8 +47,36 @@ pub(crate) fn take_frame(
     ensures err { IfErr result (λ fault. Stopped fault held.old held.new (taken_by session.old (text_of frame.now))) }
     ensures no_write { result ≢ Err ReplayFault.Write }
 {
-    let now = sending_of(frame);
-    let Ok(actions) = session.on_frame(alloc, frame, now) else {
+    let said = decode(alloc, frame);
+    if is_out_of_memory(&said) {
+        return Err(ReplayFault::NoMemory);
+    }
+    take_said(alloc, session, frame, &said, held)
+}
+
+// The same, where the frame says this.
+fn take_said(
+    alloc: Global,
+    session: &mut Session,
+    frame: &Frame,
+    said: &Result<Message, FieldFault>,
+    held: &mut Held,
+) -> Result<Handled, ReplayFault>
+    requires idle { IsIdle session.old }
+    requires said { said.now ≡ said_by (text_of frame.now) }
+    requires numbers { IsNumbered said.now }
+    requires sent { IfOk said.now (IsSentAt (fields_of (text_of frame.now))) }
+    ensures session { OnOk result (session.new ≡ behind_calls session.old (calls_of session.old (text_of frame.now))) }
+    ensures peer { session.new.peer ≡ session.old.peer }
+    ensures idle { IsIdle session.new }
+    ensures desk { OnOk result (held.new ≡ submitted held.old (taken_by session.old (text_of frame.now))) }
+    ensures handled { IfOk result (IsHandled (became_at session.old held.old (text_of frame.now)) (actions_at session.old held.old (text_of frame.now))
+        (met_at (Some session.old) (text_of frame.now))) }
+    ensures err { IfErr result (λ fault. Stopped fault held.old held.new (taken_by session.old (text_of frame.now))) }
+    ensures no_write { result ≢ Err ReplayFault.Write }
+{
+    let now = sending_by(said, frame);
+    let Ok(actions) = session.on_said(alloc, said, now) else {
         return Err(ReplayFault::NoMemory);
     };
     match take_delivered(alloc, session, actions, now, held) {

@@ -7,3 +7,4 @@ pub mod TableLemmas
 pub mod GroupLemmas
 pub mod CountLemmas
 pub mod DecodingLemmas
+pub mod SendingLemmas

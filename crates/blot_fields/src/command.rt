@@ -36,20 +36,20 @@ fn command_of_report(peer: Text64, sending: Moment, report: &Report) -> Option<C
 {
     match report {
         Report::Trade(execution) => Some(Command::Trade(Trade {
-            key: exec_of(peer, execution.id),
+            key: exec_of(peer, execution.id.owned()),
             fill: fill_of(peer, sending, execution),
         })),
         Report::Correct {
             reference,
             execution,
         } => Some(Command::Correct(Correct {
-            key: exec_of(peer, execution.id),
-            reference: exec_of(peer, *reference),
+            key: exec_of(peer, execution.id.owned()),
+            reference: exec_of(peer, reference.owned()),
             fill: fill_of(peer, sending, execution),
         })),
         Report::Bust { id, reference } => Some(Command::Bust(Bust {
-            key: exec_of(peer, *id),
-            reference: exec_of(peer, *reference),
+            key: exec_of(peer, id.owned()),
+            reference: exec_of(peer, reference.owned()),
         })),
         Report::Other => None,
     }
@@ -134,15 +134,25 @@ fn fill_of(peer: Text64, sending: Moment, execution: &Execution) -> Fill
     Fill {
         order: OrderKey {
             peer,
-            id: execution.order,
+            id: execution.order.owned(),
         },
-        account: execution.account,
-        symbol: execution.symbol,
+        account: account_of(execution),
+        symbol: execution.symbol.owned(),
         sign: execution.sign,
         size: size_of(execution.size),
         qty: execution.qty,
         price: execution.price,
         day: day_of_execution(execution.trade_date, execution.transacted, sending),
+    }
+}
+
+// The account that an execution names, if it names one.
+fn account_of(execution: &Execution) -> Option<Text64>
+    ensures { result ≡ execution.now.account }
+{
+    match &execution.account {
+        Some(account) => Some(account.owned()),
+        None => None,
     }
 }
 

@@ -3,6 +3,7 @@ ghost use Rattle.std.specs.Prelude.{◌≡◌, ◌↔◌, Ok, Err, IsOk, IsOkAnd
 ghost use Rattle.blot_tag.specs.Fields.{fields_of};
 ghost use Rattle.blot_tag.specs.Views.{text_of};
 ghost use Rattle.blot_fields.specs.Decoding.{IsAllocation, GivesBody, decoded, is_out_of_memory, no_memory};
+ghost use Rattle.blot_fields.specs.First.{IsSentAt};
 ghost use Rattle.blot_fields.specs.Tables.{IsWell, IsFault};
 ghost use Rattle.blot_fields.specs.Messages.{body_of};
 ghost use Rattle.blot_fields.specs.Numbers.{IsNumbered, BodyNamesNumber};
@@ -21,8 +22,8 @@ use std::alloc::Global;
 /// What a frame says: its message, or the first fault. `NoMemory` comes last; only the lists of an
 /// Allocation Instruction take memory. FIX 4.4 volume 2, "Reject"; the order of the faults is this
 /// project's rule.
-#[tactic(auto, using(crate::proofs::DecodingLemmas::decoded_well, crate::proofs::DecodingLemmas::decoded_fault), unfolding(crate::specs::Decoding::decoded))]
-pub fn decode(alloc: Global, frame: &Frame) -> Result<Message, FieldFault>
+#[tactic(auto, using(crate::proofs::DecodingLemmas::decoded_well, crate::proofs::DecodingLemmas::decoded_fault, crate::proofs::SendingLemmas::decoded_sent), unfolding(crate::specs::Decoding::decoded))]
+pub fn decode<'a>(alloc: Global, frame: &Frame<'a>) -> Result<Message<'a>, FieldFault<'a>>
     ensures meaning { is_out_of_memory result ≡ false → result ≡ decoded (fields_of (text_of frame.now)) }
     ensures memory { is_out_of_memory result ≡ true
         → IsOkAnd (decoded (fields_of (text_of frame.now)))
@@ -30,6 +31,9 @@ pub fn decode(alloc: Global, frame: &Frame) -> Result<Message, FieldFault>
 
     // Each number that is given is a sequence number.
     ensures numbers { IsNumbered result }
+
+    // A message was sent at its first SendingTime.
+    ensures sent { IfOk (decoded (fields_of (text_of frame.now))) (IsSentAt (fields_of (text_of frame.now))) }
 
     // In a reader's words: a message is what is well by each row, and a fault is the first.
     ensures well { IsOk (decoded (fields_of (text_of frame.now)))
@@ -66,7 +70,7 @@ pub fn is_out_of_memory(said: &Result<Message, FieldFault>) -> bool
 }
 
 // What a message of a kind says after its header.
-fn body_of(alloc: Global, kind: Kind, fields: &FieldIndex) -> Result<Body, Refusal>
+fn body_of<'a>(alloc: Global, kind: Kind, fields: &FieldIndex<'a, '_>) -> Result<Body<'a>, Refusal>
     ensures body { GivesBody result (body_of kind fields.now) }
     ensures numbers { IfOk result BodyNamesNumber }
 {

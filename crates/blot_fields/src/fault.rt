@@ -40,16 +40,16 @@ impl FieldReason {
 }
 
 /// A message's first fault. FIX 4.4 volume 2, "Reject".
-#[derive(Clone, Copy, Debug, PartialEq, Eq)]
-pub struct FieldFault {
+#[derive(Debug, PartialEq, Eq, Drop)]
+pub struct FieldFault<'a> {
     /// The tag of the field at fault; 0 where it has none, and at `NoMemory`.
     pub tag: u32,
     pub reason: FieldReason,
     /// The header; none where it is at fault, or can't be read before the field at fault.
-    pub head: Option<Head>,
+    pub head: Option<Head<'a>>,
 }
 
-impl fmt::Display for FieldFault {
+impl<'a> fmt::Display for FieldFault<'a> {
     ghost use Rattle.std.specs.Prelude.{Some};
     ghost use Rattle.blot_fields.specs.FaultText.{fault_text};
 
@@ -62,7 +62,7 @@ impl fmt::Display for FieldFault {
     }
 }
 
-impl Error for FieldFault {}
+impl<'a> Error for FieldFault<'a> {}
 
 /// What is wrong with a field.
 #[derive(Clone, Copy, Debug, PartialEq, Eq)]
@@ -131,8 +131,8 @@ impl Wrong {
     }
 
     /// The fault under the header, where that can be read.
-    pub(crate) fn under(self, head: Option<Head>) -> FieldFault
-        ensures { result ≡ fault_under head self }
+    pub(crate) fn under<'a>(self, head: Option<Head<'a>>) -> FieldFault<'a>
+        ensures { result ≡ fault_under head.entry self }
     {
         FieldFault {
             tag: self.tag,
@@ -142,13 +142,13 @@ impl Wrong {
     }
 }
 
-impl FieldFault {
+impl<'a> FieldFault<'a> {
     ghost use Rattle.std.specs.Prelude.{◌≡◌};
     ghost use Rattle.blot_fields.specs.Faults.{no_memory_under};
 
     /// Out of memory for a message with this header.
-    pub(crate) fn no_memory(head: Head) -> FieldFault
-        ensures { result ≡ no_memory_under head }
+    pub(crate) fn no_memory(head: Head<'a>) -> FieldFault<'a>
+        ensures { result ≡ no_memory_under head.entry }
     {
         FieldFault {
             tag: 0,

@@ -3,43 +3,56 @@ ghost use Rattle.std.specs.Prelude.{◌≡◌, ◌<◌, ◌≤◌, ◌^◌, IfOk
 ghost use Rattle.blot_fields.specs.Forms.{number_form, zero_form, decimal_reason, positive_form, time_reason};
 
 use crate::fault::Flaw;
+use crate::text::Text;
 use blot_decimal::{DecimalFault, Price, Qty};
 use blot_tag::{is_number, number_of};
 use blot_time::{Day, Moment, TimeFault};
 use blot_types::{Sign, Text64};
 
 /// A type of values that has one form.
-pub(crate) trait Form: Sized {
+pub(crate) trait Form<'a>: Sized {
     ghost use Rattle.std.specs.Prelude.{ℕ, List, Result};
     ghost use Rattle.blot_fields.specs.declared.fault.Flaw.{Flaw};
 
     ghost form: { List ℕ → Result Self Flaw };
 
     /// What a value says, or what is wrong with it.
-    fn from_value(value: &[u8]) -> Result<Self, Flaw>
+    fn from_value(value: &'a [u8]) -> Result<Self, Flaw>
         ensures { result ≡ form value.now };
 }
 
-/// An identifier, an account or a symbol.
-impl Form for Text64 {
+/// An identifier, an account or a symbol, where it stands.
+impl<'a> Form<'a> for Text<'a> {
     ghost use Rattle.blot_fields.specs.Forms.{text_form};
 
     ghost form = { text_form };
 
     #[tactic(auto, unfolding(crate::specs::Forms::text_form))]
-    fn from_value(value: &[u8]) -> Result<Text64, Flaw> {
+    fn from_value(value: &'a [u8]) -> Result<Text<'a>, Flaw> {
+        Text::read(value).ok_or(Flaw::ValueIncorrect)
+    }
+}
+
+/// The same, owned.
+impl<'a> Form<'a> for Text64 {
+    ghost use Rattle.blot_fields.specs.Forms.{text_form};
+
+    ghost form = { text_form };
+
+    #[tactic(auto, unfolding(crate::specs::Forms::text_form))]
+    fn from_value(value: &'a [u8]) -> Result<Text64, Flaw> {
         Text64::read(value).ok_or(Flaw::ValueIncorrect)
     }
 }
 
 /// `Y` or `N`.
-impl Form for bool {
+impl<'a> Form<'a> for bool {
     ghost use Rattle.blot_fields.specs.Forms.{flag_form};
 
     ghost form = { flag_form };
 
     #[tactic(auto, unfolding(crate::specs::Forms::flag_form))]
-    fn from_value(value: &[u8]) -> Result<bool, Flaw> {
+    fn from_value(value: &'a [u8]) -> Result<bool, Flaw> {
         match value {
             b"Y" => Ok(true),
             b"N" => Ok(false),
@@ -49,58 +62,58 @@ impl Form for bool {
 }
 
 /// A quantity, 0 among them.
-impl Form for Qty {
+impl<'a> Form<'a> for Qty {
     ghost use Rattle.blot_fields.specs.Forms.{qty_form};
 
     ghost form = { qty_form };
 
     #[tactic(auto, unfolding(crate::specs::Forms::qty_form))]
-    fn from_value(value: &[u8]) -> Result<Qty, Flaw> {
+    fn from_value(value: &'a [u8]) -> Result<Qty, Flaw> {
         Qty::read(value).map_err(decimal_reason)
     }
 }
 
-impl Form for Price {
+impl<'a> Form<'a> for Price {
     ghost use Rattle.blot_fields.specs.Forms.{price_form};
 
     ghost form = { price_form };
 
     #[tactic(auto, unfolding(crate::specs::Forms::price_form))]
-    fn from_value(value: &[u8]) -> Result<Price, Flaw> {
+    fn from_value(value: &'a [u8]) -> Result<Price, Flaw> {
         Price::read(value).map_err(decimal_reason)
     }
 }
 
-impl Form for Moment {
+impl<'a> Form<'a> for Moment {
     ghost use Rattle.blot_fields.specs.Forms.{moment_form};
 
     ghost form = { moment_form };
 
     #[tactic(auto, unfolding(crate::specs::Forms::moment_form))]
-    fn from_value(value: &[u8]) -> Result<Moment, Flaw> {
+    fn from_value(value: &'a [u8]) -> Result<Moment, Flaw> {
         Moment::read(value).map_err(time_reason)
     }
 }
 
-impl Form for Day {
+impl<'a> Form<'a> for Day {
     ghost use Rattle.blot_fields.specs.Forms.{day_form};
 
     ghost form = { day_form };
 
     #[tactic(auto, unfolding(crate::specs::Forms::day_form))]
-    fn from_value(value: &[u8]) -> Result<Day, Flaw> {
+    fn from_value(value: &'a [u8]) -> Result<Day, Flaw> {
         Day::read(value).map_err(time_reason)
     }
 }
 
 /// A side as the sign of its quantity. FIX 4.4 volume 4, Side(54); the grouping is this project's rule.
-impl Form for Sign {
+impl<'a> Form<'a> for Sign {
     ghost use Rattle.blot_fields.specs.Forms.{side_form};
 
     ghost form = { side_form };
 
     #[tactic(auto, unfolding(crate::specs::Forms::side_form))]
-    fn from_value(value: &[u8]) -> Result<Sign, Flaw> {
+    fn from_value(value: &'a [u8]) -> Result<Sign, Flaw> {
         match value {
             b"1" | b"3" => Ok(Sign::Buy),
             b"2" | b"4" | b"5" | b"6" => Ok(Sign::Sell),

@@ -33,12 +33,12 @@ static ROW_OF_TAG: [u8; TAGS] = [
 
 /// The fields of a frame, up to the first that is refused. A contract sees it as their list.
 #[derive(Drop)]
-pub(crate) struct FieldIndex<'a> {
-    frame: &'a Frame<'a>,
-    slots: &'a [Slot<'a>; ROWS],
+pub(crate) struct FieldIndex<'a, 's> {
+    frame: &'s Frame<'a>,
+    slots: &'s [Slot<'a>; ROWS],
 }
 
-impl<'a> Model for FieldIndex<'a> {
+impl<'a, 's> Model for FieldIndex<'a, 's> {
     ghost use Rattle.std.specs.Prelude.{List};
     ghost use Rattle.blot_tag.specs.Fields.{TagValue, fields_of};
     ghost use Rattle.blot_tag.specs.Views.{text_of};
@@ -66,9 +66,9 @@ fn row_of(tag: u32) -> usize
     }
 }
 
-impl<'a> FieldIndex<'a> {
+impl<'a, 's> FieldIndex<'a, 's> {
     /// The fields of a frame, over the slots that know them.
-    pub(crate) fn new(frame: &'a Frame<'a>, slots: &'a [Slot<'a>; ROWS]) -> FieldIndex<'a>
+    pub(crate) fn new(frame: &'s Frame<'a>, slots: &'s [Slot<'a>; ROWS]) -> FieldIndex<'a, 's>
         requires { IsIndex (sound_fields (fields_of (text_of frame.now))) slots.now }
         ensures { result ≡ sound_fields (fields_of (text_of frame.now)) }
     {

@@ -69,13 +69,13 @@ pub(crate) enum AllocType {
     Cancel,
 }
 
-impl Form for AllocType {
+impl<'a> Form<'a> for AllocType {
     ghost use Rattle.blot_fields.specs.Kinds.{alloc_type_form};
 
     ghost form = { alloc_type_form };
 
     #[tactic(auto, unfolding(crate::specs::Kinds::alloc_type_form))]
-    fn from_value(value: &[u8]) -> Result<AllocType, Flaw> {
+    fn from_value(value: &'a [u8]) -> Result<AllocType, Flaw> {
         match value {
             b"0" => Ok(AllocType::New),
             b"1" => Ok(AllocType::Replace),

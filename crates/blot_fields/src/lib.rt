@@ -21,6 +21,7 @@ mod rows;
 mod sender;
 mod slot;
 mod sound;
+mod text;
 
 pub use admin::Admin;
 pub use allocation::{Allocation, AllocationTerms};
@@ -32,6 +33,7 @@ pub use head::{Head, head_in};
 pub use message::{Body, Message};
 pub use report::{Execution, OrderSize, Report};
 pub use sender::sender_of;
+pub use text::Text;
 
 /// The largest MsgSeqNum(34). This project's rule.
 pub const SEQUENCE_MAX: u64 = 999_999_999;

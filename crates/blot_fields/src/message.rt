@@ -2,18 +2,18 @@
 
 use crate::{Admin, Allocation, Head, Report};
 
-/// A message without a fault.
+/// A message without a fault. Its texts stand in its frame; those of an allocation are its own.
 #[derive(Debug, Drop)]
-pub struct Message {
-    pub head: Head,
-    pub body: Body,
+pub struct Message<'a> {
+    pub head: Head<'a>,
+    pub body: Body<'a>,
 }
 
-impl Message {
+impl<'a> Message<'a> {
     ghost use Rattle.std.specs.Prelude.{◌≡◌};
 
     /// What its header says.
-    pub fn head(&self) -> &Head
+    pub fn head(&self) -> &Head<'a>
         ensures { result.now ≡ self.now.head }
     {
         &self.head
@@ -22,11 +22,11 @@ impl Message {
 
 /// What a message says after its header.
 #[derive(Debug, Drop)]
-pub enum Body {
+pub enum Body<'a> {
     /// A message of the session layer.
     Admin(Admin),
     /// An Execution Report (35=8).
-    Report(Report),
+    Report(Report<'a>),
     /// An Allocation Instruction (35=J).
     Allocation(Allocation),
     /// A message of any other type. Its fields aren't read.

@@ -7,47 +7,48 @@ use crate::fault::Wrong;
 use crate::index::FieldIndex;
 use crate::kinds::{ExecType, exec_type_of};
 use crate::rows::{has, needed, optional, positive, there};
+use crate::text::Text;
 use blot_decimal::{Price, Qty};
 use blot_time::{Day, Moment};
-use blot_types::{Sign, Text64};
+use blot_types::Sign;
 
 /// What an Execution Report (35=8) says.
-#[derive(Clone, Copy, Debug, PartialEq, Eq)]
-pub enum Report {
+#[derive(Debug, PartialEq, Eq, Drop)]
+pub enum Report<'a> {
     /// ExecType(150) `F`: a fill.
-    Trade(Execution),
+    Trade(Execution<'a>),
     /// ExecType `G`: another version of an earlier fill, which ExecRefID(19) names.
     Correct {
-        reference: Text64,
-        execution: Execution,
+        reference: Text<'a>,
+        execution: Execution<'a>,
     },
     /// ExecType `H`: the end of an earlier fill, which ExecRefID(19) names.
     Bust {
-        id: Text64,
-        reference: Text64,
+        id: Text<'a>,
+        reference: Text<'a>,
     },
     /// Any other ExecType. Its other fields aren't read.
     Other,
 }
 
 /// A fill, as a broker reports it.
-#[derive(Clone, Copy, Debug, PartialEq, Eq)]
-pub struct Execution {
+#[derive(Debug, PartialEq, Eq, Drop)]
+pub struct Execution<'a> {
     /// OrderID(37).
-    pub order: Text64,
+    pub order: Text<'a>,
     /// ExecID(17).
-    pub id: Text64,
+    pub id: Text<'a>,
     /// Side(54).
     pub sign: Sign,
     pub size: OrderSize,
     /// Symbol(55).
-    pub symbol: Text64,
+    pub symbol: Text<'a>,
     /// LastQty(32), above 0.
     pub qty: Qty,
     /// LastPx(31).
     pub price: Price,
     /// Account(1).
-    pub account: Option<Text64>,
+    pub account: Option<Text<'a>>,
     /// TransactTime(60).
     pub transacted: Option<Moment>,
     /// TradeDate(75).
@@ -65,7 +66,7 @@ pub enum OrderSize {
 
 /// Reads an Execution Report.
 #[tactic(auto, unfolding(crate::specs::Messages::report_of))]
-pub(crate) fn report_of(fields: &FieldIndex) -> Result<Report, Wrong>
+pub(crate) fn report_of<'a>(fields: &FieldIndex<'a, '_>) -> Result<Report<'a>, Wrong>
     ensures { result ≡ report_of fields.now }
 {
     match exec_type_of(there(fields, 150)?) {
@@ -78,23 +79,23 @@ pub(crate) fn report_of(fields: &FieldIndex) -> Result<Report, Wrong>
 
 // A fill.
 #[tactic(auto, unfolding(crate::specs::Messages::trade_of))]
-fn trade_of(fields: &FieldIndex) -> Result<Report, Wrong>
+fn trade_of<'a>(fields: &FieldIndex<'a, '_>) -> Result<Report<'a>, Wrong>
     ensures { result ≡ trade_of fields.now }
 {
-    let order = needed::<Text64>(fields, 37)?;
-    let id = needed::<Text64>(fields, 17)?;
+    let order = needed::<Text>(fields, 37)?;
+    let id = needed::<Text>(fields, 17)?;
     let execution = execution_of(order, id, fields)?;
     Ok(Report::Trade(execution))
 }
 
 // Another version of an earlier fill.
 #[tactic(auto, unfolding(crate::specs::Messages::correct_of))]
-fn correct_of(fields: &FieldIndex) -> Result<Report, Wrong>
+fn correct_of<'a>(fields: &FieldIndex<'a, '_>) -> Result<Report<'a>, Wrong>
     ensures { result ≡ correct_of fields.now }
 {
-    let order = needed::<Text64>(fields, 37)?;
-    let id = needed::<Text64>(fields, 17)?;
-    let reference = needed::<Text64>(fields, 19)?;
+    let order = needed::<Text>(fields, 37)?;
+    let id = needed::<Text>(fields, 17)?;
+    let reference = needed::<Text>(fields, 19)?;
     let execution = execution_of(order, id, fields)?;
     Ok(Report::Correct {
         reference,
@@ -104,28 +105,32 @@ fn correct_of(fields: &FieldIndex) -> Result<Report, Wrong>
 
 // The end of an earlier fill.
 #[tactic(auto, unfolding(crate::specs::Messages::bust_of))]
-fn bust_of(fields: &FieldIndex) -> Result<Report, Wrong>
+fn bust_of<'a>(fields: &FieldIndex<'a, '_>) -> Result<Report<'a>, Wrong>
     ensures { result ≡ bust_of fields.now }
 {
-    let id = needed::<Text64>(fields, 17)?;
-    let reference = needed::<Text64>(fields, 19)?;
+    let id = needed::<Text>(fields, 17)?;
+    let reference = needed::<Text>(fields, 19)?;
     Ok(Report::Bust { id, reference })
 }
 
 // A fill, after the identifiers of the order and the execution.
 #[tactic(auto, unfolding(crate::specs::Messages::execution_of))]
-fn execution_of(order: Text64, id: Text64, fields: &FieldIndex) -> Result<Execution, Wrong>
-    ensures { result ≡ execution_of order id fields.now }
+fn execution_of<'a>(
+    order: Text<'a>,
+    id: Text<'a>,
+    fields: &FieldIndex<'a, '_>,
+) -> Result<Execution<'a>, Wrong>
+    ensures { result ≡ execution_of order.entry id.entry fields.now }
 {
     there(fields, 39)?;
     there(fields, 6)?;
     let sign = needed::<Sign>(fields, 54)?;
     let cum = size_part(fields, 14)?;
     let leaves = size_part(fields, 151)?;
-    let symbol = needed::<Text64>(fields, 55)?;
+    let symbol = needed::<Text>(fields, 55)?;
     let qty = positive(fields, 32)?;
     let price = needed::<Price>(fields, 31)?;
-    let account = optional::<Text64>(fields, 1)?;
+    let account = optional::<Text>(fields, 1)?;
     let size = order_size_of(cum, leaves, fields)?;
     let transacted = optional::<Moment>(fields, 60)?;
     let trade_date = optional::<Day>(fields, 75)?;

@@ -35,7 +35,7 @@ pub(crate) fn has(fields: &FieldIndex, tag: u32) -> bool
 /// The value of a field that must be there.
 #[inline(always)]
 #[tactic(auto, unfolding(crate::specs::Rows::there))]
-pub(crate) fn there<'a>(fields: &FieldIndex<'a>, tag: u32) -> Result<&'a [u8], Wrong>
+pub(crate) fn there<'a>(fields: &FieldIndex<'a, '_>, tag: u32) -> Result<&'a [u8], Wrong>
     requires { HasRow tag }
     ensures { lent_value result ≡ there tag fields.now }
 {
@@ -49,7 +49,7 @@ pub(crate) fn there<'a>(fields: &FieldIndex<'a>, tag: u32) -> Result<&'a [u8], W
 /// What a field says that must be there, by the form of its type.
 #[inline(always)]
 #[tactic(auto, unfolding(crate::specs::Rows::needed))]
-pub(crate) fn needed<T: Form>(fields: &FieldIndex, tag: u32) -> Result<T, Wrong>
+pub(crate) fn needed<'a, T: Form<'a>>(fields: &FieldIndex<'a, '_>, tag: u32) -> Result<T, Wrong>
     requires { HasRow tag }
     ensures { result ≡ needed tag T.form fields.now }
 {
@@ -59,7 +59,10 @@ pub(crate) fn needed<T: Form>(fields: &FieldIndex, tag: u32) -> Result<T, Wrong>
 /// What a field says that may be missing, by the form of its type.
 #[inline(always)]
 #[tactic(auto, unfolding(crate::specs::Rows::optional))]
-pub(crate) fn optional<T: Form>(fields: &FieldIndex, tag: u32) -> Result<Option<T>, Wrong>
+pub(crate) fn optional<'a, T: Form<'a>>(
+    fields: &FieldIndex<'a, '_>,
+    tag: u32,
+) -> Result<Option<T>, Wrong>
     requires { HasRow tag }
     ensures { result ≡ optional tag T.form fields.now }
 {

@@ -87,10 +87,10 @@ fn sender_by(said: &Result<Message, FieldFault>, own: Text64) -> Result<Text64, 
     if !matches!(message.body, Body::Admin(Admin::Logon { .. })) {
         return Err(CloseReason::NoLogon);
     }
-    if message.head.target != own {
+    if message.head.target.bytes() != own.bytes() {
         return Err(CloseReason::CompId);
     }
-    Ok(message.head.sender)
+    Ok(message.head.sender.owned())
 }
 
 // Reads once, and feeds the reader what came.

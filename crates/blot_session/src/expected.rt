@@ -41,7 +41,7 @@ fn body_row(state: State, head: &Head, body: &Body) -> Row
         Body::Allocation(allocation) => {
             Row::delivers(Awaited::Allocation(alloc_id_of(allocation)), state)
         }
-        Body::Other => other_row(state, head.number, head.kind),
+        Body::Other => other_row(state, head.number, head.kind.owned()),
     }
 }
 

@@ -36,7 +36,7 @@ fn on_row(state: State, said: &Result<Message, FieldFault>, now: Moment) -> Row
     ensures { result ≡ on_row state said.now now }
 {
     match head_in(said) {
-        Some(head) => head_row(state, &head, said, now),
+        Some(head) => head_row(state, head, said, now),
         None => Row::sends(Outbound::Logout, state).closing(CloseReason::BadHeader),
     }
 }

@@ -4,7 +4,7 @@ ghost use Rattle.blot_tag.specs.Fields.{fields_of};
 ghost use Rattle.blot_tag.specs.Views.{text_of};
 ghost use Rattle.blot_fields.specs.Decoding.{decoded};
 ghost use Rattle.blot_fields.specs.declared.TheConstants.{SEQUENCE_MAX};
-ghost use Rattle.blot_fields.specs.Numbers.{HasNumber};
+ghost use Rattle.blot_fields.specs.Numbers.{HasNumber, IsNumbered};
 ghost use Rattle.blot_session.specs.Calls.{Awaits, DeliversAlone, on_frame, on_tick, on_reply, row_of_reply};
 ghost use Rattle.blot_session.specs.Met.{met_of};
 ghost use Rattle.blot_session.specs.Runs.{Call, AreMet, HasNoReset, IsInOrder};
@@ -13,7 +13,7 @@ ghost use Rattle.blot_session.specs.States.{awaited_of, fresh, waiting_again, cl
 use crate::carrying::{go_on, take_row};
 use crate::met::met_of;
 use crate::state::{Link, Live, State};
-use crate::taking::{take_frame, take_reply};
+use crate::taking::{take_frame, take_reply, take_said};
 use crate::ticks::tick_row;
 use crate::{Action, Met, NotTaken, Phase, SeenReply};
 use blot_fields::{FieldFault, Message};
@@ -134,6 +134,25 @@ impl Session {
         ensures alone { IfOk result (λ actions. DeliversAlone actions.items) }
     {
         take_frame(alloc, &mut self.state, frame, now)
+    }
+
+    /// A frame came that says this: the same, for a caller that has decoded it.
+    #[tactic(auto, using(crate::proofs::DeliveryLemmas::awaits_reply))]
+    pub fn on_said(
+        &mut self,
+        alloc: Global,
+        said: &Result<Message, FieldFault>,
+        now: Moment,
+    ) -> Result<Vec<Action>, NoMemory>
+        requires idle { IsIdle self.old }
+        requires numbers { IsNumbered said.now }
+        ensures ok { IfOk result (λ actions. record { state = self.new; actions = actions.items } ≡ on_frame self.old said.now now) }
+        ensures err { OnErr result (self.new ≡ closed self.old) }
+        ensures peer { self.new.peer ≡ self.old.peer }
+        ensures awaits { IfOk result (λ actions. Awaits self.new actions.items) }
+        ensures alone { IfOk result (λ actions. DeliversAlone actions.items) }
+    {
+        take_said(alloc, &mut self.state, said, now)
     }
 
     /// A moment passes: a Heartbeat or a TestRequest may be due, or the peer given up. Out of memory, the session is

@@ -186,14 +186,14 @@ impl State {
     pub(crate) fn is_from_peer(&self, head: &Head) -> bool
         ensures { result ≡ is_from_peer self.now head.now }
     {
-        self.is_sender(head) && head.target == self.own
+        self.is_sender(head) && head.target.bytes() == self.own.bytes()
     }
 
     /// Whether a message names this peer.
     pub(crate) fn is_sender(&self, head: &Head) -> bool
         ensures { result ≡ is_sender self.now head.now }
     {
-        head.sender == self.peer
+        head.sender.bytes() == self.peer.bytes()
     }
 }
 

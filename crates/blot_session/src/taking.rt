@@ -64,8 +64,8 @@ pub(crate) fn take_reply(
     reply_by_row(alloc, state, reply, now)
 }
 
-// What a session does about what a frame says.
-fn take_said(
+/// What a session does about what a frame says.
+pub(crate) fn take_said(
     alloc: Global,
     state: &mut State,
     said: &Result<Message, FieldFault>,

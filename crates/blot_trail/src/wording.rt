@@ -86,7 +86,7 @@ pub(crate) fn put_head(
     };
     put_number(alloc, text, head.number)?;
     put_word(text, head.kind.bytes())?;
-    put_word_or_dash(text, id_of(frame, &head.kind))
+    put_word_or_dash(text, id_of(frame, head.kind.bytes()))
 }
 
 /// Adds at the end of a text what became of a message, to the end of its line.
@@ -184,7 +184,7 @@ fn shown_byte(byte: u8) -> u8
 }
 
 // What a message of a type is known by.
-fn id_of(frame: &Frame, kind: &Text64) -> Option<Text64>
+fn id_of(frame: &Frame, kind: &[u8]) -> Option<Text64>
     ensures { result ≡ id_by (id_tag_of kind.now) (fields_of (text_of frame.now)) }
 {
     match id_tag_of(kind) {
@@ -194,13 +194,13 @@ fn id_of(frame: &Frame, kind: &Text64) -> Option<Text64>
 }
 
 // The tag of what a message of a type is known by: ExecID(17) of an Execution Report, AllocID(70) of an Allocation Instruction.
-fn id_tag_of(kind: &Text64) -> Option<u32>
+fn id_tag_of(kind: &[u8]) -> Option<u32>
     ensures { result ≡ id_tag_of kind.now }
 {
-    if kind.bytes() == b"8".as_slice() {
+    if kind == b"8".as_slice() {
         return Some(17);
     }
-    if kind.bytes() == b"J".as_slice() {
+    if kind == b"J".as_slice() {
         return Some(70);
     }
     None

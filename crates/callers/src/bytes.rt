@@ -64,7 +64,7 @@ pub fn logout(alloc: Global, reason: &[u8]) -> Result<Vec<u8>, WriteFault>
 }
 
 /// The sequence number of a frame, or the first fault of its message.
-pub fn number_of(alloc: Global, frame: &Frame) -> Result<u64, FieldFault>
+pub fn number_of<'a>(alloc: Global, frame: &Frame<'a>) -> Result<u64, FieldFault<'a>>
     ensures { IfOk result (λ number. IsOkAnd (decoded (fields_of (text_of frame.now)))
         (λ message. number ≡ message.head.number)) }
 {

@@ -1,22 +1,14 @@
-use Rattle.std.proofs.Common.{ap, sym, subst, ◌∙◌}
+use Rattle.std.proofs.Common.{sym, subst, ◌∙◌}
+use Rattle.std.specs.Prelude.{IfOk}
+use Rattle.blot_tag.specs.Fields.{fields_of}
 use Rattle.blot_tag.specs.Views.{text_of}
-use Rattle.blot_capture.specs.Replay.{Stopped, submitted}
-use Rattle.blot_capture.proofs.SessionLemmas.{frame-takes, handled-frame}
+use Rattle.blot_fields.specs.First.{IsSentAt}
 use Rattle.blot_capture.proofs.handling.take_frame.Goals as goal
 
-pub returns-in-Ok-take_delivered-clause-desk : goal.returns-in-Ok-take_delivered-clause-desk
-returns-in-Ok-take_delivered-clause-desk c =
-    c.in-Ok-take_delivered.ensures.desk
-    ∙ ap (submitted c.args.held.now) (sym (frame-takes c.args.session.now c.on_frame.new.self (text_of c.args.frame.now) c.in-Ok.actions.items c.sending_of-now.result
-    c.sending_of-now.ensures c.in-Ok.ensures.ok c.in-Ok.ensures.awaits))
+pub take_said-requires-clause-said : goal.take_said-requires-clause-said
+take_said-requires-clause-said c = c.decode-said.ensures.meaning (sym c.is_out_of_memory.ensures ∙ c.if-is_out_of_memory.false)
 
-pub returns-in-Ok-take_delivered-clause-handled : goal.returns-in-Ok-take_delivered-clause-handled
-returns-in-Ok-take_delivered-clause-handled c =
-    handled-frame c.args.session.now c.on_frame.new.self c.args.held.now (text_of c.args.frame.now) c.in-Ok.actions.items c.sending_of-now.result
-    c.in-Ok-take_delivered.handled c.sending_of-now.ensures c.in-Ok.ensures.ok c.in-Ok.ensures.awaits c.in-Ok-take_delivered.ensures.handled
-
-pub returns-in-Err-clause-err : goal.returns-in-Err-clause-err
-returns-in-Err-clause-err c =
-    subst (λ commands. Stopped c.in-Err.fault c.args.held.now c.take_delivered.new.held commands)
-    (sym (frame-takes c.args.session.now c.on_frame.new.self (text_of c.args.frame.now) c.in-Ok.actions.items c.sending_of-now.result
-    c.sending_of-now.ensures c.in-Ok.ensures.ok c.in-Ok.ensures.awaits)) c.in-Err.ensures.err
+pub take_said-requires-clause-sent : goal.take_said-requires-clause-sent
+take_said-requires-clause-sent c =
+    let is = c.decode-said.ensures.meaning (sym c.is_out_of_memory.ensures ∙ c.if-is_out_of_memory.false) in
+    subst (λ said. IfOk said (IsSentAt (fields_of (text_of c.args.frame.now)))) (sym is) c.decode-said.ensures.sent

@@ -1,0 +1,98 @@
+//! Short texts, where they stand in their frame.
+ghost use Rattle.std.specs.Prelude.{◌≡◌, ◌↔◌, IsTrue, IsSome, IfSome, nat_eq, Some};
+ghost use Rattle.std.specs.List.{list_all};
+ghost use Rattle.std.specs.Cmp.{partial_equiv_from_equiv};
+ghost use Rattle.std.specs.Cmp.Lexicographic.{pointwise, nat_list_eq_equiv};
+ghost use Rattle.blot_types.specs.Text.{is_text, printable};
+
+use blot_types::{TEXT_MAX, Text64};
+use std::fmt;
+use std::marker::Model;
+
+/// An identifier, an account or a symbol: 1 to 64 bytes from space to tilde, which stand in their frame. Texts are
+/// equal by their bytes. This project's rule; FIX 4.4 sets no limit.
+#[derive(Drop)]
+pub struct Text<'a> {
+    bytes: &'a [u8],
+}
+
+impl<'a> Model for Text<'a> {
+    ghost use Rattle.std.specs.Prelude.{ℕ, List, IsTrue};
+    ghost use Rattle.blot_types.specs.Text.{is_text};
+
+    ghost Value = { List ℕ };
+
+    ghost view = { λ text. text.bytes.now };
+
+    ghost invariant = { λ text. IsTrue (is_text text.bytes.now) };
+}
+
+impl<'a> Text<'a> {
+    /// The text of these bytes, or none where they are no text: empty, over 64 bytes, or with a byte
+    /// outside 0x20 to 0x7E.
+    pub fn read(bytes: &'a [u8]) -> Option<Text<'a>>
+        ensures text { IsSome result ↔ IsTrue (is_text bytes.now) }
+        ensures value { IfSome result (λ text. text ≡ bytes.now) }
+    {
+        if is_text(bytes) {
+            Some(Text { bytes })
+        } else {
+            None
+        }
+    }
+
+    /// The bytes of the text.
+    pub fn bytes(&self) -> &'a [u8]
+        ensures value { result.now ≡ self.now }
+        ensures text { IsTrue (is_text self.now) }
+    {
+        self.bytes
+    }
+
+    /// A copy of it that owns its bytes. It takes no memory.
+    pub fn owned(&self) -> Text64
+        ensures { result ≡ self.now }
+    {
+        match Text64::read(self.bytes) {
+            Some(text) => text,
+            None => unreachable!(),
+        }
+    }
+}
+
+// Whether these bytes are a text.
+fn is_text(bytes: &[u8]) -> bool
+    ensures { result ≡ is_text bytes.now }
+{
+    if bytes.is_empty() || bytes.len() > TEXT_MAX {
+        return false;
+    }
+    is_printable(bytes)
+}
+
+// Whether each of these bytes is printable.
+fn is_printable(bytes: &[u8]) -> bool
+    ensures { result ≡ list_all printable bytes.now }
+{
+    bytes.iter().all(|byte| 0x20 <= *byte && *byte <= 0x7E)
+}
+
+impl<'a> PartialEq for Text<'a> {
+    ghost eq = { pointwise nat_eq };
+
+    ghost laws = { partial_equiv_from_equiv nat_list_eq_equiv };
+
+    fn eq(&self, other: &Text<'a>) -> bool {
+        self.bytes() == other.bytes()
+    }
+}
+
+impl<'a> Eq for Text<'a> {
+    ghost laws = { nat_list_eq_equiv };
+}
+
+impl<'a> fmt::Debug for Text<'a> {
+    fn fmt<W: fmt::Write>(&self, f: &mut fmt::Formatter<W>) -> fmt::Result {
+        fmt::Debug::fmt(self.bytes(), f)
+    }
+}
