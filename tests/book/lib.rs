@@ -13,6 +13,7 @@ mod erasure_runs;
 mod generated;
 mod keys;
 mod kinds;
+mod lifting;
 mod long;
 mod many;
 mod model;
