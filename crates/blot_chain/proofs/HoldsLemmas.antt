@@ -6,6 +6,7 @@ use Rattle.std.proofs.lemmas.Bool.{cases_Bool, and_from, and_parts, ltb-true}
 use Rattle.std.proofs.lemmas.List.{reverse-append}
 use Rattle.blot_places.specs.declared.slots.Slot.{Slot}
 use Rattle.blot_places.specs.Places.{places_in}
+use Rattle.blot_places.specs.Shown.{Shown}
 use Rattle.blot_places.specs.Slots.{is_above, items, lifted, live, newest_live, numbers_fall}
 use Rattle.blot_places.proofs.MarkLemmas.{above-both, above-side}
 use Rattle.blot_places.proofs.ShownLemmas.{above-through, falling-parts}
@@ -100,10 +101,10 @@ held-push index new slots written link root holds is indexed accepted above abov
 
 -- ---- one link less
 
-pub record PopsLink (key : ExecKey) (role : Role) (slot : Slot Rooted) (earlier : List (Slot Rooted)) : Type 0 where
+pub record PopsLink (key : ExecKey) (role : Role) (slot : Slot Rooted) (earlier : List (Slot Rooted)) (shown : Shown Link) : Type 0 where
   pub lives : slot.is_live ≡ true
-  pub adds : Adds key role (shown_of earlier).list (shown_of (slot ∷ earlier)).list
-  pub kept : (shown_of (slot ∷ earlier)).kept ≡ (shown_of earlier).kept
+  pub adds : Adds key role (shown_of earlier).list shown.list
+  pub kept : (shown_of earlier).kept ≡ shown.kept
 
 first_link : (a b : Link) (xs ys : List Link) → a ∷ xs ≡ b ∷ ys → a ≡ b
 first_link a b xs ys is = cc
@@ -129,9 +130,9 @@ newest-lives key role slot earlier fall newest =
           absurd (omega (arith, below, less))
     ]
 
-pub pops-link :
+pops-link :
     (key : ExecKey) (role : Role) (slot : Slot Rooted) (earlier : List (Slot Rooted)) → numbers_fall link_number (items (slot ∷ earlier)) ≡ true
-    → IsNewest key role (shown_of (slot ∷ earlier)) → PopsLink key role slot earlier
+    → IsNewest key role (shown_of (slot ∷ earlier)) → PopsLink key role slot earlier (shown_of (slot ∷ earlier))
 pops-link key role slot earlier fall newest =
     let is : slot.is_live ≡ true = newest-lives key role slot earlier fall newest in
     let link : Link = record { number = newest.0; key = key; role = role } in
@@ -140,10 +141,10 @@ pops-link key role slot earlier fall newest =
     record {
       lives = is;
       adds = (newest.0, ap links_in (live_here slot earlier is) ∙ ap (λ first. first ∷ links_in (live earlier)) same);
-      kept = ap links_in (lifted_on slot earlier is);
+      kept = sym (ap links_in (lifted_on slot earlier is));
     }
 
-pub held-pop :
+held-pop :
     (index new : Index) (slot : Slot Rooted) (earlier : List (Slot Rooted)) → HoldsChains index (slot ∷ earlier) → slot.is_live ≡ true
     → IsIndexed new earlier → HoldsChains new earlier
 held-pop index new slot earlier holds is indexed = record {
@@ -153,3 +154,21 @@ held-pop index new slot earlier holds is indexed = record {
   chained = (chained-parts slot.item.link (links_in (live earlier)) (ap (λ slots. is_chained (links_in slots)) (sym (live_here slot earlier is)) ∙ holds.chained)).1;
   newest = holds.newest.1;
 }
+
+-- the last of the slots goes, where they show a newest link of this key and role
+module _ (index : Index) (key : ExecKey) (role : Role) (slots rest : List (Slot Rooted)) (slot : Slot Rooted) (is : slots ≡ rest ++ slot ∷ []) where
+  reversed : reverse slots ≡ slot ∷ reverse rest
+  reversed = ap reverse is ∙ reverse-append rest (slot ∷ [])
+
+  pub pops-last : (shown : Shown Link) → HoldsChains index (reverse slots) → shown_of (reverse slots) ≡ shown → IsNewest key role shown → PopsLink key role slot (reverse rest) shown
+  pops-last shown holds is_shown newest =
+      let whole : shown_of (slot ∷ reverse rest) ≡ shown = ap shown_of (sym reversed) ∙ is_shown in
+      subst (PopsLink key role slot (reverse rest)) whole
+      (pops-link key role slot (reverse rest) (subst (HoldsChains index) reversed holds).fall (subst (IsNewest key role) (sym whole) newest))
+
+  pub held-last :
+      (new : Index) (shown : Shown Link) → HoldsChains index (reverse slots) → shown_of (reverse slots) ≡ shown → IsNewest key role shown
+      → (IsIndexed index (slot ∷ reverse rest) → IsIndexed new (reverse rest)) → HoldsChains new (reverse rest)
+  held-last new shown holds is_shown newest fewer =
+      let all = subst (HoldsChains index) reversed holds in
+      held-pop index new slot (reverse rest) all (pops-last shown holds is_shown newest).lives (fewer all.indexed)
