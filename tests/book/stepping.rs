@@ -66,7 +66,9 @@ pub fn rewind<C: Undoable>(steps: &mut Steps<C>, count: usize) -> Result<(), Fai
 
 /// As many steps as are counted are undone and redone.
 pub fn there_and_back<C: Undoable>(steps: &mut Steps<C>, count: usize) -> Result<(), Fail> {
-    if !callers::there_and_back(steps, count)? {
+    let done = steps.done();
+    callers::there_and_back(steps, count)?;
+    if steps.done() != done {
         return Err(Fail::new("not redone"));
     }
     Ok(())
