@@ -74,6 +74,16 @@ impl Draws {
         Ok(Command::Bust(Bust { key, reference }))
     }
 
+    /// A withdrawal: mostly of a Bust of a list, where one is there.
+    pub fn withdrawal(&mut self, list: &[Entry]) -> Command {
+        let from = self.draw() as usize % list.len().max(1);
+        let (front, back) = list.split_at(from);
+        match first_bust(back).or_else(|| first_bust(front)) {
+            Some(number) if !self.seldom() => Command::Withdraw(number),
+            _ => Command::Withdraw(u64::from(self.draw() & 31)),
+        }
+    }
+
     /// An allocation of either peer.
     pub fn any_allocation(&mut self) -> Result<AllocKey, Fail> {
         let peer = self.peer();
@@ -273,6 +283,16 @@ fn listed_by(
         }
     }
     Ok(Vec::new(alloc))
+}
+
+// The number of the first Bust of a list.
+fn first_bust(list: &[Entry]) -> Option<u64> {
+    for entry in list {
+        if entry.command.is_bust() {
+            return Some(entry.number);
+        }
+    }
+    None
 }
 
 // The newest allocation of a list.

@@ -182,6 +182,6 @@ fn runs_of_commands_and_their_inverses(rt: HostRuntime) -> Result<(), Fail> {
             40,
         )?;
     }
-    tally.expect_each_kind()?;
+    tally.expect_each_entry()?;
     tally.expect_each_refusal(10)
 }

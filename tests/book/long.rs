@@ -1,4 +1,5 @@
-//! A long run of commands with steps undone and redone between them, beside a plain stack of entries and the plain slow program.
+//! A long run of commands, withdrawals among them, with steps undone and redone between them, beside a plain stack of steps and the
+//! plain slow program.
 
 use crate::draws::{Draws, drawn_orders};
 use crate::model::compare;
@@ -13,31 +14,101 @@ use std::test::Fail;
 // How many commands are sent.
 const COMMANDS: u32 = 2_000;
 
-// The entries of the done steps, the newest last, and those of the undone ones, the one undone last last.
+// A done step: an entry of a number, or a withdrawal of a number with the entry that it took out.
+#[derive(Drop)]
+enum Done {
+    Entered(u64),
+    Took(u64, Entry),
+}
+
+// An undone step: an entry, or a withdrawal of a number with the number that it took out.
+#[derive(Drop)]
+enum Undone {
+    Entry(Entry),
+    Withdrawal(u64, u64),
+}
+
+// A live list, the done steps, the newest last, the undone ones, the one undone last last, and the next number.
 #[derive(Drop)]
 struct Stack {
-    done: Vec<Entry>,
-    undone: Vec<Entry>,
+    list: Vec<Entry>,
+    done: Vec<Done>,
+    undone: Vec<Undone>,
     next: u64,
 }
 
-// Moves the last entry behind others: its number, if there is one.
-fn move_last(from: &mut Vec<Entry>, to: &mut Vec<Entry>) -> Result<Option<u64>, Fail> {
-    let Some(entry) = from.pop() else {
-        return Ok(None);
-    };
-    let number = entry.number;
-    to.push(entry)?;
-    Ok(Some(number))
+// The place of a number in a list, or that of the first one above it.
+fn place_of(list: &[Entry], number: u64) -> usize {
+    list.iter()
+        .take_while(|entry| entry.number < number)
+        .count()
+}
+
+// Takes the entry of a number out of a list.
+fn take_out(list: &mut Vec<Entry>, number: u64) -> Result<Entry, Fail> {
+    let place = place_of(list, number);
+    match list.get(place) {
+        Some(entry) if entry.number == number => Ok(list.remove(place)),
+        _ => Err(Fail::new("no such entry")),
+    }
 }
 
 // Takes a command: its number.
 fn take(stack: &mut Stack, command: Command) -> Result<u64, Fail> {
     let number = stack.next;
-    stack.done.push(Entry { number, command })?;
+    match command.withdrawn() {
+        Some(taken) => {
+            let entry = take_out(&mut stack.list, taken)?;
+            stack.done.push(Done::Took(number, entry))?;
+        }
+        None => {
+            stack.list.push(Entry { number, command })?;
+            stack.done.push(Done::Entered(number))?;
+        }
+    }
     stack.undone.clear();
     stack.next = number.saturating_add(1);
     Ok(number)
+}
+
+// Undoes the newest step: its number, if there is one.
+fn undo(stack: &mut Stack) -> Result<Option<u64>, Fail> {
+    let Some(step) = stack.done.pop() else {
+        return Ok(None);
+    };
+    match step {
+        Done::Entered(number) => {
+            let entry = stack.list.pop().ok_or("no entry")?;
+            stack.undone.push(Undone::Entry(entry))?;
+            Ok(Some(number))
+        }
+        Done::Took(number, entry) => {
+            stack.undone.push(Undone::Withdrawal(number, entry.number))?;
+            let place = place_of(&stack.list, entry.number);
+            stack.list.insert(place, entry)?;
+            Ok(Some(number))
+        }
+    }
+}
+
+// Redoes the step that was undone last: its number, if there is one.
+fn redo(stack: &mut Stack) -> Result<Option<u64>, Fail> {
+    let Some(step) = stack.undone.pop() else {
+        return Ok(None);
+    };
+    match step {
+        Undone::Entry(entry) => {
+            let number = entry.number;
+            stack.list.push(entry)?;
+            stack.done.push(Done::Entered(number))?;
+            Ok(Some(number))
+        }
+        Undone::Withdrawal(number, taken) => {
+            let entry = take_out(&mut stack.list, taken)?;
+            stack.done.push(Done::Took(number, entry))?;
+            Ok(Some(number))
+        }
+    }
 }
 
 // A number is the one that the plain stack has.
@@ -48,10 +119,10 @@ fn expect_number(found: Option<u64>, wanted: Option<u64>) -> Result<(), Fail> {
     Ok(())
 }
 
-// The book has the entries of the plain stack's done steps, and shows what the plain program says of them.
+// The book has the plain stack's live list, and shows what the plain program says of it.
 fn examine(alloc: Global, tables: &Tables, stack: &Stack, orders: &[OrderKey]) -> Result<(), Fail> {
-    if tables.entries(alloc)? != stack.done {
-        return Err(Fail::new("the live list isn't that of the done steps"));
+    if tables.entries(alloc)? != stack.list {
+        return Err(Fail::new("the live list isn't that of the plain stack"));
     }
     if stack.next > EVENTS_MAX {
         return Err(Fail::new("no room"));
@@ -68,12 +139,12 @@ fn go_back(
     orders: &[OrderKey],
 ) -> Result<(), Fail> {
     for _ in 0..draws.draw() & 3 {
-        let wanted = move_last(&mut stack.done, &mut stack.undone)?;
+        let wanted = undo(stack)?;
         expect_number(steps.undo(), wanted)?;
         examine(alloc, steps.state(), stack, orders)?;
     }
     for _ in 0..draws.draw() & 1 {
-        let wanted = move_last(&mut stack.undone, &mut stack.done)?;
+        let wanted = redo(stack)?;
         expect_number(steps.redo()?, wanted)?;
         examine(alloc, steps.state(), stack, orders)?;
     }
@@ -92,6 +163,15 @@ fn answer(steps: &mut Steps<Command>, command: Command) -> Result<Result<u64, Re
     }
 }
 
+// A command that is drawn: one in eight is a withdrawal.
+fn drawn(alloc: Global, draws: &mut Draws, list: &[Entry]) -> Result<Command, Fail> {
+    match draws.draw() & 7 {
+        0 => Ok(draws.withdrawal(list)),
+        1 => draws.any_bust(),
+        _ => draws.command(alloc, list),
+    }
+}
+
 // Sends a command that is drawn, which is taken or refused as the plain program says.
 fn send(
     alloc: Global,
@@ -100,8 +180,8 @@ fn send(
     draws: &mut Draws,
     tally: &mut Tally,
 ) -> Result<(), Fail> {
-    let command = draws.command(alloc, &stack.done)?;
-    let refusal = accepts(alloc, &stack.done, &command)?;
+    let command = drawn(alloc, draws, &stack.list)?;
+    let refusal = accepts(alloc, &stack.list, &command)?;
     tally.count(&command, refusal);
     let wanted = match refusal {
         Some(refused) => Err(refused),
@@ -137,6 +217,7 @@ fn run(
 fn two_thousand_commands_with_steps_undone_and_redone(rt: HostRuntime) -> Result<(), Fail> {
     let mut tally = Tally::new();
     let mut stack = Stack {
+        list: Vec::new(rt.alloc()),
         done: Vec::new(rt.alloc()),
         undone: Vec::new(rt.alloc()),
         next: 1,

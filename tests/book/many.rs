@@ -41,13 +41,14 @@ impl<L: Ledger> Caller<L> {
     }
 }
 
-// An event that is drawn: mostly a command, else an undo, a redo or an ask.
+// An event that is drawn: mostly a command, a withdrawal among them, else an undo, a redo or an ask.
 fn drawn_event(alloc: Global, draws: &mut Draws, held: &Held) -> Result<Event, Fail> {
     match draws.draw() & 15 {
         0 => Ok(Event::Undo { newest: 1 }),
         1 => Ok(Event::Redo),
         2 => Ok(Event::AskOrder(order(b"BRKA", b"O1")?)),
         3 => Ok(Event::AskPosition(text(b"A1")?, text(b"XYZ")?)),
+        4 => Ok(Event::Submit(draws.withdrawal(held.snapshot()?.entries()))),
         _ => drawn_command(alloc, draws, held),
     }
 }
@@ -130,7 +131,7 @@ fn expect_replayed(alloc: Global, held: &Held) -> Result<(), Fail> {
 
 // Events of each kind, and commands of each kind, are among the records.
 fn expect_each_kind(history: &[Recorded]) -> Result<(), Fail> {
-    let mut counts = [0u32; 10];
+    let mut counts = [0u32; 11];
     for recorded in history {
         let kind = kind_of(&recorded.event);
         counts[kind] = counts[kind].saturating_add(1);
@@ -152,10 +153,11 @@ fn kind_of(event: &Event) -> usize {
         Event::Submit(Command::AllocNew(_)) => 3,
         Event::Submit(Command::AllocReplace(_)) => 4,
         Event::Submit(Command::AllocCancel(_)) => 5,
-        Event::Undo { newest: _ } => 6,
-        Event::Redo => 7,
-        Event::AskOrder(_) => 8,
-        Event::AskPosition(..) => 9,
+        Event::Submit(Command::Withdraw(_)) => 6,
+        Event::Undo { newest: _ } => 7,
+        Event::Redo => 8,
+        Event::AskOrder(_) => 9,
+        Event::AskPosition(..) => 10,
     }
 }
 

@@ -6,8 +6,8 @@ use std::test::Fail;
 /// How often each kind of command was taken, and each refusal came, each in its order.
 #[derive(Drop)]
 pub struct Tally {
-    taken: [u32; 6],
-    refused: [u32; 13],
+    taken: [u32; 7],
+    refused: [u32; 14],
 }
 
 // The place of a kind of command.
@@ -19,6 +19,7 @@ fn place_of_kind(command: &Command) -> usize {
         Command::AllocNew(_) => 3,
         Command::AllocReplace(_) => 4,
         Command::AllocCancel(_) => 5,
+        Command::Withdraw(_) => 6,
     }
 }
 
@@ -35,9 +36,10 @@ fn place_of_refusal(refused: &Refused) -> usize {
         Refused::ExecTaken(_) => 7,
         Refused::Instrument(_) => 8,
         Refused::Quantity(_, _) => 9,
-        Refused::NothingToUndo => 10,
-        Refused::Moved(_) => 11,
-        Refused::NothingToRedo => 12,
+        Refused::NotLive(_) => 10,
+        Refused::NothingToUndo => 11,
+        Refused::Moved(_) => 12,
+        Refused::NothingToRedo => 13,
     }
 }
 
@@ -45,8 +47,8 @@ impl Tally {
     /// Nothing came yet.
     pub fn new() -> Tally {
         Tally {
-            taken: [0; 6],
-            refused: [0; 13],
+            taken: [0; 7],
+            refused: [0; 14],
         }
     }
 
@@ -75,7 +77,12 @@ impl Tally {
         expect_each(&self.taken, "kind")
     }
 
-    /// Each of the first refusals came: ten of a book, all of a desk.
+    /// Each kind of command that is an entry was taken.
+    pub fn expect_each_entry(&self) -> Result<(), Fail> {
+        expect_each(&self.taken[..6], "kind")
+    }
+
+    /// Each of the first refusals came: eleven of a book, all of a desk.
     pub fn expect_each_refusal(&self, count: usize) -> Result<(), Fail> {
         match self.refused.get(..count) {
             Some(refused) => expect_each(refused, "refusal"),

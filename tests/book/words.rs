@@ -30,7 +30,7 @@ pub struct Booked {
 }
 
 /// A command in words: the execution or the allocation that it takes up, then the one that it refers to, then
-/// what it brings.
+/// what it brings; or the number of the entry that it takes out.
 pub enum Step {
     Trades(&'static [u8], Filled),
     Corrects(&'static [u8], &'static [u8], Filled),
@@ -38,6 +38,7 @@ pub enum Step {
     Allocates(&'static [u8], Booked),
     Replaces(&'static [u8], &'static [u8], Booked),
     Cancels(&'static [u8], &'static [u8]),
+    Withdraws(u64),
 }
 
 // The fill of a peer's order.
@@ -168,5 +169,6 @@ pub fn command(alloc: Global, peer: &[u8], step: &Step) -> Result<Command, Fail>
             alloc_replace(alloc, peer, id, reference, words).map(Command::AllocReplace)
         }
         Step::Cancels(id, reference) => alloc_cancel(peer, id, reference).map(Command::AllocCancel),
+        Step::Withdraws(number) => Ok(Command::Withdraw(*number)),
     }
 }

@@ -1,30 +1,40 @@
--- The instructions that are kept, newest first, with one more and one less.
-use Rattle.std.specs.Prelude.{◌≡◌, ℕ, Bool, true, ◌&&◌, List, [], ◌∷◌, Option, find}
+-- What a contract sees of the allocations, newest first: one instruction more and one less, one lifted out and put back.
+use Rattle.std.specs.Prelude.{◌≡◌, ℕ, true, List, ◌∷◌, Option, find}
 use Rattle.std.specs.Option.{option_map}
+use Rattle.blot_places.specs.Shown.{Shown, item_at, lifted_out as item_lifted_out, put_back as item_put_back}
 use Rattle.blot_types.specs.declared.allocation.AllocRole.{AllocRole}
 use Rattle.blot_types.specs.declared.allocation.Instruction.{Instruction}
 use Rattle.blot_types.specs.declared.keys.AllocKey.{AllocKey}
 use Rattle.blot_types.specs.declared.keys.ExecKey.{ExecKey}
 use Rattle.blot_types.specs.Instructions.{is_keyed, is_above_instructions}
 
--- what a contract sees of the allocations: their instructions, newest first
-pub record Shown : Type 0 where
-  pub list : List Instruction
-
 -- the roots of the chains that the instruction which takes up a key lists
 abbrev pub roots_in : List Instruction → AllocKey → Option (List ExecKey)
 roots_in instructions key = option_map (λ instruction. instruction.roots) (find (is_keyed key) instructions)
 
--- whether the numbers fall, from the newest instruction on
-abbrev pub numbers_fall : List Instruction → Bool
-numbers_fall [] = true
-numbers_fall (instruction ∷ earlier) = is_above_instructions instruction.number earlier && numbers_fall earlier
+-- the number of an instruction
+abbrev pub number_of : Instruction → ℕ
+number_of instruction = instruction.number
+
+-- the instruction of a number
+abbrev pub instruction_at : ℕ → List Instruction → Option Instruction
+instruction_at number instructions = item_at number_of number instructions
+
+-- the instruction of this number is lifted out of the list, and kept; and it is put back at its place
+abbrev pub lifted_out : ℕ → Shown Instruction → Shown Instruction
+lifted_out number shown = item_lifted_out number_of number shown
+
+abbrev pub put_back : ℕ → Shown Instruction → Shown Instruction
+put_back number shown = item_put_back number_of number shown
 
 -- the later instructions are the earlier ones with one more, of this key and role
 abbrev pub Adds : AllocKey → AllocRole → List Instruction → List Instruction → Type 0
 Adds key role earlier later =
     (number : ℕ) × (roots : List ExecKey) × (later ≡ record { number = number; key = key; role = role; roots = roots } ∷ earlier)
 
--- the newest instruction has this key and role
-abbrev pub IsNewest : AllocKey → AllocRole → List Instruction → Type 0
-IsNewest key role instructions = (earlier : List Instruction) × Adds key role earlier instructions
+-- the newest instruction has this key and role, and came after each one that is kept
+abbrev pub IsNewest : AllocKey → AllocRole → Shown Instruction → Type 0
+IsNewest key role shown =
+    (number : ℕ) × (roots : List ExecKey) × (earlier : List Instruction)
+    × (shown.list ≡ record { number = number; key = key; role = role; roots = roots } ∷ earlier)
+    × (is_above_instructions number shown.kept ≡ true)

@@ -1,20 +1,21 @@
 //! The instructions on allocations: added, taken back, asked.
-ghost use Rattle.std.specs.Prelude.{◌≡◌, ◌≤◌, [], ◌∷◌, length, filter, find, IsTrue, OnOk, OnErr};
+ghost use Rattle.std.specs.Prelude.{◌≡◌, ◌≤◌, [], ◌∷◌, length, filter, find, IsSome, IsTrue, OnOk, OnErr};
 ghost use Rattle.std.specs.Option.{option_copied, option_map};
 ghost use Rattle.blot_types.specs.declared.allocation.AllocRole.TheVariants.{Allocates, Replaces, Cancels};
-ghost use Rattle.blot_types.specs.Instructions.{alloc_taker_in, is_keyed, is_allocation_in, ends, ended_in, is_live_in, holds_in, holder_in, other_holder_in, may_follow, is_above_instructions};
-ghost use Rattle.blot_alloc.specs.Allocs.{roots_in, Adds, IsNewest};
+ghost use Rattle.blot_types.specs.Instructions.{alloc_taker_in, is_keyed, is_allocation_in, ends, ended_in, is_live_in, holds_in, holder_in, other_holder_in, may_follow, is_above_instructions, is_instructed};
+ghost use Rattle.blot_alloc.specs.Allocs.{roots_in, Adds, IsNewest, instruction_at, lifted_out, put_back};
 
 use crate::index::Index;
 use crate::roles::{brings_allocation, is_reference};
-use blot_places::{Slot, newest_live};
+use blot_places::{Slot, mark, newest_live};
 use blot_types::{AllocKey, AllocRole, ExecKey, Instruction, Items};
 use std::alloc::{AllocError as NoMemory, Global};
 use std::marker::Model;
 
 /// The instructions on allocations, in the order in which they came, and where those of a key, those that
-/// end the allocation of a key, and those that name the chain of a root are among them. A contract sees their
-/// list, newest first, in which each instruction might follow those before it, and the numbers fall.
+/// end the allocation of a key, and those that name the chain of a root are among them. An instruction that is lifted out
+/// keeps its slot. A contract sees the list and the kept instructions, both newest first. In the list each instruction might
+/// follow those before it, and the numbers fall.
 #[derive(Drop)]
 pub struct Allocs {
     alloc: Global,
@@ -24,10 +25,11 @@ pub struct Allocs {
 
 impl Model for Allocs {
     ghost use Rattle.std.specs.Prelude.{reverse};
-    ghost use Rattle.blot_alloc.specs.Allocs.{Shown};
-    ghost use Rattle.blot_alloc.specs.Holds.{HoldsAllocs, shown_of};
+    ghost use Rattle.blot_places.specs.Shown.{Shown, shown_of};
+    ghost use Rattle.blot_types.specs.declared.allocation.Instruction.{Instruction};
+    ghost use Rattle.blot_alloc.specs.Holds.{HoldsAllocs};
 
-    ghost Value = { Shown };
+    ghost Value = { Shown Instruction };
 
     ghost view = { λ allocs. shown_of (reverse allocs.slots.items) };
 
@@ -37,7 +39,7 @@ impl Model for Allocs {
 impl Allocs {
     /// No instructions. No memory is taken.
     pub fn new(alloc: Global) -> Allocs
-        ensures { result.list ≡ [] }
+        ensures { result ≡ record { list = []; kept = [] } }
     {
         Allocs {
             alloc,
@@ -47,7 +49,7 @@ impl Allocs {
     }
 
     /// Adds an AllocNew, whose allocation names the chains of these roots, none of them twice. Its key is new,
-    /// its number above those there, and no live allocation names one of the chains. Out of memory is the only
+    /// its number above those of all, listed or kept, and no live allocation names one of the chains. Out of memory is the only
     /// error, and then nothing has changed. FIX 4.4 volume 5, AllocTransType(71).
     pub fn admit(
         &mut self,
@@ -57,14 +59,16 @@ impl Allocs {
     ) -> Result<(), NoMemory>
         requires accepted { IsTrue (may_follow self.old.list key.now Allocates roots) }
         requires above { IsTrue (is_above_instructions number self.old.list) }
+        requires above_kept { IsTrue (is_above_instructions number self.old.kept) }
         ensures ok { OnOk result (self.new.list ≡ record { number = number; key = key.now; role = Allocates; roots = roots } ∷ self.old.list) }
+        ensures kept { self.new.kept ≡ self.old.kept }
         ensures err { OnErr result (self.new ≡ self.old) }
     {
         self.push(number, key, AllocRole::Allocates, roots)
     }
 
     /// Adds an AllocReplace, whose allocation takes the place of the reference's and names the chains of these
-    /// roots, none of them twice. Its key is new, its number above those there, the reference's allocation is live, and no live
+    /// roots, none of them twice. Its key is new, its number above those of all, listed or kept, the reference's allocation is live, and no live
     /// allocation but that names one of the chains. Out of memory is the only error, and then nothing has
     /// changed. FIX 4.4 volume 5, RefAllocID(72).
     pub fn replace(
@@ -76,14 +80,16 @@ impl Allocs {
     ) -> Result<(), NoMemory>
         requires accepted { IsTrue (may_follow self.old.list key.now (Replaces reference.now) roots) }
         requires above { IsTrue (is_above_instructions number self.old.list) }
+        requires above_kept { IsTrue (is_above_instructions number self.old.kept) }
         ensures ok { OnOk result (self.new.list ≡ record { number = number; key = key.now; role = Replaces reference.now; roots = roots } ∷ self.old.list) }
+        ensures kept { self.new.kept ≡ self.old.kept }
         ensures err { OnErr result (self.new ≡ self.old) }
     {
         self.push(number, key, AllocRole::Replaces(*reference), roots)
     }
 
     /// Adds an AllocCancel, which ends the reference's allocation. Its key is new, its number above those
-    /// there, and the reference's allocation is live. Out of memory is the only error, and then nothing has
+    /// of all, listed or kept, and the reference's allocation is live. Out of memory is the only error, and then nothing has
     /// changed. FIX 4.4 volume 5, RefAllocID(72).
     pub fn cancel(
         &mut self,
@@ -93,7 +99,9 @@ impl Allocs {
     ) -> Result<(), NoMemory>
         requires accepted { IsTrue (may_follow self.old.list key.now (Cancels reference.now) []) }
         requires above { IsTrue (is_above_instructions number self.old.list) }
+        requires above_kept { IsTrue (is_above_instructions number self.old.kept) }
         ensures ok { OnOk result (self.new.list ≡ record { number = number; key = key.now; role = Cancels reference.now; roots = [] } ∷ self.old.list) }
+        ensures kept { self.new.kept ≡ self.old.kept }
         ensures err { OnErr result (self.new ≡ self.old) }
     {
         let none = Items::new(Vec::new(self.alloc));
@@ -102,8 +110,9 @@ impl Allocs {
 
     /// Takes back an AllocNew of this key, the newest instruction. No memory is taken. This project's rule.
     pub fn un_admit(&mut self, key: &AllocKey)
-        requires newest { IsNewest key.now Allocates self.old.list }
-        ensures { Adds key.now Allocates self.new.list self.old.list }
+        requires newest { IsNewest key.now Allocates self.old }
+        ensures adds { Adds key.now Allocates self.new.list self.old.list }
+        ensures kept { self.new.kept ≡ self.old.kept }
     {
         self.pop(key, AllocRole::Allocates);
     }
@@ -111,8 +120,9 @@ impl Allocs {
     /// Takes back an AllocReplace of this key and reference, the newest instruction. No memory is taken. This
     /// project's rule.
     pub fn un_replace(&mut self, key: &AllocKey, reference: &AllocKey)
-        requires newest { IsNewest key.now (Replaces reference.now) self.old.list }
-        ensures { Adds key.now (Replaces reference.now) self.new.list self.old.list }
+        requires newest { IsNewest key.now (Replaces reference.now) self.old }
+        ensures adds { Adds key.now (Replaces reference.now) self.new.list self.old.list }
+        ensures kept { self.new.kept ≡ self.old.kept }
     {
         self.pop(key, AllocRole::Replaces(*reference));
     }
@@ -120,10 +130,32 @@ impl Allocs {
     /// Takes back an AllocCancel of this key and reference, the newest instruction. No memory is taken. This
     /// project's rule.
     pub fn un_cancel(&mut self, key: &AllocKey, reference: &AllocKey)
-        requires newest { IsNewest key.now (Cancels reference.now) self.old.list }
-        ensures { Adds key.now (Cancels reference.now) self.new.list self.old.list }
+        requires newest { IsNewest key.now (Cancels reference.now) self.old }
+        ensures adds { Adds key.now (Cancels reference.now) self.new.list self.old.list }
+        ensures kept { self.new.kept ≡ self.old.kept }
     {
         self.pop(key, AllocRole::Cancels(*reference));
+    }
+
+    /// Lifts the instruction of a number out of the list, whatever came later, and keeps its slot: put back, it stands where it
+    /// stood. It is listed, and without it each instruction might follow those before it. No memory is taken. This project's rule.
+    pub fn lift(&mut self, number: u64)
+        requires listed { IsSome (instruction_at number self.old.list) }
+        requires instructed { IsTrue (is_instructed (lifted_out number self.old).list) }
+        ensures lifted { self.new ≡ lifted_out number self.old }
+        ensures back { put_back number self.new ≡ self.old }
+    {
+        mark(&mut self.slots, number, false);
+    }
+
+    /// Puts the instruction of a number, which is kept, back at its place in the list. With it each instruction might follow
+    /// those before it. No memory is taken. This project's rule.
+    pub fn un_lift(&mut self, number: u64)
+        requires kept { IsSome (instruction_at number self.old.kept) }
+        requires instructed { IsTrue (is_instructed (put_back number self.old).list) }
+        ensures { self.new ≡ put_back number self.old }
+    {
+        mark(&mut self.slots, number, true);
     }
 
     /// The number of the live allocation that names the chain of a root. There is at most one. This project's
@@ -225,7 +257,9 @@ impl Allocs {
     ) -> Result<(), NoMemory>
         requires accepted { IsTrue (may_follow self.old.list key.now role roots) }
         requires above { IsTrue (is_above_instructions number self.old.list) }
+        requires above_kept { IsTrue (is_above_instructions number self.old.kept) }
         ensures ok { OnOk result (self.new.list ≡ record { number = number; key = key.now; role = role; roots = roots } ∷ self.old.list) }
+        ensures kept { self.new.kept ≡ self.old.kept }
         ensures err { OnErr result (self.new ≡ self.old) }
     {
         self.slots.reserve(1)?;
@@ -249,8 +283,9 @@ impl Allocs {
 
     // Takes the newest instruction out. It has this key and role, so nothing is compared.
     fn pop(&mut self, key: &AllocKey, role: AllocRole)
-        requires newest { IsNewest key.now role self.old.list }
-        ensures { Adds key.now role self.new.list self.old.list }
+        requires newest { IsNewest key.now role self.old }
+        ensures adds { Adds key.now role self.new.list self.old.list }
+        ensures kept { self.new.kept ≡ self.old.kept }
     {
         match self.slots.pop() {
             Some(slot) => self.index.pop(&slot),

@@ -1,4 +1,5 @@
 pub mod DeskLemmas
+mod EntryLemmas
 pub mod LookupLemmas
 mod PeerLemmas
 mod SessionLemmas

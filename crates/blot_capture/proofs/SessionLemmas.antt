@@ -86,7 +86,7 @@ chosen true items none = refl
 chosen false items none = sym (none refl)
 
 -- a frame's calls take what the frame delivers, where its reply is awaited
-calls-take : (state : State) (text : List ℕ)
+pub calls-take : (state : State) (text : List ℕ)
     → taken_of state (calls_of state text)
     ≡ (if is_some (awaited_of (behind_frame state text)) then delivered_by state.expected (outcome state (frame_call text)).actions else [])
 calls-take state text =

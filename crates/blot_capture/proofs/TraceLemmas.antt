@@ -1,14 +1,16 @@
 -- The walk over a capture, and the run of the commands that it submits.
 use Rattle.std.proofs.Common.{◌≡◌, ℕ, ◌+◌, List, [], ◌∷◌, ◌++◌, length, drop, map, fold, Option, Some, None, refl, sym, ap, ◌∙◌}
-use Rattle.std.specs.List.{flat_map}
+use Rattle.std.specs.List.{All, flat_map}
 use Rattle.std.specs.Option.{option_map_or}
 use Rattle.std.proofs.lemmas.List.{append-nil, append_assoc}
+use Rattle.std.proofs.lemmas.List.Elements.{All-head, All-tail}
 use Rattle.blot_tag.specs.Places.{place_in, placed_in}
 use Rattle.blot_tag.specs.Walking.{frames_of}
 use Rattle.blot_types.specs.declared.command.Command.{Command}
 use Rattle.blot_types.specs.declared.command.Entry.{Entry}
 use Rattle.blot_types.specs.declared.refused.Refused.{Refused as Reason}
 use Rattle.blot_types.specs.Legal.{refusal_of}
+use Rattle.blot_types.specs.Withdrawal.{without}
 use Rattle.blot_session.specs.declared.met.Met.{Met}
 use Rattle.blot_session.specs.declared.state.State.{State}
 use Rattle.blot_session.specs.Met.{met_of}
@@ -21,6 +23,7 @@ use Rattle.blot_capture.specs.Capture.{commands_in, commands_over, moment_at, se
 use Rattle.blot_capture.specs.Replay.{Taking, submitted}
 use Rattle.blot_capture.specs.declared.became.Became.TheVariants as became
 use Rattle.blot_capture.specs.Trace.{Turn, IsReplayed, accepted_by, accepted_in, became_of, became_in, first_taking, reply_to, reply_told, session_for, taking_after, trace_over}
+use Rattle.blot_capture.proofs.EntryLemmas.{IsEntry, over-entries}
 use Rattle.blot_capture.proofs.SessionLemmas.{one-taken}
 
 -- ---- the commands
@@ -101,20 +104,20 @@ entries-append journal (command ∷ commands) more =
     ap (λ entries. made ++ entries) (entries-append next commands more)
     ∙ sym (append_assoc made (entries_to next commands) (entries_to (submitted next commands) more))
 
--- it is what the live list of the run gains
-submit-list : (book : DeskBook) (command : Command) (refused : Option Reason)
+-- it is what the live list of the run gains, where they are entries
+submit-list : (book : DeskBook) (command : Command) (refused : Option Reason) → IsEntry command
     → (submit_by book command refused).book.list ≡ book.list ++ accepted_by command (became.Replied (submit_by book command refused).reply)
-submit-list book command None = refl
-submit-list book command (Some reason) = sym (append-nil book.list)
+submit-list book command None is = ap (λ withdrawn. option_map_or (λ taken. without taken book.list) withdrawn (book.list ++ (record { number = book.next; command = command } ∷ []))) is
+submit-list book command (Some reason) is = sym (append-nil book.list)
 
-run-list : (run : Run) (journal : Journal) (commands : List Command) → run.book ≡ journal.book
+run-list : (run : Run) (journal : Journal) (commands : List Command) → run.book ≡ journal.book → All IsEntry commands
     → (fold run_on run (map Submit commands)).book.list ≡ run.book.list ++ entries_to journal commands
 unfolding entries_to
-run-list run journal [] same = sym (append-nil run.book.list)
-run-list run journal (command ∷ commands) same =
+run-list run journal [] same are = sym (append-nil run.book.list)
+run-list run journal (command ∷ commands) same are =
     let next = recorded_of journal (Submit command) in
-    run-list (run_on run (Submit command)) next commands (ap (λ book. (step_of book (Submit command)).book) same)
-    ∙ ap (λ list. list ++ entries_to next commands) (submit-list run.book command (refusal_of run.book.list command))
+    run-list (run_on run (Submit command)) next commands (ap (λ book. (step_of book (Submit command)).book) same) (All-tail IsEntry command commands are)
+    ∙ ap (λ list. list ++ entries_to next commands) (submit-list run.book command (refusal_of run.book.list command) (All-head IsEntry command commands are))
     ∙ append_assoc run.book.list (accepted_by command (became.Replied (step_of run.book (Submit command)).reply)) (entries_to next commands)
     ∙ ap (λ book. run.book.list ++ (accepted_by command (became.Replied (step_of book (Submit command)).reply) ++ entries_to next commands)) same
 
@@ -158,5 +161,6 @@ is_replayed own peers bytes =
       replies = trace-replies (frames_of bytes) bytes first
           ∙ sym (run-replies (record { book = empty_book; replies = [] }) first.journal (commands_over first.sessions (frames_of bytes)) refl);
       accepted = trace-list (frames_of bytes) bytes first
-          ∙ sym (run-list (record { book = empty_book; replies = [] }) first.journal (commands_over first.sessions (frames_of bytes)) refl);
+          ∙ sym (run-list (record { book = empty_book; replies = [] }) first.journal (commands_over first.sessions (frames_of bytes)) refl
+          (over-entries first.sessions (frames_of bytes)));
     }

@@ -79,7 +79,7 @@ pub fn day_report(alloc: Global, held: Held, day: Day) -> Result<Vec<u8>, NoMemo
     ensures text { IfOk result (λ text. text.items ≡ report_of (run_of (events_of held.history)).book.list day) }
     ensures few { length held.history ≤ EVENTS_MAX }
 {
-    let snapshot = held.into_snapshot();
+    let snapshot = held.into_snapshot()?;
     let lines = day_lines(alloc, &snapshot, day)?;
     report_text(alloc, &lines)
 }

@@ -2,8 +2,7 @@
 ghost use Rattle.std.specs.Prelude.{◌≡◌};
 ghost use Rattle.blot_chain.specs.Rooted.{is_bust, is_version, kept_root};
 
-use blot_places::Numbered;
-use blot_types::{ExecKey, Link, Role};
+use blot_types::{ExecKey, Link, Numbered, Role};
 
 /// A link with the root of the chain that it begins, corrects or busts.
 #[derive(Clone, Copy)]

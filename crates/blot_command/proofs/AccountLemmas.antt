@@ -5,7 +5,7 @@ use Rattle.std.specs.List.{last_or}
 use Rattle.std.specs.Option.{option_map, option_and_then}
 use Rattle.std.proofs.lemmas.List.{reverse-append, reverse-reverse}
 use Rattle.blot_types.specs.declared.command.Command.{Command}
-use Rattle.blot_types.specs.declared.command.Command.TheVariants.{Trade, Correct, Bust, AllocNew, AllocReplace, AllocCancel}
+use Rattle.blot_types.specs.declared.command.Command.TheVariants.{Trade, Correct, Bust, AllocNew, AllocReplace, AllocCancel, Withdraw}
 use Rattle.blot_types.specs.declared.command.Entry.{Entry}
 use Rattle.blot_types.specs.declared.keys.AllocKey.{AllocKey}
 use Rattle.blot_types.specs.declared.part.Part.{Part}
@@ -17,6 +17,7 @@ use Rattle.blot_types.specs.Legal.{is_book}
 use Rattle.blot_types.specs.Position.{part_of}
 use Rattle.blot_types.specs.Refusals.{alloc_reference}
 use Rattle.blot_types.specs.Survivors.{link_by, link_of, links_in, links_of, version_of, versions_of}
+use Rattle.blot_types.proofs.AcceptLemmas.{enters}
 use Rattle.blot_types.proofs.ChangeLemmas.{link_alone}
 use Rattle.blot_position.specs.Positions.{Cells}
 use Rattle.blot_command.specs.Booking.{Change, changed_all, CanChangeAll, rebooked, allocated, released}
@@ -43,6 +44,7 @@ referenceless number (Bust bust) = refl
 referenceless number (AllocNew new) = tt
 referenceless number (AllocReplace replace) = tt
 referenceless number (AllocCancel cancel) = tt
+referenceless number (Withdraw withdrawn) = tt
 
 no-reference : (entry : Entry) (link : Link) → link_of entry ≡ Some link → alloc_reference entry.command ≡ None
 no-reference entry link is = subst (λ found. IsReferenceless found (alloc_reference entry.command)) is (referenceless entry.number entry.command)
@@ -76,7 +78,7 @@ can_come-by (Some link) list entry cells is next ready carried =
     (record { first = reached.can; second = tt; third = tt; shows = record { carried = reached.carried; ready = ready-stays after moved cells ready } }))
 can_come-by None list entry cells is next ready carried =
     let after = list ++ entry ∷ [] in
-    let instruction = is_instruction (links_in (reverse list)) entry.number entry.command is in
+    let instruction = is_instruction (links_in (reverse list)) entry.number entry.command (enters list entry.command next.accepted).stays is in
     let out = released after (alloc_reference entry.command) in
     let into = allocated after (own_key entry) in
     subst (λ gone. CanMove (rebooked gone (own_part list entry)) out into cells after) (sym (no-replaced list entry is))
@@ -93,7 +95,7 @@ can_go-by (Some link) list entry cells is next ready carried =
     (record { first = tt; second = tt; third = reached.can; shows = record { carried = reached.carried; ready = ready-stays list moved cells (ready-less list entry cells ready) } }))
 can_go-by None list entry cells is next ready carried =
     let after = list ++ entry ∷ [] in
-    let instruction = is_instruction (links_in (reverse list)) entry.number entry.command is in
+    let instruction = is_instruction (links_in (reverse list)) entry.number entry.command (enters list entry.command next.accepted).stays is in
     let out = released after (own_key entry) in
     let into = allocated after (alloc_reference entry.command) in
     subst (λ come. CanMove out into (rebooked (own_part list entry) come) cells list) (sym (no-replaced list entry is))

@@ -11,7 +11,7 @@ use Rattle.std.proofs.lemmas.List.Folds.{find-append}
 use Rattle.blot_types.specs.declared.allocation.AllocRole.TheVariants.{Allocates, Replaces, Cancels}
 use Rattle.blot_types.specs.declared.allocation.Instruction.{Instruction}
 use Rattle.blot_types.specs.declared.command.Command.{Command}
-use Rattle.blot_types.specs.declared.command.Command.TheVariants.{Trade, Correct, Bust, AllocNew, AllocReplace, AllocCancel}
+use Rattle.blot_types.specs.declared.command.Command.TheVariants.{Trade, Correct, Bust, AllocNew, AllocReplace, AllocCancel, Withdraw}
 use Rattle.blot_types.specs.declared.command.Entry.{Entry}
 use Rattle.blot_types.specs.declared.fill.Fill.{Fill}
 use Rattle.blot_types.specs.declared.keys.AllocKey.{AllocKey}
@@ -26,7 +26,7 @@ use Rattle.blot_types.specs.Chains.{replaced_by}
 use Rattle.blot_types.specs.Instructions.{is_keyed, alloc_taker_in, reference_of}
 use Rattle.blot_types.specs.Order.{total}
 use Rattle.blot_types.specs.Position.{account_of, is_named, part_of, IsSmall, FillFits}
-use Rattle.blot_types.specs.Refusals.{alloc_reference}
+use Rattle.blot_types.specs.Refusals.{withdrawn_by, alloc_reference}
 use Rattle.blot_types.specs.Survivors.{link_by, link_of, links_in, links_of, version_by, version_of, versions_of, stands_in, survivors}
 use Rattle.blot_types.proofs.AcceptLemmas.{accepted-instruction, instructions_of-push}
 use Rattle.blot_types.proofs.BringLemmas.{BringsIf, named_beside, live_beside, ended-brings, brought-brings, found-All}
@@ -51,22 +51,22 @@ use Rattle.blot_command.proofs.WeightLemmas.{AllBooked, moves_whole, Light-moves
 
 -- ---- an entry that is a link
 
-total-part : (f : Part → ℤ) (list : List Entry) (found : Option Version) → total (amount f list) (cons_option found []) ≡ total f (cons_option (option_map (part_of list) found) [])
+pub total-part : (f : Part → ℤ) (list : List Entry) (found : Option Version) → total (amount f list) (cons_option found []) ≡ total f (cons_option (option_map (part_of list) found) [])
 total-part f list None = refl
 total-part f list (Some version) = refl
 
-own-part : (P : Version → Type 0) (Q : Part → Type 0) (list : List Entry) (found : Option Version) → ((version : Version) → P version → Q (part_of list version)) → All P (cons_option found []) → All Q (cons_option (option_map (part_of list) found) [])
+pub own-part : (P : Version → Type 0) (Q : Part → Type 0) (list : List Entry) (found : Option Version) → ((version : Version) → P version → Q (part_of list version)) → All P (cons_option found []) → All Q (cons_option (option_map (part_of list) found) [])
 own-part P Q list None each all = All-nil Q
 own-part P Q list (Some version) each all = All-cons Q (part_of list version) [] (each version (All-head P version [] all)) (All-nil Q)
 
-small-part : (list : List Entry) (version : Version) → FillFits version.fill → IsSmall (part_of list version)
+pub small-part : (list : List Entry) (version : Version) → FillFits version.fill → IsSmall (part_of list version)
 small-part list version fits = fits (is_named list version.key)
 
 made-at : (named : Bool) (fill : Fill) (cells : Cells) → HasFillCells cells fill → has_cell cells (account_of named fill) fill.symbol ≡ true
 made-at true fill cells made = made.housed
 made-at false fill cells made = made.own
 
-made-part : (list : List Entry) (version : Version) (cells : Cells) → HasFillCells cells version.fill → has_cell cells (part_of list version).account (part_of list version).symbol ≡ true
+pub made-part : (list : List Entry) (version : Version) (cells : Cells) → HasFillCells cells version.fill → has_cell cells (part_of list version).account (part_of list version).symbol ≡ true
 made-part list version cells made = made-at (is_named list version.key) version.fill cells made
 
 found-option : (P : Version → Type 0) (found : Option Version) → ((version : Version) → found ≡ Some version → P version) → All P (cons_option found [])
@@ -143,28 +143,29 @@ pub record IsInstruction (links : List Link) (number : ℕ) (command : Command) 
   pub refers : reference_of instruction.role ≡ alloc_reference command
   pub unversioned : version_by number command ≡ None
 
-pub is_instruction : (links : List Link) (number : ℕ) (command : Command) → link_by number command ≡ None → IsInstruction links number command
-is_instruction links number (Trade trade) none = cc
-is_instruction links number (Correct correct) none = cc
-is_instruction links number (Bust bust) none = cc
-is_instruction links number (AllocNew new) none = record {
+pub is_instruction : (links : List Link) (number : ℕ) (command : Command) → withdrawn_by command ≡ None → link_by number command ≡ None → IsInstruction links number command
+is_instruction links number (Trade trade) stays none = cc
+is_instruction links number (Correct correct) stays none = cc
+is_instruction links number (Bust bust) stays none = cc
+is_instruction links number (AllocNew new) stays none = record {
   instruction = record { number = number; key = new.key; role = Allocates; roots = roots_of_terms links new.terms };
   is = refl;
   refers = refl;
   unversioned = refl;
 }
-is_instruction links number (AllocReplace replace) none = record {
+is_instruction links number (AllocReplace replace) stays none = record {
   instruction = record { number = number; key = replace.key; role = Replaces replace.reference; roots = roots_of_terms links replace.terms };
   is = refl;
   refers = refl;
   unversioned = refl;
 }
-is_instruction links number (AllocCancel cancel) none = record {
+is_instruction links number (AllocCancel cancel) stays none = record {
   instruction = record { number = number; key = cancel.key; role = Cancels cancel.reference; roots = [] };
   is = refl;
   refers = refl;
   unversioned = refl;
 }
+is_instruction links number (Withdraw withdrawn) stays none = cc
 
 listed-behind : (list : List Entry) (i : Instruction) (key : AllocKey) (t : Instruction) → alloc_taker_in (instructions_of list) i.key ≡ None → find (is_keyed key) (instructions_of list) ≡ Some t → find (is_keyed key) (i ∷ instructions_of list) ≡ Some t
 listed-behind list i key t fresh listed =

@@ -1,10 +1,16 @@
 pub mod AccountLemmas
 pub mod BoundLemmas
+pub mod BustOutLemmas
 pub mod ChangeListLemmas
 pub mod EntryMoveLemmas
 pub mod HouseLemmas
+pub mod KeepsLemmas
+pub mod LiftLemmas
+pub mod LiftListLemmas
+pub mod LiftMoveLemmas
 pub mod LiveLemmas
 pub mod MoveLemmas
+pub mod MovedLemmas
 pub mod OpenLemmas
 pub mod PositionLineLemmas
 pub mod ReachLemmas
@@ -13,6 +19,10 @@ pub mod RecordLemmas
 pub mod RefusalLemmas
 pub mod SearchLemmas
 pub mod ShowLemmas
+pub mod SlotLemmas
 pub mod StepLemmas
+pub mod TakenLemmas
 pub mod TermsLemmas
 pub mod WeightLemmas
+pub mod WithdrawalRows
+pub mod WithinLemmas

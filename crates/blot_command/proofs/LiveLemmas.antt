@@ -1,67 +1,30 @@
--- The live list: the version of a number, what names a chain, and the list with and without its last entry.
-use Rattle.std.proofs.Common.{◌≡◌, ℕ, ◌<◌, ◌≤◌, ◌+◌, ◌-◌, ◌==◌, true, ◌&&◌, List, [], ◌∷◌, ◌++◌, length, get_or, reverse, Option, Some, None, refl, sym, ap, subst, ◌∙◌, arith, inl, inr, Ok, Err}
-use Rattle.std.specs.Prelude.{Bool, false, find, is_none, is_some, nat_lt, IfSome, Result, OnOk}
-use Rattle.std.specs.List.{cons_option, last_or, list_any}
-use Rattle.std.specs.Option.{option_map, option_map_or, option_or}
-use Rattle.std.specs.Result.{is_err}
-use Rattle.std.proofs.lemmas.Bool.{cases_Bool, ne_eqb, eq-eqb, and_from, and_parts, ltb-true}
+-- The live list: what names a chain, and the list with and without its last entry.
+use Rattle.std.proofs.Common.{◌≡◌, ℕ, ◌≤◌, ◌+◌, true, ◌&&◌, List, [], ◌∷◌, ◌++◌, reverse, Option, Some, None, refl, sym, ap, subst, ◌∙◌, arith, inl, inr}
+use Rattle.std.specs.Prelude.{Bool, false, find, is_none, is_some, nat_lt, IfSome}
+use Rattle.std.specs.List.{cons_option, list_any}
+use Rattle.std.specs.Option.{option_map, option_map_or}
+use Rattle.std.proofs.lemmas.Bool.{cases_Bool, and_from, and_parts, ltb-true}
 use Rattle.std.proofs.lemmas.List.{reverse-append}
-use Rattle.std.proofs.lemmas.List.Elements.{filter_map-append}
-use Rattle.std.proofs.lemmas.List.Folds.{find-append}
 use Rattle.blot_types.specs.declared.allocation.Instruction.{Instruction}
 use Rattle.blot_types.specs.declared.command.Command.{Command}
-use Rattle.blot_types.specs.declared.command.Command.TheVariants.{Trade, Correct, Bust, AllocNew, AllocReplace, AllocCancel}
+use Rattle.blot_types.specs.declared.command.Command.TheVariants.{Trade, Correct, Bust, AllocNew, AllocReplace, AllocCancel, Withdraw}
 use Rattle.blot_types.specs.declared.command.Entry.{Entry}
 use Rattle.blot_types.specs.declared.keys.ExecKey.{ExecKey}
-use Rattle.blot_types.specs.declared.lines.Version.{Version}
 use Rattle.blot_types.specs.declared.link.Link.{Link}
 use Rattle.blot_types.specs.declared.TheConstants.{EVENTS_MAX}
 use Rattle.blot_types.specs.Allocations.{instruction_by, instructions_in, instructions_of}
 use Rattle.blot_types.specs.Chains.{root_in, is_above_links}
 use Rattle.blot_types.specs.Instructions.{holds_in, holder_in, named_in, is_above_instructions}
 use Rattle.blot_types.specs.Keys.{is_among}
-use Rattle.blot_types.specs.Legal.{is_above_entries, numbers_rise, is_legal, is_book, refusal_of, HoldsList}
+use Rattle.blot_types.specs.Legal.{is_above_entries, numbers_rise, is_legal, is_book, entry_refusal, HoldsList}
 use Rattle.blot_types.specs.Position.{is_named}
-use Rattle.blot_types.specs.Survivors.{link_by, link_of, links_in, links_of, version_of, versions_of}
+use Rattle.blot_types.specs.Survivors.{link_by, link_of, links_in, links_of}
 use Rattle.blot_types.proofs.AcceptLemmas.{accepted-instruction, instructions_of-push}
 use Rattle.blot_types.proofs.ChainLemmas.{none_is}
 use Rattle.blot_types.proofs.ChangeLemmas.{named-held}
 use Rattle.blot_types.proofs.LegalLemmas.{is_legal-push, numbers_rise-push, is_book-front}
-use Rattle.blot_types.proofs.EntryLemmas.{link-number, version-number, refusal-link, links_of-push, is_above_links-links}
+use Rattle.blot_types.proofs.EntryLemmas.{link-number, refusal-link, links_of-push, is_above_links-links}
 use Rattle.blot_command.specs.Linking.{CanLinkNext, CanInstructNext, CanLink, IsLinkedLast, without_link, without_instruction}
-use Rattle.blot_command.specs.Shown.{version_numbered}
-
--- ---- the version of a number
-
-pub version_numbered-append : (front back : List Entry) (number : ℕ) → version_numbered (front ++ back) number ≡ option_or (version_numbered front number) (version_numbered back number)
-version_numbered-append front back number =
-    ap (find (λ version. version.number == number)) (filter_map-append version_of front back)
-    ∙ find-append (λ version. version.number == number) (versions_of front) (versions_of back)
-
-one-found : (entry : Entry) (version : Version) (number : ℕ) → version_of entry ≡ Some version → entry.number ≡ number → version_numbered (entry ∷ []) number ≡ Some version
-one-found entry version number brought is = rw (brought, eq-eqb version.number number (version-number entry version brought ∙ is)) refl
-
--- the first entry of that number that brings a version
-pub version-found :
-    (list front back : List Entry) (entry : Entry) (version : Version) (number : ℕ) → list ≡ (front ++ entry ∷ []) ++ back → version_numbered front number ≡ None
-    → version_of entry ≡ Some version → entry.number ≡ number → Some version ≡ version_numbered list number
-version-found list front back entry version number is none brought same =
-    let here : version_numbered (front ++ entry ∷ []) number ≡ Some version =
-    version_numbered-append front (entry ∷ []) number ∙ rw (none, one-found entry version number brought same) refl in
-    sym (ap (λ l. version_numbered l number) is ∙ version_numbered-append (front ++ entry ∷ []) back number ∙ rw here refl)
-
--- an entry that brings none, or has another number
-pub version-none : (list : List Entry) (entry : Entry) (number : ℕ) → version_numbered list number ≡ None → version_of entry ≡ None → version_numbered (list ++ entry ∷ []) number ≡ None
-version-none list entry number none brought = version_numbered-append list (entry ∷ []) number ∙ rw (none, brought) refl
-
-other_number : (entry : Entry) (number : ℕ) (brought : Option Version) → version_of entry ≡ brought → (entry.number ≡ number → ⊥) → version_numbered (entry ∷ []) number ≡ None
-other_number entry number None brought other = rw brought refl
-other_number entry number (Some version) brought other =
-    rw (brought, ne_eqb version.number number (λ same. other (sym (version-number entry version brought) ∙ same))) refl
-
-pub version-other : (list : List Entry) (entry : Entry) (number : ℕ) → version_numbered list number ≡ None → (entry.number ≡ number → ⊥) → version_numbered (list ++ entry ∷ []) number ≡ None
-version-other list entry number none other =
-    version_numbered-append list (entry ∷ []) number ∙ rw (none, other_number entry number (version_of entry) refl other) refl
 
 -- ---- one entry more, and one less
 
@@ -76,7 +39,7 @@ pub record IsNextEntry (list : List Entry) (entry : Entry) : Type 0 where
   pub rise : numbers_rise list ≡ true
   pub legal : is_legal list ≡ true
   pub above : is_above_entries entry.number (reverse list) ≡ true
-  pub accepted : refusal_of list entry.command ≡ None
+  pub accepted : entry_refusal list entry.command ≡ None
   pub within : entry.number ≤ EVENTS_MAX
 
 pub next-entry : (list : List Entry) (entry : Entry) → is_book (list ++ entry ∷ []) ≡ true → IsNextEntry list entry
@@ -84,10 +47,10 @@ next-entry list entry book =
     let whole = book in
     let parts : (numbers_rise (list ++ entry ∷ []) ≡ true) × (is_above_entries (EVENTS_MAX + 1) (reverse (list ++ entry ∷ [])) ≡ true) × (is_legal (list ++ entry ∷ []) ≡ true) = grind (arith, whole) in
     let rise : (is_above_entries entry.number (reverse list) && numbers_rise list) ≡ true = sym (numbers_rise-push list entry) ∙ parts.0 in
-    let legal : (is_none (refusal_of list entry.command) && is_legal list) ≡ true = sym (is_legal-push list entry) ∙ parts.2 in
+    let legal : (is_none (entry_refusal list entry.command) && is_legal list) ≡ true = sym (is_legal-push list entry) ∙ parts.2 in
     let limited : is_above_entries (EVENTS_MAX + 1) (entry ∷ reverse list) ≡ true = sym (ap (is_above_entries (EVENTS_MAX + 1)) (reverse-append list (entry ∷ []))) ∙ parts.1 in
     let rises : (is_above_entries entry.number (reverse list) ≡ true) × (numbers_rise list ≡ true) = and_parts _ _ rise in
-    let legals : (is_none (refusal_of list entry.command) ≡ true) × (is_legal list ≡ true) = and_parts _ _ legal in
+    let legals : (is_none (entry_refusal list entry.command) ≡ true) × (is_legal list ≡ true) = and_parts _ _ legal in
     let limits : (nat_lt entry.number (EVENTS_MAX + 1) ≡ true) × (is_above_entries (EVENTS_MAX + 1) (reverse list) ≡ true) = and_parts _ _ limited in
     record {
       whole = book;
@@ -95,7 +58,7 @@ next-entry list entry book =
       rise = rises.1;
       legal = legals.1;
       above = rises.0;
-      accepted = none_is (refusal_of list entry.command) legals.0;
+      accepted = none_is (entry_refusal list entry.command) legals.0;
       within = omega (arith, ltb-true entry.number (EVENTS_MAX + 1) limits.0);
     }
 
@@ -113,6 +76,7 @@ numbered_instruction links number (Bust bust) i is = cc
 numbered_instruction links number (AllocNew new) i is = ap instruction_number (sym is)
 numbered_instruction links number (AllocReplace replace) i is = ap instruction_number (sym is)
 numbered_instruction links number (AllocCancel cancel) i is = ap instruction_number (sym is)
+numbered_instruction links number (Withdraw withdrawn) i is = cc
 
 -- an instruction bears the number of its entry
 pub instruction-number :
@@ -171,6 +135,7 @@ unlinked number (Bust bust) links = refl
 unlinked number (AllocNew new) links = refl
 unlinked number (AllocReplace replace) links = refl
 unlinked number (AllocCancel cancel) links = refl
+unlinked number (Withdraw withdrawn) links = refl
 
 uninstructed :
     (links : List Link) (number : ℕ) (command : Command) (instructions : List Instruction)
@@ -181,6 +146,7 @@ uninstructed links number (Bust bust) instructions = refl
 uninstructed links number (AllocNew new) instructions = refl
 uninstructed links number (AllocReplace replace) instructions = refl
 uninstructed links number (AllocCancel cancel) instructions = refl
+uninstructed links number (Withdraw withdrawn) instructions = refl
 
 -- what a list holds with an entry after it
 pub record HoldsMore (list : List Entry) (entry : Entry) (links : List Link) (instructions : List Instruction) : Type 0 where
@@ -220,17 +186,6 @@ holds-less list rest entry links links' instructions instructions' holds is one 
     holds-without rest entry entry.command links links' instructions instructions' (is_book-front rest entry (sym (ap is_book is) ∙ holds.book))
     (holds-more list rest entry links instructions holds is) refl one two
 
--- an entry was linked, and memory ran out after it
-pub holds-linked :
-    {T E : Type 0} (result : Result T E) (list : List Entry) (entry : Entry) (links links' : List Link) (instructions instructions' : List Instruction)
-    → is_err result ≡ false → HoldsList list links instructions → OnOk result (links' ≡ cons_option (link_of entry) links)
-    → OnOk result (instructions' ≡ cons_option (instruction_by links entry.number entry.command) instructions) → HoldsMore list entry links' instructions'
-holds-linked (Ok done) list entry links links' instructions instructions' done_well holds one two = record {
-  links_are = one ∙ ap (cons_option (link_of entry)) holds.links_are;
-  instructions_are = two ∙ (λ i. cons_option (instruction_by (holds.links_are i) entry.number entry.command) (holds.instructions_are i));
-}
-holds-linked (Err fault) list entry links links' instructions instructions' failed holds one two = cc
-
 -- ---- what names a chain
 
 any-found : {X : Type 0} (p : X → Bool) (xs : List X) → list_any p xs ≡ is_some (find p xs)
@@ -258,15 +213,3 @@ named-root list key root links instructions holds rooted =
     let found : root_in (links_of list) key ≡ Some root = ap (λ l. root_in l key) (sym holds.links_are) ∙ rooted in
     ap (λ i. is_some (holder_in i root)) holds.instructions_are ∙ named-holder (instructions_of list) root
     ∙ sym (ap (λ f. option_map_or (is_among (named_in (instructions_of list))) f false) found)
-
--- ---- the last entry
-
-last_or-at : (entry : Entry) (list : List Entry) (other : Entry) → last_or (Some entry) list ≡ Some (get_or (entry ∷ list) (length list) other)
-last_or-at entry [] other = refl
-last_or-at entry (next ∷ list) other = last_or-at next list other
-
-pub last-found : (list : List Entry) (entry : Entry) → 0 < length list → entry ≡ get_or list (length list - 1) entry → last_or None list ≡ Some entry
-last-found [] entry some is = absurd (omega (arith, some))
-last-found (first ∷ list) entry some is =
-    let index : length (first ∷ list) - 1 ≡ length list = omega arith in
-    last_or-at first list entry ∙ ap Some (sym (is ∙ ap (λ i. get_or (first ∷ list) i entry) index))

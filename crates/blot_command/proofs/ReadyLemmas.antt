@@ -7,7 +7,7 @@ use Rattle.std.proofs.lemmas.List.Elements.{All-nil, All-cons, All-head, All-tai
 use Rattle.blot_types.specs.declared.allocation.Line.{Line}
 use Rattle.blot_types.specs.declared.allocation.Terms.{Terms}
 use Rattle.blot_types.specs.declared.command.Command.{Command}
-use Rattle.blot_types.specs.declared.command.Command.TheVariants.{Trade, Correct, Bust, AllocNew, AllocReplace, AllocCancel}
+use Rattle.blot_types.specs.declared.command.Command.TheVariants.{Trade, Correct, Bust, AllocNew, AllocReplace, AllocCancel, Withdraw}
 use Rattle.blot_types.specs.declared.command.Entry.{Entry}
 use Rattle.blot_types.specs.declared.fill.Fill.{Fill}
 use Rattle.blot_types.specs.declared.keys.AllocKey.{AllocKey}
@@ -132,6 +132,7 @@ own-version P number (Bust bust) is = All-nil (λ (version : Version). P version
 own-version P number (AllocNew new) is = All-nil (λ (version : Version). P version.fill)
 own-version P number (AllocReplace replace) is = All-nil (λ (version : Version). P version.fill)
 own-version P number (AllocCancel cancel) is = All-nil (λ (version : Version). P version.fill)
+own-version P number (Withdraw withdrawn) is = All-nil (λ (version : Version). P version.fill)
 
 own-allocation : (P : Terms → Type 0) (found : Option Allocation) → IfSome found (λ allocation. P allocation.terms) → All (λ allocation. P allocation.terms) (cons_option found [])
 own-allocation P None is = All-nil (λ (a : Allocation). P a.terms)

@@ -60,7 +60,7 @@ pub record Replaces (list : List Entry) (link : Option Link) (replaced : Option 
   pub among_versions : IfSome replaced (λ version. find (λ v. v.number == version.number) (versions_of list) ≡ Some version)
   pub survives : IfSome replaced (λ version. find (λ v. v.number == version.number) (survivors list) ≡ Some version)
 
-replace :
+pub replace :
     (list : List Entry) (link : Option Link) (number : Option ℕ) (replaced : Option Version) → replaced_by (links_of list) link ≡ number
     → replaced ≡ option_and_then (version_numbered list) number
     → ((m : ℕ) → number ≡ Some m → (version : Version) × (find (λ v. v.number == m) (versions_of list) ≡ Some version) × (find (λ v. v.number == m) (survivors list) ≡ Some version))
@@ -85,7 +85,7 @@ replaces list entry replaced next read =
 
 -- ---- lists of versions
 
-without-unused : (n : ℕ) (versions : List Version) → IsUnused n versions → without (Some n) versions ≡ versions
+pub without-unused : (n : ℕ) (versions : List Version) → IsUnused n versions → without (Some n) versions ≡ versions
 without-unused n [] free = refl
 without-unused n (version ∷ versions) free =
     elim (cases_Bool (version.number == n)) [
@@ -147,7 +147,7 @@ without-brought :
 without-brought versions n None free numbered = without-none versions
 without-brought versions n (Some version) free numbered = without-unused version.number versions (subst (λ k. IsUnused k versions) (sym numbered) free)
 
-puts_kept : (fills : Fills) (kept : Option Version) (versions : List Version) → Puts fills versions → Puts (with_kept kept fills) (without (option_map (λ v. v.number) kept) versions)
+pub puts_kept : (fills : Fills) (kept : Option Version) (versions : List Version) → Puts fills versions → Puts (with_kept kept fills) (without (option_map (λ v. v.number) kept) versions)
 puts_kept fills None versions puts = subst (Puts fills) (sym (without-none versions)) puts
 puts_kept fills (Some w) versions puts = Puts-kept fills versions w puts
 
@@ -186,7 +186,7 @@ can_take list entry fills brought None next shows brings_it replaces_it = tt
 can_take list entry fills brought (Some w) next shows brings_it replaces_it =
     puts_held list entry fills brought next shows brings_it w.number ∙ ap (option_map (λ v. v.fill)) replaces_it.survives
 
-held_kept : (fills : Fills) (kept : Option Version) (versions : List Version) → IfSome kept (λ v. IsPut v fills)
+pub held_kept : (fills : Fills) (kept : Option Version) (versions : List Version) → IfSome kept (λ v. IsPut v fills)
     → All (λ v. held_at fills v.number ≡ Some v.fill) versions → All (λ v. held_at (with_kept kept fills) v.number ≡ Some v.fill) versions
 held_kept fills None versions put held = held
 held_kept fills (Some w) versions put held = All-weaker (λ v. held_at fills v.number ≡ Some v.fill) (λ v. held_at (with_kept (Some w) fills) v.number ≡ Some v.fill) (λ v here. held-kept fills w v.number put ∙ here) versions held
@@ -310,7 +310,7 @@ held_rest list entry fills brought replaced next shows brings_it replaces_it =
     (subst (All (λ v. held_at fills v.number ≡ Some v.fill)) (versions-push list entry brought brings_it) shows.held))
 
 -- the fill of the version that was replaced is kept
-kept_replaced :
+pub kept_replaced :
     (list : List Entry) (fills : Fills) (link : Option Link) (replaced : Option Version) → Replaces list link replaced
     → Puts fills (without (option_map (λ v. v.number) replaced) (survivors list)) → All (λ v. held_at fills v.number ≡ Some v.fill) (versions_of list)
     → IfSome replaced (λ version. IsKept version fills)
@@ -327,13 +327,13 @@ can_un_take list entry fills brought replaced next shows brings_it replaces_it =
     kept_replaced list (with_kept brought fills) (link_of entry) replaced replaces_it
     (puts_rest list entry fills brought replaced next shows brings_it replaces_it) (held_rest list entry fills brought replaced next shows brings_it replaces_it)
 
-puts_again :
+pub puts_again :
     (list : List Entry) (fills : Fills) (link : Option Link) (replaced : Option Version) → Replaces list link replaced
     → Puts fills (without (option_map (λ v. v.number) replaced) (survivors list)) → Puts (with_put replaced fills) (survivors list)
 puts_again list fills link None replaces_it puts = subst (Puts fills) (without-none (survivors list)) puts
 puts_again list fills link (Some w) replaces_it puts = Puts-again fills (survivors list) w puts replaces_it.survives
 
-held_again : (fills : Fills) (again : Option Version) (versions : List Version) → IfSome again (λ v. IsKept v fills)
+pub held_again : (fills : Fills) (again : Option Version) (versions : List Version) → IfSome again (λ v. IsKept v fills)
     → All (λ v. held_at fills v.number ≡ Some v.fill) versions → All (λ v. held_at (with_put again fills) v.number ≡ Some v.fill) versions
 held_again fills None versions kept held = held
 held_again fills (Some w) versions kept held = All-weaker (λ v. held_at fills v.number ≡ Some v.fill) (λ v. held_at (with_put (Some w) fills) v.number ≡ Some v.fill) (λ v here. held-again fills w v.number kept ∙ here) versions held

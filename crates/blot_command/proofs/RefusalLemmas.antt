@@ -15,7 +15,7 @@ use Rattle.blot_types.specs.declared.keys.ExecKey.{ExecKey}
 use Rattle.blot_types.specs.declared.lines.Version.{Version}
 use Rattle.blot_types.specs.declared.link.Link.{Link}
 use Rattle.blot_types.specs.Chains.{root_in, current_in}
-use Rattle.blot_types.specs.Legal.{numbers_rise, refusal_of}
+use Rattle.blot_types.specs.Legal.{numbers_rise, entry_refusal}
 use Rattle.blot_types.specs.declared.refused.Refused.TheVariants.{DuplicateAlloc}
 use Rattle.blot_types.specs.Allocations.{instructions_of}
 use Rattle.blot_types.specs.Instructions.{alloc_taker_in}
@@ -74,14 +74,14 @@ or_passed first rest none = rw none refl
 -- why an allocation with a new key is refused
 pub refusal-new :
     (entries : List Entry) (new : AllocNew) → option_map DuplicateAlloc (alloc_taker_in (instructions_of entries) new.key) ≡ None
-    → refusal_of entries (NewCommand new) ≡ terms_refusal entries None new.terms
+    → entry_refusal entries (NewCommand new) ≡ terms_refusal entries None new.terms
 refusal-new entries new fresh = or_passed (option_map DuplicateAlloc (alloc_taker_in (instructions_of entries) new.key)) (terms_refusal entries None new.terms) fresh
 
 -- and one in the place of another, where the reference is known and live
 pub refusal-replace :
     (entries : List Entry) (replace : AllocReplace) → option_map DuplicateAlloc (alloc_taker_in (instructions_of entries) replace.key) ≡ None
     → reference_refusal (instructions_of entries) replace.reference ≡ None
-    → refusal_of entries (ReplaceCommand replace) ≡ terms_refusal entries (Some replace.reference) replace.terms
+    → entry_refusal entries (ReplaceCommand replace) ≡ terms_refusal entries (Some replace.reference) replace.terms
 refusal-replace entries replace fresh known =
     let parts = or_parts _ _ known in
     or_passed (option_map DuplicateAlloc (alloc_taker_in (instructions_of entries) replace.key)) _ fresh

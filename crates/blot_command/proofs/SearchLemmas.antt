@@ -1,10 +1,10 @@
 -- What is found among entries by its number. The numbers rise.
-use Rattle.std.proofs.Common.{◌≡◌, ◌≢◌, ℕ, zero, suc, ◌-◌, ◌<◌, ◌≤◌, ◌==◌, true, List, [], ◌∷◌, length, reverse, get_or, Option, Some, None, refl, sym, ap, subst, ◌∙◌, arith, ⊎_elim, inl, inr}
+use Rattle.std.proofs.Common.{◌≡◌, ◌≢◌, ℕ, zero, suc, ◌-◌, ◌<◌, ◌==◌, true, List, [], ◌∷◌, length, reverse, get_or, Option, Some, None, refl, sym, ap, subst, ◌∙◌, arith, inl, inr}
 use Rattle.std.specs.Prelude.{find}
 use Rattle.std.specs.List.{cons_option}
 use Rattle.std.specs.Option.{option_and_then, option_or}
-use Rattle.std.proofs.lemmas.Bool.{cases_Bool, and_parts, ltb-true, cases_eq, cases_lt, eq-eqb, eqb-true, eqb-false, ne_eqb}
-use Rattle.std.proofs.lemmas.List.{length-reverse, get_or-reverse, get_or_default, reverse-reverse}
+use Rattle.std.proofs.lemmas.Bool.{cases_Bool, and_parts, ltb-true, eq-eqb, eqb-true, eqb-false, ne_eqb}
+use Rattle.std.proofs.lemmas.List.{length-reverse, get_or-reverse, reverse-reverse}
 use Rattle.std.proofs.lemmas.List.Elements.{filter_map-append}
 use Rattle.std.proofs.lemmas.List.Folds.{find-append}
 use Rattle.blot_types.specs.declared.command.Entry.{Entry}
@@ -48,12 +48,6 @@ rise entries rises i j d less within =
     falling-at (reverse entries) (length entries - 1 - j) (length entries - 1 - i) d rises (omega (arith, less, within)) (omega (arith, len, less, within)) in
     subst (λ n. n < (get_or entries j d).number) (sym at_i) (subst (λ n. (get_or (reverse entries) (length entries - 1 - i) d).number < n) (sym at_j) falling)
 
-pub rising : (entries : List Entry) → numbers_rise entries ≡ true → (i j : ℕ) (d : Entry) → i ≤ j → j < length entries → (get_or entries i d).number ≤ (get_or entries j d).number
-rising entries rises i j d le within =
-    ⊎_elim (λ (same : i ≡ j). subst (λ k. (get_or entries i d).number ≤ (get_or entries k d).number) same (omega arith))
-    (λ (other : i ≢ j). let less : i < j = omega arith in let more = rise entries rises i j d less within in omega (arith, more))
-    (cases_eq i j)
-
 -- ---- the entry of a number
 
 -- none has it
@@ -61,39 +55,6 @@ pub find-none : (n : ℕ) (entries : List Entry) → ((k : ℕ) (d : Entry) → 
 find-none n [] other = refl
 find-none n (entry ∷ later) other =
     rw (ne_eqb entry.number n (other 0 entry (omega arith))) (find-none n later (λ k d less. other (suc k) d (omega (arith, less))))
-
--- the entry at a place has it, and those before it are below
-pub find-at :
-    (n : ℕ) (entries : List Entry) (place : ℕ) (entry d : Entry) → place < length entries → entry ≡ get_or entries place d → entry.number ≡ n
-    → ((k : ℕ) (d : Entry) → k < place → (get_or entries k d).number < n) → find (has_number n) entries ≡ Some entry
-find-at n [] place entry d within is same below = absurd (omega arith)
-find-at n (first ∷ later) zero entry d within is same below =
-    let own : first.number ≡ n = ap (λ (e : Entry). e.number) (sym is) ∙ same in
-    rw (eq-eqb first.number n own) (ap Some (sym is))
-find-at n (first ∷ later) (suc place) entry d within is same below =
-    let less : first.number < n = below 0 first (omega arith) in
-    rw (ne_eqb first.number n (λ e. absurd (omega (arith, less, e)))) (find-at n later place entry d (omega arith) is same (λ k d' lower. below (suc k) d' (omega (arith, lower))))
-
--- all are below
-pub find-below : (n : ℕ) (entries : List Entry) → ((k : ℕ) (d : Entry) → k < length entries → (get_or entries k d).number < n) → find (has_number n) entries ≡ None
-find-below n entries below = find-none n entries (λ k d less same. (let lower = below k d less in absurd (omega (arith, lower, same))))
-
--- the one at the place has another number, and those after it are above
-pub find-past :
-    (n : ℕ) (entries : List Entry) (place : ℕ) (e : Entry) → Rise entries
-    → ((k : ℕ) (d : Entry) → k < place → (get_or entries k d).number < n) → ((k : ℕ) (d : Entry) → place ≤ k → k < length entries → n ≤ (get_or entries k d).number)
-    → place < length entries → (get_or entries place e).number ≢ n → find (has_number n) entries ≡ None
-find-past n entries place e rises below above within other =
-    find-none n entries (λ k d less same.
-    ⊎_elim (λ (lower : k < place). let under = below k d lower in absurd (omega (arith, under, same)))
-    (λ (le : place ≤ k).
-    ⊎_elim (λ (here : k ≡ place). absurd (other (ap (λ (x : Entry). x.number) (get_or_default entries place e d within) ∙ sym (ap (λ j. (get_or entries j d).number) here) ∙ same)))
-    (λ (beyond : k ≢ place).
-    let higher = rises place k d (omega arith) less in
-    let least = above place d (omega arith) within in
-    absurd (omega (arith, higher, least, same)))
-    (cases_eq k place))
-    (cases_lt k place))
 
 -- ---- the version of a number
 

@@ -1,15 +1,26 @@
 -- One step on the book, as the code takes it and takes it back.
-use Rattle.std.proofs.Common.{◌≡◌, ℕ, ◌<◌, ◌+◌, List, [], ◌∷◌, ◌++◌, length, Option, Some, None, sym, ap, subst, refl, ◌∙◌, arith, inl, inr}
-use Rattle.std.specs.Prelude.{All, Contains, IsSome}
-use Rattle.std.proofs.lemmas.Bool.{cases_Bool, eqb-false}
-use Rattle.std.proofs.lemmas.List.Elements.{All-nil, All-cons, All-weaker, All-contains, All-contains_itself, Contains-append_left, Contains-append_right, Contains-push}
-use Rattle.std.specs.Option.{option_and_then}
-use Rattle.std.proofs.lemmas.List.{same_from_push, length_push}
+use Rattle.std.proofs.Common.{◌≡◌, ℕ, ◌<◌, ◌≤◌, ◌+◌, true, List, [], ◌∷◌, ◌++◌, Option, Some, None, sym, ap, subst, refl, ◌∙◌, arith, inl, inr}
+use Rattle.std.specs.Prelude.{All, Contains, IsSome, nat_lt}
+use Rattle.std.proofs.lemmas.Bool.{and_from, lt-ltb, and_parts, ltb-true}
+use Rattle.std.proofs.lemmas.List.Elements.{All-head, All-tail, All-weaker, All-contains, All-contains_itself, Contains-append_left, Contains-append_right, Contains-append_cases}
+use Rattle.std.specs.Option.{option_map, option_and_then}
+use Rattle.std.proofs.lemmas.List.{same_from_push}
 use Rattle.blot_types.specs.declared.command.Command.{Command}
 use Rattle.blot_types.specs.declared.command.Entry.{Entry}
-use Rattle.blot_command.specs.Book.{Shown, has_number, numbers_of, before, command_at, meaning_by}
+use Rattle.blot_types.specs.declared.link.Link.{Link}
+use Rattle.blot_types.specs.Chains.{is_above_links}
+use Rattle.blot_types.specs.declared.TheConstants.{EVENTS_MAX}
+use Rattle.blot_types.specs.Legal.{is_book, entry_refusal}
+use Rattle.blot_types.specs.Withdrawal.{without}
+use Rattle.blot_command.specs.declared.fault.ApplyFault.TheVariants.{Refused as RefusedBy}
+use Rattle.blot_command.specs.Book.{Shown, numbers_of, link_numbers, command_at}
 use Rattle.blot_command.specs.Law.{lawful_by}
-use Rattle.blot_command.specs.Undoable.{Meaning, IsAboveNumbers, numbers_in, Adds, TakesOut, Undoes}
+use Rattle.blot_command.specs.Meanings.{meaning_by, entry_meaning}
+use Rattle.blot_command.specs.Undoable.{AllBelow, IsAboveNumbers, IsStep, numbers_in, Adds, TakesOut, Undoes}
+use Rattle.blot_command.specs.Withdrawing.{with_entry, HasLast}
+use Rattle.blot_command.proofs.WithinLemmas.{mapped, cons_cases, none_within}
+use Rattle.blot_command.proofs.MovedLemmas.{number_gone}
+use Rattle.blot_command.proofs.KeepsLemmas.{Carries, carries_push, carries_pop, keeps_earlier-entry, pushed_own}
 
 -- ---- the last entry
 
@@ -17,12 +28,12 @@ use Rattle.blot_command.specs.Undoable.{Meaning, IsAboveNumbers, numbers_in, Add
 pub taken_back :
     {C : Type 0} (embed : C → Command) (project : Command → Option C) → ((c : C) → project (embed c) ≡ Some c)
     → (book : Shown) (rest : List Entry) (entry : Entry) (inverse : ℕ) → Undoes (meaning_by embed project) inverse book → book.list ≡ rest ++ entry ∷ []
-    → (rest ≡ before book.list inverse) × (option_and_then project (command_at book.list inverse) ≡ project entry.command)
+    → (rest ≡ without inverse book.list) × (option_and_then project (command_at book.list inverse) ≡ project entry.command)
 taken_back embed project back book rest entry inverse (earlier, command, number, undoes) is =
     let step = undoes.step in
     let law = lawful_by embed project back in
     let same = same_from_push rest earlier entry (record { number = number; command = embed command }) (sym is ∙ step.list_is) in
-    let stood : before book.list inverse ≡ earlier = rw (step.list_is, step.inverse_is) (law.before_after earlier command number step.valid step.is_next) in
+    let stood : without inverse book.list ≡ earlier = rw (step.list_is, step.inverse_is) (law.before_after earlier command number step.valid step.is_next) in
     let given : option_and_then project (command_at book.list inverse) ≡ Some command =
     rw (step.list_is, step.inverse_is) (law.command_back earlier command number step.valid step.is_next) in
     (same.0 ∙ sym stood, given ∙ sym (back command) ∙ ap (λ e. project e.command) (sym same.1))
@@ -44,60 +55,111 @@ is_of_kind embed project back book inverse command (earlier, c, number, undoes) 
     let given : option_and_then project (command_at book.list inverse) ≡ Some c = rw (step.list_is, step.inverse_is) (law.command_back earlier c number step.valid step.is_next) in
     kind_of project (command_at book.list inverse) command c given is
 
--- such a book isn't empty
-pub not_empty :
-    {C : Type 0} (embed : C → Command) (project : Command → Option C)
-    → (book : Shown) (inverse : ℕ) → Undoes (meaning_by embed project) inverse book → 0 < length book.list
-not_empty embed project book inverse (earlier, command, number, undoes) =
-    let long : length book.list ≡ length earlier + 1 = ap length undoes.step.list_is ∙ length_push earlier (record { number = number; command = embed command }) in
-    omega (arith, long)
+-- a book that a step led to has a last entry, which came after each one that is kept
+above_kept : (number : ℕ) (links : List Link) → All (λ (link : Link). link.number < number) links → is_above_links number links ≡ true
+above_kept number [] below = refl
+above_kept number (link ∷ links) below =
+    and_from _ _ (lt-ltb link.number number (All-head (λ (link : Link). link.number < number) link links below))
+    (above_kept number links (All-tail (λ (link : Link). link.number < number) link links below))
 
--- ---- the numbers
-
--- the numbers of what stands before are among those of the list
-numbers_stay : (number : ℕ) (list : List Entry) → All (Contains (numbers_of list)) (numbers_of (before list number))
-numbers_stay number [] = All-nil (Contains [])
-numbers_stay number (entry ∷ list) =
-    let numbers = numbers_of (entry ∷ list) in
-    let rest : All (Contains numbers) (numbers_of (before list number)) =
-    All-weaker (Contains (numbers_of list)) (Contains numbers) (λ k within. Contains-append_right (entry.number ∷ []) (numbers_of list) k within)
-    (numbers_of (before list number)) (numbers_stay number list) in
-    elim (cases_Bool (has_number number entry)) [
-      | inl own ↦ rw own rest
-      | inr other ↦
-          rw other (All-cons (Contains numbers) entry.number (numbers_of (before list number))
-          (Contains-append_left (entry.number ∷ []) (numbers_of list) entry.number (Contains-push [] entry.number)) rest)
-    ]
-
--- and none is the number taken out
-number_goes : (number : ℕ) (list : List Entry) → All (λ k. k ≡ number → ⊥) (numbers_of (before list number))
-number_goes number [] = All-nil (λ k. k ≡ number → ⊥)
-number_goes number (entry ∷ list) =
-    elim (cases_Bool (has_number number entry)) [
-      | inl own ↦ rw own (number_goes number list)
-      | inr other ↦ rw other (All-cons (λ k. k ≡ number → ⊥) entry.number (numbers_of (before list number)) (eqb-false entry.number number other) (number_goes number list))
-    ]
-
--- so the inverse of a step takes its number out, and brings in none
-pub takes_out :
-    {C : Type 0} (embed : C → Command) (project : Command → Option C) (old new : Shown) (inverse : ℕ) → new.list ≡ before old.list inverse
-    → TakesOut (meaning_by embed project) inverse old new
-takes_out embed project old new inverse is list command number undoes =
-    let is_own : inverse ≡ number = undoes.step.inverse_is in
-    let left : numbers_of new.list ≡ numbers_of (before old.list number) = ap numbers_of (is ∙ ap (before old.list) is_own) in
+pub has_last : (book : Shown) (inverse : ℕ) → Undoes entry_meaning inverse book → HasLast book
+has_last book inverse (earlier, command, number, undoes) =
+    let entry : Entry = record { number = number; command = command } in
     record {
-      brings_none = λ k within. All-contains (Contains (numbers_of old.list)) (numbers_of (before old.list number)) k (numbers_stay number old.list) (subst (λ numbers. Contains numbers k) left within);
-      gone = λ within. All-contains (λ k. k ≡ number → ⊥) (numbers_of (before old.list number)) number (number_goes number old.list) (subst (λ numbers. Contains numbers number) left within) refl;
-      earlier = λ n i below kept. tt;
+      rest = earlier;
+      entry = entry;
+      is = undoes.step.list_is;
+      above = above_kept (number + 1) book.kept (All-weaker (Contains book.kept) (λ (link : Link). link.number < number + 1)
+          (λ link within. All-contains (λ k. k < number + 1) (numbers_in entry_meaning book) link.number undoes.latest
+          (Contains-append_left (link_numbers book.kept) (numbers_of book.list) link.number (mapped (λ (link : Link). link.number) book.kept link within)))
+          book.kept (All-contains_itself book.kept));
     }
 
--- after a step every number is below the one that comes next
-pub below_next :
-    {S L C I R : Type 0} (m : Meaning S L C I R) (number : ℕ) (inverse : I) (old new : S) → IsAboveNumbers m number old → Adds m number inverse old new → IsAboveNumbers m (number + 1) new
-below_next m number inverse old new above step =
-    All-weaker (Contains (numbers_in m new)) (λ earlier. earlier < number + 1)
-    (λ k within. elim (step.brings k within) [
-      | inl earlier ↦ (let below : k < number = All-contains (λ e. e < number) (numbers_in m old) k above earlier in omega (arith, below))
-      | inr own ↦ omega (arith, own)
-    ])
-    (numbers_in m new) (All-contains_itself (numbers_in m new))
+-- a number above all numbers is above those of the list, and of what is kept
+pub above_list : (number : ℕ) (book : Shown) → IsAboveNumbers entry_meaning number book → AllBelow number (numbers_of book.list)
+above_list number book above =
+    All-weaker (Contains (numbers_of book.list)) (λ k. k < number)
+    (λ k within. All-contains (λ k. k < number) (numbers_in entry_meaning book) k above (Contains-append_right (link_numbers book.kept) (numbers_of book.list) k within))
+    (numbers_of book.list) (All-contains_itself (numbers_of book.list))
+
+pub above_links : (number : ℕ) (book : Shown) → IsAboveNumbers entry_meaning number book → is_above_links number book.kept ≡ true
+above_links number book above =
+    above_kept number book.kept (All-weaker (Contains book.kept) (λ (link : Link). link.number < number)
+    (λ link within. All-contains (λ k. k < number) (numbers_in entry_meaning book) link.number above
+    (Contains-append_left (link_numbers book.kept) (numbers_of book.list) link.number (mapped (λ (link : Link). link.number) book.kept link within)))
+    book.kept (All-contains_itself book.kept))
+
+-- ---- what the state keeps
+
+-- an entry that came above all numbers
+pub adds : (old : Shown) (entry : Entry) → IsAboveNumbers entry_meaning entry.number old → Adds entry_meaning entry.number entry.number old (with_entry entry old)
+adds old entry above =
+    let carries = carries_push old entry in
+    record {
+      brings = carries.numbers;
+      own = tt;
+      earlier = keeps_earlier-entry entry.number old (with_entry entry old) carries;
+    }
+
+-- and that the book accepts
+pub enters :
+    (old new : Shown) (command : Command) (number : ℕ) → is_book old.list ≡ true → entry_refusal old.list command ≡ None → IsAboveNumbers entry_meaning number old → number ≤ EVENTS_MAX
+    → new ≡ with_entry (record { number = number; command = command }) old → IsStep entry_meaning old.list command number number new.list
+enters old new command number book accepted above within is = record {
+  valid = book;
+  within = within;
+  is_next = record { accepted = ap (option_map RefusedBy) accepted; above = above_list number old above };
+  inverse_is = refl;
+  list_is = ap (λ (shown : Shown). shown.list) is;
+}
+
+-- the last entry taken out takes its number out, and brings in none
+-- a number isn't among links that it is above
+not_above : (number : ℕ) (links : List Link) → is_above_links number links ≡ true → Contains (link_numbers links) number → ⊥
+not_above number [] above within = none_within number within
+not_above number (link ∷ links) above within =
+    let parts : (nat_lt link.number number ≡ true) × (is_above_links number links ≡ true) = and_parts _ _ above in
+    let less : link.number < number = ltb-true _ _ parts.0 in
+    elim (cons_cases link.number (link_numbers links) number within) [
+      | inl own ↦ omega (arith, own, less)
+      | inr later ↦ not_above number links parts.1 later
+    ]
+
+pub takes_out :
+    (old new : Shown) (inverse : ℕ) (entry : Entry) → old ≡ with_entry entry new → is_above_links entry.number new.kept ≡ true → new.list ≡ without inverse old.list
+    → TakesOut entry_meaning inverse old new
+takes_out old new inverse entry is above list earlier command number undoes =
+    let last = same_from_push new.list earlier entry (record { number = number; command = command }) (sym (ap (λ (shown : Shown). shown.list) is) ∙ undoes.step.list_is) in
+    let own : entry.number ≡ number = ap (λ (e : Entry). e.number) last.1 in
+    let carries : Carries number old new = subst (λ shown. Carries number shown new) (sym is) (subst (λ n. Carries n (with_entry entry new) new) own (carries_pop new entry)) in
+    record {
+      brings_none = λ k within. elim (carries.numbers k within) [
+        | inl was ↦ was
+        | inr same ↦ Contains-append_right (link_numbers old.kept) (numbers_of old.list) k
+            (subst (λ l. Contains (numbers_of l) k) (sym undoes.step.list_is)
+            (subst (Contains (numbers_of (earlier ++ record { number = number; command = command } ∷ []))) (sym same) (pushed_own earlier (record { number = number; command = command }))))
+      ];
+      gone = λ within. elim (Contains-append_cases (link_numbers new.kept) (numbers_of new.list) number within) [
+        | inl kept ↦ not_above number new.kept (ap (λ n. is_above_links n new.kept) (sym own) ∙ above) kept
+        | inr listed ↦ number_gone number old.list (subst (λ l. Contains (numbers_of l) number) (list ∙ ap (λ n. without n old.list) undoes.step.inverse_is) listed)
+      ];
+      earlier = keeps_earlier-entry number old new carries;
+    }
+
+-- the same, for a kind of command
+pub takes_out_kind :
+    {C : Type 0} (embed : C → Command) (project : Command → Option C) (old new : Shown) (inverse : ℕ) → TakesOut entry_meaning inverse old new → TakesOut (meaning_by embed project) inverse old new
+takes_out_kind embed project old new inverse takes list c number undoes =
+    let step = undoes.step in
+    let leaves = takes list (embed c) number (record {
+      step = record {
+        valid = step.valid;
+        within = step.within;
+        is_next = record { accepted = step.is_next.accepted; above = step.is_next.above };
+        inverse_is = step.inverse_is;
+        list_is = step.list_is;
+      };
+      kept = tt;
+      latest = undoes.latest;
+    }) in
+    record { brings_none = leaves.brings_none; gone = leaves.gone; earlier = leaves.earlier }

@@ -1,62 +1,58 @@
 -- The book as a list of entries: what stands after a command, its inverse, and what stands before.
-use Rattle.std.specs.Prelude.{ℕ, ◌==◌, Bool, not, map, List, [], ◌∷◌, ◌++◌, Option, filter, find}
-use Rattle.std.specs.Option.{option_map, option_and_then}
+use Rattle.std.specs.Prelude.{ℕ, ◌==◌, Bool, map, List, [], ◌∷◌, ◌++◌, Option, Some, find}
+use Rattle.std.specs.Option.{option_map, option_map_or}
 use Rattle.blot_types.specs.declared.command.Command.{Command}
+use Rattle.blot_types.specs.declared.command.Command.TheVariants.{Withdraw}
 use Rattle.blot_types.specs.declared.command.Entry.{Entry}
-use Rattle.blot_types.specs.Legal.{is_book, refusal_of}
-use Rattle.blot_command.specs.declared.fault.ApplyFault.{ApplyFault}
-use Rattle.blot_command.specs.declared.fault.ApplyFault.TheVariants.{Refused, NoMemory}
-use Rattle.blot_command.specs.Undoable.{Meaning}
+use Rattle.blot_types.specs.declared.link.Link.{Link}
+use Rattle.blot_types.specs.Refusals.{withdrawn_by}
+use Rattle.blot_types.specs.Withdrawal.{without, put_back}
+use Rattle.blot_command.specs.declared.inverse.Inverse.{Inverse}
+use Rattle.blot_command.specs.declared.inverse.Inverse.TheVariants.{Number, Taken}
 
--- what a contract sees of the book: its live list
+-- what a contract sees of the book: its live list, and the links of the entries that were taken out of its middle and whose
+-- slots are kept, newest first
 pub record Shown : Type 0 where
   pub list : List Entry
+  pub kept : List Link
 
 -- whether an entry bears a number
 abbrev pub has_number : ℕ → Entry → Bool
 has_number number entry = entry.number == number
 
--- the numbers of a list of entries
+-- the numbers of a list of entries, and of links
 abbrev pub numbers_of : List Entry → List ℕ
 numbers_of list = map (λ entry. entry.number) list
 
--- the list after a command: the command stands at its end under its number
+abbrev pub link_numbers : List Link → List ℕ
+link_numbers links = map (λ link. link.number) links
+
+-- the list after a command that is an entry: it stands at its end under its number
+abbrev pub entered : List Entry → Command → ℕ → List Entry
+entered list command number = list ++ record { number = number; command = command } ∷ []
+
+-- the list after a command: a Withdraw takes an entry out
 abbrev pub after : List Entry → Command → ℕ → List Entry
-after list command number = list ++ record { number = number; command = command } ∷ []
+after list command number = option_map_or (λ taken. without taken list) (withdrawn_by command) (entered list command number)
 
--- what takes a command back
-abbrev pub Inverse : Type 0
-Inverse = ℕ
+-- the inverse of a command that takes out the entry of a number: the entry
+abbrev pub taken_of : List Entry → ℕ → Inverse
+taken_of list number = option_map_or Taken (find (has_number number) list) (Number number)
 
--- the inverse of a command: its number
+-- the inverse of a command: the number of its entry, or the entry that it takes out
 abbrev pub inverse_of : List Entry → Command → ℕ → Inverse
-inverse_of list command number = number
+inverse_of list command number = option_map_or (taken_of list) (withdrawn_by command) (Number number)
 
--- the list before: without the entry of that number
+-- the list before: without the entry of that number, or with that entry at its place
 abbrev pub before : List Entry → Inverse → List Entry
-before list number = filter (λ entry. not (has_number number entry)) list
+before list (Number number) = without number list
+before list (Taken entry) = put_back entry list
 
 -- the command that stands under a number
 abbrev pub command_at : List Entry → ℕ → Option Command
 command_at list number = option_map (λ entry. entry.command) (find (has_number number) list)
 
--- the meaning of a command on the book
-abbrev pub BookMeaning : Type 0 → Type 1
-BookMeaning C = Meaning Shown (List Entry) C Inverse ApplyFault
-
--- what a kind of command means on the book, seen as a command by `embed` and back by `project`; an inverse needs
--- nothing but the list
-abbrev pub meaning_by : {C : Type 0} → (C → Command) → (Command → Option C) → BookMeaning C
-meaning_by embed project = record {
-  list_of = λ book. book.list;
-  spare = λ book. [];
-  kept = λ book number inverse. Unit {0};
-  is_valid = is_book;
-  numbers = numbers_of;
-  refused = λ list command. option_map Refused (refusal_of list (embed command));
-  after = λ list command number. after list (embed command) number;
-  inverse_of = λ list command number. inverse_of list (embed command) number;
-  before = before;
-  command_of = λ list number. option_and_then project (command_at list number);
-  no_memory = NoMemory;
-}
+-- the command that an inverse takes back
+abbrev pub command_of : List Entry → Inverse → Option Command
+command_of list (Number number) = command_at list number
+command_of list (Taken entry) = Some (Withdraw entry.number)

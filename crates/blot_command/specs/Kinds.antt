@@ -1,14 +1,14 @@
 -- The kinds of command, each read back from the command that it is.
-use Rattle.std.specs.Prelude.{Option, Some, None, refl}
+use Rattle.std.specs.Prelude.{ℕ, Option, Some, None, refl}
 use Rattle.blot_types.specs.declared.command.Command.{Command}
-use Rattle.blot_types.specs.declared.command.Command.TheVariants.{Trade as TradeCommand, Correct as CorrectCommand, Bust as BustCommand, AllocNew as NewCommand, AllocReplace as ReplaceCommand, AllocCancel as CancelCommand}
+use Rattle.blot_types.specs.declared.command.Command.TheVariants.{Trade as TradeCommand, Correct as CorrectCommand, Bust as BustCommand, AllocNew as NewCommand, AllocReplace as ReplaceCommand, AllocCancel as CancelCommand, Withdraw as WithdrawCommand}
 use Rattle.blot_types.specs.declared.command.AllocCancel.{AllocCancel}
 use Rattle.blot_types.specs.declared.command.AllocNew.{AllocNew}
 use Rattle.blot_types.specs.declared.command.AllocReplace.{AllocReplace}
 use Rattle.blot_types.specs.declared.command.Bust.{Bust}
 use Rattle.blot_types.specs.declared.command.Correct.{Correct}
 use Rattle.blot_types.specs.declared.command.Trade.{Trade}
-use Rattle.blot_command.specs.Book.{BookMeaning, meaning_by}
+use Rattle.blot_command.specs.Meanings.{BookMeaning, meaning_by}
 use Rattle.blot_command.specs.Law.{lawful_by}
 use Rattle.blot_command.specs.Undoable.{IsLawful}
 
@@ -20,9 +20,10 @@ trade_of (BustCommand bust) = None
 trade_of (NewCommand new) = None
 trade_of (ReplaceCommand replace) = None
 trade_of (CancelCommand cancel) = None
+trade_of (WithdrawCommand withdrawn) = None
 
 -- what a Trade means on the book
-abbrev pub trade_meaning : BookMeaning Trade
+abbrev pub trade_meaning : BookMeaning Trade ℕ
 trade_meaning = meaning_by TradeCommand trade_of
 
 -- and that it is lawful
@@ -37,9 +38,10 @@ correct_of (BustCommand bust) = None
 correct_of (NewCommand new) = None
 correct_of (ReplaceCommand replace) = None
 correct_of (CancelCommand cancel) = None
+correct_of (WithdrawCommand withdrawn) = None
 
 -- what a Correct means on the book
-abbrev pub correct_meaning : BookMeaning Correct
+abbrev pub correct_meaning : BookMeaning Correct ℕ
 correct_meaning = meaning_by CorrectCommand correct_of
 
 -- and that it is lawful
@@ -54,9 +56,10 @@ bust_of (CorrectCommand correct) = None
 bust_of (NewCommand new) = None
 bust_of (ReplaceCommand replace) = None
 bust_of (CancelCommand cancel) = None
+bust_of (WithdrawCommand withdrawn) = None
 
 -- what a Bust means on the book
-abbrev pub bust_meaning : BookMeaning Bust
+abbrev pub bust_meaning : BookMeaning Bust ℕ
 bust_meaning = meaning_by BustCommand bust_of
 
 -- and that it is lawful
@@ -71,9 +74,10 @@ alloc_new_of (CorrectCommand correct) = None
 alloc_new_of (BustCommand bust) = None
 alloc_new_of (ReplaceCommand replace) = None
 alloc_new_of (CancelCommand cancel) = None
+alloc_new_of (WithdrawCommand withdrawn) = None
 
 -- what an AllocNew means on the book
-abbrev pub alloc_new_meaning : BookMeaning AllocNew
+abbrev pub alloc_new_meaning : BookMeaning AllocNew ℕ
 alloc_new_meaning = meaning_by NewCommand alloc_new_of
 
 -- and that it is lawful
@@ -88,9 +92,10 @@ alloc_replace_of (CorrectCommand correct) = None
 alloc_replace_of (BustCommand bust) = None
 alloc_replace_of (NewCommand new) = None
 alloc_replace_of (CancelCommand cancel) = None
+alloc_replace_of (WithdrawCommand withdrawn) = None
 
 -- what an AllocReplace means on the book
-abbrev pub alloc_replace_meaning : BookMeaning AllocReplace
+abbrev pub alloc_replace_meaning : BookMeaning AllocReplace ℕ
 alloc_replace_meaning = meaning_by ReplaceCommand alloc_replace_of
 
 -- and that it is lawful
@@ -105,19 +110,12 @@ alloc_cancel_of (CorrectCommand correct) = None
 alloc_cancel_of (BustCommand bust) = None
 alloc_cancel_of (NewCommand new) = None
 alloc_cancel_of (ReplaceCommand replace) = None
+alloc_cancel_of (WithdrawCommand withdrawn) = None
 
 -- what an AllocCancel means on the book
-abbrev pub alloc_cancel_meaning : BookMeaning AllocCancel
+abbrev pub alloc_cancel_meaning : BookMeaning AllocCancel ℕ
 alloc_cancel_meaning = meaning_by CancelCommand alloc_cancel_of
 
 -- and that it is lawful
 pub alloc_cancel_lawful : IsLawful alloc_cancel_meaning
 alloc_cancel_lawful = lawful_by CancelCommand alloc_cancel_of (λ command. refl)
-
--- what a command of any kind means on the book
-abbrev pub command_meaning : BookMeaning Command
-command_meaning = meaning_by (λ command. command) (λ command. Some command)
-
--- and that it is lawful
-pub command_lawful : IsLawful command_meaning
-command_lawful = lawful_by (λ command. command) (λ command. Some command) (λ command. refl)

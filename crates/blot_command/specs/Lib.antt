@@ -4,6 +4,9 @@ pub mod Carried
 pub mod Kinds
 pub mod Law
 pub mod Linking
+pub mod Meanings
 pub mod Refusing
 pub mod Shown
+pub mod Slots
 pub mod Undoable
+pub mod Withdrawing

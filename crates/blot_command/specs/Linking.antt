@@ -1,9 +1,9 @@
 -- An entry as the chains and the allocations see it.
-use Rattle.std.specs.Prelude.{◌≡◌, true, List, [], ◌∷◌, None, IfSome}
-use Rattle.std.specs.List.{cons_option}
+use Rattle.std.specs.Prelude.{◌≡◌, ℕ, ◌==◌, true, List, [], ◌∷◌, None, IfSome}
+use Rattle.std.specs.List.{cons_option, list_any}
 use Rattle.blot_types.specs.declared.allocation.Instruction.{Instruction}
 use Rattle.blot_types.specs.declared.command.Command.{Command}
-use Rattle.blot_types.specs.declared.command.Command.TheVariants.{Trade, Correct, Bust, AllocNew, AllocReplace, AllocCancel}
+use Rattle.blot_types.specs.declared.command.Command.TheVariants.{Trade, Correct, Bust, AllocNew, AllocReplace, AllocCancel, Withdraw}
 use Rattle.blot_types.specs.declared.command.Entry.{Entry}
 use Rattle.blot_types.specs.declared.link.Link.{Link}
 use Rattle.blot_types.specs.Allocations.{instruction_by}
@@ -11,6 +11,8 @@ use Rattle.blot_types.specs.Chains.{link_refusal, is_above_links}
 use Rattle.blot_types.specs.Instructions.{may_follow, is_above_instructions}
 use Rattle.blot_types.specs.Legal.{HoldsList}
 use Rattle.blot_types.specs.Survivors.{link_of}
+use Rattle.blot_command.specs.declared.slots.EntrySlot.{EntrySlot}
+use Rattle.blot_command.specs.Slots.{AreNumbered, entries_in, is_left}
 
 -- a link may come next: it is accepted, and its number is above the others
 pub record CanLinkNext (links : List Link) (link : Link) : Type 0 where
@@ -46,6 +48,7 @@ without_link (Bust bust) links = rest_of links
 without_link (AllocNew new) links = links
 without_link (AllocReplace replace) links = links
 without_link (AllocCancel cancel) links = links
+without_link (Withdraw withdrawn) links = links
 
 -- the instructions without the newest, where a command is an instruction
 abbrev pub without_instruction : Command → List Instruction → List Instruction
@@ -55,8 +58,16 @@ without_instruction (Bust bust) instructions = instructions
 without_instruction (AllocNew new) instructions = rest_of instructions
 without_instruction (AllocReplace replace) instructions = rest_of instructions
 without_instruction (AllocCancel cancel) instructions = rest_of instructions
+without_instruction (Withdraw withdrawn) instructions = instructions
 
--- the links and the instructions are those of a book, and no link is kept beside the others
-pub record HoldsEntries (list : List Entry) (links kept : List Link) (instructions : List Instruction) : Type 0 where
-  pub holds : HoldsList list links instructions
-  pub unlifted : kept ≡ []
+-- the slots hold a book; the links and the instructions are those of its entries, and the links that are kept those of the
+-- entries that were taken out
+pub record HoldsSlots (slots : List EntrySlot) (links kept : List Link) (instructions : List Instruction) : Type 0 where
+  pub numbered : AreNumbered slots
+  pub holds : HoldsList (entries_in slots) links instructions
+  pub left : (number : ℕ) → is_left number slots ≡ list_any (λ link. link.number == number) kept
+
+-- and no instruction is kept beside the others
+pub record HoldsLive (slots : List EntrySlot) (links kept : List Link) (instructions unlisted : List Instruction) : Type 0 where
+  pub holds_slots : HoldsSlots slots links kept instructions
+  pub unlifted : unlisted ≡ []

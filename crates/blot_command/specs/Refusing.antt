@@ -1,5 +1,5 @@
 -- The rules as the code asks them: over the chains and the allocations that the live list keeps.
-use Rattle.std.specs.Prelude.{◌≡◌, true, false, List, [], reverse, Option, pos, find, is_none, if◌then◌else◌, Some, None}
+use Rattle.std.specs.Prelude.{◌≡◌, false, List, [], reverse, Option, pos, find, is_none, if◌then◌else◌, Some, None}
 use Rattle.std.specs.List.{filter_map}
 use Rattle.std.specs.Option.{option_map, option_map_or, option_or}
 use Rattle.blot_types.specs.declared.allocation.Instruction.{Instruction}
@@ -12,20 +12,21 @@ use Rattle.blot_types.specs.declared.refused.Refused.TheVariants.{UnknownAlloc, 
 use Rattle.blot_types.specs.Allocations.{instructions_of}
 use Rattle.blot_types.specs.Chains.{root_in}
 use Rattle.blot_types.specs.Instructions.{is_allocation_in, ended_in}
-use Rattle.blot_types.specs.Legal.{numbers_rise}
 use Rattle.blot_types.specs.Order.{cum_of}
 use Rattle.blot_types.specs.Refusals.{first_of, bust_of_key, repeated_in, other_holder, current_fill, differs, booked, mismatch}
 use Rattle.blot_types.specs.Survivors.{links_of}
+use Rattle.blot_command.specs.declared.slots.EntrySlot.{EntrySlot}
+use Rattle.blot_command.specs.Slots.{AreNumbered, entries_in}
 
--- the chains are those of entries whose numbers rise
-pub record HoldsChainsOf (entries : List Entry) (links : List Link) : Type 0 where
-  pub links_are : links ≡ links_of entries
-  pub rise : numbers_rise entries ≡ true
+-- the chains are those of the entries in slots whose numbers rise
+pub record HoldsChainsOf (slots : List EntrySlot) (links : List Link) : Type 0 where
+  pub links_are : links ≡ links_of (entries_in slots)
+  pub numbered : AreNumbered slots
 
 -- and the allocations are those of their instructions
-pub record HoldsBoth (entries : List Entry) (links : List Link) (instructions : List Instruction) : Type 0 where
-  pub chains : HoldsChainsOf entries links
-  pub instructions_are : instructions ≡ instructions_of entries
+pub record HoldsBoth (slots : List EntrySlot) (links : List Link) (instructions : List Instruction) : Type 0 where
+  pub chains : HoldsChainsOf slots links
+  pub instructions_are : instructions ≡ instructions_of (entries_in slots)
 
 -- why a reference to an allocation is refused
 abbrev pub reference_refusal : List Instruction → AllocKey → Option Refused

@@ -1,6 +1,6 @@
 -- What a command that can be undone means, for any type of command, and the law that it obeys. A command acts on
 -- the list that a state shows; what a state keeps beside its list serves `revert` alone.
-use Rattle.std.specs.Prelude.{◌≡◌, ℕ, ◌<◌, ◌≤◌, ◌⊎◌, Bool, true, List, ◌++◌, Option, Some, None, All, Contains}
+use Rattle.std.specs.Prelude.{◌≡◌, ℕ, ◌+◌, ◌<◌, ◌≤◌, ◌⊎◌, Bool, true, List, ◌++◌, Option, Some, None, All, Contains}
 use Rattle.blot_types.specs.declared.TheConstants.{EVENTS_MAX}
 
 -- the notions of a command C on a state S that shows a list L, with an inverse I and a refusal R
@@ -86,10 +86,11 @@ pub record IsRefusal {S L C I R : Type 0} (m : Meaning S L C I R) (state : S) (c
   pub reason_is : m.refused (m.list_of state) command ≡ Some reason ⊎ ((m.refused (m.list_of state) command ≡ None) × (reason ≡ m.no_memory))
 
 -- an inverse undoes the step of a command under a number: the step led from a list to the state's list and handed out
--- this inverse, and the state keeps what taking it back needs
+-- this inverse, the state keeps what taking it back needs, and no number in the state came later
 pub record UndoesStep {S L C I R : Type 0} (m : Meaning S L C I R) (list : L) (command : C) (number : ℕ) (inverse : I) (state : S) : Type 0 where
   pub step : IsStep m list command number inverse (m.list_of state)
   pub kept : m.kept state number inverse
+  pub latest : AllBelow (number + 1) (numbers_in m state)
 
 -- an inverse undoes a state: it undoes some step that led there
 abbrev pub Undoes : {S L C I R : Type 0} → Meaning S L C I R → I → S → Type 0

@@ -1,12 +1,17 @@
 //! The live list with its positions.
-ghost use Rattle.std.specs.Prelude.{◌≡◌, ◌<◌, [], ◌∷◌, ◌++◌, length, IsTrue, OnOk, OnErr, IfErr};
+ghost use Rattle.std.specs.Prelude.{◌≡◌, [], ◌∷◌, ◌++◌, find, Some, IsTrue, OnOk, OnErr, IfErr};
 ghost use Rattle.std.specs.Option.{option_map};
 ghost use Rattle.blot_types.specs.Laws.{HasBoundedTotals};
+ghost use Rattle.blot_types.specs.Chains.{is_above_links};
 ghost use Rattle.blot_types.specs.Legal.{is_book};
+ghost use Rattle.blot_types.specs.Refusals.{is_live_bust};
 ghost use Rattle.blot_types.specs.Position.{part_of, position_of};
+ghost use Rattle.blot_command.specs.Book.{has_number};
 ghost use Rattle.blot_command.specs.Shown.{version_replaced};
+ghost use Rattle.blot_command.specs.Withdrawing.{with_entry, HasLast, lifted, returned, CanReturn};
 ghost use Rattle.blot_command.specs.Booking.{changed_all, CanChangeAll, chains_to_house, chains_from_house, allocated, released};
 
+use crate::BoxedEntry;
 use crate::booking::{open_cells, put_lines, put_part, rebook, take_lines, take_part};
 use crate::live::LiveList;
 use blot_position::Positions;
@@ -14,7 +19,7 @@ use blot_types::{AllocKey, Entry, ExecKey, Part, PositionLine, Text64, Version};
 use std::alloc::Global;
 use std::marker::Model;
 
-/// The live list, with the positions of its executions and its allocations. A contract sees it as the list.
+/// The live list, with the positions of its executions and its allocations. A contract sees it as the live list.
 #[derive(Drop)]
 pub(crate) struct Accounts {
     live: LiveList,
@@ -22,21 +27,20 @@ pub(crate) struct Accounts {
 }
 
 impl Model for Accounts {
-    ghost use Rattle.std.specs.Prelude.{List};
-    ghost use Rattle.blot_types.specs.declared.command.Entry.{Entry};
+    ghost use Rattle.blot_command.specs.Book.{Shown};
     ghost use Rattle.blot_command.specs.Carried.{ShowsPositions};
 
-    ghost Value = { List Entry };
+    ghost Value = { Shown };
 
     ghost view = { λ accounts. accounts.live };
 
-    ghost invariant = { λ accounts. ShowsPositions accounts.live accounts.positions };
+    ghost invariant = { λ accounts. ShowsPositions accounts.live.list accounts.positions };
 }
 
 impl Accounts {
     /// An empty list. No memory is taken.
     pub(crate) fn new(alloc: Global) -> Accounts
-        ensures { result ≡ [] }
+        ensures { result ≡ record { list = []; kept = [] } }
     {
         Accounts {
             live: LiveList::new(alloc),
@@ -60,17 +64,19 @@ impl Accounts {
 
     /// The position of an account in a symbol, or none where it has no part.
     pub(crate) fn position(&self, account: &Text64, symbol: &Text64) -> Option<PositionLine>
-        ensures line { result ≡ position_of self.now account.now symbol.now }
-        ensures bounded { IsTrue (is_book self.now) → HasBoundedTotals self.now }
+        ensures line { result ≡ position_of self.now.list account.now symbol.now }
+        ensures bounded { IsTrue (is_book self.now.list) → HasBoundedTotals self.now.list }
     {
         self.positions.get(account, symbol)
     }
 
-    /// Puts an entry after the others, or hands it back where memory runs out. It replaces this version, if one.
+    /// Puts an entry after the others, or hands it back where memory runs out. Its number is above those whose slots are left. It
+    /// replaces this version, if one.
     pub(crate) fn push(&mut self, entry: Entry, replaced: &Option<Version>) -> Result<(), Entry>
-        requires book { IsTrue (is_book (self.old ++ entry ∷ [])) }
-        requires replaces { replaced.now ≡ version_replaced self.old entry }
-        ensures ok { OnOk result (self.new ≡ self.old ++ entry ∷ []) }
+        requires book { IsTrue (is_book (self.old.list ++ entry ∷ [])) }
+        requires above { IsTrue (is_above_links entry.number self.old.kept) }
+        requires replaces { replaced.now ≡ version_replaced self.old.list entry }
+        ensures ok { OnOk result (self.new ≡ with_entry entry self.old) }
         ensures err { OnErr result (self.new ≡ self.old) }
         ensures returned { IfErr result (λ back. back ≡ entry) }
     {
@@ -95,9 +101,10 @@ impl Accounts {
 
     /// Takes the last entry out.
     pub(crate) fn pop(&mut self) -> Entry
-        requires { 0 < length self.old }
-        ensures rest { self.old ≡ self.new ++ result ∷ [] }
-        ensures book { IsTrue (is_book self.old) }
+        requires { HasLast self.old }
+        ensures rest { self.old ≡ with_entry result self.new }
+        ensures above { IsTrue (is_above_links result.number self.new.kept) }
+        ensures book { IsTrue (is_book self.old.list) }
     {
         let last = self.live.last();
         let version = last.version();
@@ -111,11 +118,39 @@ impl Accounts {
         rebook(&mut self.positions, &gone, &come);
         entry
     }
+
+    /// Takes the Bust of a number out, whatever came later, and keeps its slot: the version that it busted stands again. No memory
+    /// is taken.
+    pub(crate) fn lift(&mut self, number: u64) -> BoxedEntry
+        requires { IsTrue (is_live_bust number self.old.list) }
+        ensures entry { find (has_number number) self.old.list ≡ Some result }
+        ensures lifted { self.new ≡ lifted number self.old }
+        ensures kept { CanReturn result self.new }
+        ensures book { IsTrue (is_book self.old.list) }
+    {
+        let entry = self.live.lift(number);
+        let busted = self.live.replaced(&entry.as_entry().link());
+        let come = part_of(&self.live, &busted);
+        rebook(&mut self.positions, &None, &come);
+        entry
+    }
+
+    /// Puts a Bust whose slot is kept back at its place: the version that it busts stands no more. No memory is taken.
+    pub(crate) fn un_lift(&mut self, entry: BoxedEntry)
+        requires { CanReturn entry self.old }
+        ensures returned { self.new ≡ returned entry self.old }
+        ensures book { IsTrue (is_book self.old.list) }
+    {
+        let busted = self.live.replaced(&entry.as_entry().link());
+        let gone = part_of(&self.live, &busted);
+        self.live.un_lift(entry);
+        rebook(&mut self.positions, &gone, &None);
+    }
 }
 
 // What a version adds to a position, if there is one.
 fn part_of(live: &LiveList, version: &Option<Version>) -> Option<Part>
-    ensures { result ≡ option_map (part_of live.now) version.now }
+    ensures { result ≡ option_map (part_of live.now.list) version.now }
 {
     match version {
         None => None,
@@ -126,8 +161,8 @@ fn part_of(live: &LiveList, version: &Option<Version>) -> Option<Part>
 // Puts what the allocation of a key changes, if there is a key: its chains go to the house account, and its
 // lines are put.
 fn allocate(positions: &mut Positions, live: &LiveList, key: &Option<AllocKey>)
-    requires { CanChangeAll (allocated live.now key.now) positions.old }
-    ensures { positions.new ≡ changed_all (allocated live.now key.now) positions.old }
+    requires { CanChangeAll (allocated live.now.list key.now) positions.old }
+    ensures { positions.new ≡ changed_all (allocated live.now.list key.now) positions.old }
 {
     let Some(key) = key else { return };
     if let (Some(terms), Some(roots)) = (live.terms_of(key), live.roots_of(key)) {
@@ -138,8 +173,8 @@ fn allocate(positions: &mut Positions, live: &LiveList, key: &Option<AllocKey>)
 
 // Takes it again: its lines are taken, and its chains come back from the house account.
 fn release(positions: &mut Positions, live: &LiveList, key: &Option<AllocKey>)
-    requires { CanChangeAll (released live.now key.now) positions.old }
-    ensures { positions.new ≡ changed_all (released live.now key.now) positions.old }
+    requires { CanChangeAll (released live.now.list key.now) positions.old }
+    ensures { positions.new ≡ changed_all (released live.now.list key.now) positions.old }
 {
     let Some(key) = key else { return };
     if let (Some(terms), Some(roots)) = (live.terms_of(key), live.roots_of(key)) {
@@ -150,8 +185,8 @@ fn release(positions: &mut Positions, live: &LiveList, key: &Option<AllocKey>)
 
 // Moves the versions that stand of some chains from their own accounts to the house account.
 fn put_to_house(positions: &mut Positions, live: &LiveList, roots: &[ExecKey])
-    requires { CanChangeAll (chains_to_house live.now roots.now) positions.old }
-    ensures { positions.new ≡ changed_all (chains_to_house live.now roots.now) positions.old }
+    requires { CanChangeAll (chains_to_house live.now.list roots.now) positions.old }
+    ensures { positions.new ≡ changed_all (chains_to_house live.now.list roots.now) positions.old }
 {
     for root in roots {
         if let Some(version) = live.standing(root) {
@@ -163,8 +198,8 @@ fn put_to_house(positions: &mut Positions, live: &LiveList, roots: &[ExecKey])
 
 // Moves them back.
 fn take_from_house(positions: &mut Positions, live: &LiveList, roots: &[ExecKey])
-    requires { CanChangeAll (chains_from_house live.now roots.now) positions.old }
-    ensures { positions.new ≡ changed_all (chains_from_house live.now roots.now) positions.old }
+    requires { CanChangeAll (chains_from_house live.now.list roots.now) positions.old }
+    ensures { positions.new ≡ changed_all (chains_from_house live.now.list roots.now) positions.old }
 {
     for root in roots {
         if let Some(version) = live.standing(root) {

@@ -2,6 +2,7 @@
 ghost use Rattle.std.specs.Prelude.{◌≡◌, Some, IsSome};
 ghost use Rattle.blot_command.specs.Kinds.{alloc_cancel_of};
 
+use crate::entering::{enter, leave};
 use crate::{ApplyFault, Tables, Undoable};
 use blot_types::{AllocCancel, Command};
 
@@ -23,14 +24,14 @@ impl Undoable for AllocCancel {
     ghost lawful = { alloc_cancel_lawful };
 
     fn apply(self, tables: &mut Tables, number: u64) -> Result<u64, (AllocCancel, ApplyFault)> {
-        match Command::AllocCancel(self).apply(tables, number) {
+        match enter(tables, Command::AllocCancel(self), number) {
             Ok(inverse) => Ok(inverse),
             Err((back, fault)) => Err((into_alloc_cancel(back), fault)),
         }
     }
 
     fn revert(number: u64, tables: &mut Tables) -> AllocCancel {
-        into_alloc_cancel(Command::revert(number, tables))
+        into_alloc_cancel(leave(tables, number))
     }
 }
 
@@ -45,6 +46,7 @@ fn into_alloc_cancel(command: Command) -> AllocCancel
         | Command::Correct(_)
         | Command::Bust(_)
         | Command::AllocNew(_)
-        | Command::AllocReplace(_) => unreachable!(),
+        | Command::AllocReplace(_)
+        | Command::Withdraw(_) => unreachable!(),
     }
 }

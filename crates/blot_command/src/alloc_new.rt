@@ -2,6 +2,7 @@
 ghost use Rattle.std.specs.Prelude.{◌≡◌, Some, IsSome};
 ghost use Rattle.blot_command.specs.Kinds.{alloc_new_of};
 
+use crate::entering::{enter, leave};
 use crate::{ApplyFault, Tables, Undoable};
 use blot_types::{AllocNew, Command};
 
@@ -23,14 +24,14 @@ impl Undoable for AllocNew {
     ghost lawful = { alloc_new_lawful };
 
     fn apply(self, tables: &mut Tables, number: u64) -> Result<u64, (AllocNew, ApplyFault)> {
-        match Command::AllocNew(self).apply(tables, number) {
+        match enter(tables, Command::AllocNew(self), number) {
             Ok(inverse) => Ok(inverse),
             Err((back, fault)) => Err((into_alloc_new(back), fault)),
         }
     }
 
     fn revert(number: u64, tables: &mut Tables) -> AllocNew {
-        into_alloc_new(Command::revert(number, tables))
+        into_alloc_new(leave(tables, number))
     }
 }
 
@@ -45,6 +46,7 @@ fn into_alloc_new(command: Command) -> AllocNew
         | Command::Correct(_)
         | Command::Bust(_)
         | Command::AllocReplace(_)
-        | Command::AllocCancel(_) => unreachable!(),
+        | Command::AllocCancel(_)
+        | Command::Withdraw(_) => unreachable!(),
     }
 }

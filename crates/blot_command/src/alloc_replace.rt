@@ -2,6 +2,7 @@
 ghost use Rattle.std.specs.Prelude.{◌≡◌, Some, IsSome};
 ghost use Rattle.blot_command.specs.Kinds.{alloc_replace_of};
 
+use crate::entering::{enter, leave};
 use crate::{ApplyFault, Tables, Undoable};
 use blot_types::{AllocReplace, Command};
 
@@ -23,14 +24,14 @@ impl Undoable for AllocReplace {
     ghost lawful = { alloc_replace_lawful };
 
     fn apply(self, tables: &mut Tables, number: u64) -> Result<u64, (AllocReplace, ApplyFault)> {
-        match Command::AllocReplace(self).apply(tables, number) {
+        match enter(tables, Command::AllocReplace(self), number) {
             Ok(inverse) => Ok(inverse),
             Err((back, fault)) => Err((into_alloc_replace(back), fault)),
         }
     }
 
     fn revert(number: u64, tables: &mut Tables) -> AllocReplace {
-        into_alloc_replace(Command::revert(number, tables))
+        into_alloc_replace(leave(tables, number))
     }
 }
 
@@ -45,6 +46,7 @@ fn into_alloc_replace(command: Command) -> AllocReplace
         | Command::Correct(_)
         | Command::Bust(_)
         | Command::AllocNew(_)
-        | Command::AllocCancel(_) => unreachable!(),
+        | Command::AllocCancel(_)
+        | Command::Withdraw(_) => unreachable!(),
     }
 }

@@ -73,7 +73,7 @@ pub(crate) fn open_cells(positions: &mut Positions, entry: &Entry) -> Result<(),
         Command::Correct(correct) => open_fill(positions, &correct.fill),
         Command::AllocNew(new) => open_terms(positions, &new.terms),
         Command::AllocReplace(replace) => open_terms(positions, &replace.terms),
-        Command::Bust(_) | Command::AllocCancel(_) => Ok(()),
+        Command::Bust(_) | Command::AllocCancel(_) | Command::Withdraw(_) => Ok(()),
     }
 }
 

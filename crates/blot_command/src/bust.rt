@@ -2,6 +2,7 @@
 ghost use Rattle.std.specs.Prelude.{◌≡◌, Some, IsSome};
 ghost use Rattle.blot_command.specs.Kinds.{bust_of};
 
+use crate::entering::{enter, leave};
 use crate::{ApplyFault, Tables, Undoable};
 use blot_types::{Bust, Command};
 
@@ -23,14 +24,14 @@ impl Undoable for Bust {
     ghost lawful = { bust_lawful };
 
     fn apply(self, tables: &mut Tables, number: u64) -> Result<u64, (Bust, ApplyFault)> {
-        match Command::Bust(self).apply(tables, number) {
+        match enter(tables, Command::Bust(self), number) {
             Ok(inverse) => Ok(inverse),
             Err((back, fault)) => Err((into_bust(back), fault)),
         }
     }
 
     fn revert(number: u64, tables: &mut Tables) -> Bust {
-        into_bust(Command::revert(number, tables))
+        into_bust(leave(tables, number))
     }
 }
 
@@ -45,6 +46,7 @@ fn into_bust(command: Command) -> Bust
         | Command::Correct(_)
         | Command::AllocNew(_)
         | Command::AllocReplace(_)
-        | Command::AllocCancel(_) => unreachable!(),
+        | Command::AllocCancel(_)
+        | Command::Withdraw(_) => unreachable!(),
     }
 }

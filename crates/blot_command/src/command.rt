@@ -1,16 +1,20 @@
 //! Commands of any kind on the book.
+ghost use Rattle.std.specs.Prelude.{◌≡◌};
 
-use crate::{ApplyFault, Tables, Undoable};
-use blot_types::{Command, Entry};
+use crate::entering::{enter, leave};
+use crate::withdrawing::withdraw;
+use crate::{ApplyFault, Inverse, Tables, Undoable};
+use blot_types::Command;
 
 impl Undoable for Command {
     ghost use Rattle.std.specs.Prelude.{List};
     ghost use Rattle.blot_types.specs.declared.command.Entry.{Entry};
-    ghost use Rattle.blot_command.specs.Kinds.{command_meaning, command_lawful};
+    ghost use Rattle.blot_command.specs.Meanings.{command_meaning};
+    ghost use Rattle.blot_command.specs.Law.{command_lawful};
 
     type State = Tables;
 
-    type Inverse = u64;
+    type Inverse = Inverse;
 
     type Refusal = ApplyFault;
 
@@ -20,21 +24,27 @@ impl Undoable for Command {
 
     ghost lawful = { command_lawful };
 
-    fn apply(self, tables: &mut Tables, number: u64) -> Result<u64, (Command, ApplyFault)> {
-        if let Some(refused) = tables.refusal(&self) {
-            return Err((self, ApplyFault::Refused(refused)));
-        }
-        let entry = Entry {
-            number,
-            command: self,
+    fn apply(self, tables: &mut Tables, number: u64) -> Result<Inverse, (Command, ApplyFault)> {
+        let Some(taken) = self.withdrawn() else {
+            return match enter(tables, self, number) {
+                Ok(number) => Ok(Inverse::Number(number)),
+                Err(back) => Err(back),
+            };
         };
-        match tables.record(entry) {
-            Ok(()) => Ok(number),
-            Err(entry) => Err((entry.command, ApplyFault::NoMemory)),
+        match withdraw(tables, taken) {
+            Ok(entry) => Ok(Inverse::Taken(entry)),
+            Err(refused) => Err((self, ApplyFault::Refused(refused))),
         }
     }
 
-    fn revert(_number: u64, tables: &mut Tables) -> Command {
-        tables.take_last().command
+    fn revert(inverse: Inverse, tables: &mut Tables) -> Command {
+        match inverse {
+            Inverse::Number(number) => leave(tables, number),
+            Inverse::Taken(entry) => {
+                let number = entry.as_entry().number;
+                tables.un_lift(entry);
+                Command::Withdraw(number)
+            }
+        }
     }
 }

@@ -2,6 +2,7 @@
 ghost use Rattle.std.specs.Prelude.{◌≡◌, Some, IsSome};
 ghost use Rattle.blot_command.specs.Kinds.{correct_of};
 
+use crate::entering::{enter, leave};
 use crate::{ApplyFault, Tables, Undoable};
 use blot_types::{Command, Correct};
 
@@ -23,14 +24,14 @@ impl Undoable for Correct {
     ghost lawful = { correct_lawful };
 
     fn apply(self, tables: &mut Tables, number: u64) -> Result<u64, (Correct, ApplyFault)> {
-        match Command::Correct(self).apply(tables, number) {
+        match enter(tables, Command::Correct(self), number) {
             Ok(inverse) => Ok(inverse),
             Err((back, fault)) => Err((into_correct(back), fault)),
         }
     }
 
     fn revert(number: u64, tables: &mut Tables) -> Correct {
-        into_correct(Command::revert(number, tables))
+        into_correct(leave(tables, number))
     }
 }
 
@@ -45,6 +46,7 @@ fn into_correct(command: Command) -> Correct
         | Command::Bust(_)
         | Command::AllocNew(_)
         | Command::AllocReplace(_)
-        | Command::AllocCancel(_) => unreachable!(),
+        | Command::AllocCancel(_)
+        | Command::Withdraw(_) => unreachable!(),
     }
 }

@@ -1,8 +1,9 @@
 //! An entry as the chains and the allocations see it: added to them, and taken back.
-ghost use Rattle.std.specs.Prelude.{◌≡◌, [], IfOk, OnOk, OnErr};
+ghost use Rattle.std.specs.Prelude.{◌≡◌, [], IsTrue, IfOk, OnOk, OnErr};
 ghost use Rattle.std.specs.List.{cons_option, filter_map};
 ghost use Rattle.blot_types.specs.Allocations.{instruction_by};
-ghost use Rattle.blot_types.specs.Chains.{root_in};
+ghost use Rattle.blot_types.specs.Chains.{root_in, is_above_links};
+ghost use Rattle.blot_types.specs.Instructions.{is_above_instructions};
 ghost use Rattle.blot_types.specs.Survivors.{link_of};
 ghost use Rattle.blot_command.specs.Linking.{CanLink, IsLinkedLast, without_link, without_instruction};
 
@@ -11,7 +12,7 @@ use blot_chain::Chains;
 use blot_types::{Command, Entry, ExecKey, Items};
 use std::alloc::{AllocError as NoMemory, Global};
 
-/// Adds an entry that the chains and the allocations accept. No link is lifted out of the chains. Out of
+/// Adds an entry that the chains and the allocations accept. Its number is above those that they keep. Out of
 /// memory is the only error, and then nothing has changed.
 pub fn link_entry(
     alloc: Global,
@@ -20,10 +21,12 @@ pub fn link_entry(
     entry: &Entry,
 ) -> Result<(), NoMemory>
     requires next { CanLink entry.now chains.old.list allocs.old.list }
-    requires unlifted { chains.old.kept ≡ [] }
+    requires above { IsTrue (is_above_links entry.now.number chains.old.kept) }
+    requires above_instructions { IsTrue (is_above_instructions entry.now.number allocs.old.kept) }
     ensures chains { OnOk result (chains.new.list ≡ cons_option (link_of entry.now) chains.old.list) }
     ensures allocs { OnOk result (allocs.new.list ≡ cons_option (instruction_by chains.old.list entry.now.number entry.now.command) allocs.old.list) }
     ensures kept { chains.new.kept ≡ chains.old.kept }
+    ensures kept_instructions { allocs.new.kept ≡ allocs.old.kept }
     ensures same_chains { OnErr result (chains.new ≡ chains.old) }
     ensures same_allocs { OnErr result (allocs.new ≡ allocs.old) }
 {
@@ -41,6 +44,7 @@ pub fn link_entry(
             allocs.replace(number, &replace.key, &replace.reference, roots)
         }
         Command::AllocCancel(cancel) => allocs.cancel(number, &cancel.key, &cancel.reference),
+        Command::Withdraw(_) => Ok(()),
     }
 }
 
@@ -61,12 +65,14 @@ fn roots_of(
     Ok(Items::new(roots))
 }
 
-/// Takes back the entry that was added last. No link is lifted out of the chains.
+/// Takes back the entry that was added last, after all that are kept.
 pub(crate) fn unlink_entry(chains: &mut Chains, allocs: &mut Allocs, entry: &Entry)
     requires last { IsLinkedLast entry.now chains.old.list allocs.old.list }
-    requires unlifted { chains.old.kept ≡ [] }
+    requires above { IsTrue (is_above_links entry.now.number chains.old.kept) }
+    requires above_instructions { IsTrue (is_above_instructions entry.now.number allocs.old.kept) }
     ensures chains { chains.new.list ≡ without_link entry.now.command chains.old.list }
     ensures kept { chains.new.kept ≡ chains.old.kept }
+    ensures kept_instructions { allocs.new.kept ≡ allocs.old.kept }
     ensures allocs { allocs.new.list ≡ without_instruction entry.now.command allocs.old.list }
 {
     match &entry.command {
@@ -76,5 +82,6 @@ pub(crate) fn unlink_entry(chains: &mut Chains, allocs: &mut Allocs, entry: &Ent
         Command::AllocNew(new) => allocs.un_admit(&new.key),
         Command::AllocReplace(replace) => allocs.un_replace(&replace.key, &replace.reference),
         Command::AllocCancel(cancel) => allocs.un_cancel(&cancel.key, &cancel.reference),
+        Command::Withdraw(_) => {}
     }
 }

@@ -6,27 +6,28 @@ ghost use Rattle.blot_types.specs.declared.refused.Refused.TheVariants.{Duplicat
 ghost use Rattle.blot_types.specs.Allocations.{instructions_of};
 ghost use Rattle.blot_types.specs.Chains.{taker_in, root_in, is_root, current_in, bust_in, chain_refusal, link_refusal};
 ghost use Rattle.blot_types.specs.Instructions.{alloc_taker_in, is_allocation_in, ended_in};
-ghost use Rattle.blot_types.specs.Legal.{numbers_rise, refusal_of};
+ghost use Rattle.blot_types.specs.Legal.{entry_refusal};
 ghost use Rattle.blot_types.specs.Order.{cum_of};
 ghost use Rattle.blot_types.specs.Refusals.{first_of, bust_of_key, same_chain, repeated_in, other_holder, current_fill, differs};
 ghost use Rattle.blot_types.specs.Survivors.{links_of};
 ghost use Rattle.blot_command.specs.Refusing.{HoldsBoth, HoldsChainsOf, terms_refusal, reference_refusal};
 ghost use Rattle.blot_command.specs.Shown.{version_numbered};
+ghost use Rattle.blot_command.specs.Slots.{entries_in};
 
-use crate::lookup::version_numbered;
+use crate::slots::{EntrySlot, version_numbered};
 use blot_alloc::Allocs;
 use blot_chain::Chains;
-use blot_types::{AllocKey, Command, Entry, ExecKey, Fill, Refused, Role, Terms, Version};
+use blot_types::{AllocKey, Command, ExecKey, Fill, Refused, Role, Terms, Version};
 
-/// Why a list of entries, with its chains and its allocations, refuses a command.
+/// Why the entries in some slots, with their chains and their allocations, refuse a command as the next entry.
 pub(crate) fn refusal(
-    entries: &[Entry],
+    slots: &[EntrySlot],
     chains: &Chains,
     allocs: &Allocs,
     command: &Command,
 ) -> Option<Refused>
-    requires { HoldsBoth entries.now chains.now.list allocs.now.list }
-    ensures { result ≡ refusal_of entries.now command.now }
+    requires { HoldsBoth slots.now chains.now.list allocs.now.list }
+    ensures { result ≡ entry_refusal (entries_in slots.now) command.now }
 {
     match command {
         Command::Trade(trade) => execution_refusal(chains, &trade.key, Role::Begins),
@@ -38,7 +39,7 @@ pub(crate) fn refusal(
             if let Some(refused) = duplicate_alloc(allocs, &new.key) {
                 return Some(refused);
             }
-            terms_refusal(entries, chains, allocs, &new.terms, &None)
+            terms_refusal(slots, chains, allocs, &new.terms, &None)
         }
         Command::AllocReplace(replace) => {
             if let Some(refused) = duplicate_alloc(allocs, &replace.key) {
@@ -48,7 +49,7 @@ pub(crate) fn refusal(
                 return Some(refused);
             }
             let reference = Some(replace.reference);
-            terms_refusal(entries, chains, allocs, &replace.terms, &reference)
+            terms_refusal(slots, chains, allocs, &replace.terms, &reference)
         }
         Command::AllocCancel(cancel) => {
             if let Some(refused) = duplicate_alloc(allocs, &cancel.key) {
@@ -56,6 +57,7 @@ pub(crate) fn refusal(
             }
             reference_refusal(allocs, &cancel.reference)
         }
+        Command::Withdraw(number) => Some(Refused::NotLive(*number)),
     }
 }
 
@@ -101,14 +103,14 @@ fn reference_refusal(allocs: &Allocs, reference: &AllocKey) -> Option<Refused>
 
 // Why terms are refused, for an allocation that takes the place of the one referred to, if it does.
 fn terms_refusal(
-    entries: &[Entry],
+    slots: &[EntrySlot],
     chains: &Chains,
     allocs: &Allocs,
     terms: &Terms,
     reference: &Option<AllocKey>,
 ) -> Option<Refused>
-    requires { HoldsBoth entries.now chains.now.list allocs.now.list }
-    ensures { result ≡ terms_refusal entries.now reference.now terms.now }
+    requires { HoldsBoth slots.now chains.now.list allocs.now.list }
+    ensures { result ≡ terms_refusal (entries_in slots.now) reference.now terms.now }
 {
     let execs = terms.execs.as_slice();
     if let Some(key) = unknown_exec(chains, execs) {
@@ -123,10 +125,10 @@ fn terms_refusal(
     if let Some(number) = exec_taken(chains, allocs, execs, reference) {
         return Some(Refused::ExecTaken(number));
     }
-    if let Some(key) = other_instrument(entries, chains, terms, execs) {
+    if let Some(key) = other_instrument(slots, chains, terms, execs) {
         return Some(Refused::Instrument(key));
     }
-    terms.mismatch(wanted(entries, chains, execs))
+    terms.mismatch(wanted(slots, chains, execs))
 }
 
 // The first listed execution without a root.
@@ -225,16 +227,16 @@ fn other_holder(
 
 // The first listed execution whose last version has another symbol or sign than the terms.
 fn other_instrument(
-    entries: &[Entry],
+    slots: &[EntrySlot],
     chains: &Chains,
     terms: &Terms,
     execs: &[ExecKey],
 ) -> Option<ExecKey>
-    requires { HoldsChainsOf entries.now chains.now.list }
-    ensures { result ≡ find (λ key. option_map_or (differs terms.now) (current_fill (reverse entries.now) key) false) execs.now }
+    requires { HoldsChainsOf slots.now chains.now.list }
+    ensures { result ≡ find (λ key. option_map_or (differs terms.now) (current_fill (reverse (entries_in slots.now)) key) false) execs.now }
 {
     for key in execs {
-        if let Some(fill) = current_fill(entries, chains, key) {
+        if let Some(fill) = current_fill(slots, chains, key) {
             if terms.differs(&fill) {
                 return Some(*key);
             }
@@ -244,34 +246,38 @@ fn other_instrument(
 }
 
 // The fill of the last version of the chain of a key.
-fn current_fill(entries: &[Entry], chains: &Chains, key: &ExecKey) -> Option<Fill>
-    requires { HoldsChainsOf entries.now chains.now.list }
-    ensures { result ≡ current_fill (reverse entries.now) key.now }
+fn current_fill(slots: &[EntrySlot], chains: &Chains, key: &ExecKey) -> Option<Fill>
+    requires { HoldsChainsOf slots.now chains.now.list }
+    ensures { result ≡ current_fill (reverse (entries_in slots.now)) key.now }
 {
-    match current_version(entries, chains, key) {
+    match current_version(slots, chains, key) {
         None => None,
         Some(version) => Some(version.fill),
     }
 }
 
 /// The last version of the chain of a key.
-pub(crate) fn current_version(entries: &[Entry], chains: &Chains, key: &ExecKey) -> Option<Version>
-    requires { HoldsChainsOf entries.now chains.now.list }
-    ensures { result ≡ option_and_then (version_numbered entries.now) (option_and_then (current_in (links_of entries.now)) (root_in (links_of entries.now) key.now)) }
+pub(crate) fn current_version(
+    slots: &[EntrySlot],
+    chains: &Chains,
+    key: &ExecKey,
+) -> Option<Version>
+    requires { HoldsChainsOf slots.now chains.now.list }
+    ensures { result ≡ option_and_then (version_numbered (entries_in slots.now)) (option_and_then (current_in (links_of (entries_in slots.now))) (root_in (links_of (entries_in slots.now)) key.now)) }
 {
     let root = chains.root_of(key)?;
     let number = chains.current(&root)?;
-    version_numbered(entries, number)
+    version_numbered(slots, number)
 }
 
 // The quantity of the last versions of the listed executions, in units of 10^-6.
-fn wanted(entries: &[Entry], chains: &Chains, execs: &[ExecKey]) -> i128
-    requires { HoldsChainsOf entries.now chains.now.list }
-    ensures { result ≡ cum_of (filter_map (current_fill (reverse entries.now)) execs.now) }
+fn wanted(slots: &[EntrySlot], chains: &Chains, execs: &[ExecKey]) -> i128
+    requires { HoldsChainsOf slots.now chains.now.list }
+    ensures { result ≡ cum_of (filter_map (current_fill (reverse (entries_in slots.now))) execs.now) }
 {
     let mut sum = 0;
     for key in execs {
-        if let Some(fill) = current_fill(entries, chains, key) {
+        if let Some(fill) = current_fill(slots, chains, key) {
             sum += i128::from(fill.qty.units());
         }
     }

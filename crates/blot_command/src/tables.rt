@@ -2,14 +2,18 @@
 ghost use Rattle.std.specs.Prelude.{◌≡◌, ◌<◌, [], ◌∷◌, ◌++◌, None, Some, IsSome, length, find, IsTrue, OnOk, OnErr, IfOk, IfErr, IfSome};
 ghost use Rattle.std.specs.Option.{option_copied};
 ghost use Rattle.blot_types.specs.Laws.{HasBoundedTotals, IsConserving};
-ghost use Rattle.blot_types.specs.Legal.{is_book, refusal_of};
+ghost use Rattle.blot_types.specs.Chains.{is_above_links};
+ghost use Rattle.blot_types.specs.Legal.{is_book, entry_refusal};
+ghost use Rattle.blot_types.specs.Refusals.{is_live_bust};
 ghost use Rattle.blot_types.specs.Order.{order_of};
 ghost use Rattle.blot_types.specs.Position.{position_of};
 ghost use Rattle.blot_types.specs.declared.TheConstants.{EVENTS_MAX};
 ghost use Rattle.blot_order.specs.Fills.{put_at, kept_at};
 ghost use Rattle.blot_command.specs.Book.{has_number};
 ghost use Rattle.blot_command.specs.Shown.{with_put, with_kept, IsPut, IsKept, CanPut};
+ghost use Rattle.blot_command.specs.Withdrawing.{with_entry, HasLast, lifted, returned, CanReturn};
 
+use crate::BoxedEntry;
 use crate::accounts::Accounts;
 use blot_order::Orders;
 use blot_types::{Command, Entry, OrderKey, OrderLine, PositionLine, Refused, Text64, Version};
@@ -17,7 +21,8 @@ use std::alloc::{AllocError as NoMemory, Global};
 use std::marker::Model;
 
 /// The book: its live list of entries, in rising order of number, with the chains, the allocations and the
-/// positions of its entries, and the fills that stand. A contract sees its live list, which is always legal.
+/// positions of its entries, and the fills that stand. A contract sees its live list, which is always legal, and the links of
+/// the entries that were taken out of its middle and whose slots are kept.
 #[derive(Drop)]
 pub struct Tables {
     accounts: Accounts,
@@ -30,15 +35,15 @@ impl Model for Tables {
 
     ghost Value = { Shown };
 
-    ghost view = { λ tables. record { list = tables.accounts } };
+    ghost view = { λ tables. tables.accounts };
 
-    ghost invariant = { λ tables. Shows tables.accounts tables.orders };
+    ghost invariant = { λ tables. Shows tables.accounts.list tables.orders };
 }
 
 impl Tables {
     /// An empty book. No memory is taken.
     pub fn new(alloc: Global) -> Tables
-        ensures empty { result.list ≡ [] }
+        ensures empty { result ≡ record { list = []; kept = [] } }
         ensures book { IsTrue (is_book result.list) }
     {
         Tables {
@@ -84,26 +89,27 @@ impl Tables {
         self.accounts.live().entries(alloc)
     }
 
-    /// The live entries, in rising order of number, not copied; all else of the book goes.
-    pub fn into_entries(self) -> Vec<Entry>
-        ensures entries { result.items ≡ self.list }
+    /// The live entries, in rising order of number, not copied; all else of the book goes. An error is out of memory.
+    pub fn into_entries(self) -> Result<Vec<Entry>, NoMemory>
+        ensures entries { IfOk result (λ entries. entries.items ≡ self.list) }
         ensures book { IsTrue (is_book self.list) }
     {
         self.accounts.into_live().into_entries()
     }
 
-    /// Why the book refuses a command.
+    /// Why the book refuses a command as its next entry.
     pub(crate) fn refusal(&self, command: &Command) -> Option<Refused>
-        ensures refusal { result ≡ refusal_of self.now.list command.now }
+        ensures refusal { result ≡ entry_refusal self.now.list command.now }
         ensures book { IsTrue (is_book self.now.list) }
     {
         self.accounts.live().refusal(command)
     }
 
-    /// Puts an entry after the others, or hands it back where memory runs out.
+    /// Puts an entry after the others, or hands it back where memory runs out. Its number is above those whose slots are kept.
     pub(crate) fn record(&mut self, entry: Entry) -> Result<(), Entry>
-        requires { IsTrue (is_book (self.old.list ++ entry ∷ [])) }
-        ensures ok { OnOk result (self.new.list ≡ self.old.list ++ entry ∷ []) }
+        requires book { IsTrue (is_book (self.old.list ++ entry ∷ [])) }
+        requires above { IsTrue (is_above_links entry.number self.old.kept) }
+        ensures ok { OnOk result (self.new ≡ with_entry entry self.old) }
         ensures err { OnErr result (self.new ≡ self.old) }
         ensures returned { IfErr result (λ back. back ≡ entry) }
     {
@@ -124,8 +130,9 @@ impl Tables {
 
     /// Takes the last entry out.
     pub(crate) fn take_last(&mut self) -> Entry
-        requires { 0 < length self.old.list }
-        ensures { self.old.list ≡ self.new.list ++ result ∷ [] }
+        requires { HasLast self.old }
+        ensures rest { self.old ≡ with_entry result self.new }
+        ensures above { IsTrue (is_above_links result.number self.new.kept) }
     {
         let entry = self.accounts.pop();
         let version = entry.version();
@@ -133,6 +140,32 @@ impl Tables {
         take(&mut self.orders, &version);
         un_take(&mut self.orders, &restored);
         entry
+    }
+
+    /// Takes the Bust of a number, which is live, out of the list, whatever came later, and keeps its slot. No memory is taken.
+    /// This project's rule.
+    pub fn lift(&mut self, number: u64) -> BoxedEntry
+        requires { IsTrue (is_live_bust number self.old.list) }
+        ensures entry { find (has_number number) self.old.list ≡ Some result }
+        ensures lifted { self.new ≡ lifted number self.old }
+        ensures kept { CanReturn result self.new }
+        ensures book { IsTrue (is_book self.old.list) }
+    {
+        let entry = self.accounts.lift(number);
+        let busted = self.accounts.live().replaced(&entry.as_entry().link());
+        un_take(&mut self.orders, &busted);
+        entry
+    }
+
+    /// Puts a Bust whose slot is kept back at its place, under its number. No memory is taken. This project's rule.
+    pub fn un_lift(&mut self, entry: BoxedEntry)
+        requires { CanReturn entry self.old }
+        ensures returned { self.new ≡ returned entry self.old }
+        ensures book { IsTrue (is_book self.old.list) }
+    {
+        let busted = self.accounts.live().replaced(&entry.as_entry().link());
+        self.accounts.un_lift(entry);
+        take(&mut self.orders, &busted);
     }
 }
 

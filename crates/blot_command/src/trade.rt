@@ -2,6 +2,7 @@
 ghost use Rattle.std.specs.Prelude.{◌≡◌, Some, IsSome};
 ghost use Rattle.blot_command.specs.Kinds.{trade_of};
 
+use crate::entering::{enter, leave};
 use crate::{ApplyFault, Tables, Undoable};
 use blot_types::{Command, Trade};
 
@@ -23,14 +24,14 @@ impl Undoable for Trade {
     ghost lawful = { trade_lawful };
 
     fn apply(self, tables: &mut Tables, number: u64) -> Result<u64, (Trade, ApplyFault)> {
-        match Command::Trade(self).apply(tables, number) {
+        match enter(tables, Command::Trade(self), number) {
             Ok(inverse) => Ok(inverse),
             Err((back, fault)) => Err((into_trade(back), fault)),
         }
     }
 
     fn revert(number: u64, tables: &mut Tables) -> Trade {
-        into_trade(Command::revert(number, tables))
+        into_trade(leave(tables, number))
     }
 }
 
@@ -45,6 +46,7 @@ fn into_trade(command: Command) -> Trade
         | Command::Bust(_)
         | Command::AllocNew(_)
         | Command::AllocReplace(_)
-        | Command::AllocCancel(_) => unreachable!(),
+        | Command::AllocCancel(_)
+        | Command::Withdraw(_) => unreachable!(),
     }
 }

@@ -37,7 +37,7 @@ pub trait Undoable: Sized + Drop {
         ensures refused { IfErr result (λ refusal. IsRefusal meaning state.old self refusal.0 refusal.1 state.new) };
 
     /// Takes a command back, by the inverse that it handed out, from a state with the list that it left,
-    /// which keeps what the inverse needs.
+    /// which keeps what the inverse needs, and in which no number came later.
     fn revert(inverse: Self::Inverse, state: &mut Self::State) -> Self
         requires { Undoes meaning inverse state.old }
         ensures list { meaning.list_of state.new ≡ meaning.before (meaning.list_of state.old) inverse }

@@ -65,6 +65,7 @@ fn put_values(alloc: Global, text: &mut Vec<u8>, refused: Refused) -> Result<(),
         | Refused::DeadAlloc(number)
         | Refused::BustedExec(number)
         | Refused::ExecTaken(number)
+        | Refused::NotLive(number)
         | Refused::Moved(number) => put_number(alloc, text, number),
         Refused::UnknownExec(key) | Refused::RepeatedExec(key) | Refused::Instrument(key) => {
             put_exec(text, &key)

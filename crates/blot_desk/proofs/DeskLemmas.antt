@@ -10,16 +10,18 @@ use Rattle.blot_types.specs.Legal.{refusal_of}
 use Rattle.blot_types.specs.declared.TheConstants.{EVENTS_MAX}
 use Rattle.blot_command.specs.declared.fault.ApplyFault.{ApplyFault}
 use Rattle.blot_command.specs.declared.fault.ApplyFault.TheVariants.{Refused, NoMemory}
-use Rattle.blot_command.specs.Kinds.{command_meaning}
+use Rattle.blot_command.specs.Meanings.{command_meaning}
+use Rattle.blot_command.specs.declared.inverse.Inverse.{Inverse}
 use Rattle.blot_undo.specs.declared.fault.StepFault.TheVariants.{Refused as RefusedStep}
 use Rattle.blot_undo.specs.Faults.{IsFault}
-use Rattle.blot_undo.specs.Book.{undo_in, redo_in, newest_done, newest_undone}
+use Rattle.blot_undo.specs.Book.{apply_of, undo_in, redo_in, newest_done, newest_undone}
 use Rattle.blot_undo.specs.declared.step.Done.{Done}
 use Rattle.blot_undo.specs.declared.step.Undone.{Undone}
 use Rattle.blot_desk.specs.declared.event.Event.{Event}
 use Rattle.blot_desk.specs.declared.event.Event.TheVariants.{Submit, Undo, Redo, AskOrder, AskPosition}
 use Rattle.blot_desk.specs.declared.event.Recorded.{Recorded}
 use Rattle.blot_desk.specs.declared.event.Reply.{Reply}
+use Rattle.blot_desk.specs.declared.event.Reply.TheVariants.{Accepted}
 use Rattle.blot_desk.specs.Desk.{DeskBook, Outcome, empty_book, submit_by, submit_of, refused_by, undo_by, redo_by, step_of, run_on, run_of, events_of, replies_of, IsRunOf, IsJournal}
 
 -- the list's own reason, where the fault gives one
@@ -37,10 +39,21 @@ refused_submit book next command returned reason why fault same stays =
     let found : refusal_of book.list command ≡ Some why = reason_in (refusal_of book.list command) reason why fault.1 same in
     ap (λ b. refused_by b why) stays ∙ sym (ap (submit_by book command) found)
 
+-- an accepted one is done, and the reply names its number
+unrefused : (found : Option Reason) → option_map Refused found ≡ None → found ≡ None
+unrefused None none = refl
+unrefused (Some reason) none = cc
+
+pub accepted_submit :
+    (book next : DeskBook) (command : Command) (number : ℕ) → command_meaning.refused book.list command ≡ None → next ≡ apply_of command_meaning book command → number ≡ book.next
+    → record { book = next; reply = Accepted number } ≡ submit_of book command
+accepted_submit book next command number accepted done own =
+    (λ i. record { book = done i; reply = Accepted (own i) }) ∙ sym (ap (submit_by book command) (unrefused (refusal_of book.list command) accepted))
+
 -- ---- one event more
 
 -- a step gives at most one number
-undo_next : (book : DeskBook) (done : List (Done ℕ)) → (undo_in command_meaning book done).next ≡ book.next
+undo_next : (book : DeskBook) (done : List (Done Inverse)) → (undo_in command_meaning book done).next ≡ book.next
 undo_next book [] = refl
 undo_next book (step ∷ earlier) = refl
 

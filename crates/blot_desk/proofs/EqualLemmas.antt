@@ -144,6 +144,7 @@ command_same (command_of.Bust a) (command_of.Bust b) = told (bust_same a b) (λ 
 command_same (command_of.AllocNew a) (command_of.AllocNew b) = told (alloc_new_same a b) (λ e. ap command_of.AllocNew e) (λ is. cc)
 command_same (command_of.AllocReplace a) (command_of.AllocReplace b) = told (alloc_replace_same a b) (λ e. ap command_of.AllocReplace e) (λ is. cc)
 command_same (command_of.AllocCancel a) (command_of.AllocCancel b) = told (alloc_cancel_same a b) (λ e. ap command_of.AllocCancel e) (λ is. cc)
+command_same (command_of.Withdraw a) (command_of.Withdraw b) = told (Decides-eqb a b) (λ e. ap command_of.Withdraw e) (λ is. cc)
 command_same a b = (λ same. cc, λ is. cc)
 
 refused_same : (a b : Refused) → Decides (refused.eq a b) (a ≡ b)
@@ -157,6 +158,7 @@ refused_same (refused_of.RepeatedExec a) (refused_of.RepeatedExec b) = told (exe
 refused_same (refused_of.ExecTaken a) (refused_of.ExecTaken b) = told (Decides-eqb a b) (λ e. ap refused_of.ExecTaken e) (λ is. cc)
 refused_same (refused_of.Instrument a) (refused_of.Instrument b) = told (exec_same a b) (λ e. ap refused_of.Instrument e) (λ is. cc)
 refused_same (refused_of.Quantity a a2) (refused_of.Quantity b b2) = told (both (Decides-int_eq a b) (Decides-int_eq a2 b2)) (λ e i. refused_of.Quantity (e.0 i) (e.1 i)) (λ is. (cc, cc))
+refused_same (refused_of.NotLive a) (refused_of.NotLive b) = told (Decides-eqb a b) (λ e. ap refused_of.NotLive e) (λ is. cc)
 refused_same refused_of.NothingToUndo refused_of.NothingToUndo = (λ same. refl, λ is. refl)
 refused_same (refused_of.Moved a) (refused_of.Moved b) = told (Decides-eqb a b) (λ e. ap refused_of.Moved e) (λ is. cc)
 refused_same refused_of.NothingToRedo refused_of.NothingToRedo = (λ same. refl, λ is. refl)

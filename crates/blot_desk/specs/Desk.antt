@@ -8,8 +8,8 @@ use Rattle.blot_types.specs.declared.TheConstants.{EVENTS_MAX}
 use Rattle.blot_types.specs.Legal.{refusal_of}
 use Rattle.blot_types.specs.Order.{order_of}
 use Rattle.blot_types.specs.Position.{position_of}
-use Rattle.blot_command.specs.Book.{Inverse}
-use Rattle.blot_command.specs.Kinds.{command_meaning}
+use Rattle.blot_command.specs.declared.inverse.Inverse.{Inverse}
+use Rattle.blot_command.specs.Meanings.{command_meaning}
 use Rattle.blot_undo.specs.Book.{Book, apply_of, undo_of as undone_book, redo_of as redone_book, newest_done, newest_undone}
 use Rattle.blot_desk.specs.declared.event.Event.{Event}
 use Rattle.blot_desk.specs.declared.event.Event.TheVariants.{Submit, Undo, Redo, AskOrder, AskPosition}

@@ -1,6 +1,10 @@
 -- The receipts of a seat: what it was told, at which place of the history.
-use Rattle.std.specs.Prelude.{◌≡◌, ℕ, ◌+◌, ◌<◌, ◌≤◌, ◌==◌, Bool, true, false, nat_le, List, [], ◌∷◌, ◌++◌, fold, length, slice_get, Option, Some, None, if◌then◌else◌}
+use Rattle.std.specs.Prelude.{◌≡◌, ℕ, ◌+◌, ◌<◌, ◌≤◌, ◌==◌, Bool, true, false, nat_le, List, [], ◌∷◌, ◌++◌, fold, length, slice_get, Option, Some, None, is_none, if◌then◌else◌}
+use Rattle.std.specs.Option.{option_map_or, option_and_then}
+use Rattle.blot_types.specs.declared.command.Command.{Command}
+use Rattle.blot_types.specs.Refusals.{withdrawn_by}
 use Rattle.blot_desk.specs.declared.event.Event.{Event}
+use Rattle.blot_desk.specs.declared.event.Event.TheVariants.{Submit}
 use Rattle.blot_desk.specs.declared.event.Recorded.{Recorded}
 use Rattle.blot_desk.specs.declared.event.Reply.{Reply}
 use Rattle.blot_desk.specs.declared.event.Reply.TheVariants.{Accepted, Undone, Redone}
@@ -13,20 +17,42 @@ pub record IsOneMore (before after : List Receipt) (event : Event) (reply : Repl
 
 -- ---- the newest number of a seat
 
--- whether a number is undone after a reply; a number that is accepted or done again isn't
+-- the number of the entry that a command came to, or that it took out, where a receipt shows it as accepted
+abbrev pub entered_by : Command → Reply → Option ℕ
+entered_by command (Accepted number) = if is_none (withdrawn_by command) then Some number else None
+entered_by command reply = None
+
+abbrev pub entered : Event → Reply → Option ℕ
+entered (Submit command) reply = entered_by command reply
+entered event reply = None
+
+abbrev pub taken_by : Command → Reply → Option ℕ
+taken_by command (Accepted number) = withdrawn_by command
+taken_by command reply = None
+
+abbrev pub taken : Event → Reply → Option ℕ
+taken (Submit command) reply = taken_by command reply
+taken event reply = None
+
+-- whether a number is undone after a reply; a number that is done again isn't
 abbrev pub undone_by : ℕ → Bool → Reply → Bool
 undone_by number undone (Undone other) = if other == number then true else undone
 undone_by number undone (Redone other) = if other == number then false else undone
 undone_by number undone reply = undone
 
--- whether some receipts leave a number undone
-abbrev pub is_undone : ℕ → List Receipt → Bool
-is_undone number receipts = fold (λ undone receipt. undone_by number undone receipt.reply) false receipts
+-- whether a number is gone after a receipt: undone, or withdrawn
+abbrev pub gone_by : ℕ → Bool → Receipt → Bool
+gone_by number gone receipt =
+    option_map_or (λ other. if other == number then true else gone) (taken receipt.event receipt.reply) (undone_by number gone receipt.reply)
 
--- a number that a reply accepts, where the later receipts don't leave it undone
-abbrev pub standing : Reply → List Receipt → Option ℕ
-standing (Accepted number) later = if is_undone number later then None else Some number
-standing reply later = None
+-- whether some receipts leave a number undone or withdrawn
+abbrev pub is_gone : ℕ → List Receipt → Bool
+is_gone number receipts = fold (gone_by number) false receipts
+
+-- the number of an entry that a receipt shows as accepted, where the later receipts don't leave it undone or withdrawn
+abbrev pub standing : Receipt → List Receipt → Option ℕ
+standing receipt later =
+    option_and_then (λ number. if is_gone number later then None else Some number) (entered receipt.event receipt.reply)
 
 -- the greater of two numbers that may be there
 abbrev pub greater : Option ℕ → Option ℕ → Option ℕ
@@ -34,10 +60,10 @@ greater None other = other
 greater (Some number) None = Some number
 greater (Some number) (Some other) = if nat_le number other then Some other else Some number
 
--- the greatest number that some receipts show as accepted and don't leave undone
+-- the greatest number of an entry that some receipts show as accepted and don't leave undone or withdrawn
 abbrev pub newest_of : List Receipt → Option ℕ
 newest_of [] = None
-newest_of (receipt ∷ later) = greater (standing receipt.reply later) (newest_of later)
+newest_of (receipt ∷ later) = greater (standing receipt later) (newest_of later)
 
 -- ---- receipts laid beside the history
 

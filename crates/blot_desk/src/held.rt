@@ -23,7 +23,7 @@ pub struct Held {
 }
 
 impl Model for Held {
-    ghost use Rattle.blot_command.specs.Kinds.{command_meaning};
+    ghost use Rattle.blot_command.specs.Meanings.{command_meaning};
     ghost use Rattle.blot_undo.specs.Book.{book_of};
     ghost use Rattle.blot_desk.specs.Desk.{Journal, IsJournal};
 
@@ -96,14 +96,15 @@ impl Held {
         }
     }
 
-    /// The live list as it is at last, not copied; the history and the steps go.
-    pub fn into_snapshot(self) -> Snapshot
-        ensures list { result ≡ self.book.list }
-        ensures run { result ≡ (run_of (events_of self.history)).book.list }
-        ensures book { IsTrue (is_book result) }
+    /// The live list as it is at last, not copied; the history and the steps go. An error is out of memory.
+    pub fn into_snapshot(self) -> Result<Snapshot, NoMemory>
+        ensures list { IfOk result (λ snapshot. snapshot ≡ self.book.list) }
+        ensures run { IfOk result (λ snapshot. snapshot ≡ (run_of (events_of self.history)).book.list) }
+        ensures book { IfOk result (λ snapshot. IsTrue (is_book snapshot)) }
         ensures few { length self.history ≤ EVENTS_MAX }
     {
-        Snapshot::of(self.steps.into_state().into_entries())
+        let entries = self.steps.into_state().into_entries()?;
+        Ok(Snapshot::of(entries))
     }
 
     /// The recorded events with their replies, in the order in which they came.

@@ -2,7 +2,7 @@
 ghost use Rattle.std.specs.Prelude.{◌≡◌, ◌≢◌, ◌↔◌, ◌<◌, ◌++◌, ◌∷◌, [], length, vec_capacity, Err, IfOk, OnErr};
 ghost use Rattle.blot_types.specs.declared.TheConstants.{EVENTS_MAX};
 ghost use Rattle.blot_desk.specs.Desk.{IsReply, recorded_of, step_of};
-ghost use Rattle.blot_desk.specs.Receipts.{greater, is_undone, newest_of, standing, undone_by};
+ghost use Rattle.blot_desk.specs.Receipts.{entered, gone_by, greater, is_gone, newest_of, standing, taken, undone_by};
 
 use crate::counted::Counted;
 use crate::{DeskFault, Event, Receipt, Reply};
@@ -86,8 +86,8 @@ impl<L: Ledger> Seat<L> {
         &self.receipts
     }
 
-    /// The greatest number that its receipts show as accepted and don't leave undone. No memory is taken, so a seat whose last
-    /// commands are undone is looked through once for each of these.
+    /// The greatest number of an entry that its receipts show as accepted and don't leave undone or withdrawn. No memory is taken,
+    /// so a seat whose last commands are gone is looked through once for each of these.
     pub fn newest(&self) -> Option<u64>
         ensures { result ≡ newest_of self.now }
     {
@@ -108,42 +108,51 @@ fn keep(receipts: &mut Vec<Receipt>, place: u64, event: Event, reply: &Reply)
     });
 }
 
-// The greatest number that some receipts show as accepted and don't leave undone.
+// The greatest number of an entry that some receipts show as accepted and don't leave undone or withdrawn.
 fn newest_of(receipts: &[Receipt]) -> Option<u64>
     ensures { result ≡ newest_of receipts.now }
 {
     let mut newest = None;
     for behind in 0..receipts.len() {
         let place = receipts.len() - 1 - behind;
-        newest = newest_with(&receipts[place].reply, &receipts[place + 1..], newest);
+        newest = newest_with(&receipts[place], &receipts[place + 1..], newest);
     }
     newest
 }
 
-// The newest number of some receipts, with one before them. It is looked at whether they leave a number undone only where it
-// is greater than theirs.
-fn newest_with(reply: &Reply, later: &[Receipt], newest: Option<u64>) -> Option<u64>
-    ensures { result ≡ greater (standing reply.now later.now) newest }
+// The newest number of some receipts, with one before them. It is looked at whether they leave a number undone or withdrawn only
+// where it is greater than theirs.
+fn newest_with(receipt: &Receipt, later: &[Receipt], newest: Option<u64>) -> Option<u64>
+    ensures { result ≡ greater (standing receipt.now later.now) newest }
 {
-    let number = match *reply {
-        Reply::Accepted(number) => number,
-        _ => return newest,
+    let Some(number) = entered(&receipt.event, &receipt.reply) else {
+        return newest;
     };
-    if newest.is_some_and(|newest| number <= newest) || is_undone(number, later) {
+    if newest.is_some_and(|newest| number <= newest) || is_gone(number, later) {
         return newest;
     }
     Some(number)
 }
 
-// Whether some receipts leave a number undone.
-fn is_undone(number: u64, receipts: &[Receipt]) -> bool
-    ensures { result ≡ is_undone number receipts.now }
+// Whether some receipts leave a number undone or withdrawn.
+fn is_gone(number: u64, receipts: &[Receipt]) -> bool
+    ensures { result ≡ is_gone number receipts.now }
 {
-    let mut undone = false;
+    let mut gone = false;
     for receipt in receipts {
-        undone = undone_by(number, undone, &receipt.reply);
+        gone = gone_by(number, gone, receipt);
     }
-    undone
+    gone
+}
+
+// Whether a number is gone after a receipt.
+fn gone_by(number: u64, gone: bool, receipt: &Receipt) -> bool
+    ensures { result ≡ gone_by number gone receipt.now }
+{
+    match taken(&receipt.event, &receipt.reply) {
+        Some(other) => other == number || gone,
+        None => undone_by(number, gone, &receipt.reply),
+    }
 }
 
 // Whether a number is undone after a reply.
@@ -154,5 +163,27 @@ fn undone_by(number: u64, undone: bool, reply: &Reply) -> bool
         Reply::Undone(other) if other == number => true,
         Reply::Redone(other) if other == number => false,
         _ => undone,
+    }
+}
+
+// The number of the entry that an event came to, where the reply accepts it.
+fn entered(event: &Event, reply: &Reply) -> Option<u64>
+    ensures { result ≡ entered event.now reply.now }
+{
+    match (event, *reply) {
+        (Event::Submit(command), Reply::Accepted(number)) if command.withdrawn().is_none() => {
+            Some(number)
+        }
+        _ => None,
+    }
+}
+
+// The number of the entry that an event took out, where the reply accepts it.
+fn taken(event: &Event, reply: &Reply) -> Option<u64>
+    ensures { result ≡ taken event.now reply.now }
+{
+    match (event, *reply) {
+        (Event::Submit(command), Reply::Accepted(_)) => command.withdrawn(),
+        _ => None,
     }
 }

@@ -1,6 +1,6 @@
 //! Each kind of event on the book.
 ghost use Rattle.std.specs.Prelude.{◌≡◌, ◌≤◌, IfOk, OnErr};
-ghost use Rattle.blot_command.specs.Kinds.{command_meaning};
+ghost use Rattle.blot_command.specs.Meanings.{command_meaning};
 ghost use Rattle.blot_undo.specs.Book.{book_of};
 ghost use Rattle.blot_desk.specs.Desk.{step_of, submit_of, undo_of, redo_of};
 

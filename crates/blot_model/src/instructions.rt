@@ -48,7 +48,9 @@ fn instruction(
             let none = Items::new(Vec::new(alloc));
             (cancel.key, AllocRole::Cancels(cancel.reference), none)
         }
-        Command::Trade(_) | Command::Correct(_) | Command::Bust(_) => return Ok(None),
+        Command::Trade(_) | Command::Correct(_) | Command::Bust(_) | Command::Withdraw(_) => {
+            return Ok(None);
+        }
     };
     Ok(Some(Instruction {
         number: entry.number,

@@ -113,8 +113,11 @@ fn moves_of_entry(
         Command::AllocReplace(replace) => {
             live_moves(instructions, &replace.key, &replace.terms, account, symbol)
         }
-        Command::Trade(_) | Command::Correct(_) | Command::Bust(_) | Command::AllocCancel(_) =>
-            None,
+        Command::Trade(_)
+        | Command::Correct(_)
+        | Command::Bust(_)
+        | Command::AllocCancel(_)
+        | Command::Withdraw(_) => None,
     }
 }
 

@@ -1,12 +1,12 @@
 //! Which commands a list refuses.
 ghost use Rattle.std.specs.Prelude.{◌≡◌, IfOk};
 ghost use Rattle.blot_types.specs.Allocations.{instructions_of};
-ghost use Rattle.blot_types.specs.Legal.{refusal_of, is_legal};
+ghost use Rattle.blot_types.specs.Legal.{entry_refusal, refusal_of, is_legal};
 
 use crate::instructions::instructions;
 use crate::rules::{
-    busted_exec, dead_alloc, duplicate_alloc, duplicate_exec, exec_taken, instrument, quantity,
-    repeated_exec, unknown_alloc, unknown_exec,
+    busted_exec, dead_alloc, duplicate_alloc, duplicate_exec, exec_taken, instrument, never_entry,
+    quantity, repeated_exec, unknown_alloc, unknown_exec, withdrawal_refusal,
 };
 use blot_types::{Command, Entry, Instruction, Refused};
 use std::alloc::{AllocError as NoMemory, Global};
@@ -19,16 +19,31 @@ pub fn accepts(
 ) -> Result<Option<Refused>, NoMemory>
     ensures { IfOk result (λ refused. refused ≡ refusal_of list.now command.now) }
 {
-    let instructions = instructions(alloc, list)?;
-    Ok(refusal(list, &instructions, command))
+    if let Some(number) = command.withdrawn() {
+        return Ok(withdrawal_refusal(list, number));
+    }
+    entry_refusal(alloc, list, command)
 }
 
-// Why a list with these instructions refuses a command.
-fn refusal(list: &[Entry], instructions: &[Instruction], command: &Command) -> Option<Refused>
-    requires { instructions.now ≡ instructions_of list.now }
-    ensures { result ≡ refusal_of list.now command.now }
+// Why a list refuses a command as its next entry.
+fn entry_refusal(
+    alloc: Global,
+    list: &[Entry],
+    command: &Command,
+) -> Result<Option<Refused>, NoMemory>
+    ensures { IfOk result (λ refused. refused ≡ entry_refusal list.now command.now) }
 {
-    duplicate_exec(list, command)
+    let instructions = instructions(alloc, list)?;
+    Ok(first_refusal(list, &instructions, command))
+}
+
+// Why a list with these instructions refuses a command as its next entry.
+fn first_refusal(list: &[Entry], instructions: &[Instruction], command: &Command) -> Option<Refused>
+    requires { instructions.now ≡ instructions_of list.now }
+    ensures { result ≡ entry_refusal list.now command.now }
+{
+    never_entry(command)
+        .or_else(|| duplicate_exec(list, command))
         .or_else(|| duplicate_alloc(list, instructions, command))
         .or_else(|| unknown_alloc(list, instructions, command))
         .or_else(|| dead_alloc(list, instructions, command))
@@ -45,7 +60,7 @@ pub fn legal(alloc: Global, list: &[Entry]) -> Result<bool, NoMemory>
     ensures { IfOk result (λ legal. legal ≡ is_legal list.now) }
 {
     for (index, entry) in list.iter().enumerate() {
-        if accepts(alloc, &list[..index], &entry.command)?.is_some() {
+        if entry_refusal(alloc, &list[..index], &entry.command)?.is_some() {
             return Ok(false);
         }
     }

@@ -1,16 +1,41 @@
 //! Why a list refuses a command: one function a rule, in the order of the rules.
-ghost use Rattle.std.specs.Prelude.{◌≡◌, [], pos, find, is_none, reverse, false};
+ghost use Rattle.std.specs.Prelude.{◌≡◌, ◌==◌, [], pos, find, is_none, reverse, false};
 ghost use Rattle.std.specs.List.{list_any};
-ghost use Rattle.std.specs.Option.{option_map_or};
+ghost use Rattle.std.specs.Option.{option_copied, option_map_or};
 ghost use Rattle.blot_types.specs.Allocations.{instructions_of};
 ghost use Rattle.blot_types.specs.Chains.{root_in};
-ghost use Rattle.blot_types.specs.Refusals.{duplicate_exec, duplicate_alloc, unknown_alloc, dead_alloc, unknown_exec, busted_exec, repeated_exec, exec_taken, instrument, quantity, first_of, bust_of_key, same_chain, repeated_in, other_holder, current_fill, differs};
+ghost use Rattle.blot_types.specs.Legal.{withdrawal_refusal};
+ghost use Rattle.blot_types.specs.Refusals.{never_entry, duplicate_exec, duplicate_alloc, unknown_alloc, dead_alloc, unknown_exec, busted_exec, repeated_exec, exec_taken, instrument, quantity, first_of, bust_of_key, same_chain, repeated_in, other_holder, current_fill, differs};
 ghost use Rattle.blot_types.specs.Survivors.{links_of};
 
 use crate::allocations::{ended_by, is_allocation, other_holder_of, taker_of};
 use crate::amounts::{current_fill, wanted};
 use crate::chains::{bust_of, number_of, root_of};
 use blot_types::{AllocKey, Command, Entry, ExecKey, Instruction, Refused, Terms};
+
+/// It takes an entry out, and so is none.
+pub(crate) fn never_entry(command: &Command) -> Option<Refused>
+    ensures { result ≡ never_entry command.now }
+{
+    command.withdrawn().map(Refused::NotLive)
+}
+
+/// The entry that it takes out isn't there, or is no Bust.
+pub(crate) fn withdrawal_refusal(list: &[Entry], number: u64) -> Option<Refused>
+    ensures { result ≡ withdrawal_refusal list.now number }
+{
+    match entry_at(list, number) {
+        Some(entry) if entry.command.is_bust() => None,
+        _ => Some(Refused::NotLive(number)),
+    }
+}
+
+// The entry of a number.
+fn entry_at(list: &[Entry], number: u64) -> Option<&Entry>
+    ensures { option_copied result ≡ find (λ entry. entry.number == number) list.now }
+{
+    list.iter().find(|entry| entry.number == number)
+}
 
 /// Its execution is taken up.
 pub(crate) fn duplicate_exec(list: &[Entry], command: &Command) -> Option<Refused>

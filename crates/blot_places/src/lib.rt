@@ -7,4 +7,4 @@ mod places;
 mod slots;
 
 pub use places::Places;
-pub use slots::{Numbered, Slot, mark, newest_live};
+pub use slots::{Slot, mark, newest_live};

@@ -4,16 +4,7 @@ ghost use Rattle.std.specs.Option.{option_copied};
 ghost use Rattle.blot_places.specs.declared.slots.Slot.{Slot};
 ghost use Rattle.blot_places.specs.Slots.{is_live_at, items, mark, marked, newest_live, numbers_fall};
 
-/// What has a number.
-pub trait Numbered {
-    ghost use Rattle.std.specs.Prelude.{ℕ};
-
-    ghost number_of: { Self → ℕ };
-
-    /// Its number.
-    fn number(&self) -> u64
-        ensures { result ≡ number_of self.now };
-}
+use blot_types::Numbered;
 
 /// What stands at a place, and whether it is live, or lifted out of what the list shows.
 #[derive(Drop)]

@@ -105,7 +105,8 @@ fn survivor_by<'a>(linked: &Linked, entry: &'a Entry, day: Day) -> Option<Surviv
         Command::Bust(_)
         | Command::AllocNew(_)
         | Command::AllocReplace(_)
-        | Command::AllocCancel(_) => None,
+        | Command::AllocCancel(_)
+        | Command::Withdraw(_) => None,
     }
 }
 

@@ -79,7 +79,8 @@ fn terms_on<'a>(linked: &Linked, entry: &'a Entry, day: Day) -> Option<&'a Terms
         | Command::Bust(_)
         | Command::AllocNew(_)
         | Command::AllocReplace(_)
-        | Command::AllocCancel(_) => None,
+        | Command::AllocCancel(_)
+        | Command::Withdraw(_) => None,
     }
 }
 

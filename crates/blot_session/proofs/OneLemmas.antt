@@ -1,4 +1,4 @@
--- A frame delivers one command at most.
+-- A frame delivers one command at most, that of its message.
 use Rattle.std.proofs.Common.{◌≡◌, ℕ, List, [], ◌∷◌, ◌++◌, Option, Some, None, Result, refl, sym, subst}
 use Rattle.std.specs.Prelude.{ℤ}
 use Rattle.std.proofs.lemmas.Bool.{cond_both}
@@ -13,7 +13,7 @@ use Rattle.blot_session.specs.declared.row.Row.{Row}
 use Rattle.blot_session.specs.declared.state.State.{State}
 use Rattle.blot_session.specs.Calls.{Outcome, behind, sent, ending, carried_out, is_spent, command_said, on_frame}
 use Rattle.blot_session.specs.Rows.{frame_row}
-use Rattle.blot_session.specs.Runs.{delivered_by}
+use Rattle.blot_session.specs.Runs.{Numbered, delivered_by}
 use Rattle.blot_session.specs.Table.{messages_of}
 
 -- no two items
@@ -28,18 +28,29 @@ delivered-sent : (number : ℕ) (messages : List Outbound) (state : State) (now 
 delivered-sent number [] state now actions = refl
 delivered-sent number (message ∷ messages) state now actions = delivered-sent number messages (behind state message now) now actions
 
-one-ending : (number : ℕ) (end : End) (command : Option Command) → AtMostOne (delivered_by number (ending end command))
-one-ending number Stays command = tt
-one-ending number Delivers None = tt
-one-ending number Delivers (Some command) = tt
-one-ending number (Closes reason) command = tt
+-- what holds of nothing, and of the command alone, holds of what an ending delivers
+by-ending : (P : List Numbered → Type 0) (number : ℕ) (end : End) (command : Option Command)
+    → P [] → ((given : Command) → command ≡ Some given → P (record { number = number; command = given } ∷ []))
+    → P (delivered_by number (ending end command))
+by-ending P number Stays command none one = none
+by-ending P number Delivers None none one = none
+by-ending P number Delivers (Some command) none one = one command refl
+by-ending P number (Closes reason) command none one = none
 
-one-carried : (number : ℕ) (row : Row) (command : Option Command) (now : ℤ) → AtMostOne (delivered_by number (carried_out row command now).actions)
-one-carried number row command now =
-    subst AtMostOne (sym (delivered-sent number (messages_of row.sends) row.state now (ending row.end command))) (one-ending number row.end command)
+by-row : (P : List Numbered → Type 0) (number : ℕ) (row : Row) (command : Option Command) (now : ℤ)
+    → P [] → ((given : Command) → command ≡ Some given → P (record { number = number; command = given } ∷ []))
+    → P (delivered_by number (carried_out row command now).actions)
+by-row P number row command now none one =
+    subst P (sym (delivered-sent number (messages_of row.sends) row.state now (ending row.end command))) (by-ending P number row.end command none one)
+
+-- so it holds of what a frame delivers, which is the command of its message or nothing
+pub by-frame : (P : List Numbered → Type 0) (number : ℕ) (state : State) (said : Result Message FieldFault) (now : ℤ)
+    → P [] → ((given : Command) → command_said said state.peer ≡ Some given → P (record { number = number; command = given } ∷ []))
+    → P (delivered_by number (on_frame state said now).actions)
+by-frame P number state said now none one =
+    cond_both (is_spent state (frame_row state said now)) _ _ (λ (outcome : Outcome). P (delivered_by number outcome.actions))
+    (λ y. none)
+    (λ n. by-row P number (frame_row state said now) (command_said said state.peer) now none one)
 
 pub one-frame : (number : ℕ) (state : State) (said : Result Message FieldFault) (now : ℤ) → AtMostOne (delivered_by number (on_frame state said now).actions)
-one-frame number state said now =
-    cond_both (is_spent state (frame_row state said now)) _ _ (λ (outcome : Outcome). AtMostOne (delivered_by number outcome.actions))
-    (λ y. tt)
-    (λ n. one-carried number (frame_row state said now) (command_said said state.peer) now)
+one-frame number state said now = by-frame AtMostOne number state said now tt (λ given is. tt)

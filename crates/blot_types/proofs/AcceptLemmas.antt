@@ -10,18 +10,18 @@ use Rattle.blot_types.specs.declared.allocation.AllocRole.{AllocRole}
 use Rattle.blot_types.specs.declared.allocation.AllocRole.TheVariants.{Allocates, Replaces, Cancels}
 use Rattle.blot_types.specs.declared.allocation.Instruction.{Instruction}
 use Rattle.blot_types.specs.declared.command.Command.{Command}
-use Rattle.blot_types.specs.declared.command.Command.TheVariants.{Trade, Correct, Bust, AllocNew, AllocReplace, AllocCancel}
+use Rattle.blot_types.specs.declared.command.Command.TheVariants.{Trade, Correct, Bust, AllocNew, AllocReplace, AllocCancel, Withdraw}
 use Rattle.blot_types.specs.declared.command.Entry.{Entry}
 use Rattle.blot_types.specs.declared.keys.AllocKey.{AllocKey}
 use Rattle.blot_types.specs.declared.keys.ExecKey.{ExecKey}
 use Rattle.blot_types.specs.declared.link.Link.{Link}
-use Rattle.blot_types.specs.declared.refused.Refused.TheVariants.{DuplicateAlloc, UnknownAlloc, DeadAlloc, RepeatedExec, ExecTaken}
+use Rattle.blot_types.specs.declared.refused.Refused.TheVariants.{DuplicateAlloc, UnknownAlloc, DeadAlloc, RepeatedExec, ExecTaken, NotLive}
 use Rattle.blot_types.specs.Allocations.{instruction_by, instructions_in, instructions_of}
 use Rattle.blot_types.specs.Chains.{root_in, is_root}
 use Rattle.blot_types.specs.Instructions.{alloc_taker_in, is_allocation_in, ended_in, other_holder_in, reference_of, is_live_key, are_apart, may_follow, is_instructed}
 use Rattle.blot_types.specs.Keys.{is_among, same_exec}
-use Rattle.blot_types.specs.Legal.{refusal_in, legal_in}
-use Rattle.blot_types.specs.Refusals.{first_of, same_chain, repeated_in, other_holder, unknown_alloc, dead_alloc, unknown_exec, busted_exec, repeated_exec, exec_taken}
+use Rattle.blot_types.specs.Legal.{refusal_in, legal_in, entry_refusal, refusal_of, withdrawal_refusal}
+use Rattle.blot_types.specs.Refusals.{first_of, same_chain, repeated_in, other_holder, unknown_alloc, dead_alloc, unknown_exec, busted_exec, repeated_exec, exec_taken, withdrawn_by, never_entry}
 use Rattle.blot_types.specs.Survivors.{links_in}
 use Rattle.blot_types.proofs.ChainLemmas.{none_is}
 use Rattle.blot_types.proofs.KeyLemmas.{same_exec-sym}
@@ -215,6 +215,7 @@ accepted_by entries number (AllocCancel cancel) accepted =
       different = refl;
       untaken = refl;
     })
+accepted_by entries number (Withdraw withdrawn) accepted = tt
 
 pub accepted-instruction :
     (entries : List Entry) (entry : Entry) (i : Instruction) → refusal_in entries entry.command ≡ None
@@ -241,3 +242,18 @@ pub instructions_of-push :
     (list : List Entry) (entry : Entry)
     → instructions_of (list ++ entry ∷ []) ≡ cons_option (instruction_by (links_in (reverse list)) entry.number entry.command) (instructions_of list)
 instructions_of-push list entry = ap instructions_in (reverse-append list (entry ∷ []))
+
+-- ---- a command that is accepted as an entry takes none out, so it is accepted
+
+pub record Enters (list : List Entry) (command : Command) : Type 0 where
+  pub stays : withdrawn_by command ≡ None
+  pub accepted : refusal_of list command ≡ None
+
+pub enters : (list : List Entry) (command : Command) → entry_refusal list command ≡ None → Enters list command
+enters list command accepted =
+    let stays : withdrawn_by command ≡ None = unmapped NotLive (withdrawn_by command) (or_parts (never_entry command) _ accepted).0 in
+    record { stays = stays; accepted = ap (λ k. option_map_or (withdrawal_refusal list) k (entry_refusal list command)) stays ∙ accepted }
+
+-- a command that takes none out is accepted where it is accepted as an entry
+pub as-entry : (list : List Entry) (command : Command) → withdrawn_by command ≡ None → refusal_of list command ≡ entry_refusal list command
+as-entry list command stays = ap (λ k. option_map_or (withdrawal_refusal list) k (entry_refusal list command)) stays

@@ -8,7 +8,7 @@ use Rattle.std.proofs.lemmas.Int.{ints}
 use Rattle.std.proofs.lemmas.List.Elements.{All-nil, All-cons, All-head, All-tail, All-append, All-weaker}
 use Rattle.blot_types.specs.declared.allocation.Terms.{Terms}
 use Rattle.blot_types.specs.declared.command.Command.{Command}
-use Rattle.blot_types.specs.declared.command.Command.TheVariants.{Trade, Correct, Bust, AllocNew, AllocReplace, AllocCancel}
+use Rattle.blot_types.specs.declared.command.Command.TheVariants.{Trade, Correct, Bust, AllocNew, AllocReplace, AllocCancel, Withdraw}
 use Rattle.blot_types.specs.declared.command.Entry.{Entry}
 use Rattle.blot_types.specs.declared.fill.Fill.{Fill}
 use Rattle.blot_types.specs.declared.fill.Sign.{Sign}
@@ -22,7 +22,7 @@ use Rattle.blot_types.specs.Instructions.{alloc_taker_in, is_allocation_in, ende
 use Rattle.blot_types.specs.Keys.{same_exec, same_text}
 use Rattle.blot_types.specs.Legal.{refusal_in}
 use Rattle.blot_types.specs.Order.{cum_of}
-use Rattle.blot_types.specs.Refusals.{exec_key, alloc_key, alloc_reference, terms_of, listed_by, exec_references, bust_of_key, same_chain, repeated_in, other_holder, current_fill, same_sign, differs, booked, mismatch, duplicate_exec, duplicate_alloc, unknown_alloc, dead_alloc, unknown_exec, busted_exec, repeated_exec, exec_taken, instrument, quantity}
+use Rattle.blot_types.specs.Refusals.{exec_key, alloc_key, alloc_reference, terms_of, listed_by, exec_references, bust_of_key, same_chain, repeated_in, other_holder, current_fill, same_sign, differs, booked, mismatch, never_entry, duplicate_exec, duplicate_alloc, unknown_alloc, dead_alloc, unknown_exec, busted_exec, repeated_exec, exec_taken, instrument, quantity}
 use Rattle.blot_types.specs.Survivors.{links_in}
 use Rattle.blot_types.proofs.AcceptLemmas.{or_parts, unmapped}
 use Rattle.blot_types.proofs.ChainLemmas.{clash, differing, rootless}
@@ -33,6 +33,7 @@ use Rattle.blot_types.proofs.StayLemmas.{mapped-none, or-none, then-none, find-a
 -- ---- acceptance, rule by rule
 
 pub record Accepts (entries : List Entry) (command : Command) : Type 0 where
+  pub enters : never_entry command ≡ None
   pub new_exec : duplicate_exec entries command ≡ None
   pub new_alloc : duplicate_alloc entries command ≡ None
   pub known : unknown_alloc entries command ≡ None
@@ -46,7 +47,8 @@ pub record Accepts (entries : List Entry) (command : Command) : Type 0 where
 
 pub accepts : (entries : List Entry) (command : Command) → refusal_in entries command ≡ None → Accepts entries command
 accepts entries command accepted =
-    let one = or_parts (duplicate_exec entries command) _ accepted in
+    let zero = or_parts (never_entry command) _ accepted in
+    let one = or_parts (duplicate_exec entries command) _ zero.1 in
     let two = or_parts (duplicate_alloc entries command) _ one.1 in
     let three = or_parts (unknown_alloc entries command) _ two.1 in
     let four = or_parts (dead_alloc entries command) _ three.1 in
@@ -56,6 +58,7 @@ accepts entries command accepted =
     let eight = or_parts (exec_taken entries command) _ seven.1 in
     let nine = or_parts (instrument entries command) _ eight.1 in
     record {
+      enters = zero.0;
       new_exec = one.0;
       new_alloc = two.0;
       known = three.0;
@@ -70,7 +73,8 @@ accepts entries command accepted =
 
 pub accepted : (entries : List Entry) (command : Command) → Accepts entries command → refusal_in entries command ≡ None
 accepted entries command all =
-    or-none (duplicate_exec entries command) _ all.new_exec
+    or-none (never_entry command) _ all.enters
+    (or-none (duplicate_exec entries command) _ all.new_exec
     (or-none (duplicate_alloc entries command) _ all.new_alloc
     (or-none (unknown_alloc entries command) _ all.known
     (or-none (dead_alloc entries command) _ all.live
@@ -78,7 +82,7 @@ accepted entries command all =
     (or-none (busted_exec entries command) _ all.unbusted
     (or-none (repeated_exec entries command) _ all.different
     (or-none (exec_taken entries command) _ all.untaken
-    (or-none (instrument entries command) _ all.fitting all.adding))))))))
+    (or-none (instrument entries command) _ all.fitting all.adding)))))))))
 
 -- ---- what the rules ask of a fill
 
@@ -200,6 +204,7 @@ accepts-out kept listable there entries others command same uses is =
     let roots : All (λ key. root_in (links_in others) key ≡ root_in (links_in entries) key) refers =
     All-weaker kept (λ key. root_in (links_in others) key ≡ root_in (links_in entries) key) same.root refers uses.refers in
     record {
+      enters = is.enters;
       new_exec = mapped-none DuplicateExec _ (then-none (taker_in (links_in entries)) (taker_in (links_in others)) (exec_key command) same.taker (unmapped DuplicateExec _ is.new_exec));
       new_alloc = mapped-none DuplicateAlloc _ (then-none (alloc_taker_in (instructions_in entries)) (alloc_taker_in (instructions_in others)) (alloc_key command) same.alloc_taker (unmapped DuplicateAlloc _ is.new_alloc));
       known = known_there entries others there (alloc_reference command) same.allocation uses.allocation ∙ is.known;
@@ -264,3 +269,4 @@ listed p (Bust bust) refers = All-nil p
 listed p (AllocNew new) refers = refers
 listed p (AllocReplace replace) refers = refers
 listed p (AllocCancel cancel) refers = All-nil p
+listed p (Withdraw withdrawn) refers = All-nil p

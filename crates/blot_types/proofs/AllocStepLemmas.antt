@@ -11,7 +11,7 @@ use Rattle.blot_types.specs.declared.command.AllocCancel.{AllocCancel}
 use Rattle.blot_types.specs.declared.command.AllocNew.{AllocNew}
 use Rattle.blot_types.specs.declared.command.AllocReplace.{AllocReplace}
 use Rattle.blot_types.specs.declared.command.Command.{Command}
-use Rattle.blot_types.specs.declared.command.Command.TheVariants.{AllocNew as NewCommand, AllocReplace as ReplaceCommand, AllocCancel as CancelCommand}
+use Rattle.blot_types.specs.declared.command.Command.TheVariants.{AllocNew as NewCommand, AllocReplace as ReplaceCommand, AllocCancel as CancelCommand, Withdraw as WithdrawCommand}
 use Rattle.blot_types.specs.declared.command.Entry.{Entry}
 use Rattle.blot_types.specs.declared.keys.AllocKey.{AllocKey}
 use Rattle.blot_types.specs.declared.keys.ExecKey.{ExecKey}

@@ -10,7 +10,7 @@ use Rattle.std.proofs.lemmas.List.{reverse-reverse}
 use Rattle.std.proofs.lemmas.List.Elements.{All-nil, All-cons, All-append}
 use Rattle.blot_types.specs.declared.allocation.Instruction.{Instruction}
 use Rattle.blot_types.specs.declared.command.Command.{Command}
-use Rattle.blot_types.specs.declared.command.Command.TheVariants.{Trade, Correct, Bust, AllocNew, AllocReplace, AllocCancel}
+use Rattle.blot_types.specs.declared.command.Command.TheVariants.{Trade, Correct, Bust, AllocNew, AllocReplace, AllocCancel, Withdraw}
 use Rattle.blot_types.specs.declared.command.Entry.{Entry}
 use Rattle.blot_types.specs.declared.keys.AllocKey.{AllocKey}
 use Rattle.blot_types.specs.declared.keys.ExecKey.{ExecKey}
@@ -50,6 +50,7 @@ books entries (Trade trade) accepted = All-nil BooksBlock
 books entries (Correct correct) accepted = All-nil BooksBlock
 books entries (Bust bust) accepted = All-nil BooksBlock
 books entries (AllocCancel cancel) accepted = All-nil BooksBlock
+books entries (Withdraw withdrawn) accepted = All-nil BooksBlock
 books entries (AllocNew new) accepted =
     let command = AllocNew new in
     let two = or_parts _ _ accepted in

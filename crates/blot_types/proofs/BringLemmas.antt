@@ -18,7 +18,7 @@ use Rattle.blot_types.specs.declared.part.Part.{Part}
 use Rattle.blot_types.specs.Allocations.{Allocation, allocation_of, instruction_by, instructions_in, instructions_of, live_allocations}
 use Rattle.blot_types.specs.Instructions.{is_keyed, alloc_taker_in, brings_allocation, is_allocation_of, is_allocation_in, ends, ended_in, holds_in, named_in, is_reference, holds_beside, reference_of, is_live_key, are_apart, is_instructed}
 use Rattle.blot_types.specs.Keys.{is_among, same_alloc, same_exec}
-use Rattle.blot_types.specs.Legal.{is_legal, refusal_of}
+use Rattle.blot_types.specs.Legal.{is_legal, entry_refusal}
 use Rattle.blot_types.specs.Order.{total}
 use Rattle.blot_types.specs.Position.{moves_of}
 use Rattle.blot_types.specs.Survivors.{links_in}
@@ -284,7 +284,7 @@ brings_by list after i (Some a) is inside it instructions allocations live taken
 
 -- an accepted instruction: what it brings
 pub brought-brings :
-    (list : List Entry) (entry : Entry) (i : Instruction) → is_legal list ≡ true → refusal_of list entry.command ≡ None
+    (list : List Entry) (entry : Entry) (i : Instruction) → is_legal list ≡ true → entry_refusal list entry.command ≡ None
     → instruction_by (links_in (reverse list)) entry.number entry.command ≡ Some i
     → BringsIf (list ++ entry ∷ []) (option_map (λ allocation. allocation.key) (allocation_of entry.command)) (named_beside list (reference_of i.role)) (is_named_root (list ++ entry ∷ []))
     (live_beside list (reference_of i.role)) (live_allocations (list ++ entry ∷ []))

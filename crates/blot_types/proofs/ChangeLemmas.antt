@@ -9,7 +9,7 @@ use Rattle.std.proofs.lemmas.List.{reverse-reverse, append-nil}
 use Rattle.std.proofs.lemmas.List.Elements.{All-weaker, All-filter, filter_map-append}
 use Rattle.blot_types.specs.declared.allocation.Instruction.{Instruction}
 use Rattle.blot_types.specs.declared.command.Command.{Command}
-use Rattle.blot_types.specs.declared.command.Command.TheVariants.{Trade, Correct, Bust, AllocNew, AllocReplace, AllocCancel}
+use Rattle.blot_types.specs.declared.command.Command.TheVariants.{Trade, Correct, Bust, AllocNew, AllocReplace, AllocCancel, Withdraw}
 use Rattle.blot_types.specs.declared.command.Entry.{Entry}
 use Rattle.blot_types.specs.declared.keys.ExecKey.{ExecKey}
 use Rattle.blot_types.specs.declared.part.Part.{Part}
@@ -19,7 +19,7 @@ use Rattle.blot_types.specs.Allocations.{Allocation, allocation_of, instruction_
 use Rattle.blot_types.specs.Chains.{takes_up, taker_in, root_in, replaced_by}
 use Rattle.blot_types.specs.Instructions.{ended_in, is_live_in, names, holds_in, named_in}
 use Rattle.blot_types.specs.Keys.{is_among, same_exec}
-use Rattle.blot_types.specs.Legal.{is_above_entries, numbers_rise, is_legal, refusal_of}
+use Rattle.blot_types.specs.Legal.{is_above_entries, numbers_rise, is_legal, entry_refusal}
 use Rattle.blot_types.specs.Order.{total}
 use Rattle.blot_types.specs.Position.{part_of_fill, moves_of, part_of, parts_of}
 use Rattle.blot_types.specs.Survivors.{link_by, link_of, links_in, links_of, versions_of, is_number, stands_in, survivors}
@@ -62,6 +62,7 @@ one_kind links number (Bust bust) = (refl, refl)
 one_kind links number (AllocNew new) = tt
 one_kind links number (AllocReplace replace) = tt
 one_kind links number (AllocCancel cancel) = tt
+one_kind links number (Withdraw withdrawn) = tt
 
 pub link_alone :
     (links : List Link) (entry : Entry) (link : Link) → link_of entry ≡ Some link
@@ -179,7 +180,7 @@ amount-kept f list entry link number version is fresh known =
 -- with one more link, the part of the version whose place it takes goes, and that of its own version comes
 pub total-link :
     (f : Part → ℤ) (list : List Entry) (entry : Entry) (link : Link) → link_of entry ≡ Some link → is_legal list ≡ true → numbers_rise list ≡ true
-    → is_above_entries entry.number (reverse list) ≡ true → refusal_of list entry.command ≡ None
+    → is_above_entries entry.number (reverse list) ≡ true → entry_refusal list entry.command ≡ None
     → (total f (parts_of (list ++ entry ∷ [])) +ℤ total (amount f list) (cons_option (replaced_version list entry) []))
     ≡ (total f (parts_of list) +ℤ total (amount f (list ++ entry ∷ [])) (versions_of (entry ∷ [])))
 total-link f list entry link is legal rise above accepted =
@@ -214,7 +215,7 @@ pub record LinkMoves (f : Part → ℤ) (list : List Entry) (entry : Entry) : Ty
 
 pub link-moves :
     (f : Part → ℤ) (list : List Entry) (entry : Entry) (link : Link) → link_of entry ≡ Some link → is_legal list ≡ true → numbers_rise list ≡ true
-    → is_above_entries entry.number (reverse list) ≡ true → refusal_of list entry.command ≡ None → LinkMoves f list entry
+    → is_above_entries entry.number (reverse list) ≡ true → entry_refusal list entry.command ≡ None → LinkMoves f list entry
 link-moves f list entry link is legal rise above accepted =
     let replaced = replaced_by (links_of list) (link_of entry) in
     let gone = without-replaced (amount f list) list replaced rise (λ n found. replaced-by_entry list entry n legal rise accepted found) in

@@ -6,7 +6,7 @@ use Rattle.std.specs.Option.{option_map, option_or, option_and_then}
 use Rattle.std.proofs.lemmas.Bool.{and_from, and_parts}
 use Rattle.std.proofs.lemmas.List.{reverse-append}
 use Rattle.blot_types.specs.declared.command.Command.{Command}
-use Rattle.blot_types.specs.declared.command.Command.TheVariants.{Trade, Correct, Bust, AllocNew, AllocReplace, AllocCancel}
+use Rattle.blot_types.specs.declared.command.Command.TheVariants.{Trade, Correct, Bust, AllocNew, AllocReplace, AllocCancel, Withdraw}
 use Rattle.blot_types.specs.declared.command.Entry.{Entry}
 use Rattle.blot_types.specs.declared.keys.ExecKey.{ExecKey}
 use Rattle.blot_types.specs.declared.lines.Version.{Version}
@@ -32,6 +32,7 @@ numbered_link number (Bust bust) link is = ap link_number (sym is)
 numbered_link number (AllocNew new) link is = cc
 numbered_link number (AllocReplace replace) link is = cc
 numbered_link number (AllocCancel cancel) link is = cc
+numbered_link number (Withdraw withdrawn) link is = cc
 
 -- a link bears the number of its entry
 pub link-number : (entry : Entry) (link : Link) → link_of entry ≡ Some link → link.number ≡ entry.number
@@ -48,6 +49,7 @@ numbered_version number (Bust bust) version is = cc
 numbered_version number (AllocNew new) version is = cc
 numbered_version number (AllocReplace replace) version is = cc
 numbered_version number (AllocCancel cancel) version is = cc
+numbered_version number (Withdraw withdrawn) version is = cc
 
 -- a version bears the number of its entry
 pub version-number : (entry : Entry) (version : Version) → version_of entry ≡ Some version → version.number ≡ entry.number
@@ -70,6 +72,7 @@ brought_by number (Bust bust) = λ is. cc
 brought_by number (AllocNew new) = refl
 brought_by number (AllocReplace replace) = refl
 brought_by number (AllocCancel cancel) = refl
+brought_by number (Withdraw withdrawn) = refl
 
 pub version-of_link :
     (entry : Entry) (link : Link) → link_of entry ≡ Some link → brings link.role ≡ true → (version : Version) × (version_of entry ≡ Some version) × IsVersionOf link version
@@ -93,6 +96,7 @@ none_by number (Bust bust) = λ is. refl
 none_by number (AllocNew new) = refl
 none_by number (AllocReplace replace) = refl
 none_by number (AllocCancel cancel) = refl
+none_by number (Withdraw withdrawn) = refl
 
 pub version-of_bust : (entry : Entry) (link : Link) → link_of entry ≡ Some link → brings link.role ≡ false → version_of entry ≡ None
 version-of_bust entry link is = subst (λ found. BringsNone found (version_of entry)) is (none_by entry.number entry.command)
@@ -133,6 +137,7 @@ refused_as entries number (Bust bust) =
 refused_as entries number (AllocNew new) = tt
 refused_as entries number (AllocReplace replace) = tt
 refused_as entries number (AllocCancel cancel) = tt
+refused_as entries number (Withdraw withdrawn) = tt
 
 pub refusal-link :
     (entries : List Entry) (entry : Entry) (link : Link) → link_of entry ≡ Some link

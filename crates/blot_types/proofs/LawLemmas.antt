@@ -18,7 +18,7 @@ use Rattle.blot_types.specs.declared.link.Role.TheVariants.{Begins, Corrects, Bu
 use Rattle.blot_types.specs.Keys.{same_exec}
 use Rattle.blot_types.specs.Chains.{takes_up, taker_in, own_root, root_in, is_root, busts, bust_in, current_in}
 use Rattle.blot_types.specs.Survivors.{link_of, links_in, links_of, root_of, version_of, versions_of, is_number, stands_under, stands_in}
-use Rattle.blot_types.specs.Legal.{is_above_entries, rises_in, numbers_rise, is_legal, is_book, refusal_of}
+use Rattle.blot_types.specs.Legal.{is_above_entries, rises_in, numbers_rise, is_legal, is_book, entry_refusal}
 use Rattle.blot_types.specs.Laws.{survivors_of_chain, survivors_beside, HasOneSurvivorEach, BustsLeaveOthers}
 use Rattle.blot_types.proofs.KeyLemmas.{same_exec-true, same_exec-refl, same_exec-sym}
 use Rattle.blot_types.proofs.ChainLemmas.{none_is, rootless, accepted_key, differing}
@@ -305,8 +305,8 @@ fresh-before front back number bust legal =
     let entry = bust_under number bust in
     let whole : (front ++ entry ∷ []) ++ back ≡ front ++ entry ∷ back = append_assoc front (entry ∷ []) back in
     let begun : is_legal (front ++ entry ∷ []) ≡ true = is_legal-front (front ++ entry ∷ []) back (ap is_legal whole ∙ legal) in
-    let parts : (is_none (refusal_of front entry.command) ≡ true) × (is_legal front ≡ true) = and_parts _ _ (sym (is_legal-push front entry) ∙ begun) in
-    let accepted = none_is (refusal_of front entry.command) parts.0 in
+    let parts : (is_none (entry_refusal front entry.command) ≡ true) × (is_legal front ≡ true) = and_parts _ _ (sym (is_legal-push front entry) ∙ begun) in
+    let accepted = none_is (entry_refusal front entry.command) parts.0 in
     (accepted_key (links_of front) bust.key (Busts bust.reference)
     (sym (refusal-link (reverse front) entry (record { number = number; key = bust.key; role = Busts bust.reference }) refl) ∙ accepted)).0
 

@@ -7,11 +7,11 @@ use Rattle.std.proofs.lemmas.List.Folds.{list_all-append}
 use Rattle.std.proofs.lemmas.List.{reverse-append, length-reverse, take-append-drop, take_more}
 use Rattle.std.proofs.lemmas.Bool.{cases_Bool, and_from, and_parts, lt-ltb, ltb-true}
 use Rattle.blot_types.specs.declared.command.Entry.{Entry}
-use Rattle.blot_types.specs.Legal.{is_above_entries, rises_in, numbers_rise, legal_in, is_legal, is_numbered, is_book, refusal_of}
+use Rattle.blot_types.specs.Legal.{is_above_entries, rises_in, numbers_rise, legal_in, is_legal, is_numbered, is_book, entry_refusal}
 use Rattle.blot_types.specs.declared.TheConstants.{EVENTS_MAX}
 
 -- a list with one more entry is legal where the entries before accept it and are legal
-pub is_legal-push : (list : List Entry) (entry : Entry) → is_legal (list ++ entry ∷ []) ≡ (is_none (refusal_of list entry.command) && is_legal list)
+pub is_legal-push : (list : List Entry) (entry : Entry) → is_legal (list ++ entry ∷ []) ≡ (is_none (entry_refusal list entry.command) && is_legal list)
 is_legal-push list entry = ap legal_in (reverse-append list (entry ∷ []))
 
 -- its numbers rise where the new number is above the others, and they rise
@@ -34,16 +34,16 @@ clash (Some x) legal some none = cc
 -- a list whose front refuses the next entry isn't legal
 pub is_legal-stops :
     (list : List Entry) (index : ℕ) (entry : Entry) → index < length list → entry ≡ get_or list index entry
-    → is_some (refusal_of (take index list) entry.command) ≡ true → is_legal list ≡ false
+    → is_some (entry_refusal (take index list) entry.command) ≡ true → is_legal list ≡ false
 is_legal-stops list index entry within is refused =
     elim (cases_Bool (is_legal list)) [
       | inl legal ↦
           let front : is_legal (take (index + 1) list) ≡ true =
           is_legal-front (take (index + 1) list) (drop (index + 1) list) (rw take-append-drop legal) in
           let more : take (index + 1) list ≡ take index list ++ entry ∷ [] = rw is (take_more list index entry within) in
-          let pushed : (is_none (refusal_of (take index list) entry.command) && is_legal (take index list)) ≡ true =
+          let pushed : (is_none (entry_refusal (take index list) entry.command) && is_legal (take index list)) ≡ true =
           sym (is_legal-push (take index list) entry) ∙ ap is_legal (sym more) ∙ front in
-          absurd (clash (refusal_of (take index list) entry.command) _ refused pushed)
+          absurd (clash (entry_refusal (take index list) entry.command) _ refused pushed)
       | inr illegal ↦ illegal
     ]
 
@@ -78,7 +78,7 @@ list_all-reverse test (x ∷ xs) =
 
 -- a book accepts a command, and its number is above the others: then it stands after them in a book
 pub is_book-push :
-    (list : List Entry) (entry : Entry) → is_book list ≡ true → refusal_of list entry.command ≡ None
+    (list : List Entry) (entry : Entry) → is_book list ≡ true → entry_refusal list entry.command ≡ None
     → All (λ earlier. earlier < entry.number) (map (λ e. e.number) list) → entry.number ≤ EVENTS_MAX → is_book (list ++ entry ∷ []) ≡ true
 is_book-push list entry book accepted above within =
     let parts : (numbers_rise list ≡ true) × (is_above_entries (EVENTS_MAX + 1) (reverse list) ≡ true) × (is_legal list ≡ true) = grind (arith, book) in

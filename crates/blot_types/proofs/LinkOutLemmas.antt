@@ -7,7 +7,7 @@ use Rattle.std.proofs.lemmas.Bool.{and_parts}
 use Rattle.std.proofs.lemmas.List.Elements.{All-weaker, filter_map-append}
 use Rattle.blot_types.specs.declared.allocation.AllocRole.TheVariants.{Allocates, Replaces}
 use Rattle.blot_types.specs.declared.command.Command.{Command}
-use Rattle.blot_types.specs.declared.command.Command.TheVariants.{Trade, Correct, Bust, AllocNew, AllocReplace, AllocCancel}
+use Rattle.blot_types.specs.declared.command.Command.TheVariants.{Trade, Correct, Bust, AllocNew, AllocReplace, AllocCancel, Withdraw}
 use Rattle.blot_types.specs.declared.command.Entry.{Entry}
 use Rattle.blot_types.specs.declared.keys.AllocKey.{AllocKey}
 use Rattle.blot_types.specs.declared.keys.ExecKey.{ExecKey}
@@ -86,6 +86,7 @@ uninstructed links number (Bust bust) l is = refl
 uninstructed links number (AllocNew new) l is = cc
 uninstructed links number (AllocReplace replace) l is = cc
 uninstructed links number (AllocCancel cancel) l is = cc
+uninstructed links number (Withdraw withdrawn) l is = cc
 
 -- the same instruction, where the executions that it lists have the same roots
 same-instruction :
@@ -100,6 +101,7 @@ same-instruction links others number (AllocReplace replace) same =
     ap (λ roots. Some (record { number = number; key = replace.key; role = Replaces replace.reference; roots = roots }))
     (filter_map-agree (root_in others) (root_in links) replace.terms.execs same)
 same-instruction links others number (AllocCancel cancel) same = refl
+same-instruction links others number (Withdraw withdrawn) same = refl
 
 pub instructions-gone : (later front : List Entry) (k : Entry) (l : Link) → GoneLink later front k l → instructions_in (later ++ front) ≡ instructions_in (later ++ k ∷ front)
 instructions-gone [] front k l gone = ap (λ found. cons_option found (instructions_in front)) (sym (uninstructed (links_in front) k.number k.command l gone.link))

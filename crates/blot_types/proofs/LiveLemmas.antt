@@ -10,14 +10,14 @@ use Rattle.std.proofs.lemmas.List.Elements.{All-nil, All-cons, All-head, All-tai
 use Rattle.std.proofs.lemmas.List.Folds.{find-append}
 use Rattle.blot_types.specs.declared.allocation.Instruction.{Instruction}
 use Rattle.blot_types.specs.declared.command.Command.{Command}
-use Rattle.blot_types.specs.declared.command.Command.TheVariants.{Trade, Correct, Bust, AllocNew, AllocReplace, AllocCancel}
+use Rattle.blot_types.specs.declared.command.Command.TheVariants.{Trade, Correct, Bust, AllocNew, AllocReplace, AllocCancel, Withdraw}
 use Rattle.blot_types.specs.declared.command.Entry.{Entry}
 use Rattle.blot_types.specs.declared.keys.AllocKey.{AllocKey}
 use Rattle.blot_types.specs.declared.link.Link.{Link}
 use Rattle.blot_types.specs.Allocations.{Allocation, allocation_of, instruction_by, instructions_in, instructions_of, live_allocations}
 use Rattle.blot_types.specs.Instructions.{is_keyed, alloc_taker_in, brings_allocation, is_allocation_in, ends, ended_in, is_live_key}
 use Rattle.blot_types.specs.Keys.{same_alloc}
-use Rattle.blot_types.specs.Legal.{refusal_in, legal_in, is_legal, refusal_of}
+use Rattle.blot_types.specs.Legal.{refusal_in, legal_in, is_legal, entry_refusal}
 use Rattle.blot_types.specs.Order.{total}
 use Rattle.blot_types.specs.Survivors.{links_in}
 use Rattle.blot_types.proofs.AcceptLemmas.{accepted-instruction, instructed, instructions_of-push}
@@ -56,6 +56,7 @@ of_instruction links number (Bust bust) = refl
 of_instruction links number (AllocNew new) = (refl, refl)
 of_instruction links number (AllocReplace replace) = (refl, refl)
 of_instruction links number (AllocCancel cancel) = refl
+of_instruction links number (Withdraw withdrawn) = refl
 
 -- the key of each allocation is taken up
 abbrev pub IsTaken : List Instruction → Allocation → Type 0
@@ -190,7 +191,7 @@ own-key i (Some b) is a brought = let one : b ≡ a = cc in ap (λ x. x.key) (sy
 
 -- those that the instruction ends are live no more, and the one that it brings is
 pub live-more :
-    (list : List Entry) (entry : Entry) (i : Instruction) → is_legal list ≡ true → refusal_of list entry.command ≡ None
+    (list : List Entry) (entry : Entry) (i : Instruction) → is_legal list ≡ true → entry_refusal list entry.command ≡ None
     → instruction_by (links_in (reverse list)) entry.number entry.command ≡ Some i
     → live_allocations (list ++ entry ∷ []) ≡ filter (λ a. not (ends a.key i.role)) (live_allocations list) ++ cons_option (allocation_of entry.command) []
 live-more list entry i legal accepted is =

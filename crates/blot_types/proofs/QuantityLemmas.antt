@@ -15,7 +15,7 @@ use Rattle.blot_types.specs.declared.refused.Refused.TheVariants.{Quantity}
 use Rattle.blot_types.specs.Allocations.{Allocation, allocation_of}
 use Rattle.blot_types.specs.Legal.{refusal_in, legal_in, is_legal}
 use Rattle.blot_types.specs.Order.{cum_of}
-use Rattle.blot_types.specs.Refusals.{current_fill, booked, mismatch, duplicate_exec, duplicate_alloc, unknown_alloc, dead_alloc, unknown_exec, busted_exec, repeated_exec, exec_taken, instrument}
+use Rattle.blot_types.specs.Refusals.{never_entry, current_fill, booked, mismatch, duplicate_exec, duplicate_alloc, unknown_alloc, dead_alloc, unknown_exec, busted_exec, repeated_exec, exec_taken, instrument}
 use Rattle.blot_types.proofs.AcceptLemmas.{or_parts}
 use Rattle.blot_types.proofs.ChainLemmas.{none_is}
 
@@ -42,7 +42,8 @@ books_found wanted (Some a) none = matched (wanted a.terms) (pos a.terms.block) 
 
 accepted_books : (entries : List Entry) (command : Command) → refusal_in entries command ≡ None → IfSome (allocation_of command) BooksItsBlock
 accepted_books entries command accepted =
-    let one = or_parts (duplicate_exec entries command) _ accepted in
+    let zero = or_parts (never_entry command) _ accepted in
+    let one = or_parts (duplicate_exec entries command) _ zero.1 in
     let two = or_parts (duplicate_alloc entries command) _ one.1 in
     let three = or_parts (unknown_alloc entries command) _ two.1 in
     let four = or_parts (dead_alloc entries command) _ three.1 in

@@ -14,7 +14,7 @@ use Rattle.blot_types.specs.declared.link.Link.{Link}
 use Rattle.blot_types.specs.declared.link.Role.{Role}
 use Rattle.blot_types.specs.declared.link.Role.TheVariants.{Begins, Corrects, Busts}
 use Rattle.blot_types.specs.Chains.{takes_up, taker_in, own_root, root_in, is_root, bust_in, current_in, link_refusal, reference_refusal, replaced_in, replaced_by, falls}
-use Rattle.blot_types.specs.Legal.{is_above_entries, rises_in, numbers_rise, legal_in, is_legal, refusal_in, refusal_of}
+use Rattle.blot_types.specs.Legal.{is_above_entries, rises_in, numbers_rise, legal_in, is_legal, refusal_in, entry_refusal}
 use Rattle.blot_types.specs.Refusals.{version_in}
 use Rattle.blot_types.specs.Survivors.{link_of, links_in, links_of, version_of, versions_of, is_number, stands_in, survivors}
 use Rattle.blot_types.proofs.KeyLemmas.{same_exec-true, same_exec-refl}
@@ -197,7 +197,7 @@ push-unlinked list entry is =
 
 push-found :
     (list : List Entry) (entry : Entry) (found : Option Link) → link_of entry ≡ found → numbers_rise list ≡ true → is_above_entries entry.number (reverse list) ≡ true
-    → refusal_of list entry.command ≡ None
+    → entry_refusal list entry.command ≡ None
     → survivors (list ++ entry ∷ []) ≡ without (replaced_by (links_of list) found) (survivors list) ++ versions_of (entry ∷ [])
 push-found list entry None is rise above accepted =
     push-unlinked list entry is ∙ sym (without-none (survivors list)) ∙ sym (append-nil (without None (survivors list)))
@@ -207,7 +207,7 @@ push-found list entry (Some link) is rise above accepted =
 
 -- the survivors with one more entry
 pub survivors-push :
-    (list : List Entry) (entry : Entry) → numbers_rise list ≡ true → is_above_entries entry.number (reverse list) ≡ true → refusal_of list entry.command ≡ None
+    (list : List Entry) (entry : Entry) → numbers_rise list ≡ true → is_above_entries entry.number (reverse list) ≡ true → entry_refusal list entry.command ≡ None
     → survivors (list ++ entry ∷ []) ≡ without (replaced_by (links_of list) (link_of entry)) (survivors list) ++ versions_of (entry ∷ [])
 survivors-push list entry rise above accepted = push-found list entry (link_of entry) refl rise above accepted
 
@@ -366,7 +366,7 @@ replaced-found list (Busts reference) number legal rise accepted replaced =
 -- the version whose place an entry takes is a survivor
 replaced-link :
     (list : List Entry) (entry : Entry) (found : Option Link) (number : ℕ) → link_of entry ≡ found → is_legal list ≡ true → numbers_rise list ≡ true
-    → refusal_of list entry.command ≡ None → replaced_by (links_of list) found ≡ Some number
+    → entry_refusal list entry.command ≡ None → replaced_by (links_of list) found ≡ Some number
     → (version : Version) × (find (λ v. v.number == number) (versions_of list) ≡ Some version) × (find (λ v. v.number == number) (survivors list) ≡ Some version)
 replaced-link list entry None number is legal rise accepted replaced = cc
 replaced-link list entry (Some link) number is legal rise accepted replaced =
@@ -374,7 +374,7 @@ replaced-link list entry (Some link) number is legal rise accepted replaced =
     replaced-found list link.role number legal rise parts.1 replaced
 
 pub replaced-by_entry :
-    (list : List Entry) (entry : Entry) (number : ℕ) → is_legal list ≡ true → numbers_rise list ≡ true → refusal_of list entry.command ≡ None
+    (list : List Entry) (entry : Entry) (number : ℕ) → is_legal list ≡ true → numbers_rise list ≡ true → entry_refusal list entry.command ≡ None
     → replaced_by (links_of list) (link_of entry) ≡ Some number
     → (version : Version) × (find (λ v. v.number == number) (versions_of list) ≡ Some version) × (find (λ v. v.number == number) (survivors list) ≡ Some version)
 replaced-by_entry list entry number legal rise accepted replaced = replaced-link list entry (link_of entry) number refl legal rise accepted replaced

@@ -5,7 +5,7 @@ use Rattle.blot_types.specs.declared.allocation.AllocRole.TheVariants.{Allocates
 use Rattle.blot_types.specs.declared.allocation.Instruction.{Instruction}
 use Rattle.blot_types.specs.declared.allocation.Terms.{Terms}
 use Rattle.blot_types.specs.declared.command.Command.{Command}
-use Rattle.blot_types.specs.declared.command.Command.TheVariants.{Trade, Correct, Bust, AllocNew, AllocReplace, AllocCancel}
+use Rattle.blot_types.specs.declared.command.Command.TheVariants.{Trade, Correct, Bust, AllocNew, AllocReplace, AllocCancel, Withdraw}
 use Rattle.blot_types.specs.declared.command.Entry.{Entry}
 use Rattle.blot_types.specs.declared.keys.AllocKey.{AllocKey}
 use Rattle.blot_types.specs.declared.keys.ExecKey.{ExecKey}
@@ -30,6 +30,7 @@ instruction_by links number (AllocReplace replace) =
     Some (record { number = number; key = replace.key; role = Replaces replace.reference; roots = roots_of_terms links replace.terms })
 instruction_by links number (AllocCancel cancel) =
     Some (record { number = number; key = cancel.key; role = Cancels cancel.reference; roots = [] })
+instruction_by links number (Withdraw withdrawn) = None
 
 -- the instructions of entries, newest first
 abbrev pub instructions_in : List Entry → List Instruction
@@ -52,6 +53,7 @@ allocation_of (Bust bust) = None
 allocation_of (AllocNew new) = Some (record { key = new.key; terms = new.terms })
 allocation_of (AllocReplace replace) = Some (record { key = replace.key; terms = replace.terms })
 allocation_of (AllocCancel cancel) = None
+allocation_of (Withdraw withdrawn) = None
 
 -- the allocations that stand, in list order: those to which no AllocReplace or AllocCancel refers
 abbrev pub live_allocations : List Entry → List Allocation

@@ -1,16 +1,17 @@
 -- Which commands a list of entries refuses, and which lists are legal. A word that ends in `_in` reads the
 -- entries newest first.
-use Rattle.std.specs.Prelude.{◌≡◌, ℕ, ◌+◌, Bool, true, ◌&&◌, List, [], ◌∷◌, reverse, Option, is_none, nat_lt}
+use Rattle.std.specs.Prelude.{◌≡◌, ℕ, ◌+◌, Bool, true, ◌&&◌, List, [], ◌∷◌, reverse, Option, Some, None, is_none, nat_lt, if◌then◌else◌}
 use Rattle.std.specs.List.{list_all}
-use Rattle.std.specs.Option.{option_or}
+use Rattle.std.specs.Option.{option_map_or, option_or}
 use Rattle.blot_types.specs.declared.allocation.Instruction.{Instruction}
 use Rattle.blot_types.specs.declared.command.Command.{Command}
 use Rattle.blot_types.specs.declared.command.Entry.{Entry}
 use Rattle.blot_types.specs.declared.link.Link.{Link}
 use Rattle.blot_types.specs.declared.refused.Refused.{Refused}
+use Rattle.blot_types.specs.declared.refused.Refused.TheVariants.{NotLive}
 use Rattle.blot_types.specs.declared.TheConstants.{EVENTS_MAX}
 use Rattle.blot_types.specs.Allocations.{instructions_of}
-use Rattle.blot_types.specs.Refusals.{duplicate_exec, duplicate_alloc, unknown_alloc, dead_alloc, unknown_exec, busted_exec, repeated_exec, exec_taken, instrument, quantity}
+use Rattle.blot_types.specs.Refusals.{withdrawn_by, never_entry, is_live_bust, duplicate_exec, duplicate_alloc, unknown_alloc, dead_alloc, unknown_exec, busted_exec, repeated_exec, exec_taken, instrument, quantity}
 use Rattle.blot_types.specs.Survivors.{links_of}
 
 -- whether a number is above those of the entries
@@ -25,10 +26,11 @@ rises_in (entry ∷ earlier) = is_above_entries entry.number earlier && rises_in
 abbrev pub numbers_rise : List Entry → Bool
 numbers_rise list = rises_in (reverse list)
 
--- why the entries refuse a command: the first rule that applies
+-- why the entries refuse a command as the next entry: the first rule that applies
 abbrev pub refusal_in : List Entry → Command → Option Refused
 refusal_in entries command =
-    option_or (duplicate_exec entries command)
+    option_or (never_entry command)
+    (option_or (duplicate_exec entries command)
     (option_or (duplicate_alloc entries command)
     (option_or (unknown_alloc entries command)
     (option_or (dead_alloc entries command)
@@ -37,10 +39,18 @@ refusal_in entries command =
     (option_or (repeated_exec entries command)
     (option_or (exec_taken entries command)
     (option_or (instrument entries command)
-    (quantity entries command)))))))))
+    (quantity entries command))))))))))
 
+abbrev pub entry_refusal : List Entry → Command → Option Refused
+entry_refusal list command = refusal_in (reverse list) command
+
+-- NotLive: the entry that a command takes out isn't there, or is no Bust
+abbrev pub withdrawal_refusal : List Entry → ℕ → Option Refused
+withdrawal_refusal list number = if is_live_bust number list then None else Some (NotLive number)
+
+-- why a list refuses a command: to be its next entry, or to take an entry out of it
 abbrev pub refusal_of : List Entry → Command → Option Refused
-refusal_of list command = refusal_in (reverse list) command
+refusal_of list command = option_map_or (withdrawal_refusal list) (withdrawn_by command) (entry_refusal list command)
 
 -- whether each entry is accepted after those before it
 abbrev pub legal_in : List Entry → Bool

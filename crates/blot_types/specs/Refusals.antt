@@ -7,7 +7,7 @@ use Rattle.blot_types.specs.declared.allocation.Instruction.{Instruction}
 use Rattle.blot_types.specs.declared.allocation.Line.{Line}
 use Rattle.blot_types.specs.declared.allocation.Terms.{Terms}
 use Rattle.blot_types.specs.declared.command.Command.{Command}
-use Rattle.blot_types.specs.declared.command.Command.TheVariants.{Trade, Correct, Bust, AllocNew, AllocReplace, AllocCancel}
+use Rattle.blot_types.specs.declared.command.Command.TheVariants.{Trade, Correct, Bust, AllocNew, AllocReplace, AllocCancel, Withdraw}
 use Rattle.blot_types.specs.declared.command.Entry.{Entry}
 use Rattle.blot_types.specs.declared.fill.Fill.{Fill}
 use Rattle.blot_types.specs.declared.fill.Sign.{Sign}
@@ -17,7 +17,7 @@ use Rattle.blot_types.specs.declared.keys.ExecKey.{ExecKey}
 use Rattle.blot_types.specs.declared.lines.Version.{Version}
 use Rattle.blot_types.specs.declared.link.Link.{Link}
 use Rattle.blot_types.specs.declared.refused.Refused.{Refused}
-use Rattle.blot_types.specs.declared.refused.Refused.TheVariants.{DuplicateExec, DuplicateAlloc, UnknownAlloc, DeadAlloc, UnknownExec, BustedExec, RepeatedExec, ExecTaken, Instrument, Quantity}
+use Rattle.blot_types.specs.declared.refused.Refused.TheVariants.{DuplicateExec, DuplicateAlloc, UnknownAlloc, DeadAlloc, UnknownExec, BustedExec, RepeatedExec, ExecTaken, Instrument, Quantity, NotLive}
 use Rattle.blot_types.specs.Allocations.{allocation_of, instructions_in}
 use Rattle.blot_types.specs.Chains.{taker_in, root_in, is_root, bust_in, current_in}
 use Rattle.blot_types.specs.Instructions.{alloc_taker_in, is_allocation_in, ended_in, other_holder_in}
@@ -35,6 +35,7 @@ exec_key (Bust bust) = Some bust.key
 exec_key (AllocNew new) = None
 exec_key (AllocReplace replace) = None
 exec_key (AllocCancel cancel) = None
+exec_key (Withdraw withdrawn) = None
 
 -- the allocation that it takes up
 abbrev pub alloc_key : Command → Option AllocKey
@@ -44,6 +45,7 @@ alloc_key (Bust bust) = None
 alloc_key (AllocNew new) = Some new.key
 alloc_key (AllocReplace replace) = Some replace.key
 alloc_key (AllocCancel cancel) = Some cancel.key
+alloc_key (Withdraw withdrawn) = None
 
 -- the allocation that it refers to
 abbrev pub alloc_reference : Command → Option AllocKey
@@ -53,6 +55,7 @@ alloc_reference (Bust bust) = None
 alloc_reference (AllocNew new) = None
 alloc_reference (AllocReplace replace) = Some replace.reference
 alloc_reference (AllocCancel cancel) = Some cancel.reference
+alloc_reference (Withdraw withdrawn) = None
 
 -- what it allocates
 abbrev pub terms_of : Command → Option Terms
@@ -70,8 +73,33 @@ exec_references (Bust bust) = bust.reference ∷ []
 exec_references (AllocNew new) = new.terms.execs
 exec_references (AllocReplace replace) = replace.terms.execs
 exec_references (AllocCancel cancel) = []
+exec_references (Withdraw withdrawn) = []
+
+-- the number of the entry that it takes out of the list: a Withdraw takes one out, and so is never an entry itself
+abbrev pub withdrawn_by : Command → Option ℕ
+withdrawn_by (Trade trade) = None
+withdrawn_by (Correct correct) = None
+withdrawn_by (Bust bust) = None
+withdrawn_by (AllocNew new) = None
+withdrawn_by (AllocReplace replace) = None
+withdrawn_by (AllocCancel cancel) = None
+withdrawn_by (Withdraw withdrawn) = Some withdrawn
 
 -- ---- what the rules ask
+
+-- whether a command is a Bust
+abbrev pub is_bust : Command → Bool
+is_bust (Trade trade) = false
+is_bust (Correct correct) = false
+is_bust (Bust bust) = true
+is_bust (AllocNew new) = false
+is_bust (AllocReplace replace) = false
+is_bust (AllocCancel cancel) = false
+is_bust (Withdraw withdrawn) = false
+
+-- whether the entry of a number is there, and is a Bust
+abbrev pub is_live_bust : ℕ → List Entry → Bool
+is_live_bust number list = option_map_or (λ entry. is_bust entry.command) (find (λ entry. entry.number == number) list) false
 
 -- the first answer that a question gives of some items, in their order
 abbrev pub first_of : {A B : Type 0} → (A → Option B) → List A → Option B
@@ -128,6 +156,10 @@ mismatch wanted block lines =
     else if not (int_eq lines wanted) then Some (Quantity wanted lines) else None
 
 -- ---- the rules, in their order
+
+-- as an entry a Withdraw is refused by any list
+abbrev pub never_entry : Command → Option Refused
+never_entry command = option_map NotLive (withdrawn_by command)
 
 -- DuplicateExec: an entry took up the execution that the command takes up; the number of that entry
 abbrev pub duplicate_exec : List Entry → Command → Option Refused

@@ -3,7 +3,7 @@
 use Rattle.std.specs.Prelude.{ℕ, ◌==◌, Bool, false, ◌&&◌, List, filter, reverse, Option, Some, None, is_none}
 use Rattle.std.specs.List.{filter_map}
 use Rattle.blot_types.specs.declared.command.Command.{Command}
-use Rattle.blot_types.specs.declared.command.Command.TheVariants.{Trade, Correct, Bust, AllocNew, AllocReplace, AllocCancel}
+use Rattle.blot_types.specs.declared.command.Command.TheVariants.{Trade, Correct, Bust, AllocNew, AllocReplace, AllocCancel, Withdraw}
 use Rattle.blot_types.specs.declared.command.Entry.{Entry}
 use Rattle.blot_types.specs.declared.keys.ExecKey.{ExecKey}
 use Rattle.blot_types.specs.declared.lines.Version.{Version}
@@ -19,6 +19,7 @@ link_by number (Bust bust) = Some (record { number = number; key = bust.key; rol
 link_by number (AllocNew new) = None
 link_by number (AllocReplace replace) = None
 link_by number (AllocCancel cancel) = None
+link_by number (Withdraw withdrawn) = None
 
 abbrev pub link_of : Entry → Option Link
 link_of entry = link_by entry.number entry.command
@@ -46,6 +47,7 @@ version_by number (Bust bust) = None
 version_by number (AllocNew new) = None
 version_by number (AllocReplace replace) = None
 version_by number (AllocCancel cancel) = None
+version_by number (Withdraw withdrawn) = None
 
 abbrev pub version_of : Entry → Option Version
 version_of entry = version_by entry.number entry.command

@@ -2,7 +2,7 @@
 ghost use Rattle.std.specs.Prelude.{◌≡◌, IfOk};
 ghost use Rattle.std.specs.Option.{option_copied, option_map};
 ghost use Rattle.blot_types.specs.Allocations.{allocation_of};
-ghost use Rattle.blot_types.specs.Refusals.{exec_key, alloc_key, alloc_reference, terms_of, listed_by, exec_references};
+ghost use Rattle.blot_types.specs.Refusals.{is_bust, withdrawn_by, exec_key, alloc_key, alloc_reference, terms_of, listed_by, exec_references};
 
 use crate::{AllocKey, ExecKey, Fill, Link, Role, Terms, Version};
 use std::alloc::{AllocError as NoMemory, Global};
@@ -66,6 +66,8 @@ pub enum Command {
     AllocNew(AllocNew),
     AllocReplace(AllocReplace),
     AllocCancel(AllocCancel),
+    /// Takes the entry of this number out of the live list, whatever came later. It is a step, and never an entry.
+    Withdraw(u64),
 }
 
 impl Terms {
@@ -111,6 +113,7 @@ impl Command {
                 }))
             }
             Command::AllocCancel(cancel) => Ok(Command::AllocCancel(*cancel)),
+            Command::Withdraw(number) => Ok(Command::Withdraw(*number)),
         }
     }
 
@@ -122,7 +125,10 @@ impl Command {
             Command::Trade(trade) => Some(trade.key),
             Command::Correct(correct) => Some(correct.key),
             Command::Bust(bust) => Some(bust.key),
-            Command::AllocNew(_) | Command::AllocReplace(_) | Command::AllocCancel(_) => None,
+            Command::AllocNew(_)
+            | Command::AllocReplace(_)
+            | Command::AllocCancel(_)
+            | Command::Withdraw(_) => None,
         }
     }
 
@@ -131,7 +137,8 @@ impl Command {
         ensures { result ≡ alloc_key self.now }
     {
         match self {
-            Command::Trade(_) | Command::Correct(_) | Command::Bust(_) => None,
+            Command::Trade(_) | Command::Correct(_) | Command::Bust(_) | Command::Withdraw(_) =>
+                None,
             Command::AllocNew(new) => Some(new.key),
             Command::AllocReplace(replace) => Some(replace.key),
             Command::AllocCancel(cancel) => Some(cancel.key),
@@ -143,10 +150,43 @@ impl Command {
         ensures { result ≡ alloc_reference self.now }
     {
         match self {
-            Command::Trade(_) | Command::Correct(_) | Command::Bust(_) | Command::AllocNew(_) =>
-                None,
+            Command::Trade(_)
+            | Command::Correct(_)
+            | Command::Bust(_)
+            | Command::AllocNew(_)
+            | Command::Withdraw(_) => None,
             Command::AllocReplace(replace) => Some(replace.reference),
             Command::AllocCancel(cancel) => Some(cancel.reference),
+        }
+    }
+
+    /// The number of the entry that the command takes out of the live list.
+    pub fn withdrawn(&self) -> Option<u64>
+        ensures { result ≡ withdrawn_by self.now }
+    {
+        match self {
+            Command::Trade(_)
+            | Command::Correct(_)
+            | Command::Bust(_)
+            | Command::AllocNew(_)
+            | Command::AllocReplace(_)
+            | Command::AllocCancel(_) => None,
+            Command::Withdraw(number) => Some(*number),
+        }
+    }
+
+    /// Whether the command is a Bust.
+    pub fn is_bust(&self) -> bool
+        ensures { result ≡ is_bust self.now }
+    {
+        match self {
+            Command::Bust(_) => true,
+            Command::Trade(_)
+            | Command::Correct(_)
+            | Command::AllocNew(_)
+            | Command::AllocReplace(_)
+            | Command::AllocCancel(_)
+            | Command::Withdraw(_) => false,
         }
     }
 
@@ -155,8 +195,11 @@ impl Command {
         ensures { result ≡ option_map (λ allocation. allocation.key) (allocation_of self.now) }
     {
         match self {
-            Command::Trade(_) | Command::Correct(_) | Command::Bust(_) | Command::AllocCancel(_) =>
-                None,
+            Command::Trade(_)
+            | Command::Correct(_)
+            | Command::Bust(_)
+            | Command::AllocCancel(_)
+            | Command::Withdraw(_) => None,
             Command::AllocNew(new) => Some(new.key),
             Command::AllocReplace(replace) => Some(replace.key),
         }
@@ -167,8 +210,11 @@ impl Command {
         ensures { option_copied result ≡ terms_of self.now }
     {
         match self {
-            Command::Trade(_) | Command::Correct(_) | Command::Bust(_) | Command::AllocCancel(_) =>
-                None,
+            Command::Trade(_)
+            | Command::Correct(_)
+            | Command::Bust(_)
+            | Command::AllocCancel(_)
+            | Command::Withdraw(_) => None,
             Command::AllocNew(new) => Some(&new.terms),
             Command::AllocReplace(replace) => Some(&replace.terms),
         }
@@ -194,7 +240,8 @@ impl Command {
             Command::Trade(_)
             | Command::AllocNew(_)
             | Command::AllocReplace(_)
-            | Command::AllocCancel(_) => self.listed(),
+            | Command::AllocCancel(_)
+            | Command::Withdraw(_) => self.listed(),
         }
     }
 }
@@ -218,8 +265,10 @@ impl Entry {
             Command::Trade(trade) => (trade.key, Role::Begins),
             Command::Correct(correct) => (correct.key, Role::Corrects(correct.reference)),
             Command::Bust(bust) => (bust.key, Role::Busts(bust.reference)),
-            Command::AllocNew(_) | Command::AllocReplace(_) | Command::AllocCancel(_) =>
-                return None,
+            Command::AllocNew(_)
+            | Command::AllocReplace(_)
+            | Command::AllocCancel(_)
+            | Command::Withdraw(_) => return None,
         };
         Some(Link {
             number: self.number,
@@ -238,7 +287,8 @@ impl Entry {
             Command::Bust(_)
             | Command::AllocNew(_)
             | Command::AllocReplace(_)
-            | Command::AllocCancel(_) => return None,
+            | Command::AllocCancel(_)
+            | Command::Withdraw(_) => return None,
         };
         Some(Version {
             number: self.number,

@@ -26,6 +26,8 @@ pub enum Refused {
     Instrument(ExecKey),
     /// The quantity of the executions, in units of 10^-6, and the block's or the lines' that differs from it.
     Quantity(QtySum, QtySum),
+    /// No entry of this number is live, or it is no Bust.
+    NotLive(u64),
     /// No step is done.
     NothingToUndo,
     /// The newest done step has this other number.
@@ -53,6 +55,7 @@ impl Refused {
             Refused::ExecTaken(_) => 8,
             Refused::Instrument(_) => 9,
             Refused::Quantity(..) => 10,
+            Refused::NotLive(_) => 11,
             Refused::NothingToUndo => 13,
             Refused::Moved(_) => 14,
             Refused::NothingToRedo => 15,
@@ -74,6 +77,7 @@ impl Refused {
             Refused::ExecTaken(_) => b"ExecTaken",
             Refused::Instrument(_) => b"Instrument",
             Refused::Quantity(..) => b"Quantity",
+            Refused::NotLive(_) => b"NotLive",
             Refused::NothingToUndo => b"NothingToUndo",
             Refused::Moved(_) => b"Moved",
             Refused::NothingToRedo => b"NothingToRedo",

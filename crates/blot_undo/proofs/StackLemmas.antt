@@ -4,7 +4,7 @@ use Rattle.std.specs.Prelude.{All, Contains}
 use Rattle.std.proofs.lemmas.List.Elements.{All-nil, All-cons, All-weaker, All-contains, All-contains_itself, Contains-append_left, Contains-append_right, Contains-append_cases, Contains-push, Contains-push_cases}
 use Rattle.std.proofs.lemmas.List.{reverse-append, length-reverse}
 use Rattle.blot_types.specs.declared.TheConstants.{EVENTS_MAX}
-use Rattle.blot_command.specs.Undoable.{Meaning, IsStep, IsLawful, IsAboveNumbers, KeepsEarlier, Adds, Leaves, TakesOut, UndoesStep, numbers_in}
+use Rattle.blot_command.specs.Undoable.{Meaning, IsStep, IsLawful, IsAboveNumbers, KeepsEarlier, Adds, Leaves, TakesOut, UndoesStep, Undoes, numbers_in}
 use Rattle.blot_undo.specs.declared.step.Done.{Done}
 use Rattle.blot_undo.specs.declared.step.Undone.{Undone}
 use Rattle.blot_undo.specs.Book.{done_number}
@@ -57,6 +57,17 @@ above_state m state done below numbered fall =
     All-weaker (Contains (numbers_in m state)) (λ n. n < below)
     (λ k within. All-contains (λ n. n < below) (map done_number done) k (fall_below done below fall) (numbered k within))
     (numbers_in m state) (All-contains_itself (numbers_in m state))
+
+-- after a step every number is below the one that comes next
+below_next :
+    {S L C I R : Type 0} (m : Meaning S L C I R) (number : ℕ) (inverse : I) (old new : S) → IsAboveNumbers m number old → Adds m number inverse old new → IsAboveNumbers m (number + 1) new
+below_next m number inverse old new above step =
+    All-weaker (Contains (numbers_in m new)) (λ earlier. earlier < number + 1)
+    (λ k within. elim (step.brings k within) [
+      | inl earlier ↦ (let below : k < number = All-contains (λ e. e < number) (numbers_in m old) k above earlier in omega (arith, below))
+      | inr own ↦ omega (arith, own)
+    ])
+    (numbers_in m new) (All-contains_itself (numbers_in m new))
 
 -- ---- what the state keeps
 
@@ -134,7 +145,11 @@ pub undoes_newest :
     {S L C I R : Type 0} (m : Meaning S L C I R) (state : S) (step : Done I) (earlier : List (Done I)) (undone : List (Undone C)) (next done_room undone_room : ℕ)
     → (stack : IsStack m state (step ∷ earlier) undone next done_room undone_room)
     → UndoesStep m (m.before (m.list_of state) step.inverse) (stack.lead.0.0) step.number step.inverse state
-undoes_newest m state step earlier undone next done_room undone_room stack = record { step = stack.lead.0.1; kept = stack.keeps.0 }
+undoes_newest m state step earlier undone next done_room undone_room stack = record {
+  step = stack.lead.0.1;
+  kept = stack.keeps.0;
+  latest = above_state m state (step ∷ earlier) (step.number + 1) stack.numbered (omega arith, stack.fall.1);
+}
 
 -- ---- on the vectors, which hold the newest step last
 
@@ -216,6 +231,37 @@ undo_keeps m lawful old new done earlier undone undone2 next dr ur dr2 ur2 step 
     let less = one_undone m lawful old new step (reverse earlier) (reverse undone) next dr ur command stack list back leaves in
     rw (newest_last undone2 undone _ undone_is) (roomier m new (reverse earlier) _ next dr ur dr2 ur2 more_done_room more_undone_room less)
 
+-- its inverse undoes the state
+pub undoes_stack :
+    {S L C I R : Type 0} (m : Meaning S L C I R) (state : S) (done earlier : List (Done I)) (undone : List (Undone C)) (next dr ur : ℕ) (step : Done I)
+    → IsStack m state (reverse done) undone next dr ur → done ≡ earlier ++ step ∷ [] → Undoes m step.inverse state
+undoes_stack m state done earlier undone next dr ur step given is =
+    let stack = subst (λ d. IsStack m state d undone next dr ur) (newest_last done earlier step is) given in
+    (m.before (m.list_of state) step.inverse, stack.lead.0.0, step.number, undoes_newest m state step (reverse earlier) undone next dr ur stack)
+
+-- a command that was just taken: its inverse undoes the state
+undoes_applied :
+    {S L C I R : Type 0} (m : Meaning S L C I R) (old mid : S) (done : List (Done I)) (undone : List (Undone C)) (next dr ur : ℕ) (command : C) (inverse : I)
+    → IsStack m old done undone next dr ur → IsStep m (m.list_of old) command next inverse (m.list_of mid) → Adds m next inverse old mid
+    → UndoesStep m (m.list_of old) command next inverse mid
+undoes_applied m old mid done undone next dr ur command inverse stack step adds = record {
+  step = step;
+  kept = adds.own;
+  latest = below_next m next inverse old mid (above_next m old done undone next dr ur stack) adds;
+}
+
+pub undoes_taken :
+    {S L C I R : Type 0} (m : Meaning S L C I R) (old mid : S) (done : List (Done I)) (undone : List (Undone C)) (next dr ur : ℕ) (command : C) (inverse : I)
+    → IsStack m old done undone next dr ur → IsStep m (m.list_of old) command next inverse (m.list_of mid) → Adds m next inverse old mid
+    → Undoes m inverse mid
+undoes_taken m old mid done undone next dr ur command inverse stack step adds =
+    (m.list_of old, command, next, undoes_applied m old mid done undone next dr ur command inverse stack step adds)
+
+pub list_again :
+    {S L C I R : Type 0} (m : Meaning S L C I R) → IsLawful m → (old mid new : S) (command : C) (next : ℕ) (inverse : I)
+    → IsStep m (m.list_of old) command next inverse (m.list_of mid) → m.list_of new ≡ m.before (m.list_of mid) inverse → m.list_of new ≡ m.list_of old
+list_again m lawful old mid new command next inverse step list = list ∙ back_again m lawful (m.list_of old) (m.list_of mid) command next inverse step
+
 -- a command that was taken, and taken back since its step found no room
 pub turned_back :
     {S L C I R : Type 0} (m : Meaning S L C I R) → IsLawful m → (old mid new : S) (done : List (Done I)) (undone : List (Undone C)) (next dr ur dr2 ur2 : ℕ) (command : C) (inverse : I)
@@ -224,8 +270,8 @@ pub turned_back :
     → m.list_of new ≡ m.before (m.list_of mid) inverse → TakesOut m inverse mid new → dr ≤ dr2 → ur ≤ ur2
     → (m.list_of new ≡ m.list_of old) × IsStack m new done undone next dr2 ur2
 turned_back m lawful old mid new done undone next dr ur dr2 ur2 command inverse stack step adds list takes more_done_room more_undone_room =
-    let leaves = takes (m.list_of old) command next (record { step = step; kept = adds.own }) in
-    let again : m.list_of new ≡ m.list_of old = list ∙ back_again m lawful (m.list_of old) (m.list_of mid) command next inverse step in
+    let leaves = takes (m.list_of old) command next (undoes_applied m old mid done undone next dr ur command inverse stack step adds) in
+    let again = list_again m lawful old mid new command next inverse step list in
     let fall = fall_weaker done (limit undone next) next (limit_next undone next stack.rise) stack.fall in (
       again,
       roomier m new done undone next dr ur dr2 ur2 more_done_room more_undone_room (record {

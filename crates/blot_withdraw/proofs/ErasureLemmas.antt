@@ -8,7 +8,7 @@ use Rattle.std.proofs.lemmas.List.{reverse-append, take-append-drop, take_more}
 use Rattle.std.proofs.lemmas.List.Elements.{All-nil, All-cons, All-head, All-tail, All-append, filter-append}
 use Rattle.std.proofs.lemmas.List.Folds.{list_all-append}
 use Rattle.blot_types.specs.declared.command.Command.{Command}
-use Rattle.blot_types.specs.declared.command.Command.TheVariants.{Trade, Correct, Bust, AllocNew, AllocReplace, AllocCancel}
+use Rattle.blot_types.specs.declared.command.Command.TheVariants.{Trade, Correct, Bust, AllocNew, AllocReplace, AllocCancel, Withdraw}
 use Rattle.blot_types.specs.declared.command.Entry.{Entry}
 use Rattle.blot_types.specs.declared.keys.AllocKey.{AllocKey}
 use Rattle.blot_types.specs.declared.keys.ExecKey.{ExecKey}
@@ -16,7 +16,7 @@ use Rattle.blot_types.specs.declared.keys.OrderKey.{OrderKey}
 use Rattle.blot_types.specs.declared.TheConstants.{EVENTS_MAX}
 use Rattle.blot_types.specs.declared.link.Link.{Link}
 use Rattle.blot_types.specs.Chains.{is_root, bust_in}
-use Rattle.blot_types.specs.Legal.{is_above_entries, rises_in, is_legal, is_book, refusal_of}
+use Rattle.blot_types.specs.Legal.{is_above_entries, rises_in, is_legal, is_book, entry_refusal}
 use Rattle.blot_types.specs.Order.{order_of}
 use Rattle.blot_types.specs.Position.{position_of}
 use Rattle.blot_types.specs.Refusals.{alloc_key, listed_by}
@@ -41,6 +41,7 @@ chained-link number (Bust bust) link is = ap (option_map (λ l. chain_key l.key 
 chained-link number (AllocNew new) link is = cc
 chained-link number (AllocReplace replace) link is = cc
 chained-link number (AllocCancel cancel) link is = cc
+chained-link number (Withdraw withdrawn) link is = cc
 
 pub unchained : (command : Command) (key : AllocKey) → alloc_key command ≡ Some key → chained_by command ≡ None
 unchained (Trade trade) key is = cc
@@ -49,6 +50,7 @@ unchained (Bust bust) key is = cc
 unchained (AllocNew new) key is = refl
 unchained (AllocReplace replace) key is = refl
 unchained (AllocCancel cancel) key is = refl
+unchained (Withdraw withdrawn) key is = refl
 
 -- the chain of a root goes, and no allocation
 abbrev pub chain_split : List Entry → ExecKey → Split
@@ -153,7 +155,7 @@ book-front front back book =
 
 -- what is known of the last entry of a book
 pub record IsLast (list : List Entry) (entry : Entry) : Type 0 where
-  pub accepted : refusal_of list entry.command ≡ None
+  pub accepted : entry_refusal list entry.command ≡ None
   pub above : All (λ earlier. earlier < entry.number) (map (λ e. e.number) list)
   pub within : entry.number ≤ EVENTS_MAX
 
@@ -173,9 +175,9 @@ last_of list entry book =
     let numbered : (rises_in (reverse (list ++ entry ∷ [])) ≡ true) × (is_above_entries (EVENTS_MAX + 1) (reverse (list ++ entry ∷ [])) ≡ true) = and_parts _ _ parts.0 in
     let rises : (is_above_entries entry.number (reverse list) ≡ true) × (rises_in (reverse list) ≡ true) = and_parts _ _ (ap rises_in (sym turned) ∙ numbered.0) in
     let within : (nat_lt entry.number (EVENTS_MAX + 1) ≡ true) × (is_above_entries (EVENTS_MAX + 1) (reverse list) ≡ true) = and_parts _ _ (ap (is_above_entries (EVENTS_MAX + 1)) (sym turned) ∙ numbered.1) in
-    let legal : (is_none (refusal_of list entry.command) ≡ true) × (is_legal list ≡ true) = and_parts _ _ (sym (is_legal-push list entry) ∙ parts.1) in
+    let legal : (is_none (entry_refusal list entry.command) ≡ true) × (is_legal list ≡ true) = and_parts _ _ (sym (is_legal-push list entry) ∙ parts.1) in
     let limited : entry.number < EVENTS_MAX + 1 = ltb-true _ _ within.0 in
-    record { accepted = none_is (refusal_of list entry.command) legal.0; above = below_all entry.number list rises.0; within = omega (arith, limited) }
+    record { accepted = none_is (entry_refusal list entry.command) legal.0; above = below_all entry.number list rises.0; within = omega (arith, limited) }
 
 -- the entries that stay of a list, up to one that stays, are the front of all that stay
 pub next-book :

@@ -10,7 +10,7 @@ use Rattle.blot_types.specs.declared.allocation.AllocRole.{AllocRole}
 use Rattle.blot_types.specs.declared.allocation.AllocRole.TheVariants.{Allocates, Replaces, Cancels}
 use Rattle.blot_types.specs.declared.allocation.Instruction.{Instruction}
 use Rattle.blot_types.specs.declared.command.Command.{Command}
-use Rattle.blot_types.specs.declared.command.Command.TheVariants.{Trade, Correct, Bust, AllocNew, AllocReplace, AllocCancel}
+use Rattle.blot_types.specs.declared.command.Command.TheVariants.{Trade, Correct, Bust, AllocNew, AllocReplace, AllocCancel, Withdraw}
 use Rattle.blot_types.specs.declared.command.Entry.{Entry}
 use Rattle.blot_types.specs.declared.keys.AllocKey.{AllocKey}
 use Rattle.blot_types.specs.declared.keys.ExecKey.{ExecKey}
@@ -38,6 +38,7 @@ keyed links number (Bust bust) i is = cc
 keyed links number (AllocNew new) i is = ap (option_map (λ j. j.key)) is
 keyed links number (AllocReplace replace) i is = ap (option_map (λ j. j.key)) is
 keyed links number (AllocCancel cancel) i is = ap (option_map (λ j. j.key)) is
+keyed links number (Withdraw withdrawn) i is = ap (option_map (λ j. j.key)) is
 
 referring : (links : List Link) (number : ℕ) (command : Command) (i : Instruction) → instruction_by links number command ≡ Some i → alloc_reference command ≡ reference_of i.role
 referring links number (Trade trade) i is = cc
@@ -46,6 +47,7 @@ referring links number (Bust bust) i is = cc
 referring links number (AllocNew new) i is = ap (λ o. option_map_or (λ j. reference_of j.role) o None) is
 referring links number (AllocReplace replace) i is = ap (λ o. option_map_or (λ j. reference_of j.role) o None) is
 referring links number (AllocCancel cancel) i is = ap (λ o. option_map_or (λ j. reference_of j.role) o None) is
+referring links number (Withdraw withdrawn) i is = ap (λ o. option_map_or (λ j. reference_of j.role) o None) is
 
 -- the same instruction, where the executions that it lists have the same roots
 same-instruction :
@@ -60,6 +62,7 @@ same-instruction links others number (AllocReplace replace) same =
     ap (λ roots. Some (record { number = number; key = replace.key; role = Replaces replace.reference; roots = roots }))
     (filter_map-agree (root_in others) (root_in links) replace.terms.execs same)
 same-instruction links others number (AllocCancel cancel) same = refl
+same-instruction links others number (Withdraw withdrawn) same = refl
 
 one-more :
     (split : Split) (entry : Entry) (earlier : List Entry) (found : Option Instruction) → instruction_by (links_in earlier) entry.number entry.command ≡ found

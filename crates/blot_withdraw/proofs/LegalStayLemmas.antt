@@ -4,7 +4,7 @@ use Rattle.std.specs.Prelude.{filter, is_none, nat_lt}
 use Rattle.std.proofs.lemmas.Bool.{cases_Bool, and_from, and_parts, not-true}
 use Rattle.std.proofs.lemmas.List.Elements.{All-nil, All-cons}
 use Rattle.blot_types.specs.declared.command.Command.{Command}
-use Rattle.blot_types.specs.declared.command.Command.TheVariants.{Trade, Correct, Bust, AllocNew, AllocReplace, AllocCancel}
+use Rattle.blot_types.specs.declared.command.Command.TheVariants.{Trade, Correct, Bust, AllocNew, AllocReplace, AllocCancel, Withdraw}
 use Rattle.blot_types.specs.declared.command.Entry.{Entry}
 use Rattle.blot_types.specs.declared.TheConstants.{EVENTS_MAX}
 use Rattle.blot_types.specs.declared.link.Link.{Link}
@@ -56,6 +56,7 @@ needs-none split number (AllocCancel cancel) earlier spares stays =
       chains = All-nil (KeyStays split);
       allocation = λ reference is. sym (newest.own.refers cancel.key reference refl is) ∙ not-true _ (sym (split.allocated entry cancel.key refl) ∙ stays);
     }
+needs-none split number (Withdraw withdrawn) earlier spares stays = record { chains = All-nil (KeyStays split); allocation = λ reference is. cc }
 
 pub legal-spared : (split : Split) (entries : List Entry) → Spares split entries → legal_in (filter split.stays entries) ≡ true
 legal-spared split [] spares = refl

@@ -7,3 +7,4 @@ mod Rows
 pub mod RuleLemmas
 pub mod SpareLemmas
 pub mod Split
+pub mod WithdrawLemmas

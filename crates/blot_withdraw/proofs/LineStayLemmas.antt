@@ -6,7 +6,7 @@ use Rattle.std.specs.Option.{option_map_or}
 use Rattle.std.proofs.lemmas.Bool.{cases_Bool, and_parts, not-true}
 use Rattle.std.proofs.lemmas.List.Elements.{All-head, All-tail, All-weaker, filter_agree}
 use Rattle.blot_types.specs.declared.command.Command.{Command}
-use Rattle.blot_types.specs.declared.command.Command.TheVariants.{Trade, Correct, Bust, AllocNew, AllocReplace, AllocCancel}
+use Rattle.blot_types.specs.declared.command.Command.TheVariants.{Trade, Correct, Bust, AllocNew, AllocReplace, AllocCancel, Withdraw}
 use Rattle.blot_types.specs.declared.command.Entry.{Entry}
 use Rattle.blot_types.specs.declared.keys.AllocKey.{AllocKey}
 use Rattle.blot_types.specs.declared.keys.ExecKey.{ExecKey}
@@ -102,6 +102,7 @@ allocation-key (Bust bust) allocation is = cc
 allocation-key (AllocNew new) allocation is = (new.key, refl)
 allocation-key (AllocReplace replace) allocation is = (replace.key, refl)
 allocation-key (AllocCancel cancel) allocation is = cc
+allocation-key (Withdraw withdrawn) allocation is = cc
 
 allocations-spared :
     (split : Split) (list : List Entry) → SparesLines split list

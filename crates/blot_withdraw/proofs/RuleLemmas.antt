@@ -7,7 +7,7 @@ use Rattle.std.proofs.lemmas.List.{reverse-reverse}
 use Rattle.std.proofs.lemmas.List.Elements.{All-nil, All-cons, All-head, All-tail, All-append, All-weaker}
 use Rattle.blot_types.specs.declared.allocation.Terms.{Terms}
 use Rattle.blot_types.specs.declared.command.Command.{Command}
-use Rattle.blot_types.specs.declared.command.Command.TheVariants.{Trade, Correct, Bust, AllocNew, AllocReplace, AllocCancel}
+use Rattle.blot_types.specs.declared.command.Command.TheVariants.{Trade, Correct, Bust, AllocNew, AllocReplace, AllocCancel, Withdraw}
 use Rattle.blot_types.specs.declared.command.Entry.{Entry}
 use Rattle.blot_types.specs.declared.keys.AllocKey.{AllocKey}
 use Rattle.blot_types.specs.declared.keys.ExecKey.{ExecKey}
@@ -18,7 +18,7 @@ use Rattle.blot_types.specs.Chains.{takes_up, taker_in, root_in, is_root, bust_i
 use Rattle.blot_types.specs.Instructions.{alloc_taker_in, is_allocation_in, ended_in, other_holder_in}
 use Rattle.blot_types.specs.Legal.{refusal_in}
 use Rattle.blot_types.specs.Order.{cum_of}
-use Rattle.blot_types.specs.Refusals.{exec_key, alloc_key, alloc_reference, terms_of, listed_by, exec_references, bust_of_key, same_chain, repeated_in, other_holder, version_in, current_fill, differs, booked, mismatch, duplicate_exec, duplicate_alloc, unknown_alloc, dead_alloc, unknown_exec, busted_exec, repeated_exec, exec_taken, instrument, quantity}
+use Rattle.blot_types.specs.Refusals.{never_entry, exec_key, alloc_key, alloc_reference, terms_of, listed_by, exec_references, bust_of_key, same_chain, repeated_in, other_holder, version_in, current_fill, differs, booked, mismatch, duplicate_exec, duplicate_alloc, unknown_alloc, dead_alloc, unknown_exec, busted_exec, repeated_exec, exec_taken, instrument, quantity}
 use Rattle.blot_types.specs.Survivors.{links_in, version_of}
 use Rattle.blot_types.proofs.AcceptLemmas.{or_parts, unmapped}
 use Rattle.blot_types.proofs.SurvivorLemmas.{current-found, version_in-rising}
@@ -126,6 +126,7 @@ listed split (Bust bust) chains = All-nil (KeyStays split)
 listed split (AllocNew new) chains = chains
 listed split (AllocReplace replace) chains = chains
 listed split (AllocCancel cancel) chains = All-nil (KeyStays split)
+listed split (Withdraw withdrawn) chains = All-nil (KeyStays split)
 
 -- ---- the rules
 
@@ -189,7 +190,8 @@ pub accepted-spared :
     (split : Split) (entries others : List Entry) (command : Command) → Answers split entries others → NeedsNone split command → refusal_in entries command ≡ None
     → refusal_in others command ≡ None
 accepted-spared split entries others command same needs accepted =
-    let one = or_parts (duplicate_exec entries command) _ accepted in
+    let never = or_parts (never_entry command) _ accepted in
+    let one = or_parts (duplicate_exec entries command) _ never.1 in
     let two = or_parts (duplicate_alloc entries command) _ one.1 in
     let three = or_parts (unknown_alloc entries command) _ two.1 in
     let four = or_parts (dead_alloc entries command) _ three.1 in
@@ -203,7 +205,8 @@ accepted-spared split entries others command same needs accepted =
     let terms = of-terms split entries others (terms_of command) same lists in
     let roots : All (λ key. root_in (links_in others) key ≡ root_in (links_in entries) key) refers =
     All-weaker (KeyStays split) (λ key. root_in (links_in others) key ≡ root_in (links_in entries) key) same.root refers needs.chains in
-    or-none (duplicate_exec others command) _ (mapped-none DuplicateExec _ (then-none (taker_in (links_in entries)) (taker_in (links_in others)) (exec_key command) same.taker (unmapped DuplicateExec _ one.0)))
+    or-none (never_entry command) _ never.0
+    (or-none (duplicate_exec others command) _ (mapped-none DuplicateExec _ (then-none (taker_in (links_in entries)) (taker_in (links_in others)) (exec_key command) same.taker (unmapped DuplicateExec _ one.0)))
     (or-none (duplicate_alloc others command) _
     (mapped-none DuplicateAlloc _ (then-none (alloc_taker_in (instructions_in entries)) (alloc_taker_in (instructions_in others)) (alloc_key command) same.alloc_taker (unmapped DuplicateAlloc _ two.0)))
     (or-none (unknown_alloc others command) _ (known split entries others (alloc_reference command) same needs.allocation ∙ three.0)
@@ -231,4 +234,4 @@ accepted-spared split entries others command same needs accepted =
     (λ key. other_holder (links_in entries) (instructions_in entries) (alloc_reference command) key ≡ None → other_holder (links_in others) (instructions_in others) (alloc_reference command) key ≡ None)
     (λ key stays none. untaken split entries others (alloc_reference command) key same stays none) (listed_by command) lists)
     (unmapped ExecTaken _ eight.0)))
-    (or-none (instrument others command) (quantity others command) (terms.0 ∙ nine.0) (terms.1 ∙ nine.1)))))))))
+    (or-none (instrument others command) (quantity others command) (terms.0 ∙ nine.0) (terms.1 ∙ nine.1))))))))))

@@ -5,7 +5,7 @@ use Rattle.std.specs.List.{filter_map}
 use Rattle.std.specs.Option.{option_map_or}
 use Rattle.std.proofs.lemmas.Bool.{cases_Bool}
 use Rattle.blot_types.specs.declared.command.Command.{Command}
-use Rattle.blot_types.specs.declared.command.Command.TheVariants.{Trade, Correct, Bust, AllocNew, AllocReplace, AllocCancel}
+use Rattle.blot_types.specs.declared.command.Command.TheVariants.{Trade, Correct, Bust, AllocNew, AllocReplace, AllocCancel, Withdraw}
 use Rattle.blot_types.specs.declared.command.Entry.{Entry}
 use Rattle.blot_types.specs.declared.keys.AllocKey.{AllocKey}
 use Rattle.blot_types.specs.declared.keys.ExecKey.{ExecKey}
@@ -93,6 +93,7 @@ brought_stays split number (Bust bust) version is = cc
 brought_stays split number (AllocNew new) version is = cc
 brought_stays split number (AllocReplace replace) version is = cc
 brought_stays split number (AllocCancel cancel) version is = cc
+brought_stays split number (Withdraw withdrawn) version is = cc
 
 -- the versions of the entries that stay
 pub versions-split : (split : Split) (entries : List Entry) → filter_map version_of (filter split.stays entries) ≡ filter (version_stays split) (filter_map version_of entries)

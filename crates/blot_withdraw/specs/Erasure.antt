@@ -1,14 +1,15 @@
 -- A list of entries without one chain of executions, and when a chain can be taken out of it.
-use Rattle.std.specs.Prelude.{◌≡◌, ℕ, ◌⊎◌, Bool, not, List, filter, find, Option, Some, None, is_none, if◌then◌else◌}
+use Rattle.std.specs.Prelude.{◌≡◌, ℕ, ◌⊎◌, Bool, not, List, filter, find, Option, Some, None, is_none, if◌then◌else◌, Contains}
 use Rattle.std.specs.List.{list_any}
 use Rattle.std.specs.Option.{option_map, option_map_or, option_and_then}
 use Rattle.blot_types.specs.declared.command.Command.{Command}
-use Rattle.blot_types.specs.declared.command.Command.TheVariants.{Trade, Correct, Bust, AllocNew, AllocReplace, AllocCancel}
+use Rattle.blot_types.specs.declared.command.Command.TheVariants.{Trade, Correct, Bust, AllocNew, AllocReplace, AllocCancel, Withdraw}
 use Rattle.blot_types.specs.declared.command.Entry.{Entry}
 use Rattle.blot_types.specs.declared.keys.ExecKey.{ExecKey}
 use Rattle.blot_types.specs.Chains.{is_root, bust_in}
 use Rattle.blot_types.specs.Refusals.{listed_by}
 use Rattle.blot_types.specs.Survivors.{links_of, root_of}
+use Rattle.blot_command.specs.Book.{Shown, numbers_of, link_numbers}
 use Rattle.blot_withdraw.specs.declared.fault.EraseFault.{EraseFault}
 use Rattle.blot_withdraw.specs.declared.fault.EraseFault.TheVariants.{UnknownExec, NotBusted, Named, NoMemory}
 
@@ -20,6 +21,7 @@ chained_by (Bust bust) = Some bust.reference
 chained_by (AllocNew new) = None
 chained_by (AllocReplace replace) = None
 chained_by (AllocCancel cancel) = None
+chained_by (Withdraw withdrawn) = None
 
 -- whether an entry is of the chain of a root: it is its Trade, one of its Corrects, or its Bust
 abbrev pub is_of_chain : List Entry → ExecKey → Entry → Bool
@@ -56,3 +58,7 @@ erase_fault list key = fault_by list (root_of list key)
 -- the first fault that applies; or none applies, and memory ran out
 abbrev pub IsEraseFault : List Entry → ExecKey → EraseFault → Type 0
 IsEraseFault list key fault = erase_fault list key ≡ Some fault ⊎ ((erase_fault list key ≡ None) × (fault ≡ NoMemory))
+
+-- what a book keeps beside its list has no number but those of its list
+abbrev pub HasOnlyListed : Shown → Type 0
+HasOnlyListed book = (number : ℕ) → Contains (link_numbers book.kept) number → Contains (numbers_of book.list) number

@@ -1,1 +1,2 @@
 pub mod Erasure
+pub mod Withdrawing

@@ -58,6 +58,9 @@ fn chained_by(command: &Command) -> Option<ExecKey>
         Command::Trade(trade) => Some(trade.key),
         Command::Correct(correct) => Some(correct.key),
         Command::Bust(bust) => Some(bust.reference),
-        Command::AllocNew(_) | Command::AllocReplace(_) | Command::AllocCancel(_) => None,
+        Command::AllocNew(_)
+        | Command::AllocReplace(_)
+        | Command::AllocCancel(_)
+        | Command::Withdraw(_) => None,
     }
 }

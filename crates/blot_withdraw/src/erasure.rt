@@ -3,7 +3,7 @@ ghost use Rattle.std.specs.Prelude.{◌≡◌, ℕ, List, [], ◌∷◌, ◌++�
 ghost use Rattle.blot_types.specs.Legal.{is_book};
 ghost use Rattle.blot_types.specs.Order.{order_of};
 ghost use Rattle.blot_types.specs.Position.{position_of};
-ghost use Rattle.blot_withdraw.specs.Erasure.{without_chain, without_chain_of, erase_fault, IsEraseFault};
+ghost use Rattle.blot_withdraw.specs.Erasure.{without_chain, without_chain_of, erase_fault, IsEraseFault, HasOnlyListed};
 
 use crate::EraseFault;
 use crate::chain::{first_listing, is_of_chain};
@@ -58,8 +58,10 @@ fn without_chain(alloc: Global, list: &[Entry], root: &ExecKey) -> Result<Tables
 
 // Puts a copy of an entry after the others.
 fn put(alloc: Global, tables: &mut Tables, entry: &Entry) -> Result<(), NoMemory>
-    requires { IsTrue (is_book (tables.old.list ++ entry.now ∷ [])) }
-    ensures { OnOk result (tables.new.list ≡ tables.old.list ++ entry.now ∷ []) }
+    requires book { IsTrue (is_book (tables.old.list ++ entry.now ∷ [])) }
+    requires listed { HasOnlyListed tables.old }
+    ensures list { OnOk result (tables.new.list ≡ tables.old.list ++ entry.now ∷ []) }
+    ensures listed { OnOk result (HasOnlyListed tables.new) }
 {
     let command = match entry.command.try_copy(alloc) {
         Ok(command) => command,

@@ -125,6 +125,7 @@ fn show_command(shown: &mut String, command: &Command) -> Result<(), NoMemory> {
         Command::AllocNew(new) => show_word(shown, "allocate ", &new.key.id),
         Command::AllocReplace(replace) => show_word(shown, "replace ", &replace.key.id),
         Command::AllocCancel(cancel) => show_word(shown, "cancel ", &cancel.key.id),
+        Command::Withdraw(_) => shown.push_str("withdraw"),
     }
 }
 

@@ -4,7 +4,7 @@ use Rattle.blot_command.proofs.accounts.allocate.Goals as goal
 
 pub put_to_house-requires : goal.put_to_house-requires
 put_to_house-requires c =
-    let live = c.args.live.now in
+    let live = c.args.live.now.list in
     let terms = c.in-Some-Some.terms.now in
     let roots = c.in-Some-Some.roots.now in
     let is = allocated-some live c.args.key.now c.in-Some.key terms roots c.in-Some.is c.in-Some-Some.ensures c.in-Some-Some.ensures' in
@@ -12,7 +12,7 @@ put_to_house-requires c =
 
 pub put_lines-requires : goal.put_lines-requires
 put_lines-requires c =
-    let live = c.args.live.now in
+    let live = c.args.live.now.list in
     let terms = c.in-Some-Some.terms.now in
     let roots = c.in-Some-Some.roots.now in
     let is = allocated-some live c.args.key.now c.in-Some.key terms roots c.in-Some.is c.in-Some-Some.ensures c.in-Some-Some.ensures' in
@@ -21,7 +21,7 @@ put_lines-requires c =
 
 pub returns-in-Some-Some : goal.returns-in-Some-Some
 returns-in-Some-Some c =
-    let live = c.args.live.now in
+    let live = c.args.live.now.list in
     let terms = c.in-Some-Some.terms.now in
     let roots = c.in-Some-Some.roots.now in
     let is = allocated-some live c.args.key.now c.in-Some.key terms roots c.in-Some.is c.in-Some-Some.ensures c.in-Some-Some.ensures' in

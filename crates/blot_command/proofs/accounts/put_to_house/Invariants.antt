@@ -4,4 +4,4 @@ use Rattle.blot_command.proofs.ChangeListLemmas.{Leads}
 use Rattle.blot_command.proofs.accounts.put_to_house.Given as goal
 
 abbrev pub invariant-loop-root : goal.invariant-loop-root
-invariant-loop-root l = Leads (chains_to_house l.live (drop l.root-index l.roots)) l.positions (changed_all (chains_to_house l.live l.roots) l.initial.positions)
+invariant-loop-root l = Leads (chains_to_house l.live.list (drop l.root-index l.roots)) l.positions (changed_all (chains_to_house l.live.list l.roots) l.initial.positions)

@@ -4,7 +4,7 @@ use Rattle.blot_command.proofs.accounts.release.Goals as goal
 
 pub take_lines-requires : goal.take_lines-requires
 take_lines-requires c =
-    let live = c.args.live.now in
+    let live = c.args.live.now.list in
     let terms = c.in-Some-Some.terms.now in
     let roots = c.in-Some-Some.roots.now in
     let is = released-some live c.args.key.now c.in-Some.key terms roots c.in-Some.is c.in-Some-Some.ensures c.in-Some-Some.ensures' in
@@ -12,7 +12,7 @@ take_lines-requires c =
 
 pub take_from_house-requires : goal.take_from_house-requires
 take_from_house-requires c =
-    let live = c.args.live.now in
+    let live = c.args.live.now.list in
     let terms = c.in-Some-Some.terms.now in
     let roots = c.in-Some-Some.roots.now in
     let is = released-some live c.args.key.now c.in-Some.key terms roots c.in-Some.is c.in-Some-Some.ensures c.in-Some-Some.ensures' in
@@ -21,7 +21,7 @@ take_from_house-requires c =
 
 pub returns-in-Some-Some : goal.returns-in-Some-Some
 returns-in-Some-Some c =
-    let live = c.args.live.now in
+    let live = c.args.live.now.list in
     let terms = c.in-Some-Some.terms.now in
     let roots = c.in-Some-Some.roots.now in
     let is = released-some live c.args.key.now c.in-Some.key terms roots c.in-Some.is c.in-Some-Some.ensures c.in-Some-Some.ensures' in

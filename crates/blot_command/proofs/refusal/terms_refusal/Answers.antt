@@ -11,14 +11,15 @@ use Rattle.blot_types.specs.Order.{cum_of}
 use Rattle.blot_types.specs.Refusals.{first_of, bust_of_key, repeated_in, other_holder, current_fill, differs, booked, mismatch}
 use Rattle.blot_types.specs.Survivors.{links_of}
 use Rattle.blot_command.proofs.RefusalLemmas.{rule_passed, rule_applies, same_mismatch}
+use Rattle.blot_command.specs.Slots.{entries_in}
 use Rattle.blot_command.proofs.refusal.terms_refusal.Goals as goal
 
 pub returns-in-Some-busted_exec : goal.returns-in-Some-busted_exec
 returns-in-Some-busted_exec c =
     let execs = c.as_slice-execs.ensures.items in
-    let unknown : find (λ key. is_none (root_in (links_of c.args.entries.now) key)) c.args.terms.now.execs ≡ None =
+    let unknown : find (λ key. is_none (root_in (links_of (entries_in c.args.slots.now)) key)) c.args.terms.now.execs ≡ None =
     ap (λ links. find (λ key. is_none (root_in links key)) c.args.terms.now.execs) (sym c.requires.chains.links_are) ∙ ap (find (λ key. is_none (root_in c.args.chains.now.list key))) (sym execs) ∙ sym c.unknown_exec.ensures ∙ c.in_default.is in
-    let busted : first_of (bust_of_key (links_of c.args.entries.now)) c.args.terms.now.execs ≡ Some c.in-Some-busted_exec.number =
+    let busted : first_of (bust_of_key (links_of (entries_in c.args.slots.now))) c.args.terms.now.execs ≡ Some c.in-Some-busted_exec.number =
     ap (λ links. first_of (bust_of_key links) c.args.terms.now.execs) (sym c.requires.chains.links_are) ∙ ap (first_of (bust_of_key c.args.chains.now.list)) (sym execs) ∙ sym c.busted_exec.ensures ∙ c.in-Some-busted_exec.is in
     sym (rule_passed UnknownExec _ _ unknown ∙ rule_applies BustedExec _ _ _ busted)
 
@@ -27,18 +28,18 @@ returns-in-Some-other_instrument c =
     let execs = c.as_slice-execs.ensures.items in
     let links = c.requires.chains.links_are in
     let keys = c.args.terms.now.execs in
-    let unknown : find (λ key. is_none (root_in (links_of c.args.entries.now) key)) keys ≡ None =
+    let unknown : find (λ key. is_none (root_in (links_of (entries_in c.args.slots.now)) key)) keys ≡ None =
     ap (λ links. find (λ key. is_none (root_in links key)) keys) (sym links) ∙ ap (find (λ key. is_none (root_in c.args.chains.now.list key))) (sym execs) ∙ sym c.unknown_exec.ensures ∙ c.in_default.is in
-    let busted : first_of (bust_of_key (links_of c.args.entries.now)) keys ≡ None =
+    let busted : first_of (bust_of_key (links_of (entries_in c.args.slots.now))) keys ≡ None =
     ap (λ links. first_of (bust_of_key links) keys) (sym links) ∙ ap (first_of (bust_of_key c.args.chains.now.list)) (sym execs) ∙ sym c.busted_exec.ensures ∙ c.in_default-busted_exec.is in
-    let repeated : repeated_in (links_of c.args.entries.now) [] keys ≡ None =
+    let repeated : repeated_in (links_of (entries_in c.args.slots.now)) [] keys ≡ None =
     ap (λ links. repeated_in links [] keys) (sym links) ∙ ap (repeated_in c.args.chains.now.list []) (sym execs) ∙ sym c.repeated_exec.ensures ∙ c.in_default-repeated_exec.is in
-    let taken : first_of (other_holder (links_of c.args.entries.now) (instructions_of c.args.entries.now) c.args.reference.now) keys ≡ None =
-    ap (λ links. first_of (other_holder links (instructions_of c.args.entries.now) c.args.reference.now) keys) (sym links)
+    let taken : first_of (other_holder (links_of (entries_in c.args.slots.now)) (instructions_of (entries_in c.args.slots.now)) c.args.reference.now) keys ≡ None =
+    ap (λ links. first_of (other_holder links (instructions_of (entries_in c.args.slots.now)) c.args.reference.now) keys) (sym links)
     ∙ ap (λ instructions. first_of (other_holder c.args.chains.now.list instructions c.args.reference.now) keys) (sym c.requires.instructions_are)
     ∙ ap (first_of (other_holder c.args.chains.now.list c.args.allocs.now.list c.args.reference.now)) (sym execs) ∙ sym c.exec_taken.ensures ∙ c.in_default-exec_taken.is in
-    let other : find (λ key. option_map_or (differs c.args.terms.now) (current_fill (reverse c.args.entries.now) key) false) keys ≡ Some c.in-Some-other_instrument.key =
-    ap (find (λ key. option_map_or (differs c.args.terms.now) (current_fill (reverse c.args.entries.now) key) false)) (sym execs) ∙ sym c.other_instrument.ensures ∙ c.in-Some-other_instrument.is in
+    let other : find (λ key. option_map_or (differs c.args.terms.now) (current_fill (reverse (entries_in c.args.slots.now)) key) false) keys ≡ Some c.in-Some-other_instrument.key =
+    ap (find (λ key. option_map_or (differs c.args.terms.now) (current_fill (reverse (entries_in c.args.slots.now)) key) false)) (sym execs) ∙ sym c.other_instrument.ensures ∙ c.in-Some-other_instrument.is in
     sym (rule_passed UnknownExec _ _ unknown ∙ rule_passed BustedExec _ _ busted ∙ rule_passed RepeatedExec _ _ repeated ∙ rule_passed ExecTaken _ _ taken ∙ rule_applies Instrument _ _ _ other)
 
 pub returns : goal.returns
@@ -46,15 +47,15 @@ returns c =
     let execs = c.as_slice-execs.ensures.items in
     let links = c.requires.chains.links_are in
     let keys = c.args.terms.now.execs in
-    let fill = current_fill (reverse c.args.entries.now) in
-    let unknown : find (λ key. is_none (root_in (links_of c.args.entries.now) key)) keys ≡ None =
+    let fill = current_fill (reverse (entries_in c.args.slots.now)) in
+    let unknown : find (λ key. is_none (root_in (links_of (entries_in c.args.slots.now)) key)) keys ≡ None =
     ap (λ links. find (λ key. is_none (root_in links key)) keys) (sym links) ∙ ap (find (λ key. is_none (root_in c.args.chains.now.list key))) (sym execs) ∙ sym c.unknown_exec.ensures ∙ c.in_default.is in
-    let busted : first_of (bust_of_key (links_of c.args.entries.now)) keys ≡ None =
+    let busted : first_of (bust_of_key (links_of (entries_in c.args.slots.now))) keys ≡ None =
     ap (λ links. first_of (bust_of_key links) keys) (sym links) ∙ ap (first_of (bust_of_key c.args.chains.now.list)) (sym execs) ∙ sym c.busted_exec.ensures ∙ c.in_default-busted_exec.is in
-    let repeated : repeated_in (links_of c.args.entries.now) [] keys ≡ None =
+    let repeated : repeated_in (links_of (entries_in c.args.slots.now)) [] keys ≡ None =
     ap (λ links. repeated_in links [] keys) (sym links) ∙ ap (repeated_in c.args.chains.now.list []) (sym execs) ∙ sym c.repeated_exec.ensures ∙ c.in_default-repeated_exec.is in
-    let taken : first_of (other_holder (links_of c.args.entries.now) (instructions_of c.args.entries.now) c.args.reference.now) keys ≡ None =
-    ap (λ links. first_of (other_holder links (instructions_of c.args.entries.now) c.args.reference.now) keys) (sym links)
+    let taken : first_of (other_holder (links_of (entries_in c.args.slots.now)) (instructions_of (entries_in c.args.slots.now)) c.args.reference.now) keys ≡ None =
+    ap (λ links. first_of (other_holder links (instructions_of (entries_in c.args.slots.now)) c.args.reference.now) keys) (sym links)
     ∙ ap (λ instructions. first_of (other_holder c.args.chains.now.list instructions c.args.reference.now) keys) (sym c.requires.instructions_are)
     ∙ ap (first_of (other_holder c.args.chains.now.list c.args.allocs.now.list c.args.reference.now)) (sym execs) ∙ sym c.exec_taken.ensures ∙ c.in_default-exec_taken.is in
     let other : find (λ key. option_map_or (differs c.args.terms.now) (fill key) false) keys ≡ None =

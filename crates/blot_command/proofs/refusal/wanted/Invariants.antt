@@ -2,7 +2,8 @@ use Rattle.std.proofs.Common.{◌≡◌, ◌*◌, ◌^◌, pos, ◌≤ℤ◌, ta
 use Rattle.std.specs.List.{filter_map}
 use Rattle.blot_types.specs.Order.{cum_of}
 use Rattle.blot_types.specs.Refusals.{current_fill}
+use Rattle.blot_command.specs.Slots.{entries_in}
 use Rattle.blot_command.proofs.refusal.wanted.Given as goal
 
 abbrev pub invariant-loop-key : goal.invariant-loop-key
-invariant-loop-key l = record { sum : l.sum ≡ cum_of (filter_map (current_fill (reverse l.entries)) (take l.key-index l.execs)); low : pos 0 ≤ℤ l.sum; high : l.sum ≤ℤ pos (10 ^ 16 * l.key-index) }
+invariant-loop-key l = record { sum : l.sum ≡ cum_of (filter_map (current_fill (reverse (entries_in l.slots))) (take l.key-index l.execs)); low : pos 0 ≤ℤ l.sum; high : l.sum ≤ℤ pos (10 ^ 16 * l.key-index) }

@@ -1,6 +1,6 @@
 use Rattle.std.specs.Prelude.{◌≡◌}
 use Rattle.blot_undo.specs.declared.fault.StepFault.TheVariants.{Refused as RefusedStep}
-use Rattle.blot_desk.proofs.DeskLemmas.{refused_submit}
+use Rattle.blot_desk.proofs.DeskLemmas.{accepted_submit, refused_submit}
 use Rattle.blot_desk.proofs.taking.submit.Goals as goal
 
 pub returns-in-Err-Refused-default-Refused-clause-ok : goal.returns-in-Err-Refused-default-Refused-clause-ok
@@ -10,3 +10,10 @@ returns-in-Err-Refused-default-Refused-clause-ok c = let a = c.in-Err-Refused-de
     (rw fault at (rw a.is at o.ensures.fault))
     (rw fault at (rw a.is at a.field-0-1-is))
     (rw a.is at o.ensures.err)
+
+pub returns-in-Ok-clause-ok : goal.returns-in-Ok-clause-ok
+returns-in-Ok-clause-ok c =
+    let done = rw c.in-Ok.is at c.apply-outcome.ensures.taken in
+    let accepted = rw c.in-Ok.is at c.apply-outcome.ensures.accepted in
+    let number = rw c.in-Ok.is at c.apply-outcome.ensures.number in
+    accepted_submit _ _ c.args.command _ accepted done number

@@ -18,3 +18,4 @@ invariant_of-self-2 c =
     (c.len-place.ensures ∙ c.reserve.new.self.ok.0 ∙ ap length c.reserve.ensures.items ∙ sym (length-reverse slots)))
     (subst (λ shown. may_follow shown.list c.args.key.now c.args.role c.args.roots ≡ true) (sym c.self.view_is) c.requires.accepted)
     (subst (λ shown. is_above_instructions c.args.number shown.list ≡ true) (sym c.self.view_is) c.requires.above)
+    (subst (λ shown. is_above_instructions c.args.number shown.kept ≡ true) (sym c.self.view_is) c.requires.above_kept)

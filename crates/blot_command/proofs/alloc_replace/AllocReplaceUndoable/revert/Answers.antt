@@ -1,8 +1,11 @@
 use Rattle.std.proofs.Common.{refl}
 use Rattle.blot_types.specs.declared.command.Command.TheVariants.{AllocReplace}
 use Rattle.blot_command.specs.Kinds.{alloc_replace_of}
-use Rattle.blot_command.proofs.StepLemmas.{is_of_kind}
+use Rattle.blot_command.proofs.StepLemmas.{is_of_kind, takes_out_kind}
 use Rattle.blot_command.proofs.alloc_replace.AllocReplaceUndoable.revert.Goals as goal
 
 pub into_alloc_replace-requires : goal.into_alloc_replace-requires
-into_alloc_replace-requires c = is_of_kind AllocReplace alloc_replace_of (λ command. refl) _ _ _ c.requires c.revert.ensures.command
+into_alloc_replace-requires c = is_of_kind AllocReplace alloc_replace_of (λ command. refl) _ _ _ c.requires c.leave.ensures.command
+
+pub returns-clause-kept : goal.returns-clause-kept
+returns-clause-kept c = takes_out_kind AllocReplace alloc_replace_of _ _ _ c.leave.ensures.kept

@@ -1,14 +1,19 @@
-use Rattle.std.proofs.Common.{refl, Some}
-use Rattle.blot_command.proofs.StepLemmas.{taken_back, takes_out}
+use Rattle.std.proofs.Common.{sym, subst}
+use Rattle.blot_command.specs.Meanings.{command_meaning}
+use Rattle.blot_command.specs.Undoable.{Undoes, TakesOut}
+use Rattle.blot_command.proofs.TakenLemmas.{takes_out_as, returns_taken, puts_back}
 use Rattle.blot_command.proofs.command.CommandUndoable.revert.Goals as goal
 
-pub returns-clause-list : goal.returns-clause-list
-returns-clause-list c = (taken_back (λ command. command) (λ command. Some command) (λ command. refl) _ _ _ _ c.requires c.take_last.ensures).0
+pub un_lift-requires : goal.un_lift-requires
+un_lift-requires c =
+    returns_taken c.in-Taken.entry c.args.tables.now (subst (λ inverse. Undoes command_meaning inverse c.args.tables.now) c.in-Taken.is c.requires)
 
-pub returns-clause-command : goal.returns-clause-command
-returns-clause-command c = (taken_back (λ command. command) (λ command. Some command) (λ command. refl) _ _ _ _ c.requires c.take_last.ensures).1
+pub returns-in-Number-clause-kept : goal.returns-in-Number-clause-kept
+returns-in-Number-clause-kept c =
+    subst (λ inverse. TakesOut command_meaning inverse c.args.tables.now c.leave.new.tables) (sym c.in-Number.is)
+    (takes_out_as c.args.tables.now c.leave.new.tables c.in-Number.number c.leave.ensures.list c.leave.ensures.left c.leave.ensures.kept)
 
-pub returns-clause-kept : goal.returns-clause-kept
-returns-clause-kept c =
-    takes_out (λ command. command) (λ command. Some command) _ _ _
-    (taken_back (λ command. command) (λ command. Some command) (λ command. refl) _ _ _ _ c.requires c.take_last.ensures).0
+pub returns-in-Taken-clause-kept : goal.returns-in-Taken-clause-kept
+returns-in-Taken-clause-kept c =
+    subst (λ inverse. TakesOut command_meaning inverse c.args.tables.now c.un_lift.new.self) (sym c.in-Taken.is)
+    (puts_back c.args.tables.now c.un_lift.new.self c.in-Taken.entry c.un_lift.ensures.returned)

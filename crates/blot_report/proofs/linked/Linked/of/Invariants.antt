@@ -6,4 +6,5 @@ abbrev pub invariant-loop-entry : goal.invariant-loop-entry
 invariant-loop-entry l = record {
   holds : HoldsList (take l.entry-index l.entries) l.chains.list l.allocs.list;
   unlifted : l.chains.kept ≡ [];
+  unlifted_instructions : l.allocs.kept ≡ [];
 }

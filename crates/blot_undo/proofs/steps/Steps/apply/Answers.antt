@@ -1,12 +1,23 @@
-use Rattle.std.proofs.Common.{◌≤◌, ◌+◌, ap, arith, length}
+use Rattle.std.proofs.Common.{◌≤◌, ◌+◌, ◌∙◌, ap, arith, length, reverse}
 use Rattle.std.specs.Vec.{vec_capacity}
 use Rattle.blot_types.specs.declared.TheConstants.{EVENTS_MAX}
-use Rattle.blot_undo.specs.Book.{Stack}
-use Rattle.blot_undo.proofs.StackLemmas.{above_next, apply_keeps, turned_back}
+use Rattle.blot_undo.specs.Book.{Stack, book_of}
+use Rattle.blot_undo.proofs.StackLemmas.{above_next, apply_keeps, turned_back, undoes_taken, list_again}
 use Rattle.blot_undo.proofs.steps.Steps.apply.Goals as goal
 
 pub apply-requires-clause-above : goal.apply-requires-clause-above
 apply-requires-clause-above g c = above_next g.C.Undoable.meaning c.self.inside.state _ _ c.self.inside.next _ _ c.self.invariant
+
+pub revert-requires : goal.revert-requires
+revert-requires g c =
+    undoes_taken g.C.Undoable.meaning c.self.inside.state c.apply.new.state _ _ _ _ _ _ c.in-Ok.inverse c.self.invariant c.in-Ok.ensures.accepted c.in-Ok.ensures.kept
+
+pub returns-in_default-clause-err : goal.returns-in_default-clause-err
+returns-in_default-clause-err g c =
+    let m = g.C.Undoable.meaning in
+    let again = list_again m g.met.C.Undoable.lawful c.self.inside.state c.apply.new.state c.revert.new.state _ c.self.inside.next c.in-Ok.inverse c.in-Ok.ensures.accepted c.revert.ensures.list in
+    (λ i. record { list = again i; done = reverse (c.make_room.ensures.done i); undone = reverse (c.make_room.ensures.undone i); next = c.self.inside.next })
+    ∙ ap (λ (stack : Stack _ _ _). book_of m stack) c.self.view_is
 
 pub invariant_of-self-in_default : goal.invariant_of-self-in_default
 invariant_of-self-in_default g c =

@@ -1,0 +1,115 @@
+-- Withdrawals, computed on worked days.
+use Rattle.std.specs.Prelude.{◌≡◌, ℕ, ◌*◌, ◌^◌, pos, List, [], ◌∷◌, Some, None, refl}
+use Rattle.blot_types.specs.declared.allocation.Terms.{Terms}
+use Rattle.blot_types.specs.declared.command.Command.TheVariants.{Trade, Correct, Bust, AllocNew, Withdraw}
+use Rattle.blot_types.specs.declared.command.Entry.{Entry}
+use Rattle.blot_types.specs.declared.fill.Fill.{Fill}
+use Rattle.blot_types.specs.declared.fill.Sign.TheVariants.{Buy}
+use Rattle.blot_types.specs.declared.keys.ExecKey.{ExecKey}
+use Rattle.blot_types.specs.declared.keys.OrderKey.{OrderKey}
+use Rattle.blot_types.specs.declared.lines.OrderLine.{OrderLine}
+use Rattle.blot_types.specs.declared.refused.Refused.TheVariants.{NotLive}
+use Rattle.blot_types.specs.Legal.{refusal_of}
+use Rattle.blot_types.specs.Order.{order_of}
+use Rattle.blot_command.specs.declared.inverse.Inverse.TheVariants.{Taken}
+use Rattle.blot_command.specs.Book.{after, before, inverse_of}
+
+abbrev exec : ℕ → ExecKey
+exec n = record { peer = 66 ∷ []; id = 69 ∷ n ∷ [] }
+
+abbrev order : ℕ → OrderKey
+order n = record { peer = 66 ∷ []; id = 79 ∷ n ∷ [] }
+
+-- a fill of an order of a size: so much at a price in hundredths
+abbrev filled : ℕ → ℕ → ℕ → ℕ → Fill
+filled o size qty price = record {
+  order = order o;
+  account = None;
+  symbol = 88 ∷ [];
+  sign = Buy;
+  size = pos (size * 10 ^ 6);
+  qty = qty * 10 ^ 6;
+  price = pos (price * 10 ^ 6);
+  day = pos 0;
+}
+
+abbrev trade : ℕ → ℕ → Fill → Entry
+trade number key fill = record { number = number; command = Trade (record { key = exec key; fill = fill }) }
+
+abbrev correct : ℕ → ℕ → ℕ → Fill → Entry
+correct number key reference fill = record { number = number; command = Correct (record { key = exec key; reference = exec reference; fill = fill }) }
+
+abbrev bust : ℕ → ℕ → ℕ → Entry
+bust number key reference = record { number = number; command = Bust (record { key = exec key; reference = exec reference }) }
+
+-- the line of an order: cum, leaves, and value in hundredths
+abbrev line : ℕ → ℕ → ℕ → OrderLine
+line cum leaves value = record { cum = pos (cum * 10 ^ 6); leaves = pos (leaves * 10 ^ 6); value = pos (value * 10 ^ 12); symbol = 88 ∷ []; sign = Buy }
+
+-- ---- a bust withdrawn: a trade, a second one, a correction of the first, and its bust
+
+abbrev corrected : List Entry
+corrected = trade 1 1 (filled 1 300 100 1050) ∷ trade 2 2 (filled 1 250 50 1100) ∷ correct 3 3 1 (filled 1 300 80 1025) ∷ []
+
+abbrev busted : List Entry
+busted = trade 1 1 (filled 1 300 100 1050) ∷ trade 2 2 (filled 1 250 50 1100) ∷ correct 3 3 1 (filled 1 300 80 1025) ∷ bust 4 4 3 ∷ []
+
+busted_line : order_of busted (order 1) ≡ Some (line 50 200 55000)
+busted_line = refl
+
+withdrawn_accepted : refusal_of busted (Withdraw 4) ≡ None
+withdrawn_accepted = refl
+
+withdrawn_list : after busted (Withdraw 4) 5 ≡ corrected
+withdrawn_list = refl
+
+withdrawn_inverse : inverse_of busted (Withdraw 4) 5 ≡ Taken (bust 4 4 3)
+withdrawn_inverse = refl
+
+withdrawn_line : order_of corrected (order 1) ≡ Some (line 130 170 137000)
+withdrawn_line = refl
+
+withdrawn_back : before corrected (Taken (bust 4 4 3)) ≡ busted
+withdrawn_back = refl
+
+again : refusal_of corrected (Withdraw 4) ≡ Some (NotLive 4)
+again = refl
+
+no_entry : refusal_of corrected (Withdraw 5) ≡ Some (NotLive 5)
+no_entry = refl
+
+no_bust : refusal_of corrected (Withdraw 1) ≡ Some (NotLive 1)
+no_bust = refl
+
+-- ---- a bust withdrawn out of order: what came after it stays
+
+abbrev terms : Terms
+terms = record {
+  symbol = 88 ∷ [];
+  sign = Buy;
+  day = pos 0;
+  block = 20 * 10 ^ 6;
+  execs = exec 6 ∷ [];
+  lines = record { account = 65 ∷ []; qty = 20 * 10 ^ 6; price = pos 1 } ∷ [];
+}
+
+abbrev allocated : Entry
+allocated = record { number = 6; command = AllocNew (record { key = record { peer = 66 ∷ []; id = 76 ∷ [] }; terms = terms }) }
+
+abbrev first : Entry
+first = trade 1 1 (filled 1 300 100 1000)
+
+abbrev after_it : List Entry
+after_it = trade 3 2 (filled 2 300 50 1000) ∷ trade 4 6 (filled 2 300 20 1000) ∷ correct 5 5 2 (filled 2 300 40 1000) ∷ allocated ∷ []
+
+out_of_order : after (first ∷ bust 2 4 1 ∷ after_it) (Withdraw 2) 7 ≡ first ∷ after_it
+out_of_order = refl
+
+out_of_order_accepted : refusal_of (first ∷ bust 2 4 1 ∷ after_it) (Withdraw 2) ≡ None
+out_of_order_accepted = refl
+
+stands_again : order_of (first ∷ after_it) (order 1) ≡ Some (line 100 200 100000)
+stands_again = refl
+
+busted_again : before (first ∷ after_it) (inverse_of (first ∷ bust 2 4 1 ∷ after_it) (Withdraw 2) 7) ≡ first ∷ bust 2 4 1 ∷ after_it
+busted_again = refl

@@ -1,0 +1,25 @@
+//! An entry taken out of the middle of the book.
+ghost use Rattle.std.specs.Prelude.{◌≡◌, find, Some, None, OnErr, OnOk, IfOk, IfErr, IsTrue};
+ghost use Rattle.blot_types.specs.Legal.{is_book, withdrawal_refusal};
+ghost use Rattle.blot_command.specs.Book.{has_number};
+ghost use Rattle.blot_command.specs.Withdrawing.{lifted, CanReturn};
+
+use crate::{BoxedEntry, Tables};
+use blot_types::Refused;
+
+/// Takes the entry of a number out of the book, whatever came later, or says why that is refused. No memory is taken.
+pub(crate) fn withdraw(tables: &mut Tables, number: u64) -> Result<BoxedEntry, Refused>
+    ensures accepted { OnOk result (withdrawal_refusal tables.old.list number ≡ None) }
+    ensures entry { IfOk result (λ entry. find (has_number number) tables.old.list ≡ Some entry) }
+    ensures lifted { OnOk result (tables.new ≡ lifted number tables.old) }
+    ensures kept { IfOk result (λ entry. CanReturn entry tables.new) }
+    ensures refused { IfErr result (λ refused. withdrawal_refusal tables.old.list number ≡ Some refused) }
+    ensures err { OnErr result (tables.new ≡ tables.old) }
+    ensures book { IsTrue (is_book tables.old.list) }
+{
+    match tables.entry(number) {
+        Some(entry) if entry.command.is_bust() => {}
+        _ => return Err(Refused::NotLive(number)),
+    }
+    Ok(tables.lift(number))
+}

@@ -1,0 +1,24 @@
+//! What has a number.
+
+use crate::Instruction;
+
+/// What has a number, by which it is found in a list: an entry's own, or that of the entry that it comes from.
+pub trait Numbered {
+    ghost use Rattle.std.specs.Prelude.{◌≡◌, ℕ};
+
+    ghost number_of: { Self → ℕ };
+
+    /// Its number.
+    fn number(&self) -> u64
+        ensures { result ≡ number_of self.now };
+}
+
+impl Numbered for Instruction {
+    ghost use Rattle.std.specs.Prelude.{◌≡◌, ℕ};
+
+    ghost number_of = { λ instruction. instruction.number };
+
+    fn number(&self) -> u64 {
+        self.number
+    }
+}

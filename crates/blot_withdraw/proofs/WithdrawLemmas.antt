@@ -1,0 +1,73 @@
+-- A Withdraw is a step as the command of that name is.
+use Rattle.std.proofs.Common.{◌≡◌, ℕ, ◌≤◌, true, false, List, Some, None, refl, sym, ap, ◌∙◌}
+use Rattle.std.specs.Prelude.{find, if◌then◌else◌}
+use Rattle.std.specs.Option.{option_map, option_map_or}
+use Rattle.blot_types.specs.declared.command.Command.TheVariants.{Withdraw as WithdrawCommand}
+use Rattle.blot_types.specs.declared.command.Entry.{Entry}
+use Rattle.blot_types.specs.declared.refused.Refused.TheVariants.{NotLive}
+use Rattle.blot_types.specs.declared.TheConstants.{EVENTS_MAX}
+use Rattle.blot_types.specs.Legal.{is_book, withdrawal_refusal}
+use Rattle.blot_types.specs.Refusals.{is_live_bust, is_bust}
+use Rattle.blot_types.specs.Withdrawal.{without}
+use Rattle.blot_command.specs.declared.fault.ApplyFault.TheVariants.{Refused}
+use Rattle.blot_command.specs.declared.inverse.Inverse.TheVariants.{Number, Taken}
+use Rattle.blot_command.specs.Book.{Shown, has_number, numbers_of, taken_of}
+use Rattle.blot_command.specs.Meanings.{command_meaning}
+use Rattle.blot_command.specs.Undoable.{AllBelow, IsAboveNumbers, IsStep, Adds, UndoesStep, Undoes, TakesOut}
+use Rattle.blot_command.specs.Withdrawing.{lifted, returned, CanReturn}
+use Rattle.blot_command.proofs.TakenLemmas.{withdraw_adds, returns_taken, puts_back}
+use Rattle.blot_withdraw.specs.declared.withdrawing.Withdraw.{Withdraw}
+use Rattle.blot_withdraw.specs.Withdrawing.{withdraw_meaning, taken_from, taken_bust}
+
+-- a Bust that is found isn't refused
+accepted : (list : List Entry) (taken : ℕ) (entry : Entry) → find (has_number taken) list ≡ Some entry → is_bust entry.command ≡ true → withdrawal_refusal list taken ≡ None
+accepted list taken entry found bust =
+    let live : is_live_bust taken list ≡ true = ap (λ found. option_map_or (λ (e : Entry). is_bust e.command) found false) found ∙ bust in
+    ap (λ live. if live then None else Some (NotLive taken)) live
+
+pub withdraw_step :
+    (list next : List Entry) (withdraw : Withdraw) (number : ℕ) (entry : Entry) → is_book list ≡ true → find (has_number withdraw.0) list ≡ Some entry → is_bust entry.command ≡ true
+    → number ≤ EVENTS_MAX → AllBelow number (numbers_of list) → next ≡ without withdraw.0 list → IsStep withdraw_meaning list withdraw number entry next
+withdraw_step list next withdraw number entry book found bust within above is = record {
+  valid = book;
+  within = within;
+  is_next = record { accepted = ap (option_map Refused) (accepted list withdraw.0 entry found bust); above = above };
+  inverse_is = sym (ap (λ o. option_map_or (λ (e : Entry). e) o (record { number = withdraw.0; command = WithdrawCommand withdraw.0 })) found);
+  list_is = is;
+}
+
+pub withdraw_keeps :
+    (old new : Shown) (taken number : ℕ) (entry : Entry) → is_book old.list ≡ true → find (has_number taken) old.list ≡ Some entry → new ≡ lifted taken old → CanReturn entry new
+    → IsAboveNumbers withdraw_meaning number old → Adds withdraw_meaning number entry old new
+withdraw_keeps old new taken number entry book found is can above =
+    let adds = withdraw_adds old new taken number entry book (accepted old.list taken entry found can.bust) found is can above in
+    record { brings = adds.brings; own = adds.own; earlier = λ n other below kept. adds.earlier n (Taken other) below kept }
+
+-- what it takes back
+undoes_command :
+    (list : List Entry) (withdraw : Withdraw) (number : ℕ) (entry : Entry) (state : Shown) → UndoesStep withdraw_meaning list withdraw number entry state
+    → UndoesStep command_meaning list (WithdrawCommand withdraw.0) number (Taken entry) state
+undoes_command list withdraw number entry state undoes =
+    let step = undoes.step in
+    let has = taken_bust list withdraw number step.is_next in
+    let own : Taken (taken_from list withdraw.0) ≡ taken_of list withdraw.0 = rw has.found refl in
+    record {
+      step = record {
+        valid = step.valid;
+        within = step.within;
+        is_next = record { accepted = step.is_next.accepted; above = step.is_next.above };
+        inverse_is = ap Taken step.inverse_is ∙ own;
+        list_is = step.list_is;
+      };
+      kept = undoes.kept;
+      latest = undoes.latest;
+    }
+
+pub can_return : (entry : Entry) (state : Shown) → Undoes withdraw_meaning entry state → CanReturn entry state
+can_return entry state (list, withdraw, number, undoes) =
+    returns_taken entry state (list, WithdrawCommand withdraw.0, number, undoes_command list withdraw number entry state undoes)
+
+pub withdraw_returns : (old new : Shown) (entry : Entry) → new ≡ returned entry old → TakesOut withdraw_meaning entry old new
+withdraw_returns old new entry is list withdraw number undoes =
+    let leaves = puts_back old new entry is list (WithdrawCommand withdraw.0) number (undoes_command list withdraw number entry old undoes) in
+    record { brings_none = leaves.brings_none; gone = leaves.gone; earlier = λ n other below kept. leaves.earlier n (Taken other) below kept }
