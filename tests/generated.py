@@ -38,7 +38,8 @@ NOISE = ('noise', '8', '8=FIX.4.4|', '8=FIX.4.2|9=5|35=0|10=000|', '8=FIX.4.4|9=
          '8=FIX.4.4|9=65537|35=', '8=FIX.4.4|9=0000045|', '\xff\x00|', '10=000|')
 BAD_LINES = ('', 'undo', 'undo\tx', 'undo\t1\t2', 'undo\t1234567890', 'Undo\t1', 'oder\tBRKA\tO1', 'redo\t', 'order\t\tO1',
              'order\tBRKA\t', 'order\tBRKA', 'position\t*', 'position\tA\x7f\tXYZ', 'report\t20240230', 'report\t2024', 'report',
-             'redo\r', 'allocate\tBRKA\tAL9\tXYZ', 'allocate\tBRKA\tAL9\tXYZ\tB\t20240105\t10\t0', 'undo\t' + '1' * 65531,
+             'redo\r', 'withdraw', 'withdraw\tx', 'withdraw\t1\t2', 'withdraw\t0000000001', 'mine\t', 'mine\t1',
+             'allocate\tBRKA\tAL9\tXYZ', 'allocate\tBRKA\tAL9\tXYZ\tB\t20240105\t10\t0', 'undo\t' + '1' * 65531,
              'undo\t' + '1' * 65532)
 
 
@@ -242,12 +243,19 @@ class Drawing:
             words[self.below(len(words) - 1) + 1] = self.pick(BAD_VALUES)
         return words[:-1] if self.once_in(16) else words
 
+    def withdrawn(self):
+        """A number to withdraw: mostly that of an entry, else that of any step."""
+        entries, done = self.day.desk.entries, self.day.desk.done
+        numbers = [it.number for it in (done if self.once_in(5) else entries)]
+        return self.pick(numbers) if numbers and not self.once_in(20) else self.below(70)
+
     def line(self):
         """An operator's line, drawn by the desk as it is."""
-        newest = self.day.desk.entries[-1].number if self.day.desk.entries else 1
+        newest = self.day.desk.done[-1].number if self.day.desk.done else 1
         return '\t'.join(self.pick((
             ['undo', str(newest)], ['undo', str(newest)], ['undo', f'0{newest}'], ['undo', str(self.near(newest))], ['redo'],
-            ['redo'],
+            ['redo'], ['redo'], ['mine'],
+            *(['withdraw', str(self.withdrawn())] for _ in range(4)),
             ['order', self.pick(PEERS), f'O{self.below(4)}'], ['order', self.pick(PEERS), f'O{self.below(3)}'],
             ['position', self.pick(('*', 'A', 'A1', 'B', 'Z')), self.symbol()], ['position', '*', 'XYZ'],
             ['report', self.pick((*DAYS, '20240107'))], self.allocate(), self.allocate(), [self.pick(BAD_LINES)])))
@@ -259,17 +267,17 @@ class Drawing:
             drawn.append(self.line())
             answered(self.day.desk, drawn[-1])
         if self.once_in(4):
-            undos = [f'undo\t{it.number}' for it in reversed(self.day.desk.entries)] + ['undo\t1']
-            redos = ['redo'] * (len(self.day.desk.entries) + len(self.day.desk.undone) + 1)
+            undos = [f'undo\t{it.number}' for it in reversed(self.day.desk.done)] + ['undo\t1']
+            redos = ['redo'] * (len(self.day.desk.done) + len(self.day.desk.undone) + 1)
             drawn += [line for it in undos + redos for line in (it, *([f'report\t{self.pick(DAYS)}'] if self.once_in(4) else []))]
         return '\n'.join(drawn).encode('latin-1')
 
 
 def answered(desk, line):
     try:
-        plain.answer(desk, line)
+        return plain.answer(desk, line)
     except plain.Bad:
-        pass
+        return []
 
 
 def drawn(seed):
@@ -310,7 +318,8 @@ def seen(program, seed):
                  ([program, 'replay', *own, '--day', dated, *PEERS], capture, report),
                  ([program, 'desk', *own, '--capture', str(file), *PEERS], lines, told))
         found = next(filter(None, (compared(words, given, wanted.encode('latin-1')) for words, given, wanted in calls)), None)
-    return found, counted(trail, told, plain.day_of(text, OWN, PEERS).desk.entries)
+    desk = plain.day_of(text, OWN, PEERS).desk
+    return found, counted(trail, told, desk.entries) + withdrawals(desk, lines.decode('latin-1').split('\n'))
 
 
 def tried(program, seed):
@@ -335,7 +344,8 @@ EACH = [
     *(f'sent 35={it}' for it in ('A', '0', '2', '3', '4', '5', 'P', 'j')),
     'sent 141=Y', 'sent 371', 'sent 373=9', 'sent 87=0', 'sent 88=1', 'sent 88=7', 'sent 88=10', 'skipped', 'rest',
     *(f'answer {it}' for it in ('accepted', 'undone', 'redone', 'order', 'position', 'none', 'report', 'end')),
-    *(f'answer refused {it}' for it in (2, 5, 6, 7, 8, 9, 10, 13, 14, 15)),
+    *(f'answer refused {it}' for it in (2, 5, 6, 7, 8, 9, 10, 11, 12, 13, 14, 15)),
+    *(f'{what} {it}' for it in COMMANDS for what in ('withdrawn', 'returned', 'needed') if (what, it) != ('needed', 'Bust')),
     *(f'answer bad {it}' for it in (1, 2, 3, 4))]
 
 
@@ -353,6 +363,26 @@ def counted(trail, told, entries):
             came[words[0]] += 1
     for words in (line.split('\t') for line in told.splitlines()):
         came['answer ' + ' '.join(words[:2 if words[0] in ('refused', 'bad') else 1])] += 1
+    return came
+
+
+def kind_of(entries, number):
+    return next(it.kind for it in entries if it.number == number)
+
+
+def withdrawals(desk, lines):
+    """How often an entry of each kind is withdrawn by these lines, is back where that is undone, and stays since another needs it."""
+    came = Counter()
+    for line in lines:
+        before = desk.entries
+        for told in answered(desk, line):
+            step = desk.done[-1] if told[0] == 'accepted' else desk.undone[-1] if told[0] == 'undone' else None
+            if step and isinstance(step.command, plain.Withdraw):
+                what = 'withdrawn' if told[0] == 'accepted' else 'returned'
+                came[f'{what} {kind_of(before + desk.entries, step.command.withdrawn)}'] += 1
+            if told[:2] == ('refused', 12):
+                number = int(line.split('\t')[1])
+                came[f'needed {kind_of(before, number)}'] += 1
     return came
 
 

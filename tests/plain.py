@@ -602,33 +602,76 @@ def refusals_of_terms(entries, command, keys, roots):
             yield 10, 'Quantity', shown(wanted), shown(found)
 
 
+# Takes the entry of a number out of the list, whatever came after it.
+Withdraw = namedtuple('Withdraw', 'withdrawn')
+
+# What was done: its number, the command, and the list before it.
+Step = namedtuple('Step', 'number command before')
+
+
+def without(entries, number):
+    return [it for it in entries if it.number != number]
+
+
+def after(entries, command, number):
+    """The list after a command that it takes."""
+    is_withdrawal = isinstance(command, Withdraw)
+    return without(entries, command.withdrawn) if is_withdrawal else [*entries, command._replace(number=number)]
+
+
+def needing(entries, number):
+    """The least number of an entry that those before it refuse, where the entry of this number isn't there; none where each is taken."""
+    left = without(entries, number)
+    return next((it.number for place, it in enumerate(left) if it.number > number and refusal_of(left[:place], it)), None)
+
+
+def refusal_of(entries, command):
+    """Why a list refuses a command, none where it takes it."""
+    if not isinstance(command, Withdraw):
+        return next(refusals_of(entries, command), None)
+    if command.withdrawn not in [it.number for it in entries]:
+        return 11, 'NotLive', command.withdrawn
+    first = needing(entries, command.withdrawn)
+    return first and (12, 'Needed', first)
+
+
 class Desk:
-    """The list of entries, which are the done steps, and the undone ones, the one undone last at the end."""
+    """The list of entries, the done steps, and the undone ones; of both the newest stands at the end."""
 
     def __init__(self):
-        self.entries, self.undone, self.next_number = [], [], 1
+        self.entries, self.done, self.undone, self.next_number = [], [], [], 1
+
+    def do(self, number, command):
+        self.done.append(Step(number, command, self.entries))
+        self.entries = after(self.entries, command, number)
 
     def submit(self, command):
-        refusal = next(refusals_of(self.entries, command), None)
+        refusal = refusal_of(self.entries, command)
         if refusal:
             return 'refused', *refusal
-        self.entries.append(command._replace(number=self.next_number))
+        self.do(self.next_number, command)
         self.undone, self.next_number = [], self.next_number + 1
-        return 'accepted', self.entries[-1].number
+        return 'accepted', self.done[-1].number
 
     def undo(self, number):
-        if not self.entries:
+        if not self.done:
             return 'refused', 13, 'NothingToUndo'
-        if self.entries[-1].number != number:
-            return 'refused', 14, 'Moved', self.entries[-1].number
-        self.undone.append(self.entries.pop())
+        if self.done[-1].number != number:
+            return 'refused', 14, 'Moved', self.done[-1].number
+        self.undone.append(self.done.pop())
+        self.entries = self.undone[-1].before
         return 'undone', number
 
     def redo(self):
         if not self.undone:
             return 'refused', 15, 'NothingToRedo'
-        self.entries.append(self.undone.pop())
-        return 'redone', self.entries[-1].number
+        step = self.undone.pop()
+        self.do(step.number, step.command)
+        return 'redone', step.number
+
+    def withdraw_newest(self):
+        """Withdraws the newest entry, where there is one."""
+        return self.submit(Withdraw(self.entries[-1].number)) if self.entries else ('none',)
 
 
 # Orders, positions and the report of a day
@@ -730,7 +773,7 @@ def allocated(words):
 def answer(desk, line):
     """The answer to one line: the words of its lines. It may change the desk."""
     words = line.split('\t')
-    wanted = {'undo': 2, 'redo': 1, 'order': 3, 'position': 3, 'report': 2}.get(words[0])
+    wanted = {'undo': 2, 'redo': 1, 'withdraw': 2, 'mine': 1, 'order': 3, 'position': 3, 'report': 2}.get(words[0])
     if len(line) > 65536:
         raise Bad(4)
     if words[0] == 'allocate':
@@ -743,6 +786,10 @@ def answer(desk, line):
         return [desk.undo(value_at(words, 1, short_number))]
     if words[0] == 'redo':
         return [desk.redo()]
+    if words[0] == 'withdraw':
+        return [desk.submit(Withdraw(value_at(words, 1, short_number)))]
+    if words[0] == 'mine':
+        return [desk.withdraw_newest()]
     if words[0] == 'report':
         return report_of(desk.entries, value_at(words, 1, day))
     key = value_at(words, 1, text), value_at(words, 2, text)

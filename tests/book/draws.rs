@@ -74,12 +74,11 @@ impl Draws {
         Ok(Command::Bust(Bust { key, reference }))
     }
 
-    /// A withdrawal: mostly of a Bust of a list, where one is there.
+    /// A withdrawal: mostly of an entry of a list, where one is there.
     pub fn withdrawal(&mut self, list: &[Entry]) -> Command {
-        let from = self.draw() as usize % list.len().max(1);
-        let (front, back) = list.split_at(from);
-        match first_bust(back).or_else(|| first_bust(front)) {
-            Some(number) if !self.seldom() => Command::Withdraw(number),
+        let place = self.draw() as usize % list.len().max(1);
+        match list.get(place) {
+            Some(entry) if !self.seldom() => Command::Withdraw(entry.number),
             _ => Command::Withdraw(u64::from(self.draw() & 31)),
         }
     }
@@ -283,16 +282,6 @@ fn listed_by(
         }
     }
     Ok(Vec::new(alloc))
-}
-
-// The number of the first Bust of a list.
-fn first_bust(list: &[Entry]) -> Option<u64> {
-    for entry in list {
-        if entry.command.is_bust() {
-            return Some(entry.number);
-        }
-    }
-    None
 }
 
 // The newest allocation of a list.

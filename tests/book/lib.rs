@@ -1,7 +1,7 @@
 //! Tests of the book side that only a caller of its crates can make: each kind of command by itself, a busted chain taken out, and
-//! generated runs, compared with the plain slow program after every step; busts withdrawn; steps of commands of several types, undone and redone; a desk
-//! under its lock, with seats in threads, and how their receipts are settled at the end of the day; and the texts of answers that no
-//! operator's line brings about.
+//! generated runs, compared with the plain slow program after every step; entries of every kind withdrawn; steps of commands of
+//! several types, undone and redone; a desk under its lock, with seats in threads, and how their receipts are settled at the end of the
+//! day; and the texts of answers that no operator's line brings about.
 #![tactic(auto)]
 
 mod answers;
@@ -26,5 +26,6 @@ mod stepping;
 mod steps;
 mod tally;
 mod withdrawal_rows;
+mod withdrawal_runs;
 mod withdrawals;
 mod words;

@@ -7,7 +7,7 @@ use std::test::Fail;
 #[derive(Drop)]
 pub struct Tally {
     taken: [u32; 7],
-    refused: [u32; 14],
+    refused: [u32; 15],
 }
 
 // The place of a kind of command.
@@ -37,9 +37,10 @@ fn place_of_refusal(refused: &Refused) -> usize {
         Refused::Instrument(_) => 8,
         Refused::Quantity(_, _) => 9,
         Refused::NotLive(_) => 10,
-        Refused::NothingToUndo => 11,
-        Refused::Moved(_) => 12,
-        Refused::NothingToRedo => 13,
+        Refused::Needed(_) => 11,
+        Refused::NothingToUndo => 12,
+        Refused::Moved(_) => 13,
+        Refused::NothingToRedo => 14,
     }
 }
 
@@ -48,7 +49,7 @@ impl Tally {
     pub fn new() -> Tally {
         Tally {
             taken: [0; 7],
-            refused: [0; 14],
+            refused: [0; 15],
         }
     }
 
@@ -82,7 +83,7 @@ impl Tally {
         expect_each(&self.taken[..6], "kind")
     }
 
-    /// Each of the first refusals came: eleven of a book, all of a desk.
+    /// Each of the first refusals came: twelve of a book, all of a desk.
     pub fn expect_each_refusal(&self, count: usize) -> Result<(), Fail> {
         match self.refused.get(..count) {
             Some(refused) => expect_each(refused, "refusal"),

@@ -3,8 +3,10 @@
 use crate::words::Filled::Bought;
 use crate::words::Step::{Allocates, Busts, Cancels, Corrects, Replaces, Trades};
 use crate::words::{Booked, Step, command};
+use blot_command::{Tables, Undoable};
 use blot_model::blocked_of;
 use blot_types::{Entry, Sign};
+use blot_withdraw::blocked_by;
 use std::alloc::Global;
 use std::test::Fail;
 
@@ -39,7 +41,7 @@ const HUNDRED_OF_E1: Booked = Booked {
     lines: &[[b"B", b"100", b"10"]],
 };
 
-static ROWS: [Row; 5] = [
+static ROWS: [Row; 6] = [
     Row {
         name: "withdrawals that others need",
         steps: &[
@@ -80,6 +82,11 @@ static ROWS: [Row; 5] = [
         needed_by: &[Some(2), Some(3), None, None],
     },
     Row {
+        name: "withdrawals at the console",
+        steps: &[Trades(b"E1", Bought(b"100", b"10.50"))],
+        needed_by: &[None],
+    },
+    Row {
         name: "a bust is needed by nothing",
         steps: &[
             Trades(b"E1", Bought(b"100", b"10")),
@@ -104,12 +111,25 @@ fn entries_of(alloc: Global, steps: &[Step]) -> Result<Vec<Entry>, Fail> {
     Ok(entries)
 }
 
-// Each entry of a row is needed by what the row says.
+// The book of these entries.
+fn book_of(alloc: Global, entries: &[Entry]) -> Result<Tables, Fail> {
+    let mut tables = Tables::new(alloc);
+    for entry in entries {
+        let command = entry.command.try_copy(alloc)?;
+        if command.apply(&mut tables, entry.number).is_err() {
+            return Err(Fail::new("an entry of a row is refused"));
+        }
+    }
+    Ok(tables)
+}
+
+// Each entry of a row is needed by what the row says: so say the plain program and the book.
 fn expect_needed_by(alloc: Global, row: &Row) -> Result<(), Fail> {
     let entries = entries_of(alloc, row.steps)?;
+    let tables = book_of(alloc, &entries)?;
     for (entry, wanted) in entries.iter().zip(row.needed_by) {
         let found = blocked_of(alloc, &entries, entry.number)?;
-        if found != *wanted {
+        if found != *wanted || blocked_by(&tables, entry.number) != *wanted {
             let number = entry.number;
             return Err(Fail::new(format_args!("{}: {number}: {found:?} for {wanted:?}", row.name)));
         }

@@ -1,8 +1,8 @@
-//! Busts withdrawn: worked days through a desk, each event with its reply and the live list after it.
+//! Entries withdrawn: worked days through a desk, each event with its reply and the live list after it.
 
 use crate::keys::{order, text};
 use crate::words::Filled::{Bought, Buys};
-use crate::words::Step::{Allocates, Busts, Corrects, Trades, Withdraws};
+use crate::words::Step::{Allocates, Busts, Cancels, Corrects, Replaces, Trades, Withdraws};
 use crate::words::{Booked, Step, command};
 use blot_decimal::{QtySum, Value};
 use blot_desk::{Event, Held, Reply};
@@ -21,6 +21,7 @@ enum Sent {
 enum Told {
     Accepted(u64),
     NotLive(u64),
+    Needed(u64),
     Busted(u64),
     Undone(u64),
     Redone(u64),
@@ -43,6 +44,30 @@ const TWENTY_OF_E6: Booked = Booked {
     execs: &[b"E6"],
     block: b"20",
     lines: &[[b"B", b"20", b"10"]],
+};
+
+// 50 of E2 at 11, all to B.
+const FIFTY_OF_E2: Booked = Booked {
+    sign: Sign::Buy,
+    execs: &[b"E2"],
+    block: b"50",
+    lines: &[[b"B", b"50", b"11"]],
+};
+
+// 80 of E1 at 10, likewise.
+const EIGHTY_OF_E1: Booked = Booked {
+    sign: Sign::Buy,
+    execs: &[b"E1"],
+    block: b"80",
+    lines: &[[b"B", b"80", b"10"]],
+};
+
+// 100 of E1 at 10, likewise.
+const HUNDRED_OF_E1: Booked = Booked {
+    sign: Sign::Buy,
+    execs: &[b"E1"],
+    block: b"100",
+    lines: &[[b"B", b"100", b"10"]],
 };
 
 // A bust withdrawn out of order, and that undone: E1 stands again from 7 on, and no more once 7 is undone.
@@ -119,7 +144,7 @@ static OUT_OF_ORDER: [Row; 10] = [
     },
 ];
 
-// A bust withdrawn, after a second fill and a correction; then what isn't live or is no Bust, and the chain busted anew.
+// A bust withdrawn, after a second fill and a correction; then what isn't live, the chain busted anew, and a trade that a correction needs.
 static WITHDRAWN: [Row; 9] = [
     Row {
         sent: Sent::Submits(Trades(b"E1", Bought(b"100", b"10.50"))),
@@ -179,7 +204,7 @@ static WITHDRAWN: [Row; 9] = [
     },
     Row {
         sent: Sent::Submits(Withdraws(1)),
-        told: Told::NotLive(1),
+        told: Told::Needed(3),
         live: &[1, 2, 3, 6],
         order: Some((50, 200, 550)),
         position: Some((50, 550)),
@@ -288,6 +313,352 @@ static KEY_TAKEN_AGAIN: [Row; 14] = [
     },
 ];
 
+// Withdrawals that others need, and the allocation that a withdrawn cancel had ended.
+static OTHERS_NEED: [Row; 11] = [
+    Row {
+        sent: Sent::Submits(Trades(b"E2", Bought(b"50", b"11"))),
+        told: Told::Accepted(1),
+        live: &[1],
+        order: Some((50, 250, 550)),
+        position: Some((50, 550)),
+    },
+    Row {
+        sent: Sent::Submits(Allocates(b"AL1", FIFTY_OF_E2)),
+        told: Told::Accepted(2),
+        live: &[1, 2],
+        order: Some((50, 250, 550)),
+        position: None,
+    },
+    Row {
+        sent: Sent::Submits(Cancels(b"AL1C", b"AL1")),
+        told: Told::Accepted(3),
+        live: &[1, 2, 3],
+        order: Some((50, 250, 550)),
+        position: Some((50, 550)),
+    },
+    Row {
+        sent: Sent::Submits(Allocates(b"AL2", FIFTY_OF_E2)),
+        told: Told::Accepted(4),
+        live: &[1, 2, 3, 4],
+        order: Some((50, 250, 550)),
+        position: None,
+    },
+    Row {
+        sent: Sent::Submits(Withdraws(3)),
+        told: Told::Needed(4),
+        live: &[1, 2, 3, 4],
+        order: Some((50, 250, 550)),
+        position: None,
+    },
+    Row {
+        sent: Sent::Submits(Withdraws(1)),
+        told: Told::Needed(2),
+        live: &[1, 2, 3, 4],
+        order: Some((50, 250, 550)),
+        position: None,
+    },
+    Row {
+        sent: Sent::Submits(Withdraws(4)),
+        told: Told::Accepted(5),
+        live: &[1, 2, 3],
+        order: Some((50, 250, 550)),
+        position: Some((50, 550)),
+    },
+    Row {
+        sent: Sent::Submits(Withdraws(3)),
+        told: Told::Accepted(6),
+        live: &[1, 2],
+        order: Some((50, 250, 550)),
+        position: None,
+    },
+    Row {
+        sent: Sent::Submits(Withdraws(4)),
+        told: Told::NotLive(4),
+        live: &[1, 2],
+        order: Some((50, 250, 550)),
+        position: None,
+    },
+    Row {
+        sent: Sent::Undoes(6),
+        told: Told::Undone(6),
+        live: &[1, 2, 3],
+        order: Some((50, 250, 550)),
+        position: Some((50, 550)),
+    },
+    Row {
+        sent: Sent::Undoes(5),
+        told: Told::Undone(5),
+        live: &[1, 2, 3, 4],
+        order: Some((50, 250, 550)),
+        position: None,
+    },
+];
+
+// A correction that an allocation needs by its quantity, without a reference to it.
+static NEEDED_BY_QUANTITY: [Row; 6] = [
+    Row {
+        sent: Sent::Submits(Trades(b"E1", Bought(b"100", b"10"))),
+        told: Told::Accepted(1),
+        live: &[1],
+        order: Some((100, 200, 1000)),
+        position: Some((100, 1000)),
+    },
+    Row {
+        sent: Sent::Submits(Corrects(b"E3", b"E1", Bought(b"80", b"10"))),
+        told: Told::Accepted(2),
+        live: &[1, 2],
+        order: Some((80, 220, 800)),
+        position: Some((80, 800)),
+    },
+    Row {
+        sent: Sent::Submits(Allocates(b"AL1", EIGHTY_OF_E1)),
+        told: Told::Accepted(3),
+        live: &[1, 2, 3],
+        order: Some((80, 220, 800)),
+        position: None,
+    },
+    Row {
+        sent: Sent::Submits(Withdraws(2)),
+        told: Told::Needed(3),
+        live: &[1, 2, 3],
+        order: Some((80, 220, 800)),
+        position: None,
+    },
+    Row {
+        sent: Sent::Submits(Withdraws(3)),
+        told: Told::Accepted(4),
+        live: &[1, 2],
+        order: Some((80, 220, 800)),
+        position: Some((80, 800)),
+    },
+    Row {
+        sent: Sent::Submits(Withdraws(2)),
+        told: Told::Accepted(5),
+        live: &[1],
+        order: Some((100, 200, 1000)),
+        position: Some((100, 1000)),
+    },
+];
+
+// A chain of allocations, withdrawn from its end.
+static CHAIN_OF_ALLOCATIONS: [Row; 8] = [
+    Row {
+        sent: Sent::Submits(Trades(b"E1", Bought(b"100", b"10"))),
+        told: Told::Accepted(1),
+        live: &[1],
+        order: Some((100, 200, 1000)),
+        position: Some((100, 1000)),
+    },
+    Row {
+        sent: Sent::Submits(Allocates(b"AL1", HUNDRED_OF_E1)),
+        told: Told::Accepted(2),
+        live: &[1, 2],
+        order: Some((100, 200, 1000)),
+        position: None,
+    },
+    Row {
+        sent: Sent::Submits(Replaces(b"AL2", b"AL1", HUNDRED_OF_E1)),
+        told: Told::Accepted(3),
+        live: &[1, 2, 3],
+        order: Some((100, 200, 1000)),
+        position: None,
+    },
+    Row {
+        sent: Sent::Submits(Cancels(b"C1", b"AL2")),
+        told: Told::Accepted(4),
+        live: &[1, 2, 3, 4],
+        order: Some((100, 200, 1000)),
+        position: Some((100, 1000)),
+    },
+    Row {
+        sent: Sent::Submits(Withdraws(3)),
+        told: Told::Needed(4),
+        live: &[1, 2, 3, 4],
+        order: Some((100, 200, 1000)),
+        position: Some((100, 1000)),
+    },
+    Row {
+        sent: Sent::Submits(Withdraws(4)),
+        told: Told::Accepted(5),
+        live: &[1, 2, 3],
+        order: Some((100, 200, 1000)),
+        position: None,
+    },
+    Row {
+        sent: Sent::Submits(Withdraws(3)),
+        told: Told::Accepted(6),
+        live: &[1, 2],
+        order: Some((100, 200, 1000)),
+        position: None,
+    },
+    Row {
+        sent: Sent::Submits(Cancels(b"C2", b"AL1")),
+        told: Told::Accepted(7),
+        live: &[1, 2, 7],
+        order: Some((100, 200, 1000)),
+        position: Some((100, 1000)),
+    },
+];
+
+// A cancel withdrawn after a bust: a named execution may be busted.
+static CANCEL_AFTER_BUST: [Row; 6] = [
+    Row {
+        sent: Sent::Submits(Trades(b"E1", Bought(b"100", b"10"))),
+        told: Told::Accepted(1),
+        live: &[1],
+        order: Some((100, 200, 1000)),
+        position: Some((100, 1000)),
+    },
+    Row {
+        sent: Sent::Submits(Allocates(b"AL1", HUNDRED_OF_E1)),
+        told: Told::Accepted(2),
+        live: &[1, 2],
+        order: Some((100, 200, 1000)),
+        position: None,
+    },
+    Row {
+        sent: Sent::Submits(Cancels(b"C1", b"AL1")),
+        told: Told::Accepted(3),
+        live: &[1, 2, 3],
+        order: Some((100, 200, 1000)),
+        position: Some((100, 1000)),
+    },
+    Row {
+        sent: Sent::Submits(Busts(b"E4", b"E1")),
+        told: Told::Accepted(4),
+        live: &[1, 2, 3, 4],
+        order: None,
+        position: None,
+    },
+    Row {
+        sent: Sent::Submits(Withdraws(3)),
+        told: Told::Accepted(5),
+        live: &[1, 2, 4],
+        order: None,
+        position: None,
+    },
+    Row {
+        sent: Sent::Submits(Withdraws(4)),
+        told: Told::Accepted(6),
+        live: &[1, 2],
+        order: Some((100, 200, 1000)),
+        position: None,
+    },
+];
+
+// Corrections withdrawn: one in the middle of its chain, and the last one.
+static CORRECTIONS: [Row; 8] = [
+    Row {
+        sent: Sent::Submits(Trades(b"E1", Bought(b"100", b"10"))),
+        told: Told::Accepted(1),
+        live: &[1],
+        order: Some((100, 200, 1000)),
+        position: Some((100, 1000)),
+    },
+    Row {
+        sent: Sent::Submits(Corrects(b"E3", b"E1", Bought(b"80", b"10"))),
+        told: Told::Accepted(2),
+        live: &[1, 2],
+        order: Some((80, 220, 800)),
+        position: Some((80, 800)),
+    },
+    Row {
+        sent: Sent::Submits(Corrects(b"E5", b"E1", Bought(b"70", b"10"))),
+        told: Told::Accepted(3),
+        live: &[1, 2, 3],
+        order: Some((70, 230, 700)),
+        position: Some((70, 700)),
+    },
+    Row {
+        sent: Sent::Submits(Withdraws(2)),
+        told: Told::Accepted(4),
+        live: &[1, 3],
+        order: Some((70, 230, 700)),
+        position: Some((70, 700)),
+    },
+    Row {
+        sent: Sent::Submits(Withdraws(3)),
+        told: Told::Accepted(5),
+        live: &[1],
+        order: Some((100, 200, 1000)),
+        position: Some((100, 1000)),
+    },
+    Row {
+        sent: Sent::Undoes(5),
+        told: Told::Undone(5),
+        live: &[1, 3],
+        order: Some((70, 230, 700)),
+        position: Some((70, 700)),
+    },
+    Row {
+        sent: Sent::Undoes(4),
+        told: Told::Undone(4),
+        live: &[1, 2, 3],
+        order: Some((70, 230, 700)),
+        position: Some((70, 700)),
+    },
+    Row {
+        sent: Sent::Submits(Withdraws(3)),
+        told: Told::Accepted(6),
+        live: &[1, 2],
+        order: Some((80, 220, 800)),
+        position: Some((80, 800)),
+    },
+];
+
+// A trade withdrawn, and its key taken anew; all of it undone and redone.
+static TRADE_TAKEN_AGAIN: [Row; 7] = [
+    Row {
+        sent: Sent::Submits(Trades(b"E1", Bought(b"100", b"10"))),
+        told: Told::Accepted(1),
+        live: &[1],
+        order: Some((100, 200, 1000)),
+        position: Some((100, 1000)),
+    },
+    Row {
+        sent: Sent::Submits(Withdraws(1)),
+        told: Told::Accepted(2),
+        live: &[],
+        order: None,
+        position: None,
+    },
+    Row {
+        sent: Sent::Submits(Trades(b"E1", Bought(b"50", b"11"))),
+        told: Told::Accepted(3),
+        live: &[3],
+        order: Some((50, 250, 550)),
+        position: Some((50, 550)),
+    },
+    Row {
+        sent: Sent::Undoes(3),
+        told: Told::Undone(3),
+        live: &[],
+        order: None,
+        position: None,
+    },
+    Row {
+        sent: Sent::Undoes(2),
+        told: Told::Undone(2),
+        live: &[1],
+        order: Some((100, 200, 1000)),
+        position: Some((100, 1000)),
+    },
+    Row {
+        sent: Sent::Redoes,
+        told: Told::Redone(2),
+        live: &[],
+        order: None,
+        position: None,
+    },
+    Row {
+        sent: Sent::Redoes,
+        told: Told::Redone(3),
+        live: &[3],
+        order: Some((50, 250, 550)),
+        position: Some((50, 550)),
+    },
+];
+
 // The event in words.
 fn event_of(alloc: Global, sent: &Sent) -> Result<Event, Fail> {
     match sent {
@@ -302,6 +673,7 @@ fn reply_of(told: &Told) -> Reply {
     match *told {
         Told::Accepted(number) => Reply::Accepted(number),
         Told::NotLive(number) => Reply::Refused(Refused::NotLive(number)),
+        Told::Needed(number) => Reply::Refused(Refused::Needed(number)),
         Told::Busted(number) => Reply::Refused(Refused::BustedExec(number)),
         Told::Undone(number) => Reply::Undone(number),
         Told::Redone(number) => Reply::Redone(number),
@@ -398,4 +770,34 @@ fn a_bust_withdrawn(rt: HostRuntime) -> Result<(), Fail> {
 #[test]
 fn a_withdrawn_key_taken_again(rt: HostRuntime) -> Result<(), Fail> {
     run(rt.alloc(), &KEY_TAKEN_AGAIN)
+}
+
+#[test]
+fn withdrawals_that_others_need(rt: HostRuntime) -> Result<(), Fail> {
+    run(rt.alloc(), &OTHERS_NEED)
+}
+
+#[test]
+fn a_correction_needed_by_quantity(rt: HostRuntime) -> Result<(), Fail> {
+    run(rt.alloc(), &NEEDED_BY_QUANTITY)
+}
+
+#[test]
+fn a_chain_of_allocations_withdrawn(rt: HostRuntime) -> Result<(), Fail> {
+    run(rt.alloc(), &CHAIN_OF_ALLOCATIONS)
+}
+
+#[test]
+fn a_cancel_withdrawn_after_a_bust(rt: HostRuntime) -> Result<(), Fail> {
+    run(rt.alloc(), &CANCEL_AFTER_BUST)
+}
+
+#[test]
+fn corrections_withdrawn(rt: HostRuntime) -> Result<(), Fail> {
+    run(rt.alloc(), &CORRECTIONS)
+}
+
+#[test]
+fn a_withdrawn_trade_taken_again(rt: HostRuntime) -> Result<(), Fail> {
+    run(rt.alloc(), &TRADE_TAKEN_AGAIN)
 }

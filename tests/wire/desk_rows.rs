@@ -39,6 +39,34 @@ pub fn reports() -> &'static [Told] {
     &ROWS
 }
 
+/// What two operators type by turns, each at the seat of this place, after the first of them submitted the first trade.
+pub fn of_two_seats() -> &'static [(usize, Told)] {
+    const ALLOCATES: &str = "allocate>BRKA>AL1>XYZ>B>20240105>10.5>1>E1>A>60>B>40";
+    static ROWS: [(usize, Told); 17] = [
+        // The trade is the first one's.
+        (1, ("mine", "none")),
+        (1, (ALLOCATES, "accepted>2")),
+        (0, ("mine", "refused>12>Needed>2")),
+        (1, ("mine", "accepted>3")),
+        (0, ("mine", "accepted>4")),
+        (0, ("mine", "none")),
+        // The second one undoes both withdrawals, and they still count.
+        (1, ("undo>4", "undone>4")),
+        (0, ("mine", "none")),
+        (1, ("undo>3", "undone>3")),
+        (1, ("mine", "none")),
+        (1, ("undo>2", "undone>2")),
+        (1, ("redo", "redone>2")),
+        // Undone and redone itself, the allocation counts again, at the second seat alone.
+        (0, ("mine", "none")),
+        (1, ("mine", "accepted>5")),
+        (1, ("redo", "refused>15>NothingToRedo")),
+        (0, ("order>BRKA>O1", "order>BRKA>O1>XYZ>B>100>200>1050")),
+        (1, ("mine", "none")),
+    ];
+    &ROWS
+}
+
 /// The report of the first trade and of 50 of 250 at 11 after it.
 pub fn report_of_two() -> &'static [Told] {
     static ROWS: [Told; 1] = [(

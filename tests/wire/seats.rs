@@ -1,6 +1,6 @@
-//! `seat_lines` over terminals in memory, at the one seat of a desk.
+//! `seat_lines` over terminals in memory, at the one seat of a desk, and at two.
 
-use crate::desk_rows::{morning, reports};
+use crate::desk_rows::{morning, of_two_seats, reports};
 use crate::dialogues::{Told, spell};
 use crate::expect::text;
 use crate::memory::{AT_ONCE, BY_BYTES, BY_LINES, INTERRUPTED, Manner, failing, reader, writer};
@@ -115,6 +115,40 @@ fn sit<L: Ledger>(
     let (desk, mut seats) = Desk::<L>::new(alloc, blank, 1)?;
     sit_at(rt, alloc, &desk, &mut seats, sitting)?;
     settle(desk, seats, sitting.events)
+}
+
+// A line of a seat is answered so.
+fn check_line<L: Ledger>(
+    rt: &impl Wait,
+    alloc: Global,
+    desk: &Desk<L>,
+    seat: &mut Seat<L>,
+    row: Told,
+) -> Result<(), Fail> {
+    let dialogue = spell(alloc, &[row], 1)?;
+    let mut screen = writer(alloc, AT_ONCE);
+    let mut source = reader(&dialogue.typed, AT_ONCE);
+    let outcome = seat_lines(rt, alloc, &mut source, &mut screen, desk, seat);
+    if outcome.is_err() || screen.written.as_slice() != dialogue.answers.as_slice() {
+        return Err(Fail::new(format_args!("no {} to {}", row.1, row.0)));
+    }
+    Ok(())
+}
+
+// What two operators type by turns, after the first seat submitted the first trade.
+fn sit_by_turns<L: Ledger>(rt: &impl Wait, alloc: Global, blank: Blank) -> Result<(), Fail> {
+    let (desk, mut seats) = Desk::<L>::new(alloc, blank, 2)?;
+    submit_first(rt, &desk, seats.get_mut(0).ok_or("no seat")?)?;
+    for (place, row) in of_two_seats() {
+        let seat = seats.get_mut(*place).ok_or("no seat")?;
+        check_line(rt, alloc, &desk, seat, *row)?;
+    }
+    settle(desk, seats, 12)
+}
+
+#[test]
+fn mine_of_two_seats(rt: HostRuntime) -> Result<(), Fail> {
+    sit_by_turns::<Brand>(&rt, rt.alloc(), Blank::new(2))
 }
 
 #[test]

@@ -1,3 +1,4 @@
-mod HolderLemmas
+pub mod HolderLemmas
 mod HoldsLemmas
+mod NeedLemmas
 mod RootLemmas

@@ -1,9 +1,9 @@
 -- Where the instructions that take up a key, that end the allocation of a key, and that name the chain of a root are.
-use Rattle.std.specs.Prelude.{◌≡◌, List, IfSome}
+use Rattle.std.specs.Prelude.{◌≡◌, ℕ, not, filter, reverse, List, IfSome}
 use Rattle.std.specs.List.{All}
 use Rattle.blot_places.specs.declared.slots.Slot.{Slot}
-use Rattle.blot_places.specs.Places.{HasRoom, places_in}
-use Rattle.blot_places.specs.Slots.{places_by}
+use Rattle.blot_places.specs.Places.{HasRoom, Stacks, places_in}
+use Rattle.blot_places.specs.Slots.{is_up_to, places_by}
 use Rattle.blot_types.specs.declared.allocation.AllocRole.{AllocRole}
 use Rattle.blot_types.specs.declared.allocation.Instruction.{Instruction}
 use Rattle.blot_types.specs.declared.keys.AllocKey.{AllocKey}
@@ -11,6 +11,7 @@ use Rattle.blot_types.specs.declared.keys.ExecKey.{ExecKey}
 use Rattle.blot_types.specs.Instructions.{ends, is_keyed, names, reference_of}
 use Rattle.blot_types.specs.Keys.{same_alloc, same_exec}
 use Rattle.blot_alloc.specs.declared.index.Index.{Index}
+use Rattle.blot_alloc.specs.Allocs.{number_of}
 
 -- the index names the places of these slots, live or lifted
 pub record IsIndexed (index : Index) (slots : List (Slot Instruction)) : Type 0 where
@@ -23,3 +24,11 @@ pub record HasRoomFor (index : Index) (key : AllocKey) (role : AllocRole) (roots
   pub takers : HasRoom same_alloc index.takers key
   pub endings : IfSome (reference_of role) (HasRoom same_alloc index.endings)
   pub holders : All (HasRoom same_exec index.holders) roots
+
+-- the places under a root, oldest first
+abbrev pub stack_under : Stacks ExecKey → ExecKey → List ℕ
+stack_under holders root = reverse (places_in same_exec holders root)
+
+-- those of some places at which no instruction is numbered up to a number. The slots stand oldest first
+abbrev pub places_after : ℕ → List (Slot Instruction) → List ℕ → List ℕ
+places_after number slots places = filter (λ place. not (is_up_to number_of number slots place)) places

@@ -2,13 +2,14 @@
 ghost use Rattle.std.specs.Prelude.{◌≡◌, ◌≤◌, [], ◌∷◌, length, filter, find, IsSome, IsTrue, OnOk, OnErr};
 ghost use Rattle.std.specs.Option.{option_copied, option_map};
 ghost use Rattle.blot_types.specs.declared.allocation.AllocRole.TheVariants.{Allocates, Replaces, Cancels};
-ghost use Rattle.blot_types.specs.Instructions.{alloc_taker_in, is_keyed, is_allocation_in, ends, ended_in, is_live_in, holds_in, holder_in, other_holder_in, may_follow, is_above_instructions, is_instructed};
-ghost use Rattle.blot_alloc.specs.Allocs.{roots_in, Adds, IsNewest, instruction_at, lifted_out, put_back};
+ghost use Rattle.blot_types.specs.Instructions.{alloc_taker_in, is_keyed, is_allocation_in, ends, ended_in, is_live_in, holds_in, holder_in, other_holder_in, may_follow, is_above_instructions, is_instructed, first_instruction, first_naming, first_needing_instruction, ended_roots, names_any};
+ghost use Rattle.blot_places.specs.Slots.{numbers_fall};
+ghost use Rattle.blot_alloc.specs.Allocs.{roots_in, Adds, IsNewest, instruction_at, lifted_out, number_of, put_back};
 
-use crate::index::Index;
-use crate::roles::{brings_allocation, is_reference};
-use blot_places::{Slot, mark, newest_live};
-use blot_types::{AllocKey, AllocRole, ExecKey, Instruction, Items};
+use crate::index::{Index, naming_above};
+use crate::roles::{brings_allocation, is_reference, reference_of};
+use blot_places::{Slot, live_numbered, mark, newest_live};
+use blot_types::{AllocKey, AllocRole, ExecKey, Instruction, Items, lesser};
 use std::alloc::{AllocError as NoMemory, Global};
 use std::marker::Model;
 
@@ -201,6 +202,28 @@ impl Allocs {
         self.ending(key).map(|instruction| instruction.number)
     }
 
+    /// The number of the first instruction above a number that lists an execution of the chain of a root: the least such
+    /// number, since the numbers fall from the newest instruction to the oldest. No memory is taken. This project's rule.
+    pub fn first_naming(&self, root: &ExecKey, number: u64) -> Option<u64>
+        ensures first { result ≡ first_naming self.now.list number root.now }
+        ensures fall { IsTrue (numbers_fall number_of self.now.list) }
+    {
+        naming_above(&self.slots, &self.index.holders, root, number)
+    }
+
+    /// The number of the first instruction above the listed one of a number that needs it: it refers to its allocation, or lists
+    /// an execution of a chain that the allocation names which that one ended. None where none does, or no instruction of the
+    /// number is listed. No memory is taken. This project's rule.
+    pub fn first_needing(&self, number: u64) -> Option<u64>
+        ensures { result ≡ first_needing_instruction self.now.list number }
+    {
+        let instruction = live_numbered(&self.slots, number)?;
+        lesser(
+            self.ended_by(&instruction.key),
+            self.first_after_end(&instruction.role, number),
+        )
+    }
+
     /// Whether there is an allocation of this key, live or ended: whether an AllocNew or an AllocReplace takes
     /// it up. This project's rule.
     pub fn is_allocation(&self, key: &AllocKey) -> bool
@@ -210,6 +233,27 @@ impl Allocs {
             Some(instruction) => brings_allocation(&instruction.role),
             None => false,
         }
+    }
+
+    // The number of the first instruction above a number that lists an execution of a chain that the allocation names which an
+    // instruction of this role ended.
+    fn first_after_end(&self, role: &AllocRole, number: u64) -> Option<u64>
+        ensures { result ≡ first_instruction (names_any (ended_roots self.now.list role.now)) number self.now.list }
+    {
+        let reference = reference_of(role)?;
+        let roots = self.roots_of(&reference)?;
+        self.first_naming_any(roots, number)
+    }
+
+    // The number of the first instruction above a number that lists an execution of the chain of one of these roots.
+    fn first_naming_any(&self, roots: &[ExecKey], number: u64) -> Option<u64>
+        ensures { result ≡ first_instruction (names_any roots.now) number self.now.list }
+    {
+        let mut first = None;
+        for root in roots {
+            first = lesser(first, self.first_naming(root, number));
+        }
+        first
     }
 
     // The instruction that takes up a key.

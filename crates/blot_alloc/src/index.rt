@@ -1,16 +1,20 @@
 //! Where the instructions that take up a key, that end the allocation of a key, and that name the chain of a
 //! root are.
 ghost use Rattle.std.specs.Prelude.{◌≡◌, ◌∷◌, [], List, drop, length, IfSome, IsTrue, OnOk, if◌then◌else◌};
+ghost use Rattle.std.specs.List.Sorted.{IsPartitionedBy};
+ghost use Rattle.std.specs.Option.{option_map};
 ghost use Rattle.blot_places.specs.declared.slots.Slot.{Slot};
 ghost use Rattle.blot_places.specs.Places.{HasRoom, places_in};
+ghost use Rattle.blot_places.specs.Slots.{is_up_to, newest_live};
 ghost use Rattle.blot_types.specs.declared.allocation.Instruction.{Instruction};
 ghost use Rattle.blot_types.specs.declared.keys.AllocKey.{AllocKey};
 ghost use Rattle.blot_types.specs.Instructions.{are_apart, ends, reference_of};
 ghost use Rattle.blot_types.specs.Keys.{same_alloc};
-ghost use Rattle.blot_alloc.specs.Index.{HasRoomFor, IsIndexed};
+ghost use Rattle.blot_alloc.specs.Allocs.{number_of};
+ghost use Rattle.blot_alloc.specs.Index.{HasRoomFor, IsIndexed, places_after, stack_under};
 
 use crate::roots;
-use blot_places::{Places, Slot};
+use blot_places::{Places, Slot, oldest_live, places_above};
 use blot_types::{AllocKey, AllocRole, ExecKey, Instruction};
 use std::alloc::{AllocError as NoMemory, Global};
 
@@ -71,6 +75,20 @@ impl Index {
         pop_ending(&mut self.endings, &slot.item.role);
         roots::pop(&mut self.holders, slot.item.roots.as_slice());
     }
+}
+
+/// The number of the oldest live instruction above a number, among the places under a root.
+pub(crate) fn naming_above(
+    slots: &[Slot<Instruction>],
+    holders: &Places<ExecKey>,
+    root: &ExecKey,
+    number: u64,
+) -> Option<u64>
+    requires { IsPartitionedBy (is_up_to number_of number slots.now) (stack_under holders.now root.now) }
+    ensures { result ≡ option_map number_of (newest_live slots.now (places_after number slots.now (stack_under holders.now root.now))) }
+{
+    let stack = places_above(slots, holders.under(root), number);
+    oldest_live(slots, stack).map(|instruction| instruction.number)
 }
 
 // Makes room for one more place under the key of the allocation that an instruction of this role ends, if it

@@ -1,6 +1,6 @@
 //! What an instruction does, by its role.
 ghost use Rattle.std.specs.Prelude.{◌≡◌};
-ghost use Rattle.blot_types.specs.Instructions.{brings_allocation, is_reference};
+ghost use Rattle.blot_types.specs.Instructions.{brings_allocation, is_reference, reference_of};
 
 use blot_types::{AllocKey, AllocRole};
 
@@ -11,6 +11,16 @@ pub(crate) fn brings_allocation(role: &AllocRole) -> bool
     match role {
         AllocRole::Allocates | AllocRole::Replaces(_) => true,
         AllocRole::Cancels(_) => false,
+    }
+}
+
+/// The allocation that an instruction of this role refers to.
+pub(crate) fn reference_of(role: &AllocRole) -> Option<AllocKey>
+    ensures { result ≡ reference_of role.now }
+{
+    match role {
+        AllocRole::Allocates => None,
+        AllocRole::Replaces(reference) | AllocRole::Cancels(reference) => Some(*reference),
     }
 }
 

@@ -18,14 +18,14 @@ use Rattle.blot_chain.specs.Rooted.{is_version, is_bust, has_key, is_version_of,
 
 -- One link: what is said of the root beside it is what is said of its role.
 
-kept_root-own :
+pub kept_root-own :
     (earlier : List Link) (key : ExecKey) (role : Role) (root : ExecKey) → chain_root earlier key role ≡ Some root
     → (if is_version role then Some root else None) ≡ own_root (root_in earlier) key role
 kept_root-own earlier key Begins root is = sym is
 kept_root-own earlier key (Corrects reference) root is = sym is
 kept_root-own earlier key (Busts reference) root is = refl
 
-version-is_root :
+pub version-is_root :
     (earlier : List Link) (key : ExecKey) (role : Role) (root wanted : ExecKey) → chain_root earlier key role ≡ Some root
     → (is_version role && same_exec root wanted) ≡ is_root wanted (own_root (root_in earlier) key role)
 version-is_root earlier key Begins root wanted is = ap (is_root wanted) (sym is)

@@ -1,4 +1,6 @@
+mod AroundLemmas
 pub mod ChainLemmas
 pub mod HoldsLemmas
+mod IndexLemmas
 pub mod LiftLemmas
 pub mod RootedLemmas

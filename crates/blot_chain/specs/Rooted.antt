@@ -8,7 +8,7 @@ use Rattle.blot_types.specs.declared.keys.ExecKey.{ExecKey}
 use Rattle.blot_types.specs.declared.link.Link.{Link}
 use Rattle.blot_types.specs.declared.link.Role.{Role}
 use Rattle.blot_types.specs.declared.link.Role.TheVariants.{Begins, Corrects, Busts}
-use Rattle.blot_types.specs.Chains.{root_in}
+use Rattle.blot_types.specs.Chains.{refers_to, root_in}
 use Rattle.blot_types.specs.Keys.{same_exec}
 use Rattle.blot_chain.specs.declared.rooted.Rooted.{Rooted}
 
@@ -35,6 +35,10 @@ is_version_of root item = is_version item.link.role && same_exec item.root root
 -- whether it busts the chain of this root
 abbrev pub is_bust_of : ExecKey → Rooted → Bool
 is_bust_of root item = is_bust item.link.role && same_exec item.root root
+
+-- whether it refers to a key
+abbrev pub refers : ExecKey → Rooted → Bool
+refers key item = refers_to key item.link.role
 
 -- the root of its own key: the key of a Bust has none
 abbrev pub kept_root : Rooted → Option ExecKey

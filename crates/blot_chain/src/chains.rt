@@ -1,15 +1,15 @@
 //! The links of executions: added, taken back, lifted out, asked.
 ghost use Rattle.std.specs.Prelude.{◌≡◌, [], ◌∷◌, Some, None, IfSome, IsSome, IsTrue, OnOk, OnErr};
 ghost use Rattle.blot_types.specs.declared.link.Role.TheVariants.{Begins, Corrects, Busts};
-ghost use Rattle.blot_types.specs.Chains.{root_in, current_in, bust_in, taker_in, chain_refusal, link_refusal, is_above_links, is_chained};
+ghost use Rattle.blot_types.specs.Chains.{root_in, current_in, bust_in, taker_in, chain_refusal, link_refusal, is_above_links, is_chained, first_needing_link, version_after_in, version_before_in};
 ghost use Rattle.blot_types.specs.Laws.{IsOneTrade};
 ghost use Rattle.blot_chain.specs.Rooted.{chain_root};
 ghost use Rattle.blot_chain.specs.Steps.{Adds, CanReturn, IsNewest, lifted_out, link_at, put_back};
 
-use crate::index::{Index, number_at, root_at};
+use crate::index::{Index, number_above, number_at, number_below, referring_at, root_at};
 use crate::rooted::Rooted;
-use blot_places::{Slot, mark};
-use blot_types::{ExecKey, Link, Role};
+use blot_places::{Slot, live_numbered, mark};
+use blot_types::{ExecKey, Link, Role, lesser};
 use std::alloc::{AllocError as NoMemory, Global};
 use std::marker::Model;
 
@@ -161,6 +161,32 @@ impl Chains {
         ensures { result ≡ current_in self.now.list root.now }
     {
         number_at(&self.slots, &self.index.versions, root)
+    }
+
+    /// The number of the last version of the chain of a root below a number, busted or not. This project's rule.
+    pub fn version_before(&self, root: &ExecKey, number: u64) -> Option<u64>
+        ensures { result ≡ version_before_in self.now.list number root.now }
+    {
+        number_below(&self.slots, &self.index.versions, root, number)
+    }
+
+    /// The number of the first version of the chain of a root above a number. This project's rule.
+    pub fn version_after(&self, root: &ExecKey, number: u64) -> Option<u64>
+        ensures { result ≡ version_after_in self.now.list number root.now }
+    {
+        number_above(&self.slots, &self.index.versions, root, number)
+    }
+
+    /// The number of the first Correct or Bust above the listed link of a number that refers to that link's key. None where
+    /// none does, or no link of the number is listed. No memory is taken. This project's rule.
+    pub fn first_needing(&self, number: u64) -> Option<u64>
+        ensures { result ≡ first_needing_link self.now.list number }
+    {
+        let item = live_numbered(&self.slots, number)?;
+        lesser(
+            referring_at(&self.slots, &self.index.versions, item),
+            referring_at(&self.slots, &self.index.busts, item),
+        )
     }
 
     /// The number of the Bust of the chain of a root. None where the chain isn't busted, or the key is no

@@ -1,17 +1,19 @@
 //! Where the slots of a key, and of the chain of a root, are.
-ghost use Rattle.std.specs.Prelude.{◌≡◌, ◌∷◌, ◌&&◌, [], List, drop, length, IsTrue, OnOk, if◌then◌else◌};
+ghost use Rattle.std.specs.Prelude.{◌≡◌, ◌∷◌, ◌&&◌, [], List, drop, filter, length, reverse, IsTrue, OnOk, if◌then◌else◌};
+ghost use Rattle.std.specs.List.Sorted.{IsPartitionedBy};
 ghost use Rattle.std.specs.Option.{option_and_then, option_copied, option_map};
 ghost use Rattle.blot_places.specs.declared.slots.Slot.{Slot};
 ghost use Rattle.blot_places.specs.Places.{HasRoom, places_in};
-ghost use Rattle.blot_places.specs.Slots.{newest_live};
+ghost use Rattle.blot_places.specs.Slots.{is_below, is_up_to, newest_live};
 ghost use Rattle.blot_types.specs.declared.keys.ExecKey.{ExecKey};
 ghost use Rattle.blot_types.specs.Keys.{same_exec};
+ghost use Rattle.blot_types.specs.Refusals.{first_of};
 ghost use Rattle.blot_chain.specs.declared.rooted.Rooted.{Rooted};
-ghost use Rattle.blot_chain.specs.Rooted.{kept_root};
-ghost use Rattle.blot_chain.specs.Index.{HasRoomFor, IsIndexed};
+ghost use Rattle.blot_chain.specs.Rooted.{kept_root, link_number};
+ghost use Rattle.blot_chain.specs.Index.{HasRoomFor, IsIndexed, number_if_referring, places_after, stack_under};
 
-use crate::rooted::{Rooted, is_bust, is_version};
-use blot_places::{Places, Slot, newest_live};
+use crate::rooted::{Rooted, is_bust, is_version, refers_to};
+use blot_places::{Places, Slot, live_at, newest_live, oldest_live, places_above, places_below};
 use blot_types::{ExecKey, Role};
 use std::alloc::{AllocError as NoMemory, Global};
 
@@ -88,6 +90,72 @@ pub(crate) fn number_at(
     ensures { result ≡ option_map (λ item. item.link.number) (newest_live slots.now (places_in same_exec places.now key.now)) }
 {
     look_up(slots, places, key).map(|item| item.link.number)
+}
+
+/// The number of the newest live link below a number, among the places under a key.
+pub(crate) fn number_below(
+    slots: &[Slot<Rooted>],
+    places: &Places<ExecKey>,
+    key: &ExecKey,
+    number: u64,
+) -> Option<u64>
+    requires { IsPartitionedBy (is_below link_number number slots.now) (stack_under places.now key.now) }
+    ensures { result ≡ option_map link_number (newest_live slots.now (reverse (filter (is_below link_number number slots.now) (stack_under places.now key.now)))) }
+{
+    let stack = places_below(slots, places.under(key), number);
+    newest_live(slots, stack).map(|item| item.link.number)
+}
+
+/// The number of the oldest live link above a number, among the places under a key.
+pub(crate) fn number_above(
+    slots: &[Slot<Rooted>],
+    places: &Places<ExecKey>,
+    key: &ExecKey,
+    number: u64,
+) -> Option<u64>
+    requires { IsPartitionedBy (is_up_to link_number number slots.now) (stack_under places.now key.now) }
+    ensures { result ≡ option_map link_number (newest_live slots.now (places_after number slots.now (stack_under places.now key.now))) }
+{
+    let stack = places_above(slots, places.under(key), number);
+    oldest_live(slots, stack).map(|item| item.link.number)
+}
+
+/// The number of the oldest live link above that of another, among the places under the other's root, that refers to the
+/// other's key.
+pub(crate) fn referring_at(
+    slots: &[Slot<Rooted>],
+    places: &Places<ExecKey>,
+    item: &Rooted,
+) -> Option<u64>
+    requires { IsPartitionedBy (is_up_to link_number item.now.link.number slots.now) (stack_under places.now item.now.root) }
+    ensures { result ≡ first_of (number_if_referring slots.now item.now.link.key) (places_after item.now.link.number slots.now (stack_under places.now item.now.root)) }
+{
+    let stack = places_above(slots, places.under(&item.root), item.link.number);
+    first_referring(slots, stack, &item.link.key)
+}
+
+// The number of the first live link at these places that refers to a key.
+fn first_referring(slots: &[Slot<Rooted>], places: &[usize], key: &ExecKey) -> Option<u64>
+    ensures { result ≡ first_of (number_if_referring slots.now key.now) places.now }
+{
+    for place in places {
+        if let Some(number) = number_if_referring(slots, *place, key) {
+            return Some(number);
+        }
+    }
+    None
+}
+
+// The number of the link at a place, if it is live and refers to a key.
+fn number_if_referring(slots: &[Slot<Rooted>], place: usize, key: &ExecKey) -> Option<u64>
+    ensures { result ≡ number_if_referring slots.now key.now place }
+{
+    let item = live_at(slots, place)?;
+    if refers_to(key, &item.link.role) {
+        Some(item.link.number)
+    } else {
+        None
+    }
 }
 
 /// The root of the key of the newest live link among the places under a key.

@@ -1,5 +1,6 @@
 //! A link with the root of its chain.
 ghost use Rattle.std.specs.Prelude.{◌≡◌};
+ghost use Rattle.blot_types.specs.Chains.{refers_to};
 ghost use Rattle.blot_chain.specs.Rooted.{is_bust, is_version, kept_root};
 
 use blot_types::{ExecKey, Link, Numbered, Role};
@@ -51,5 +52,15 @@ pub(crate) fn is_bust(role: &Role) -> bool
     match role {
         Role::Begins | Role::Corrects(_) => false,
         Role::Busts(_) => true,
+    }
+}
+
+/// Whether a link of this role refers to a key.
+pub(crate) fn refers_to(key: &ExecKey, role: &Role) -> bool
+    ensures { result ≡ refers_to key.now role.now }
+{
+    match role {
+        Role::Begins => false,
+        Role::Corrects(reference) | Role::Busts(reference) => *reference == *key,
     }
 }

@@ -6,7 +6,6 @@ use Rattle.std.specs.Option.{option_map}
 use Rattle.std.proofs.lemmas.Int.{ints}
 use Rattle.std.proofs.lemmas.List.{length-map}
 use Rattle.std.proofs.lemmas.List.Elements.{All-nil, All-cons, All-head, All-tail, All-filter}
-use Rattle.blot_types.specs.declared.command.Entry.{Entry}
 use Rattle.blot_types.specs.declared.fill.Fill.{Fill}
 use Rattle.blot_types.specs.declared.lines.OrderLine.{OrderLine}
 use Rattle.blot_types.specs.declared.part.Part.{Part}
@@ -22,6 +21,7 @@ use Rattle.blot_types.specs.Survivors.{links_of, versions_of, stands_in, survivo
 use Rattle.blot_types.proofs.PartLemmas.{signed-size}
 use Rattle.blot_types.proofs.SumLemmas.{total-cons, total-where}
 use Rattle.blot_position.specs.Positions.{Cells}
+use Rattle.blot_command.specs.Book.{Shown}
 use Rattle.blot_command.specs.Carried.{ShowsPositions}
 use Rattle.blot_command.proofs.ReadyLemmas.{few-survivors, length-filtered, light-list}
 use Rattle.blot_position.proofs.CarryLemmas.{qty_at, value_at}
@@ -83,8 +83,9 @@ position-bounded : (parts : List Part) → IsBounded (total (λ p. p.qty) parts)
 position-bounded [] qty value = tt
 position-bounded (part ∷ parts) qty value = (qty, value)
 
-pub has-bounded-totals : (list : List Entry) (cells : Cells) → is_book list ≡ true → ShowsPositions list cells → HasBoundedTotals list
-has-bounded-totals list cells book shows =
+pub has-bounded-totals : (shown : Shown) (cells : Cells) → is_book shown.list ≡ true → ShowsPositions shown cells → HasBoundedTotals shown.list
+has-bounded-totals shown cells book shows =
+    let list = shown.list in
     let light = light-list list cells book shows.ready in
     let fits : All (λ version. FillFits version.fill) (survivors list) = All-filter (stands_in (links_of list)) (λ (version : Version). FillFits version.fill) (versions_of list) shows.ready.fills_fit in
     let fills = map (λ (version : Version). version.fill) (survivors list) in

@@ -1,156 +1,92 @@
--- A book and the book without one of its Busts: what the two have in common, and the fills that each shows.
-use Rattle.std.proofs.Common.{◌≡◌, ℕ, ◌+◌, true, ◌&&◌, List, [], ◌∷◌, ◌++◌, reverse, Option, Some, None, refl, sym, ap, subst, ◌∙◌, inl, inr}
-use Rattle.std.specs.Prelude.{find, is_none, nat_lt, All, IfSome}
-use Rattle.std.specs.Option.{option_map, option_and_then}
-use Rattle.std.specs.List.{filter_map}
-use Rattle.std.proofs.lemmas.Bool.{cases_Bool, and_parts}
+-- A book with an entry in its middle, and without it: what holds of its entries, and the fills that are shown.
+use Rattle.std.proofs.Common.{◌≡◌, ℕ, true, List, [], ◌∷◌, ◌++◌, reverse, Option, Some, None, refl, sym, ap, subst, ◌∙◌, append_assoc, inl, inr}
+use Rattle.std.specs.Prelude.{find, not, nat_eq, nat_lt, is_none, All, IfSome}
+use Rattle.std.specs.Option.{option_and_then}
+use Rattle.std.proofs.lemmas.Bool.{cases_Bool, and_parts, eqb-true}
 use Rattle.std.proofs.lemmas.List.{reverse-reverse, reverse-append}
-use Rattle.std.proofs.lemmas.List.Elements.{filter_map-append}
-use Rattle.blot_types.specs.declared.command.Bust.{Bust}
-use Rattle.blot_types.specs.declared.command.Command.{Command}
-use Rattle.blot_types.specs.declared.command.Command.TheVariants.{Trade, Correct, Bust as BustCommand, AllocNew, AllocReplace, AllocCancel, Withdraw}
+use Rattle.std.proofs.lemmas.List.Elements.{All-cons, All-head, All-tail, All-append, All-filter}
+use Rattle.blot_places.specs.Shown.{item_at, with_item}
 use Rattle.blot_types.specs.declared.command.Entry.{Entry}
 use Rattle.blot_types.specs.declared.keys.ExecKey.{ExecKey}
 use Rattle.blot_types.specs.declared.lines.Version.{Version}
 use Rattle.blot_types.specs.declared.link.Link.{Link}
-use Rattle.blot_types.specs.declared.TheConstants.{EVENTS_MAX}
-use Rattle.blot_types.specs.Allocations.{allocation_of, live_allocations}
-use Rattle.blot_types.specs.Chains.{root_in, is_root, bust_in, current_in, link_refusal, is_chained, replaced_by}
-use Rattle.blot_types.specs.Legal.{is_above_entries, rises_in, legal_in, is_book}
-use Rattle.blot_types.specs.Position.{is_named}
-use Rattle.blot_types.specs.Refusals.{is_bust, is_live_bust}
-use Rattle.blot_types.specs.Survivors.{link_of, links_in, links_of, versions_of, survivors}
-use Rattle.blot_types.specs.Withdrawal.{without as without_number, put_back, put_back_in}
-use Rattle.blot_types.proofs.BustLemmas.{as_entry, as_link, reverse-middle}
-use Rattle.blot_types.proofs.ChainLemmas.{none_is, accepted_key, accepted_root}
-use Rattle.blot_types.proofs.ChainOutLemmas.{root-older}
-use Rattle.blot_types.proofs.ChangeLemmas.{allocations_in}
-use Rattle.blot_types.proofs.KeyLemmas.{same_exec-refl}
-use Rattle.blot_types.proofs.LinkOutLemmas.{GoneLink, links-rest, chained-whole, chained-rest}
-use Rattle.blot_types.proofs.SurvivorLemmas.{current-stands, without}
-use Rattle.blot_types.proofs.UnbustLemmas.{Unbusts, versions-lifted, survivors-lifted, named-lifted, allocations-lifted, bust-lifted}
-use Rattle.blot_order.specs.Fills.{Fills, held_at}
-use Rattle.blot_command.specs.Book.{has_number}
-use Rattle.blot_command.specs.Law.{has_bust, book-without, back-again}
-use Rattle.blot_command.specs.Shown.{version_numbered, version_replaced, Shows, with_put, with_kept, IsPut, IsKept}
-use Rattle.blot_command.proofs.RecordLemmas.{Replaces, replace, puts_kept, held_kept, kept_replaced, puts_again, held_again}
-use Rattle.blot_command.proofs.ShowLemmas.{Puts}
+use Rattle.blot_types.specs.Legal.{rises_in, numbers_rise, is_legal, entry_refusal, is_book}
+use Rattle.blot_types.specs.Refusals.{withdrawn_by}
+use Rattle.blot_types.specs.Standing.{standing, chain_by, chain_of, stood}
+use Rattle.blot_types.specs.Survivors.{link_of, links_of, version_of}
+use Rattle.blot_types.specs.Withdrawal.{without, put_back_in, put_back}
+use Rattle.blot_types.proofs.AcceptLemmas.{enters}
+use Rattle.blot_types.proofs.BringLemmas.{found-All}
+use Rattle.blot_types.proofs.BustLemmas.{reverse-middle}
+use Rattle.blot_types.proofs.ChainLemmas.{none_is}
+use Rattle.blot_types.proofs.LawLemmas.{book_parts}
+use Rattle.blot_types.proofs.LegalLemmas.{is_legal-front, is_legal-push}
+use Rattle.blot_types.proofs.NeedLemmas.{without-out}
+use Rattle.blot_types.proofs.StayLemmas.{filter-reverse}
+use Rattle.blot_types.proofs.SurvivorLemmas.{without as without_version}
+use Rattle.blot_order.specs.Fills.{Fills}
+use Rattle.blot_command.specs.Book.{Shown, entry_number, has_number}
+use Rattle.blot_command.specs.Shown.{Shows}
+use Rattle.blot_command.specs.Withdrawing.{lifted, returned, CanReturn}
+use Rattle.blot_command.proofs.ApartLemmas.{LinkApart, link-apart, InstructionApart, instruction-apart}
+use Rattle.blot_command.proofs.EachLemmas.{all-front, all-back, each-brings, all-brought}
+use Rattle.blot_command.proofs.ShowLemmas.{IsHeld, Trades, trades-back, IsTraded, traded}
 
--- ---- what a Bust changes
+-- ---- around an entry
 
--- a book with a Bust, and without it: what is the same, and the version that the Bust ends
-pub record IsUnbusted (list rest : List Entry) (link : Option Link) (busted : Option Version) : Type 0 where
-  pub book : is_book list ≡ true
-  pub rest_book : is_book rest ≡ true
-  pub survivors_are : survivors list ≡ without (option_map (λ version. version.number) busted) (survivors rest)
-  pub replaces : Replaces rest link busted
-  pub versions : versions_of list ≡ versions_of rest
-  pub allocations : allocations_in list ≡ allocations_in rest
-  pub named : (key : ExecKey) → is_named list key ≡ is_named rest key
-  pub live : live_allocations list ≡ live_allocations rest
+-- a list with an entry in its middle, and without it
+pub record IsAround (list rest : List Entry) (entry : Entry) : Type 0 where
+  pub front : List Entry
+  pub back : List Entry
+  pub list_is : list ≡ front ++ entry ∷ back
+  pub rest_is : rest ≡ front ++ back
 
--- the numbers of a book rise up to the greatest, and it is legal
-record IsBook (list : List Entry) : Type 0 where
-  rise : rises_in (reverse list) ≡ true
-  within : is_above_entries (EVENTS_MAX + 1) (reverse list) ≡ true
-  legal : legal_in (reverse list) ≡ true
+-- what holds of each entry of the one holds of each of the other
+around-own : (P : Entry → Type 0) (list rest : List Entry) (entry : Entry) → IsAround list rest entry → All P list → P entry
+around-own P list rest entry it all = All-head P entry it.back (all-back P it.front (entry ∷ it.back) (subst (All P) it.list_is all))
 
-book_of : (list : List Entry) → is_book list ≡ true → IsBook list
-book_of list book =
-    let parts : ((rises_in (reverse list) && is_above_entries (EVENTS_MAX + 1) (reverse list)) ≡ true) × (legal_in (reverse list) ≡ true) = and_parts _ _ book in
-    let numbered : (rises_in (reverse list) ≡ true) × (is_above_entries (EVENTS_MAX + 1) (reverse list) ≡ true) = and_parts _ _ parts.0 in
-    record { rise = numbered.0; within = numbered.1; legal = parts.1 }
+around-rest : (P : Entry → Type 0) (list rest : List Entry) (entry : Entry) → IsAround list rest entry → All P list → All P rest
+around-rest P list rest entry it all =
+    let whole = subst (All P) it.list_is all in
+    subst (All P) (sym it.rest_is) (All-append P it.front it.back (all-front P it.front (entry ∷ it.back) whole) (All-tail P entry it.back (all-back P it.front (entry ∷ it.back) whole)))
 
--- ---- the chain that a Bust ends
+around-list : (P : Entry → Type 0) (list rest : List Entry) (entry : Entry) → IsAround list rest entry → P entry → All P rest → All P list
+around-list P list rest entry it own all =
+    let parts = subst (All P) it.rest_is all in
+    subst (All P) (sym it.list_is) (All-append P it.front (entry ∷ it.back) (all-front P it.front it.back parts) (All-cons P entry it.back own (all-back P it.front it.back parts)))
 
--- links among chained ones are chained after those before them
-chained-front : (later links : List Link) → is_chained (later ++ links) ≡ true → is_chained links ≡ true
-chained-front [] links chained = chained
-chained-front (link ∷ later) links chained =
-    let parts : (is_none (link_refusal (later ++ links) link.key link.role) ≡ true) × (is_chained (later ++ links) ≡ true) = and_parts _ _ chained in
-    chained-front later links parts.1
+-- ---- an entry that is found by its number
 
--- the chain that a Bust refers to, before it and in the list without it
-record IsEnding (later front : List Entry) (number : ℕ) (bust : Bust) (root : ExecKey) : Type 0 where
-  first : root_in (links_in front) bust.reference ≡ Some root
-  root_is : root_in (links_in (later ++ front)) bust.reference ≡ Some root
-  free : bust_in (links_in (later ++ front)) root ≡ None
+record IsFound (list : List Entry) (number : ℕ) (entry : Entry) : Type 0 where
+  front : List Entry
+  back : List Entry
+  is : list ≡ front ++ entry ∷ back
+  own : entry.number ≡ number
 
-ending :
-    (later front : List Entry) (number : ℕ) (bust : Bust) → legal_in (later ++ as_entry number bust ∷ front) ≡ true → legal_in (later ++ front) ≡ true
-    → (root : ExecKey) × IsEnding later front number bust root
-ending later front number bust legal out =
-    let link = as_link number bust in
-    let gone : GoneLink later front (as_entry number bust) link = record { link = refl; legal = legal; out = out } in
-    let whole = chained-whole later front (as_entry number bust) link gone in
-    let rest = chained-rest later front (as_entry number bust) link gone in
-    let own : (is_none (link_refusal (links_in front) link.key link.role) ≡ true) × (is_chained (links_in front) ≡ true) =
-    and_parts _ _ (chained-front (links_in later) (link ∷ links_in front) whole) in
-    let chain = accepted_root (links_in front) bust.reference (root_in (links_in front) bust.reference) (accepted_key (links_in front) link.key link.role (none_is _ own.0)).1 in
-    let busts_it : is_root chain.0 (root_in (links_in front) bust.reference) ≡ true = ap (is_root chain.0) chain.1.root_is ∙ same_exec-refl chain.0 in (
-      chain.0,
-      record {
-        first = chain.1.root_is;
-        root_is = ap (λ links. root_in links bust.reference) (links-rest later front) ∙ root-older (links_in later) (links_in front) bust.reference chain.0 rest chain.1.root_is;
-        free = ap (λ links. bust_in links chain.0) (links-rest later front) ∙ bust-lifted (links_in later) (links_in front) link chain.0 whole rest busts_it chain.1.not_busted;
-      },
-    )
+found-entry : (list : List Entry) (number : ℕ) (entry : Entry) → find (has_number number) list ≡ Some entry → IsFound list number entry
+found-entry [] number entry found = cc
+found-entry (first ∷ list) number entry found =
+    elim (cases_Bool (has_number number first)) [
+      | inl here ↦
+          let is : Some first ≡ Some entry = rw here at found in
+          let same : first ≡ entry = cc in
+          record { front = []; back = list; is = ap (λ e. e ∷ list) same; own = ap (λ (e : Entry). e.number) (sym same) ∙ eqb-true first.number number here }
+      | inr other ↦
+          let later = found-entry list number entry (rw other at found) in
+          record { front = first ∷ later.front; back = later.back; is = ap (λ l. first ∷ l) later.is; own = later.own }
+    ]
 
-turned_links : (entries : List Entry) → links_of (reverse entries) ≡ links_in entries
-turned_links entries = ap links_in (reverse-reverse entries)
+-- the list without it, where the numbers rise
+without-middle : (list front back : List Entry) (k : Entry) → list ≡ front ++ k ∷ back → numbers_rise list ≡ true → without k.number list ≡ front ++ back
+without-middle list front back k is rise =
+    let whole : reverse list ≡ reverse back ++ k ∷ reverse front = ap reverse is ∙ reverse-middle front back k in
+    let out : reverse (without k.number list) ≡ reverse back ++ reverse front =
+    sym (filter-reverse (λ (entry : Entry). not (nat_eq entry.number k.number)) list) ∙ ap (without k.number) whole ∙ without-out k (reverse back) (reverse front) (ap rises_in (sym whole) ∙ rise) in
+    sym (reverse-reverse (without k.number list)) ∙ ap reverse out ∙ reverse-append (reverse back) (reverse front) ∙ (λ i. reverse-reverse front i ++ reverse-reverse back i)
 
--- the Bust brings no allocation
-allocations-turned : (later front : List Entry) (number : ℕ) (bust : Bust) → allocations_in (reverse (later ++ as_entry number bust ∷ front)) ≡ allocations_in (reverse (later ++ front))
-allocations-turned later front number bust =
-    let brings = λ (entry : Entry). allocation_of entry.command in
-    ap (filter_map brings) (reverse-middle later front (as_entry number bust)) ∙ filter_map-append brings (reverse front) (as_entry number bust ∷ reverse later)
-    ∙ sym (filter_map-append brings (reverse front) (reverse later)) ∙ ap (filter_map brings) (sym (reverse-append later front))
+-- ---- an entry that is put back
 
--- the lists, each turned
-unbusted-turned :
-    (later front : List Entry) (number : ℕ) (bust : Bust) → is_book (reverse (later ++ as_entry number bust ∷ front)) ≡ true → is_book (reverse (later ++ front)) ≡ true
-    → IsUnbusted (reverse (later ++ as_entry number bust ∷ front)) (reverse (later ++ front)) (Some (as_link number bust)) (version_replaced (reverse (later ++ front)) (as_entry number bust))
-unbusted-turned later front number bust book rest_book =
-    let entries = later ++ as_entry number bust ∷ front in
-    let others = later ++ front in
-    let rest = reverse others in
-    let link = as_link number bust in
-    let busted = version_replaced rest (as_entry number bust) in
-    let whole = book_of (reverse entries) book in
-    let out = book_of rest rest_book in
-    let legal : legal_in entries ≡ true = ap legal_in (sym (reverse-reverse entries)) ∙ whole.legal in
-    let out_legal : legal_in others ≡ true = ap legal_in (sym (reverse-reverse others)) ∙ out.legal in
-    let chain = ending later front number bust legal out_legal in
-    let root = chain.0 in
-    let unbusts : Unbusts later front number bust root = record {
-      legal = legal;
-      out = out_legal;
-      rise = ap rises_in (sym (reverse-reverse others)) ∙ out.rise;
-      within = ap (is_above_entries (EVENTS_MAX + 1)) (sym (reverse-reverse others)) ∙ out.within;
-      root_is = chain.1.first;
-    } in
-    let links = turned_links others in
-    let number_is : replaced_by (links_of rest) (Some link) ≡ current_in (links_of rest) root =
-    ap (option_and_then (current_in (links_of rest))) (ap (λ ls. root_in ls bust.reference) links ∙ chain.1.root_is) in
-    let free : bust_in (links_of rest) root ≡ None = ap (λ ls. bust_in ls root) links ∙ chain.1.free in
-    let replaces : Replaces rest (Some link) busted =
-    replace rest (Some link) (current_in (links_of rest) root) busted number_is (ap (option_and_then (version_numbered rest)) number_is)
-    (λ m current. current-stands rest root m out.legal out.rise free current) in
-    record {
-      book = book;
-      rest_book = rest_book;
-      survivors_are = survivors-lifted later front number bust root unbusts
-          ∙ ap (λ n. without n (survivors rest)) (ap (λ ls. current_in ls root) (sym links) ∙ sym number_is ∙ replaces.number_is);
-      replaces = replaces;
-      versions = versions-lifted later front number bust;
-      allocations = allocations-turned later front number bust;
-      named = λ key. named-lifted later front number bust root key unbusts;
-      live = allocations-lifted later front number bust root unbusts;
-    }
-
--- ---- a Bust put back
-
--- the place of an entry that is put back, newest first
+-- its place, newest first
 record HasPlace (entry : Entry) (entries : List Entry) : Type 0 where
   later : List Entry
   front : List Entry
@@ -171,108 +107,165 @@ place_of entry (other ∷ earlier) =
           }
     ]
 
-abbrev UnbustedBy : ℕ → Command → List Entry → Type 0
-UnbustedBy number command rest =
-    IsUnbusted (put_back (record { number = number; command = command }) rest) rest (link_of (record { number = number; command = command }))
-    (version_replaced rest (record { number = number; command = command }))
+put-around : (list : List Entry) (entry : Entry) → IsAround (put_back entry list) list entry
+put-around list entry =
+    let place = place_of entry (reverse list) in record {
+      front = reverse place.front;
+      back = reverse place.later;
+      list_is = ap reverse place.is ∙ reverse-middle place.later place.front entry;
+      rest_is = sym (reverse-reverse list) ∙ ap reverse place.was ∙ reverse-append place.later place.front;
+    }
 
-unbusted-by : (number : ℕ) (command : Command) (rest : List Entry) → is_bust command ≡ true → is_book rest ≡ true → is_book (put_back (record { number = number; command = command }) rest) ≡ true
-    → UnbustedBy number command rest
-unbusted-by number (Trade trade) rest is rest_book book = cc
-unbusted-by number (Correct correct) rest is rest_book book = cc
-unbusted-by number (BustCommand bust) rest is rest_book book =
-    let place = place_of (as_entry number bust) (reverse rest) in
-    let link = as_link number bust in
-    let whole : put_back (as_entry number bust) rest ≡ reverse (place.later ++ as_entry number bust ∷ place.front) = ap reverse place.is in
-    let out : rest ≡ reverse (place.later ++ place.front) = sym (reverse-reverse rest) ∙ ap reverse place.was in
-    subst (λ list. IsUnbusted list rest (Some link) (version_replaced rest (as_entry number bust))) (sym whole)
-    (subst (λ others. IsUnbusted (reverse (place.later ++ as_entry number bust ∷ place.front)) others (Some link) (version_replaced others (as_entry number bust))) (sym out)
-    (unbusted-turned place.later place.front number bust (ap is_book (sym whole) ∙ book) (ap is_book (sym out) ∙ rest_book)))
-unbusted-by number (AllocNew new) rest is rest_book book = cc
-unbusted-by number (AllocReplace replace) rest is rest_book book = cc
-unbusted-by number (AllocCancel cancel) rest is rest_book book = cc
-unbusted-by number (Withdraw withdrawn) rest is rest_book book = cc
+-- ---- two books
 
--- a book with a Bust put back
-pub unbusted :
-    (rest : List Entry) (entry : Entry) → is_bust entry.command ≡ true → is_book rest ≡ true → is_book (put_back entry rest) ≡ true
-    → IsUnbusted (put_back entry rest) rest (link_of entry) (version_replaced rest entry)
-unbusted rest entry bust rest_book book = unbusted-by entry.number entry.command rest bust rest_book book
+-- a book with an entry in its middle, and the book without it
+pub record IsWithout (list rest : List Entry) (entry : Entry) : Type 0 where
+  pub around : IsAround list rest entry
+  pub book : is_book list ≡ true
+  pub rest_book : is_book rest ≡ true
 
--- a book from which the Bust of a number is taken out
-pub lifted-unbusted :
-    (list : List Entry) (number : ℕ) (entry : Entry) → is_live_bust number list ≡ true → is_book list ≡ true → find (has_number number) list ≡ Some entry
-    → IsUnbusted list (without_number number list) (link_of entry) (version_replaced (without_number number list) entry)
-lifted-unbusted list number entry is book found =
-    let rest = without_number number list in
-    let has = has_bust list number is in
-    let some : Some has.entry ≡ Some entry = sym has.found ∙ found in
-    let same : has.entry ≡ entry = cc in
-    let again : put_back entry rest ≡ list = ap (λ e. put_back e rest) (sym same) ∙ back-again list number book has in
-    let bust : is_bust entry.command ≡ true = ap (λ e. is_bust e.command) (sym same) ∙ has.bust in
-    subst (λ l. IsUnbusted l rest (link_of entry) (version_replaced rest entry)) again
-    (unbusted rest entry bust (book-without list number book has) (ap is_book again ∙ book))
+-- an entry is taken out by its number
+pub taken-out :
+    (list : List Entry) (number : ℕ) (entry : Entry) → is_book list ≡ true → find (has_number number) list ≡ Some entry → is_book (without number list) ≡ true
+    → IsWithout list (without entry.number list) entry
+taken-out list number entry book found rest_book =
+    let it = found-entry list number entry found in
+    record {
+      around = record { front = it.front; back = it.back; list_is = it.is; rest_is = without-middle list it.front it.back entry it.is (book_parts list book).0 };
+      book = book;
+      rest_book = ap (λ n. is_book (without n list)) it.own ∙ rest_book;
+    }
 
--- ---- as the code reads them
+-- an entry is put back
+pub put-in : (rest : List Entry) (entry : Entry) → is_book rest ≡ true → is_book (put_back entry rest) ≡ true → IsWithout (put_back entry rest) rest entry
+put-in rest entry rest_book book = record { around = put-around rest entry; book = book; rest_book = rest_book }
 
--- the Bust of a number is lifted out
-pub lifted-as :
-    (list rest : List Entry) (number : ℕ) (entry : Entry) (link : Option Link) (busted : Option Version) → is_live_bust number list ≡ true → is_book list ≡ true
-    → find (has_number number) list ≡ Some entry → rest ≡ without_number number list → link ≡ link_of entry → busted ≡ option_and_then (version_numbered rest) (replaced_by (links_of rest) link)
-    → IsUnbusted list rest (link_of entry) busted
-lifted-as list rest number entry link busted is book found rest_is link_is read =
-    subst (IsUnbusted list rest (link_of entry)) (sym (read ∙ ap (λ role. option_and_then (version_numbered rest) (replaced_by (links_of rest) role)) link_is))
-    (subst (λ others. IsUnbusted list others (link_of entry) (version_replaced others entry)) (sym rest_is) (lifted-unbusted list number entry is book found))
+-- an entry of a book is no Withdraw
+entered : (list rest : List Entry) (entry : Entry) → IsWithout list rest entry → withdrawn_by entry.command ≡ None
+entered list rest entry it =
+    let front = it.around.front in
+    let is : list ≡ (front ++ entry ∷ []) ++ it.around.back = it.around.list_is ∙ sym (append_assoc front (entry ∷ []) it.around.back) in
+    let legal : is_legal (front ++ entry ∷ []) ≡ true = is_legal-front (front ++ entry ∷ []) it.around.back (ap is_legal (sym is) ∙ (book_parts list it.book).1) in
+    let parts : (is_none (entry_refusal front entry.command) ≡ true) × (is_legal front ≡ true) = and_parts _ _ (sym (is_legal-push front entry) ∙ legal) in
+    (enters front entry.command (none_is (entry_refusal front entry.command) parts.0)).stays
 
--- a Bust is put back
-pub returned-as :
-    (list rest : List Entry) (entry : Entry) (link : Option Link) (busted : Option Version) → is_bust entry.command ≡ true → is_book rest ≡ true → is_book (put_back entry rest) ≡ true
-    → list ≡ put_back entry rest → link ≡ link_of entry → busted ≡ option_and_then (version_numbered rest) (replaced_by (links_of rest) link)
-    → IsUnbusted list rest (link_of entry) busted
-returned-as list rest entry link busted bust rest_book book list_is link_is read =
-    subst (IsUnbusted list rest (link_of entry)) (sym (read ∙ ap (λ role. option_and_then (version_numbered rest) (replaced_by (links_of rest) role)) link_is))
-    (subst (λ l. IsUnbusted l rest (link_of entry) (version_replaced rest entry)) (sym list_is) (unbusted rest entry bust rest_book book))
+pub link-without : (list rest : List Entry) (entry : Entry) (link : Link) → link_of entry ≡ Some link → IsWithout list rest entry → LinkApart list rest entry
+link-without list rest entry link is it =
+    let front = it.around.front in
+    let back = it.around.back in
+    subst (λ l. LinkApart l rest entry) (sym it.around.list_is)
+    (subst (λ l. LinkApart (front ++ entry ∷ back) l entry) (sym it.around.rest_is)
+    (link-apart front back entry link is (ap is_book (sym it.around.list_is) ∙ it.book) (ap is_book (sym it.around.rest_is) ∙ it.rest_book)))
+
+pub instruction-without : (list rest : List Entry) (entry : Entry) → link_of entry ≡ None → IsWithout list rest entry → InstructionApart list rest entry
+instruction-without list rest entry unlinked it =
+    let front = it.around.front in
+    let back = it.around.back in
+    subst (λ l. InstructionApart l rest entry) (sym it.around.list_is)
+    (subst (λ l. InstructionApart (front ++ entry ∷ back) l entry) (sym it.around.rest_is)
+    (instruction-apart front back entry unlinked (entered list rest entry it) (ap is_book (sym it.around.list_is) ∙ it.book) (ap is_book (sym it.around.rest_is) ∙ it.rest_book)))
+
+-- ---- what holds of each entry that is shown
+
+all-with : (P : Entry → Type 0) (entry : Entry) (entries : List Entry) → P entry → All P entries → All P (with_item entry_number entry entries)
+all-with P entry [] own all = All-cons P entry [] own all
+all-with P entry (other ∷ earlier) own all =
+    elim (cases_Bool (nat_lt entry.number other.number)) [
+      | inl less ↦ rw less (All-cons P other (with_item entry_number entry earlier) (All-head P other earlier all) (all-with P entry earlier own (All-tail P other earlier all)))
+      | inr more ↦ rw more (All-cons P entry (other ∷ earlier) own all)
+    ]
+
+-- a fact of each entry in the list and of each that is kept
+pub record EachShown (P : Entry → Type 0) (shown : Shown) : Type 0 where
+  pub listed : All P shown.list
+  pub kept : All P shown.kept
+
+-- it holds once an entry is taken out of the list and kept
+pub each-lifted : (P : Entry → Type 0) (shown : Shown) (entry : Entry) → IsWithout shown.list (without entry.number shown.list) entry → EachShown P shown → EachShown P (lifted entry shown)
+each-lifted P shown entry it each = record {
+  listed = around-rest P shown.list (without entry.number shown.list) entry it.around each.listed;
+  kept = all-with P entry shown.kept (around-own P shown.list (without entry.number shown.list) entry it.around each.listed) each.kept;
+}
+
+-- and once it is put back
+pub each-returned :
+    (P : Entry → Type 0) (shown : Shown) (entry : Entry) → IsWithout (put_back entry shown.list) shown.list entry → item_at entry_number entry.number shown.kept ≡ Some entry → EachShown P shown
+    → EachShown P (returned entry shown)
+each-returned P shown entry it kept each = record {
+  listed = around-list P (put_back entry shown.list) shown.list entry it.around (found-All P (λ (item : Entry). nat_eq item.number entry.number) shown.kept entry each.kept kept) each.listed;
+  kept = All-filter (λ (item : Entry). not (nat_eq item.number entry.number)) P shown.kept each.kept;
+}
+
+-- ---- the version that stands
+
+-- an instruction is of no chain
+pub chainless : (list : List Entry) (entry : Entry) → link_of entry ≡ None → stood list entry ≡ None
+chainless list entry unlinked = ap (λ link. option_and_then (standing list) (chain_by (links_of list) link)) unlinked
+
+same-chain-by : (found : Option Link) (list rest : List Entry) (entry : Entry) → link_of entry ≡ found → IsWithout list rest entry → chain_of list entry ≡ chain_of rest entry
+same-chain-by (Some link) list rest entry is it = (link-without list rest entry link is it).chain
+same-chain-by None list rest entry is it = ap (chain_by (links_of list)) is ∙ sym (ap (chain_by (links_of rest)) is)
+
+-- the entry is of the same chain with it and without it
+pub same-chain : (list rest : List Entry) (entry : Entry) → IsWithout list rest entry → chain_of list entry ≡ chain_of rest entry
+same-chain list rest entry it = same-chain-by (link_of entry) list rest entry refl it
+
+middle-trades-by : (found : Option Link) (list rest : List Entry) (entry : Entry) → link_of entry ≡ found → IsWithout list rest entry → Trades list rest (stood list entry) (stood rest entry)
+middle-trades-by (Some link) list rest entry is it =
+    let apart = link-without list rest entry link is it in
+    record { same = apart.survivors_are; stood = apart.gone; stands = apart.come }
+middle-trades-by None list rest entry is it =
+    subst (λ version. Trades list rest version (stood rest entry)) (sym (chainless list entry is))
+    (subst (λ version. Trades list rest None version) (sym (chainless rest entry is))
+    (record { same = ap (without_version None) (instruction-without list rest entry is it).survivors_are; stood = tt; stands = tt }))
+
+middle-trades : (list rest : List Entry) (entry : Entry) → IsWithout list rest entry → Trades list rest (stood list entry) (stood rest entry)
+middle-trades list rest entry it = middle-trades-by (link_of entry) list rest entry refl it
 
 -- ---- the fills that are shown
 
-puts_unbusted : (list rest : List Entry) (link : Option Link) (busted : Option Version) (fills : Fills) → IsUnbusted list rest link busted → Shows list fills
-    → Puts fills (without (option_map (λ version. version.number) busted) (survivors rest))
-puts_unbusted list rest link busted fills it shows = subst (Puts fills) it.survivors_are shows.put
+-- the fill of what an entry brings is held
+abbrev IsEntryHeld : Fills → Entry → Type 0
+IsEntryHeld fills entry = IfSome (version_of entry) (IsHeld fills)
 
-held_unbusted : (list rest : List Entry) (link : Option Link) (busted : Option Version) (fills : Fills) → IsUnbusted list rest link busted → Shows list fills
-    → All (λ version. held_at fills version.number ≡ Some version.fill) (versions_of rest)
-held_unbusted list rest link busted fills it shows = subst (All (λ version. held_at fills version.number ≡ Some version.fill)) it.versions shows.held
+each-held : (shown : Shown) (fills : Fills) → Shows shown fills → EachShown (IsEntryHeld fills) shown
+each-held shown fills shows = record { listed = each-brings version_of (IsHeld fills) shown.list shows.held; kept = each-brings version_of (IsHeld fills) shown.kept shows.held_kept }
 
--- while the Bust is there, the fill of the version that it ends is kept
-pub can_un_take_busted : (list rest : List Entry) (link : Option Link) (busted : Option Version) (fills : Fills) → IsUnbusted list rest link busted → Shows list fills
-    → IfSome busted (λ version. IsKept version fills)
-can_un_take_busted list rest link busted fills it shows =
-    kept_replaced rest fills link busted it.replaces (puts_unbusted list rest link busted fills it shows) (held_unbusted list rest link busted fills it shows)
+trades-each :
+    (old shown : Shown) (gone come : Option Version) (fills : Fills) → Trades old.list shown.list gone come → is_book shown.list ≡ true → Shows old fills → EachShown (IsEntryHeld fills) shown
+    → IsTraded shown gone come fills
+trades-each old shown lost gained fills trades book shows each =
+    traded old.list shown lost gained fills trades book shows.put (all-brought version_of (IsHeld fills) shown.list each.listed) (all-brought version_of (IsHeld fills) shown.kept each.kept)
 
--- once it is lifted out, the fill is put
-pub shows-lifted : (list rest : List Entry) (link : Option Link) (busted : Option Version) (fills : Fills) → IsUnbusted list rest link busted → Shows list fills
-    → Shows rest (with_put busted fills)
-shows-lifted list rest link busted fills it shows = record {
-  book = it.rest_book;
-  put = puts_again rest fills link busted it.replaces (puts_unbusted list rest link busted fills it shows);
-  held = held_again fills busted (versions_of rest) (can_un_take_busted list rest link busted fills it shows) (held_unbusted list rest link busted fills it shows);
-}
+-- the entry of a number is taken out of the list: the version of its chain that stood goes, and the one that stands then comes
+pub lifts :
+    (old new : Shown) (number : ℕ) (entry : Entry) (chain : Option ExecKey) (gone come : Option Version) (fills : Fills) → find (has_number number) old.list ≡ Some entry → is_book (without number old.list) ≡ true
+    → new ≡ lifted entry old → chain ≡ chain_of old.list entry → gone ≡ option_and_then (standing old.list) chain → come ≡ option_and_then (standing new.list) chain → Shows old fills
+    → IsTraded new gone come fills
+lifts old new number entry chain lost gained fills found rest_book is chain_is lost_is gained_is shows =
+    let it = taken-out old.list number entry shows.book found rest_book in
+    let rest = without entry.number old.list in
+    let was : lost ≡ stood old.list entry = lost_is ∙ ap (option_and_then (standing old.list)) chain_is in
+    let now : gained ≡ stood rest entry =
+    gained_is ∙ (λ k. option_and_then (standing (is k).list) (chain_is k)) ∙ ap (option_and_then (standing rest)) (same-chain old.list rest entry it) in
+    subst (λ shown. IsTraded shown lost gained fills) (sym is)
+    (subst (λ version. IsTraded (lifted entry old) version gained fills) (sym was)
+    (subst (λ version. IsTraded (lifted entry old) (stood old.list entry) version fills) (sym now)
+    (trades-each old (lifted entry old) (stood old.list entry) (stood rest entry) fills (middle-trades old.list rest entry it) it.rest_book shows
+    (each-lifted (IsEntryHeld fills) old entry it (each-held old fills shows)))))
 
-put_replaced : (rest : List Entry) (link : Option Link) (busted : Option Version) (fills : Fills) → Replaces rest link busted → Puts fills (survivors rest) → IfSome busted (λ version. IsPut version fills)
-put_replaced rest link None fills replaces puts = tt
-put_replaced rest link (Some version) fills replaces puts = puts version.number ∙ ap (option_map (λ v. v.fill)) replaces.survives
-
--- while it is out, the fill is put
-pub can_take_busted : (list rest : List Entry) (link : Option Link) (busted : Option Version) (fills : Fills) → IsUnbusted list rest link busted → Shows rest fills
-    → IfSome busted (λ version. IsPut version fills)
-can_take_busted list rest link busted fills it shows = put_replaced rest link busted fills it.replaces shows.put
-
--- once it is put back, the fill is kept
-pub shows-returned : (list rest : List Entry) (link : Option Link) (busted : Option Version) (fills : Fills) → IsUnbusted list rest link busted → Shows rest fills
-    → Shows list (with_kept busted fills)
-shows-returned list rest link busted fills it shows = record {
-  book = it.book;
-  put = subst (Puts (with_kept busted fills)) (sym it.survivors_are) (puts_kept fills busted (survivors rest) shows.put);
-  held = subst (All (λ version. held_at (with_kept busted fills) version.number ≡ Some version.fill)) (sym it.versions)
-      (held_kept fills busted (versions_of rest) (can_take_busted list rest link busted fills it shows) shows.held);
-}
+-- and an entry that is kept is put back
+pub returns :
+    (old new : Shown) (entry : Entry) (chain : Option ExecKey) (gone come : Option Version) (fills : Fills) → CanReturn entry old → new ≡ returned entry old → chain ≡ chain_of old.list entry
+    → gone ≡ option_and_then (standing old.list) chain → come ≡ option_and_then (standing new.list) chain → Shows old fills → IsTraded new gone come fills
+returns old new entry chain lost gained fills can is chain_is lost_is gained_is shows =
+    let list = put_back entry old.list in
+    let it = put-in old.list entry shows.book can.book in
+    let was : lost ≡ stood old.list entry = lost_is ∙ ap (option_and_then (standing old.list)) chain_is in
+    let now : gained ≡ stood list entry =
+    gained_is ∙ (λ k. option_and_then (standing (is k).list) (chain_is k)) ∙ ap (option_and_then (standing list)) (sym (same-chain list old.list entry it)) in
+    subst (λ shown. IsTraded shown lost gained fills) (sym is)
+    (subst (λ version. IsTraded (returned entry old) version gained fills) (sym was)
+    (subst (λ version. IsTraded (returned entry old) (stood old.list entry) version fills) (sym now)
+    (trades-each old (returned entry old) (stood old.list entry) (stood list entry) fills (trades-back list old.list (stood list entry) (stood old.list entry) (middle-trades list old.list entry it)) can.book shows
+    (each-returned (IsEntryHeld fills) old entry it can.kept (each-held old fills shows)))))

@@ -1,34 +1,44 @@
--- What the cells carry once a Bust is lifted out, and once it is put back: the part of the version that it ends comes and goes.
+-- What the cells carry once an entry is taken out of the middle of the book, and once it is put back.
 use Rattle.std.proofs.Common.{◌≡◌, ℕ, ◌+◌, ◌≤◌, ◌==◌, ◌+ℤ◌, arith, true, List, [], ◌∷◌, Option, Some, None, refl, sym, ap, subst, ◌∙◌, inl, inr}
-use Rattle.std.specs.Prelude.{ℤ, nat_le, find, All, IfSome}
+use Rattle.std.specs.Prelude.{ℤ, ◌⊎◌, nat_le, find, IfSome, Contains}
 use Rattle.std.specs.List.{cons_option}
-use Rattle.std.specs.Option.{option_map}
+use Rattle.std.specs.Option.{option_map, option_and_then}
 use Rattle.std.proofs.lemmas.Bool.{cases_Bool, and_parts, leb-true, ne_eqb, eq-eqb, eqb-true, eqb-false}
 use Rattle.std.proofs.lemmas.Int.{ints}
-use Rattle.std.proofs.lemmas.List.Elements.{All-nil, All-cons}
+use Rattle.std.proofs.lemmas.List.Elements.{All-weaker, All-filter, All-contains_itself}
 use Rattle.blot_types.specs.declared.command.Entry.{Entry}
+use Rattle.blot_types.specs.declared.keys.AllocKey.{AllocKey}
+use Rattle.blot_types.specs.declared.keys.ExecKey.{ExecKey}
 use Rattle.blot_types.specs.declared.lines.Version.{Version}
 use Rattle.blot_types.specs.declared.link.Link.{Link}
 use Rattle.blot_types.specs.declared.part.Part.{Part}
 use Rattle.blot_types.specs.Allocations.{live_allocations}
+use Rattle.blot_types.specs.Legal.{is_book}
 use Rattle.blot_types.specs.Order.{total}
-use Rattle.blot_types.specs.Position.{part_of_fill, part_of, parts_of, moves_of, IsSmall, FillFits, TermsFit}
-use Rattle.blot_types.specs.Survivors.{versions_of, survivors}
-use Rattle.blot_types.proofs.BringLemmas.{found-All}
-use Rattle.blot_types.proofs.ChangeLemmas.{allocations_in, amount, total-parts}
-use Rattle.blot_types.proofs.SumLemmas.{total-cons, total-map, total-same}
+use Rattle.blot_types.specs.Position.{part_of_fill, part_of, is_named}
+use Rattle.blot_types.specs.Refusals.{alloc_reference}
+use Rattle.blot_types.specs.Standing.{standing, chain_of, stood}
+use Rattle.blot_types.specs.Survivors.{link_of, links_of, versions_of, stands_in, survivors}
+use Rattle.blot_types.specs.Withdrawal.{without as without_number}
+use Rattle.blot_types.proofs.BringLemmas.{lines_of, found-All}
+use Rattle.blot_types.proofs.ChangeLemmas.{amount, total-parts}
+use Rattle.blot_types.proofs.SumLemmas.{total-cons, total-map, total-agree}
 use Rattle.blot_types.proofs.SurvivorLemmas.{without, without-none}
 use Rattle.blot_order.proofs.FillLemmas.{rise_from}
-use Rattle.blot_position.specs.Positions.{Cells, has_cell}
-use Rattle.blot_command.specs.Booking.{changed_all, CanChangeAll, rebooked}
-use Rattle.blot_command.specs.Carried.{HasFillCells, HasTermsCells, IsReady, ShowsPositions}
-use Rattle.blot_command.proofs.EntryMoveLemmas.{total-part, own-part, small-part, made-part}
-use Rattle.blot_command.proofs.LiftLemmas.{IsUnbusted}
+use Rattle.blot_position.specs.Positions.{Cells}
+use Rattle.blot_command.specs.Book.{Shown, has_number}
+use Rattle.blot_command.specs.Booking.{rebooked, allocated, released}
+use Rattle.blot_command.specs.Carried.{IsReady, ShowsPositions}
+use Rattle.blot_command.specs.Withdrawing.{lifted, returned, CanReturn}
+use Rattle.blot_command.proofs.AccountLemmas.{Reads, goes-as, comes-as, LeadsTo}
+use Rattle.blot_command.proofs.ApartLemmas.{number_if, LinkApart}
+use Rattle.blot_command.proofs.EntryMoveLemmas.{own_key, Exchanges, rest_low, LinkChanges, InstructionChanges, AreApart, link-changes}
+use Rattle.blot_command.proofs.LiftLemmas.{IsWithout, taken-out, put-in, link-without, instruction-without, chainless, same-chain, EachShown, each-lifted, each-returned}
 use Rattle.blot_command.proofs.LiveLemmas.{rise-of_book}
-use Rattle.blot_command.proofs.ReachLemmas.{count-total}
-use Rattle.blot_command.proofs.ReadyLemmas.{ready-stays, light-list, swaps, whole_of}
+use Rattle.blot_command.proofs.ReadyLemmas.{IsEntryReady, ready-each, each-ready, booked-live, stocked, whole_of}
 use Rattle.blot_command.proofs.RecordLemmas.{without-unused, survivors-rise}
-use Rattle.blot_command.proofs.ShowLemmas.{IsUnused}
+use Rattle.blot_command.proofs.ShowLemmas.{IsUnused, IsAmong}
+use Rattle.blot_command.proofs.WeightLemmas.{AllBooked}
 
 -- ---- a sum over versions, with one told apart
 
@@ -40,7 +50,7 @@ rise-unused n from (version ∷ later) rise below =
     rw (ne_eqb version.number n (λ same. absurd (omega (arith, same, least, below)))) (rise-unused n (version.number + 1) later parts.1 (omega (arith, least, below)))
 
 total-found :
-    (g : Version → ℤ) (from : ℕ) (versions : List Version) (version : Version) → rise_from from versions ≡ true → find (λ v. v.number == version.number) versions ≡ Some version
+    (g : Version → ℤ) (from : ℕ) (versions : List Version) (version : Version) → rise_from from versions ≡ true → IsAmong versions version
     → total g versions ≡ (g version +ℤ total g (without (Some version.number) versions))
 total-found g from [] version rise found = cc
 total-found g from (first ∷ later) version rise found =
@@ -60,100 +70,131 @@ total-found g from (first ∷ later) version rise found =
     ]
 
 total-apart :
-    (g : Version → ℤ) (versions : List Version) (busted : Option Version) → rise_from 0 versions ≡ true → IfSome busted (λ version. find (λ v. v.number == version.number) versions ≡ Some version)
-    → total g versions ≡ (total g (cons_option busted []) +ℤ total g (without (option_map (λ version. version.number) busted) versions))
+    (g : Version → ℤ) (versions : List Version) (found : Option Version) → rise_from 0 versions ≡ true → IfSome found (IsAmong versions)
+    → total g versions ≡ (total g (cons_option found []) +ℤ total g (without (number_if found) versions))
 total-apart g versions None rise found = let is = ap (total g) (without-none versions) in omega (arith, ints, is)
 total-apart g versions (Some version) rise found =
     let is = total-found g 0 versions version rise found in
     let one = total-cons g version [] in
     omega (arith, ints, is, one)
 
--- ---- the parts
+-- ---- a link in the middle
 
-sums : (f : Part → ℤ) (list : List Entry) → total f (parts_of list) ≡ (total (amount f list) (survivors list) +ℤ total (λ a. total f (moves_of a.terms)) (live_allocations list))
-sums f list = total-parts f list ∙ ap (λ sum. sum +ℤ total (λ a. total f (moves_of a.terms)) (live_allocations list)) (total-map f (part_of list) (survivors list))
+sums : (f : Part → ℤ) (list : List Entry) → whole_of list f ≡ (total (amount f list) (survivors list) +ℤ lines_of f (live_allocations list))
+sums f list = total-parts f list ∙ ap (λ sum. sum +ℤ lines_of f (live_allocations list)) (total-map f (part_of list) (survivors list))
 
-amount-unbusted : (f : Part → ℤ) (list rest : List Entry) (link : Option Link) (busted : Option Version) → IsUnbusted list rest link busted → (version : Version) → amount f list version ≡ amount f rest version
-amount-unbusted f list rest link busted it version = ap (λ named. f (part_of_fill named version.fill)) (it.named version.key)
+-- the parts of a list: that of one that stands, and the others
+parts-apart :
+    (f : Part → ℤ) (list : List Entry) (found : Option Version) → is_book list ≡ true → IfSome found (IsAmong (survivors list))
+    → whole_of list f ≡ (total (amount f list) (cons_option found []) +ℤ (total (amount f list) (without (number_if found) (survivors list)) +ℤ lines_of f (live_allocations list)))
+parts-apart f list found book among =
+    let whole = sums f list in
+    let apart = total-apart (amount f list) (survivors list) found (survivors-rise list (rise-of_book list book)) among in
+    omega (arith, ints, whole, apart)
 
--- without the Bust the parts are those with it, and that of the version that it ends
-parts-unbusted :
-    (f : Part → ℤ) (list rest : List Entry) (link : Option Link) (busted : Option Version) → IsUnbusted list rest link busted
-    → whole_of rest f ≡ (total f (cons_option (option_map (part_of rest) busted) []) +ℤ whole_of list f)
-parts-unbusted f list rest link busted it =
-    let number = option_map (λ (version : Version). version.number) busted in
-    let lines = total (λ a. total f (moves_of a.terms)) (live_allocations rest) in
-    let with_it : whole_of list f ≡ (total (amount f list) (survivors list) +ℤ lines) =
-    sums f list ∙ ap (λ live. total (amount f list) (survivors list) +ℤ total (λ a. total f (moves_of a.terms)) live) it.live in
-    let stayed : total (amount f list) (survivors list) ≡ total (amount f rest) (without number (survivors rest)) =
-    total-same (amount f list) (amount f rest) (survivors list) (amount-unbusted f list rest link busted it) ∙ ap (total (amount f rest)) it.survivors_are in
-    let without_it = sums f rest in
-    let apart = total-apart (amount f rest) (survivors rest) busted (survivors-rise rest (rise-of_book rest it.rest_book)) it.replaces.survives in
-    let part = total-part f rest busted in
-    omega (arith, ints, with_it, stayed, without_it, apart, part)
+-- a version that stands is one of the list's
+stands-among : (list : List Entry) (found : Option Version) → IfSome found (IsAmong (survivors list)) → IfSome found (Contains (versions_of list))
+stands-among list None among = tt
+stands-among list (Some version) among =
+    found-All (Contains (versions_of list)) (λ v. v.number == version.number) (survivors list) version
+    (All-filter (stands_in (links_of list)) (Contains (versions_of list)) (versions_of list) (All-contains_itself (versions_of list))) among
 
--- ---- the cells
+middle-exchanges :
+    (list rest : List Entry) (entry : Entry) → IsWithout list rest entry → LinkApart list rest entry → AllBooked (live_allocations rest) → Exchanges list rest (stood list entry) (stood rest entry)
+middle-exchanges list rest entry it apart booked =
+    let others = without (number_if (stood rest entry)) (survivors rest) in
+    let left = without (number_if (stood list entry)) (survivors list) in
+    let stayed : (f : Part → ℤ) → total (amount f list) left ≡ total (amount f rest) others =
+    λ f.
+    total-agree (amount f list) (amount f rest) left
+    (All-weaker (λ (v : Version). is_named list v.key ≡ is_named rest v.key) (λ v. amount f list v ≡ amount f rest v) (λ v same. ap (λ named. f (part_of_fill named v.fill)) same) left apart.named)
+    ∙ ap (total (amount f rest)) apart.survivors_are in
+    record {
+      others = λ f. total (amount f rest) others +ℤ lines_of f (live_allocations rest);
+      was = λ f.
+          parts-apart f list (stood list entry) it.book apart.gone
+          ∙ (λ k. total (amount f list) (cons_option (stood list entry) []) +ℤ (stayed f k +ℤ lines_of f (apart.live k)));
+      is = λ f. parts-apart f rest (stood rest entry) it.rest_book apart.come;
+      low = rest_low (λ f. total (amount f rest) others +ℤ lines_of f (live_allocations rest)) rest others booked (λ f. refl);
+      gone_among = stands-among list (stood list entry) apart.gone;
+      come_among = stands-among rest (stood rest entry) apart.come;
+    }
 
--- lists with the same versions and allocations need the same cells
-ready-same : (a b : List Entry) (cells : Cells) → versions_of a ≡ versions_of b → allocations_in a ≡ allocations_in b → IsReady a cells → IsReady b cells
-ready-same a b cells versions allocations ready = record {
-  fill_cells = subst (All (λ version. HasFillCells cells version.fill)) versions ready.fill_cells;
-  terms_cells = subst (All (λ allocation. HasTermsCells cells allocation.terms)) allocations ready.terms_cells;
-  fills_fit = subst (All (λ version. FillFits version.fill)) versions ready.fills_fit;
-  terms_fit = subst (All (λ allocation. TermsFit allocation.terms)) allocations ready.terms_fit;
+-- ---- an entry of any kind in the middle
+
+middle-changes :
+    (found : Option Link) (list rest : List Entry) (entry : Entry) → link_of entry ≡ found → IsWithout list rest entry → AllBooked (live_allocations rest)
+    → LinkChanges list rest entry (stood list entry) (stood rest entry) ⊎ InstructionChanges list rest entry (stood list entry) (stood rest entry)
+middle-changes (Some link) list rest entry is it booked =
+    inl (link-changes list rest entry link (stood list entry) (stood rest entry) is (middle-exchanges list rest entry it (link-without list rest entry link is it) booked))
+middle-changes None list rest entry is it booked =
+    inr (record { gone_none = chainless list entry is; come_none = chainless rest entry is; apart = instruction-without list rest entry is it })
+
+middle-apart : (list rest : List Entry) (entry : Entry) (cells : Cells) → IsWithout list rest entry → IsReady list cells → IsReady rest cells → AreApart list rest entry (stood list entry) (stood rest entry) cells
+middle-apart list rest entry cells it ready rest_ready = record {
+  book = it.book;
+  rest_book = it.rest_book;
+  ready = ready;
+  rest_ready = rest_ready;
+  changes = middle-changes (link_of entry) list rest entry refl it (booked-live rest (stocked rest cells it.rest_book rest_ready).lines);
 }
 
--- what holds of all versions holds of the one that the Bust ends
-busted-All :
-    (P : Version → Type 0) (versions : List Version) (busted : Option Version) → IfSome busted (λ version. find (λ v. v.number == version.number) versions ≡ Some version) → All P versions
-    → All P (cons_option busted [])
-busted-All P versions None found all = All-nil P
-busted-All P versions (Some version) found all = All-cons P version [] (found-All P (λ v. v.number == version.number) versions version all found) (All-nil P)
+each-shown-ready : (shown : Shown) (cells : Cells) → ShowsPositions shown cells → EachShown (IsEntryReady cells) shown
+each-shown-ready shown cells shows = record { listed = ready-each shown.list cells shows.ready; kept = ready-each shown.kept cells shows.ready_kept }
 
--- a part goes or comes, and the cells show another list
-pub record CanRebook (gone come : Option Part) (cells : Cells) (list : List Entry) : Type 0 where
-  pub can : CanChangeAll (rebooked gone come) cells
-  pub shows : ShowsPositions list (changed_all (rebooked gone come) cells)
+-- as the code reads it: the chain by the list before, and the parts of the versions that stand of it before and then
+pub record ReadsChain (was now : List Entry) (entry : Entry) (chain : Option ExecKey) (gone come : Option Part) (ended brought : Option AllocKey) : Type 0 where
+  pub chain_is : chain ≡ chain_of was entry
+  pub gone_is : gone ≡ option_map (part_of was) (option_and_then (standing was) chain)
+  pub come_is : come ≡ option_map (part_of now) (option_and_then (standing now) chain)
+  pub ended_is : ended ≡ alloc_reference entry.command
+  pub brought_is : brought ≡ own_key entry
 
--- the part of the version that a Bust ends is small
-small-busted : (list rest : List Entry) (link : Option Link) (busted : Option Version) (cells : Cells) → IsUnbusted list rest link busted → IsReady rest cells → All IsSmall (cons_option (option_map (part_of rest) busted) [])
-small-busted list rest link busted cells it ready =
-    own-part (λ version. FillFits version.fill) IsSmall rest busted (small-part rest)
-    (busted-All (λ version. FillFits version.fill) (versions_of rest) busted it.replaces.among_versions ready.fills_fit)
+-- the part of the version that stands of a chain
+abbrev standing_part : List Entry → Option ExecKey → Option Part
+standing_part list chain = option_map (part_of list) (option_and_then (standing list) chain)
 
--- the Bust is lifted out: that part comes
-lifted-rebooks : (list rest : List Entry) (link : Option Link) (busted : Option Version) (cells : Cells) → IsUnbusted list rest link busted → ShowsPositions list cells
-    → CanRebook None (option_map (part_of rest) busted) cells rest
-lifted-rebooks list rest link busted cells it shows =
-    let come = option_map (part_of rest) busted in
-    let ready = ready-same list rest cells it.versions it.allocations shows.ready in
-    let reached =
-    swaps None come cells (whole_of list) (whole_of list) (whole_of rest) (λ f. omega (arith, ints)) (λ f. parts-unbusted f list rest link busted it) shows.carried
-    (light-list list cells it.book shows.ready) (light-list rest cells it.rest_book ready) (count-total (parts_of list)) (All-nil IsSmall) (small-busted list rest link busted cells it ready)
-    (own-part (λ version. HasFillCells cells version.fill) (λ part. has_cell cells part.account part.symbol ≡ true) rest busted (λ version made. made-part rest version cells made)
-    (busted-All (λ version. HasFillCells cells version.fill) (versions_of rest) busted it.replaces.among_versions ready.fill_cells)) in
-    record { can = reached.can; shows = record { carried = reached.carried; ready = ready-stays rest (rebooked None come) cells ready } }
+-- the entry of a number is taken out
+pub lift-leads :
+    (old new : Shown) (number : ℕ) (entry : Entry) (chain : Option ExecKey) (lost gained : Option Part) (ended brought : Option AllocKey) (cells : Cells) → is_book old.list ≡ true → find (has_number number) old.list ≡ Some entry
+    → is_book (without_number number old.list) ≡ true → new ≡ lifted entry old → ReadsChain old.list new.list entry chain lost gained ended brought → ShowsPositions old cells
+    → LeadsTo (released old.list brought) (allocated old.list ended) (rebooked lost gained) cells new
+lift-leads old new number entry chain lost gained ended brought cells book found rest_book is read shows =
+    let it : IsWithout old.list new.list entry = subst (λ (shown : Shown). IsWithout old.list shown.list entry) (sym is) (taken-out old.list number entry book found rest_book) in
+    let each : EachShown (IsEntryReady cells) new =
+    subst (EachShown (IsEntryReady cells)) (sym is) (each-lifted (IsEntryReady cells) old entry (taken-out old.list number entry book found rest_book) (each-shown-ready old cells shows)) in
+    let ready = each-ready new.list cells each.listed in
+    let reads : Reads old.list new.list entry (stood old.list entry) (stood new.list entry) lost gained ended brought = record {
+      lost_is = read.gone_is ∙ ap (standing_part old.list) read.chain_is;
+      gained_is = read.come_is ∙ ap (standing_part new.list) (read.chain_is ∙ same-chain old.list new.list entry it);
+      ended_is = read.ended_is;
+      brought_is = read.brought_is;
+    } in
+    record {
+      moves = goes-as old.list new.list entry (stood old.list entry) (stood new.list entry) lost gained ended brought cells (middle-apart old.list new.list entry cells it shows.ready ready) reads shows.carried;
+      ready = ready;
+      ready_kept = each-ready new.kept cells each.kept;
+    }
 
--- as the code reads that part
-pub lift-rebooks :
-    (list rest : List Entry) (link : Option Link) (busted : Option Version) (come : Option Part) (cells : Cells) → IsUnbusted list rest link busted → come ≡ option_map (part_of rest) busted → ShowsPositions list cells
-    → CanRebook None come cells rest
-lift-rebooks list rest link busted come cells it come_is shows = subst (λ part. CanRebook None part cells rest) (sym come_is) (lifted-rebooks list rest link busted cells it shows)
-
--- the Bust is put back: it goes
-returned-rebooks : (list rest : List Entry) (link : Option Link) (busted : Option Version) (cells : Cells) → IsUnbusted list rest link busted → ShowsPositions rest cells
-    → CanRebook (option_map (part_of rest) busted) None cells list
-returned-rebooks list rest link busted cells it shows =
-    let gone = option_map (part_of rest) busted in
-    let ready = ready-same rest list cells (sym it.versions) (sym it.allocations) shows.ready in
-    let reached =
-    swaps gone None cells (whole_of list) (whole_of rest) (whole_of list) (λ f. parts-unbusted f list rest link busted it) (λ f. omega (arith, ints)) shows.carried
-    (light-list rest cells it.rest_book shows.ready) (light-list list cells it.book ready) (count-total (parts_of list)) (small-busted list rest link busted cells it shows.ready) (All-nil IsSmall)
-    (All-nil (λ (part : Part). has_cell cells part.account part.symbol ≡ true)) in
-    record { can = reached.can; shows = record { carried = reached.carried; ready = ready-stays list (rebooked gone None) cells ready } }
-
--- as the code reads that part
-pub return-rebooks :
-    (list rest : List Entry) (link : Option Link) (busted : Option Version) (lost : Option Part) (cells : Cells) → IsUnbusted list rest link busted → lost ≡ option_map (part_of rest) busted → ShowsPositions rest cells
-    → CanRebook lost None cells list
-return-rebooks list rest link busted lost cells it lost_is shows = subst (λ part. CanRebook part None cells list) (sym lost_is) (returned-rebooks list rest link busted cells it shows)
+-- and an entry that is kept is put back
+pub return-leads :
+    (old new : Shown) (entry : Entry) (chain : Option ExecKey) (lost gained : Option Part) (ended brought : Option AllocKey) (cells : Cells) → is_book old.list ≡ true → CanReturn entry old → new ≡ returned entry old
+    → ReadsChain old.list new.list entry chain lost gained ended brought → ShowsPositions old cells
+    → LeadsTo (rebooked lost gained) (released new.list ended) (allocated new.list brought) cells new
+return-leads old new entry chain lost gained ended brought cells book can is read shows =
+    let back = put-in old.list entry book can.book in
+    let it : IsWithout new.list old.list entry = subst (λ (shown : Shown). IsWithout shown.list old.list entry) (sym is) back in
+    let each : EachShown (IsEntryReady cells) new =
+    subst (EachShown (IsEntryReady cells)) (sym is) (each-returned (IsEntryReady cells) old entry back can.kept (each-shown-ready old cells shows)) in
+    let ready = each-ready new.list cells each.listed in
+    let reads : Reads new.list old.list entry (stood new.list entry) (stood old.list entry) gained lost ended brought = record {
+      lost_is = read.come_is ∙ ap (standing_part new.list) (read.chain_is ∙ sym (same-chain new.list old.list entry it));
+      gained_is = read.gone_is ∙ ap (standing_part old.list) read.chain_is;
+      ended_is = read.ended_is;
+      brought_is = read.brought_is;
+    } in
+    record {
+      moves = comes-as new.list old.list entry (stood new.list entry) (stood old.list entry) gained lost ended brought cells (middle-apart new.list old.list entry cells it ready shows.ready) reads shows.carried;
+      ready = ready;
+      ready_kept = each-ready new.kept cells each.kept;
+    }

@@ -77,12 +77,19 @@ pub record IsStocked (list : List Entry) (cells : Cells) : Type 0 where
   pub lines : AllBooked (allocations_in list)
   pub fits : All (λ version. FillFits version.fill) (survivors list)
 
-pub terms-stay : (changes : List Change) (cells : Cells) (terms : Terms) → HasTermsCells cells terms → HasTermsCells (changed_all changes cells) terms
-terms-stay changes cells terms made = record {
-  lines = All-weaker (λ (line : Line). has_cell cells line.account terms.symbol ≡ true) (λ (line : Line). has_cell (changed_all changes cells) line.account terms.symbol ≡ true)
-      (λ line here. stays changes cells line.account terms.symbol here) terms.lines made.lines;
-  housed = stays changes cells house terms.symbol made.housed;
+-- no cell is lost
+abbrev pub IsNoneLost : Cells → Cells → Type 0
+IsNoneLost old new = (account symbol : List ℕ) → has_cell old account symbol ≡ true → has_cell new account symbol ≡ true
+
+pub terms-kept : (old new : Cells) (terms : Terms) → IsNoneLost old new → HasTermsCells old terms → HasTermsCells new terms
+terms-kept old new terms kept made = record {
+  lines = All-weaker (λ (line : Line). has_cell old line.account terms.symbol ≡ true) (λ (line : Line). has_cell new line.account terms.symbol ≡ true)
+      (λ line here. kept line.account terms.symbol here) terms.lines made.lines;
+  housed = kept house terms.symbol made.housed;
 }
+
+terms-stay : (changes : List Change) (cells : Cells) (terms : Terms) → HasTermsCells cells terms → HasTermsCells (changed_all changes cells) terms
+terms-stay changes cells terms made = terms-kept cells (changed_all changes cells) terms (stays changes cells) made
 
 pub stocked-stays : (list : List Entry) (changes : List Change) (cells : Cells) → IsStocked list cells → IsStocked list (changed_all changes cells)
 stocked-stays list changes cells stocked = record {

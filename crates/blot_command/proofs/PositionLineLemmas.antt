@@ -5,7 +5,6 @@ use Rattle.std.proofs.lemmas.Bool.{ne_eqb, eq-eqb}
 use Rattle.std.proofs.lemmas.Int.{ints}
 use Rattle.std.proofs.lemmas.List.Elements.{All-nil}
 use Rattle.std.specs.FinMap as finite
-use Rattle.blot_types.specs.declared.command.Entry.{Entry}
 use Rattle.blot_types.specs.declared.part.Part.{Part}
 use Rattle.blot_types.specs.declared.lines.Version.{Version}
 use Rattle.blot_types.specs.Allocations.{Allocation}
@@ -17,7 +16,8 @@ use Rattle.blot_position.specs.Positions.{Cells, sums_at}
 use Rattle.blot_position.specs.Sums.{line_by}
 use Rattle.blot_position.proofs.PositionLemmas.{sums_at-empty}
 use Rattle.blot_position.specs.Carried.{Carries}
-use Rattle.blot_command.specs.Carried.{HasFillCells, HasTermsCells, ShowsPositions}
+use Rattle.blot_command.specs.Book.{Shown}
+use Rattle.blot_command.specs.Carried.{HasFillCells, HasTermsCells, IsReady, ShowsPositions}
 
 ones : (parts : List Part) → total (λ part. pos 1) parts ≡ pos (length parts)
 ones [] = refl
@@ -37,8 +37,8 @@ line-carried parts cells a s carried =
     (carried.qty a s ∙ sym (total-where (λ part. part.qty) (is_at a s) parts))
     (carried.value a s ∙ sym (total-where (λ part. part.value) (is_at a s) parts))
 
-pub position-shown : (list : List Entry) (cells : Cells) (a s : List ℕ) → ShowsPositions list cells → line_by (sums_at cells a s) ≡ position_of list a s
-position-shown list cells a s shows = line-carried (parts_of list) cells a s shows.carried
+pub position-shown : (shown : Shown) (cells : Cells) (a s : List ℕ) → ShowsPositions shown cells → line_by (sums_at cells a s) ≡ position_of shown.list a s
+position-shown shown cells a s shows = line-carried (parts_of shown.list) cells a s shows.carried
 
 -- empty cells carry no parts
 pub carries-nothing : Carries (λ f. total f []) finite.empty
@@ -48,17 +48,17 @@ carries-nothing = record {
   value = λ a s. ap (λ (sums : Sums). sums.value) (sums_at-empty a s);
 }
 
--- without an entry there is no part
-shows-nothing : ShowsPositions [] finite.empty
-shows-nothing = record {
-  carried = carries-nothing;
-  ready = record {
-    fill_cells = All-nil (λ (version : Version). HasFillCells finite.empty version.fill);
-    terms_cells = All-nil (λ (allocation : Allocation). HasTermsCells finite.empty allocation.terms);
-    fills_fit = All-nil (λ (version : Version). FillFits version.fill);
-    terms_fit = All-nil (λ (allocation : Allocation). TermsFit allocation.terms);
-  };
+-- without an entry there is no part, and no cell is needed
+ready-nothing : IsReady [] finite.empty
+ready-nothing = record {
+  fill_cells = All-nil (λ (version : Version). HasFillCells finite.empty version.fill);
+  terms_cells = All-nil (λ (allocation : Allocation). HasTermsCells finite.empty allocation.terms);
+  fills_fit = All-nil (λ (version : Version). FillFits version.fill);
+  terms_fit = All-nil (λ (allocation : Allocation). TermsFit allocation.terms);
 }
 
-pub shows-none : (list : List Entry) (cells : Cells) → list ≡ [] → cells ≡ finite.empty → ShowsPositions list cells
-shows-none list cells none empty = subst (λ l. ShowsPositions l cells) (sym none) (subst (ShowsPositions []) (sym empty) shows-nothing)
+shows-nothing : ShowsPositions (record { list = []; kept = [] }) finite.empty
+shows-nothing = record { carried = carries-nothing; ready = ready-nothing; ready_kept = ready-nothing }
+
+pub shows-none : (shown : Shown) (cells : Cells) → shown ≡ record { list = []; kept = [] } → cells ≡ finite.empty → ShowsPositions shown cells
+shows-none shown cells none empty = subst (λ s. ShowsPositions s cells) (sym none) (subst (ShowsPositions (record { list = []; kept = [] })) (sym empty) shows-nothing)

@@ -1,18 +1,15 @@
 -- What a list keeps of the cells: how few its entries are, the cells that they need, and what these carry for all of them.
-use Rattle.std.proofs.Common.{◌≡◌, ℕ, ◌+◌, ◌^◌, ◌≤◌, ◌+ℤ◌, arith, Bool, true, false, List, [], ◌∷◌, ◌++◌, length, map, Option, Some, None, sym, subst, inl, inr}
+use Rattle.std.proofs.Common.{◌≡◌, ℕ, ◌+◌, ◌^◌, ◌≤◌, ◌+ℤ◌, arith, Bool, true, false, List, [], ◌∷◌, ◌++◌, length, map, Option, Some, None, sym, inl, inr}
 use Rattle.std.specs.Prelude.{filter, is_none, not, All, IfSome}
 use Rattle.std.specs.List.{cons_option, filter_map}
 use Rattle.std.proofs.lemmas.Bool.{cases_Bool, and_parts}
-use Rattle.std.proofs.lemmas.List.Elements.{All-nil, All-cons, All-head, All-tail, All-append, All-weaker, All-filter, filter_map-append}
-use Rattle.blot_types.specs.declared.allocation.Line.{Line}
-use Rattle.blot_types.specs.declared.allocation.Terms.{Terms}
+use Rattle.std.proofs.lemmas.List.Elements.{All-head, All-push, All-weaker, All-filter}
 use Rattle.blot_types.specs.declared.command.Command.{Command}
 use Rattle.blot_types.specs.declared.command.Command.TheVariants.{Trade, Correct, Bust, AllocNew, AllocReplace, AllocCancel, Withdraw}
 use Rattle.blot_types.specs.declared.command.Entry.{Entry}
 use Rattle.blot_types.specs.declared.fill.Fill.{Fill}
 use Rattle.blot_types.specs.declared.keys.AllocKey.{AllocKey}
 use Rattle.blot_types.specs.declared.part.Part.{Part}
-use Rattle.blot_types.specs.declared.lines.Version.{Version}
 use Rattle.blot_types.specs.declared.TheConstants.{EVENTS_MAX}
 use Rattle.blot_types.specs.Bounds.{BOOK_PARTS, BOOK_QTY}
 use Rattle.blot_types.specs.Allocations.{Allocation, allocation_of, instructions_of, live_allocations}
@@ -23,27 +20,21 @@ use Rattle.blot_types.specs.Position.{house, account_of, parts_of, IsSmall, Fill
 use Rattle.blot_types.specs.Survivors.{links_of, version_by, version_of, versions_of, stands_in, survivors}
 use Rattle.blot_types.proofs.BookedLemmas.{books_blocks}
 use Rattle.blot_types.proofs.BringLemmas.{live_beside}
-use Rattle.blot_types.proofs.ChangeLemmas.{is_named_root, allocations_in, allocations-push, total-parts}
+use Rattle.blot_types.proofs.ChangeLemmas.{is_named_root, allocations_in, total-parts}
 use Rattle.blot_types.proofs.LegalLemmas.{length_numbered}
 use Rattle.blot_position.specs.Positions.{Cells, has_cell}
 use Rattle.blot_command.specs.Booking.{Change, put_in, taken_out, changed_all, CanChangeAll, rebooked}
 use Rattle.blot_position.specs.Carried.{Carries}
 use Rattle.blot_command.specs.Carried.{Opens, HasFillCells, HasTermsCells, HasEntryCells, EntryFits, IsReady, ShowsPositions}
 use Rattle.blot_position.proofs.CarryLemmas.{Whole, SameWhole, IsCount, Carries-same, Carries-cells, Light, Light-same, IsLightEnough}
+use Rattle.blot_command.specs.Book.{Shown}
+use Rattle.blot_command.proofs.EachLemmas.{all-front, each-brings, all-brought}
 use Rattle.blot_command.proofs.HouseLemmas.{beside, relight}
-use Rattle.blot_command.proofs.MoveLemmas.{light_enough, always-light, IsStocked, terms-stay}
+use Rattle.blot_command.proofs.MoveLemmas.{light_enough, always-light, IsStocked, IsNoneLost, terms-kept}
 use Rattle.blot_command.proofs.ReachLemmas.{Reaches, reach-append, reach-same, reach-put, reach-take, sizes, stays, AreMade}
 use Rattle.blot_command.proofs.WeightLemmas.{AllBooked, AreBooked, all_booked, moves_whole}
 
 -- ---- lists
-
-all-front : {X : Type 0} (P : X → Type 0) (xs ys : List X) → All P (xs ++ ys) → All P xs
-all-front P [] ys all = All-nil P
-all-front P (x ∷ xs) ys all = All-cons P x xs (All-head P x (xs ++ ys) all) (all-front P xs ys (All-tail P x (xs ++ ys) all))
-
-pub all-back : {X : Type 0} (P : X → Type 0) (xs ys : List X) → All P (xs ++ ys) → All P ys
-all-back P [] ys all = all
-all-back P (x ∷ xs) ys all = all-back P xs ys (All-tail P x (xs ++ ys) all)
 
 pub length-filtered : {X : Type 0} (p : X → Bool) (xs : List X) → length (filter p xs) ≤ length xs
 length-filtered p [] = omega arith
@@ -91,82 +82,76 @@ booked-beside list reference booked = All-filter (λ (a : Allocation). not (is_r
 
 -- ---- the cells of a list's entries
 
-pub ready-stays : (list : List Entry) (changes : List Change) (cells : Cells) → IsReady list cells → IsReady list (changed_all changes cells)
-ready-stays list changes cells ready = record {
-  fill_cells = All-weaker (λ version. HasFillCells cells version.fill) (λ version. HasFillCells (changed_all changes cells) version.fill)
+-- what cells have that lose none of them
+ready-kept : (list : List Entry) (old new : Cells) → IsNoneLost old new → IsReady list old → IsReady list new
+ready-kept list old new kept ready = record {
+  fill_cells = All-weaker (λ version. HasFillCells old version.fill) (λ version. HasFillCells new version.fill)
       (λ version made. record {
-        own = stays changes cells (account_of false version.fill) version.fill.symbol made.own;
-        housed = stays changes cells house version.fill.symbol made.housed;
+        own = kept (account_of false version.fill) version.fill.symbol made.own;
+        housed = kept house version.fill.symbol made.housed;
       }) (versions_of list) ready.fill_cells;
-  terms_cells = All-weaker (λ a. HasTermsCells cells a.terms) (λ a. HasTermsCells (changed_all changes cells) a.terms)
-      (λ a made. terms-stay changes cells a.terms made) (allocations_in list) ready.terms_cells;
+  terms_cells = All-weaker (λ a. HasTermsCells old a.terms) (λ a. HasTermsCells new a.terms) (λ a made. terms-kept old new a.terms kept made) (allocations_in list) ready.terms_cells;
   fills_fit = ready.fills_fit;
   terms_fit = ready.terms_fit;
 }
 
+pub ready-stays : (list : List Entry) (changes : List Change) (cells : Cells) → IsReady list cells → IsReady list (changed_all changes cells)
+ready-stays list changes cells ready = ready-kept list cells (changed_all changes cells) (stays changes cells) ready
+
 -- after more cells were made the positions are shown as before
-pub shows-opened : (list : List Entry) (old new : Cells) → Opens old new → ShowsPositions list old → ShowsPositions list new
-shows-opened list old new opens shows = record {
-  carried = Carries-cells (λ f. total f (parts_of list)) old new opens.sums shows.carried;
-  ready = record {
-    fill_cells = All-weaker (λ version. HasFillCells old version.fill) (λ version. HasFillCells new version.fill)
-        (λ version made. record {
-          own = opens.made (account_of false version.fill) version.fill.symbol made.own;
-          housed = opens.made house version.fill.symbol made.housed;
-        }) (versions_of list) shows.ready.fill_cells;
-    terms_cells = All-weaker (λ a. HasTermsCells old a.terms) (λ a. HasTermsCells new a.terms)
-        (λ a made. record {
-          lines = All-weaker (λ (line : Line). has_cell old line.account a.terms.symbol ≡ true) (λ (line : Line). has_cell new line.account a.terms.symbol ≡ true)
-              (λ line here. opens.made line.account a.terms.symbol here) a.terms.lines made.lines;
-          housed = opens.made house a.terms.symbol made.housed;
-        }) (allocations_in list) shows.ready.terms_cells;
-    fills_fit = shows.ready.fills_fit;
-    terms_fit = shows.ready.terms_fit;
-  };
+pub shows-opened : (shown : Shown) (old new : Cells) → Opens old new → ShowsPositions shown old → ShowsPositions shown new
+shows-opened shown old new opens shows = record {
+  carried = Carries-cells (λ f. total f (parts_of shown.list)) old new opens.sums shows.carried;
+  ready = ready-kept shown.list old new opens.made shows.ready;
+  ready_kept = ready-kept shown.kept old new opens.made shows.ready_kept;
 }
 
-own-version : (P : Fill → Type 0) (number : ℕ) (command : Command) → IfSome (version_by 0 command) (λ version. P version.fill) → All (λ version. P version.fill) (cons_option (version_by number command) [])
-own-version P number (Trade trade) is = All-cons (λ (version : Version). P version.fill) _ [] is (All-nil (λ (version : Version). P version.fill))
-own-version P number (Correct correct) is = All-cons (λ (version : Version). P version.fill) _ [] is (All-nil (λ (version : Version). P version.fill))
-own-version P number (Bust bust) is = All-nil (λ (version : Version). P version.fill)
-own-version P number (AllocNew new) is = All-nil (λ (version : Version). P version.fill)
-own-version P number (AllocReplace replace) is = All-nil (λ (version : Version). P version.fill)
-own-version P number (AllocCancel cancel) is = All-nil (λ (version : Version). P version.fill)
-own-version P number (Withdraw withdrawn) is = All-nil (λ (version : Version). P version.fill)
+-- the cells of an entry's version and of its allocation are made, and their amounts are in range
+pub record IsEntryReady (cells : Cells) (entry : Entry) : Type 0 where
+  pub fill_cells : IfSome (version_of entry) (λ version. HasFillCells cells version.fill)
+  pub terms_cells : IfSome (allocation_of entry.command) (λ allocation. HasTermsCells cells allocation.terms)
+  pub fills_fit : IfSome (version_of entry) (λ version. FillFits version.fill)
+  pub terms_fit : IfSome (allocation_of entry.command) (λ allocation. TermsFit allocation.terms)
 
-own-allocation : (P : Terms → Type 0) (found : Option Allocation) → IfSome found (λ allocation. P allocation.terms) → All (λ allocation. P allocation.terms) (cons_option found [])
-own-allocation P None is = All-nil (λ (a : Allocation). P a.terms)
-own-allocation P (Some allocation) is = All-cons (λ (a : Allocation). P a.terms) allocation [] is (All-nil (λ (a : Allocation). P a.terms))
+-- the cells are ready for a list where they are for each of its entries
+pub ready-each : (list : List Entry) (cells : Cells) → IsReady list cells → All (IsEntryReady cells) list
+ready-each list cells ready =
+    let brings = λ (entry : Entry). allocation_of entry.command in
+    let fill_cells = each-brings version_of (λ version. HasFillCells cells version.fill) list ready.fill_cells in
+    let terms_cells = each-brings brings (λ allocation. HasTermsCells cells allocation.terms) list ready.terms_cells in
+    let fills_fit = each-brings version_of (λ version. FillFits version.fill) list ready.fills_fit in
+    let terms_fit = each-brings brings (λ allocation. TermsFit allocation.terms) list ready.terms_fit in
+    λ k d less. record { fill_cells = fill_cells k d less; terms_cells = terms_cells k d less; fills_fit = fills_fit k d less; terms_fit = terms_fit k d less }
 
-versions-more : (P : Fill → Type 0) (list : List Entry) (entry : Entry) → All (λ version. P version.fill) (versions_of list) → IfSome (version_by 0 entry.command) (λ version. P version.fill) → All (λ version. P version.fill) (versions_of (list ++ entry ∷ []))
-versions-more P list entry all own =
-    subst (All (λ version. P version.fill)) (sym (filter_map-append version_of list (entry ∷ [])))
-    (All-append (λ version. P version.fill) (versions_of list) (versions_of (entry ∷ [])) all (own-version P entry.number entry.command own))
+pub each-ready : (list : List Entry) (cells : Cells) → All (IsEntryReady cells) list → IsReady list cells
+each-ready list cells all = record {
+  fill_cells = all-brought version_of (λ version. HasFillCells cells version.fill) list (λ k d less. (all k d less).fill_cells);
+  terms_cells = all-brought (λ (entry : Entry). allocation_of entry.command) (λ allocation. HasTermsCells cells allocation.terms) list (λ k d less. (all k d less).terms_cells);
+  fills_fit = all-brought version_of (λ version. FillFits version.fill) list (λ k d less. (all k d less).fills_fit);
+  terms_fit = all-brought (λ (entry : Entry). allocation_of entry.command) (λ allocation. TermsFit allocation.terms) list (λ k d less. (all k d less).terms_fit);
+}
 
-allocations-more : (P : Terms → Type 0) (list : List Entry) (entry : Entry) → All (λ a. P a.terms) (allocations_in list) → IfSome (allocation_of entry.command) (λ a. P a.terms) → All (λ a. P a.terms) (allocations_in (list ++ entry ∷ []))
-allocations-more P list entry all own =
-    subst (All (λ a. P a.terms)) (sym (allocations-push list entry))
-    (All-append (λ a. P a.terms) (allocations_in list) (cons_option (allocation_of entry.command) []) all (own-allocation P (allocation_of entry.command) own))
+-- a version has the same fill under any number
+numbered-fill : (P : Fill → Type 0) (number : ℕ) (command : Command) → IfSome (version_by 0 command) (λ version. P version.fill) → IfSome (version_by number command) (λ version. P version.fill)
+numbered-fill P number (Trade trade) is = is
+numbered-fill P number (Correct correct) is = is
+numbered-fill P number (Bust bust) is = is
+numbered-fill P number (AllocNew new) is = is
+numbered-fill P number (AllocReplace replace) is = is
+numbered-fill P number (AllocCancel cancel) is = is
+numbered-fill P number (Withdraw withdrawn) is = is
 
 pub ready-more : (list : List Entry) (entry : Entry) (cells : Cells) → IsReady list cells → HasEntryCells cells entry.command → EntryFits entry.command → IsReady (list ++ entry ∷ []) cells
-ready-more list entry cells ready made fits = record {
-  fill_cells = versions-more (HasFillCells cells) list entry ready.fill_cells made.0;
-  terms_cells = allocations-more (HasTermsCells cells) list entry ready.terms_cells made.1;
-  fills_fit = versions-more FillFits list entry ready.fills_fit fits.0;
-  terms_fit = allocations-more TermsFit list entry ready.terms_fit fits.1;
-}
+ready-more list entry cells ready made fits =
+    each-ready (list ++ entry ∷ []) cells (All-push (IsEntryReady cells) list entry (ready-each list cells ready) (record {
+      fill_cells = numbered-fill (HasFillCells cells) entry.number entry.command made.0;
+      terms_cells = made.1;
+      fills_fit = numbered-fill FillFits entry.number entry.command fits.0;
+      terms_fit = fits.1;
+    }))
 
 pub ready-less : (list : List Entry) (entry : Entry) (cells : Cells) → IsReady (list ++ entry ∷ []) cells → IsReady list cells
-ready-less list entry cells ready =
-    let versions = filter_map-append version_of list (entry ∷ []) in
-    let allocations = allocations-push list entry in
-    let last = cons_option (allocation_of entry.command) [] in
-    record {
-      fill_cells = all-front (λ version. HasFillCells cells version.fill) (versions_of list) (versions_of (entry ∷ [])) (subst (All (λ version. HasFillCells cells version.fill)) versions ready.fill_cells);
-      terms_cells = all-front (λ a. HasTermsCells cells a.terms) (allocations_in list) last (subst (All (λ a. HasTermsCells cells a.terms)) allocations ready.terms_cells);
-      fills_fit = all-front (λ version. FillFits version.fill) (versions_of list) (versions_of (entry ∷ [])) (subst (All (λ version. FillFits version.fill)) versions ready.fills_fit);
-      terms_fit = all-front (λ a. TermsFit a.terms) (allocations_in list) last (subst (All (λ a. TermsFit a.terms)) allocations ready.terms_fit);
-    }
+ready-less list entry cells ready = each-ready list cells (all-front (IsEntryReady cells) list (entry ∷ []) (ready-each (list ++ entry ∷ []) cells ready))
 
 pub stocked : (list : List Entry) (cells : Cells) → is_book list ≡ true → IsReady list cells → IsStocked list cells
 stocked list cells book ready = record {
@@ -196,11 +181,12 @@ light-list list cells book ready =
 
 -- ---- three lists of changes, one after the other
 
+-- they can be made, and lead to what the cells carry for a list
 pub record CanMove (one two three : List Change) (cells : Cells) (list : List Entry) : Type 0 where
   pub first : CanChangeAll one cells
   pub second : CanChangeAll two (changed_all one cells)
   pub third : CanChangeAll three (changed_all two (changed_all one cells))
-  pub shows : ShowsPositions list (changed_all three (changed_all two (changed_all one cells)))
+  pub carried : CarriesList list (changed_all three (changed_all two (changed_all one cells)))
 
 -- ---- a part goes and another comes
 

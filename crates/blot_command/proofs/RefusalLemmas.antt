@@ -28,7 +28,7 @@ use Rattle.blot_types.proofs.SurvivorLemmas.{version_in-rising}
 use Rattle.blot_command.specs.Refusing.{terms_refusal, reference_refusal}
 use Rattle.blot_command.specs.Shown.{version_numbered}
 
-same_version : (entries : List Entry) (number : ℕ) → numbers_rise entries ≡ true → version_in (reverse entries) number ≡ version_numbered entries number
+pub same_version : (entries : List Entry) (number : ℕ) → numbers_rise entries ≡ true → version_in (reverse entries) number ≡ version_numbered entries number
 same_version entries number rise = version_in-rising (reverse entries) number rise ∙ ap (λ l. version_numbered l number) (reverse-reverse entries)
 
 same_found : (entries : List Entry) (number : Option ℕ) → numbers_rise entries ≡ true → option_and_then (version_in (reverse entries)) number ≡ option_and_then (version_numbered entries) number

@@ -1,23 +1,22 @@
 -- The fills put and held, after a version's fill is put or kept.
-use Rattle.std.proofs.Common.{◌≡◌, ℕ, ◌==◌, Bool, true, false, List, [], ◌∷◌, ◌++◌, Option, Some, None, refl, sym, ap, ◌∙◌, inl, inr}
-use Rattle.std.specs.Prelude.{find, if◌then◌else◌}
-use Rattle.std.specs.Option.{option_map, option_or}
+use Rattle.std.proofs.Common.{◌≡◌, ℕ, ◌==◌, Bool, true, false, List, [], ◌∷◌, Option, Some, None, refl, sym, ap, subst, ◌∙◌, inl, inr}
+use Rattle.std.specs.Prelude.{find, All, IfSome, if◌then◌else◌}
+use Rattle.std.specs.Option.{option_map}
 use Rattle.std.proofs.lemmas.Bool.{cases_Bool, ne_eqb, eq-eqb, eqb-true, eqb-false}
-use Rattle.std.proofs.lemmas.List.Folds.{find-append}
 use Rattle.std.specs.FinMap as finite
-use Rattle.std.proofs.lemmas.List.Elements.{All-nil}
+use Rattle.std.proofs.lemmas.List.Elements.{All-nil, All-weaker, All-filter}
 use Rattle.blot_types.specs.declared.fill.Fill.{Fill}
 use Rattle.blot_types.specs.declared.lines.Version.{Version}
-use Rattle.blot_types.specs.Survivors.{is_number}
-use Rattle.blot_types.proofs.SurvivorLemmas.{without}
 use Rattle.blot_types.specs.declared.command.Entry.{Entry}
+use Rattle.blot_types.specs.Legal.{is_book}
+use Rattle.blot_types.specs.Survivors.{links_of, versions_of, is_number, stands_in, survivors}
+use Rattle.blot_types.proofs.BringLemmas.{found-All}
+use Rattle.blot_types.proofs.SurvivorLemmas.{without, without-none}
 use Rattle.blot_order.specs.Fills.{Fills, put_at, held_at}
-use Rattle.blot_order.proofs.FillLemmas.{put_at-empty, put_at-with_put, put_at-with_put_same, put_at-with_kept, kept_at-with_kept_same, held_at-with_put, held_at-with_put_same, held_at-with_put_other, held_at-with_kept, held_at-put, held_at-kept, kept_at-held}
-use Rattle.blot_command.specs.Shown.{Shows, fill_numbered, with_put, with_kept, IsPut, IsKept}
-
-or_none : {A : Type 0} (o : Option A) → option_or o None ≡ o
-or_none None = refl
-or_none (Some a) = refl
+use Rattle.blot_order.proofs.FillLemmas.{put_at-empty, put_at-with_put, put_at-with_kept, held_at-with_put, held_at-with_kept, held_at-put, held_at-kept, kept_at-held}
+use Rattle.blot_command.specs.Book.{Shown}
+use Rattle.blot_command.specs.Shown.{Shows, HoldsFills, fill_numbered, with_put, with_kept, IsPut, IsKept}
+use Rattle.blot_command.proofs.ApartLemmas.{number_if}
 
 cond-same : (test : Bool) → fill_numbered 0 [] ≡ (if test then None else None)
 cond-same true = refl
@@ -27,16 +26,8 @@ cond-same false = refl
 abbrev pub Puts : Fills → List Version → Type 0
 Puts fills versions = (k : ℕ) → put_at fills k ≡ fill_numbered k versions
 
-mapped : (a b : Option Version) → option_map (λ v. v.fill) (option_or a b) ≡ option_or (option_map (λ v. v.fill) a) (option_map (λ v. v.fill) b)
-mapped None b = refl
-mapped (Some a) b = refl
-
-pub fill_numbered-append : (k : ℕ) (front back : List Version) → fill_numbered k (front ++ back) ≡ option_or (fill_numbered k front) (fill_numbered k back)
-fill_numbered-append k front back =
-    ap (option_map (λ v. v.fill)) (find-append (λ v. v.number == k) front back) ∙ mapped (find (λ v. v.number == k) front) (find (λ v. v.number == k) back)
-
 -- the fill of the version of a number, where the place of one is taken
-pub find-without :
+find-without :
     (k : ℕ) (replaced : Option ℕ) (versions : List Version)
     → fill_numbered k (without replaced versions) ≡ (if is_number k replaced then None else fill_numbered k versions)
 find-without k replaced [] = cond-same (is_number k replaced)
@@ -65,29 +56,16 @@ find-without k replaced (version ∷ versions) =
 abbrev pub IsUnused : ℕ → List Version → Type 0
 IsUnused number versions = find (λ v. v.number == number) versions ≡ None
 
-pub fill_one : (k : ℕ) (version : Version) → fill_numbered k (version ∷ []) ≡ (if version.number == k then Some version.fill else None)
-fill_one k version =
-    elim (cases_Bool (version.number == k)) [
-      | inl same ↦ rw same refl
-      | inr other ↦ rw other refl
-    ]
+-- a version is among these, the first of its number
+abbrev pub IsAmong : List Version → Version → Type 0
+IsAmong versions version = find (λ v. v.number == version.number) versions ≡ Some version
 
--- a version's fill put after the others
-pub Puts-put : (fills : Fills) (versions : List Version) (version : Version) → Puts fills versions → IsUnused version.number versions → Puts (with_put (Some version) fills) (versions ++ version ∷ [])
-Puts-put fills versions version puts unused k =
-    put_at-with_put version.number k version.fill fills
-    ∙ elim (cases_Bool (version.number == k)) [
-      | inl same ↦
-          let is : version.number ≡ k = eqb-true version.number k same in
-          let none : fill_numbered k versions ≡ None = ap (λ n. fill_numbered n versions) (sym is) ∙ ap (option_map (λ v. v.fill)) unused in
-          rw (eq-eqb k version.number (sym is)) (sym (fill_numbered-append k versions (version ∷ []) ∙ rw (none, fill_one k version, same) refl))
-      | inr other ↦
-          rw (ne_eqb k version.number (λ e. eqb-false version.number k other (sym e)))
-          (puts k ∙ sym (fill_numbered-append k versions (version ∷ []) ∙ rw (fill_one k version, other) (or_none (fill_numbered k versions))))
-    ]
+-- a version's fill is held
+abbrev pub IsHeld : Fills → Version → Type 0
+IsHeld fills version = held_at fills version.number ≡ Some version.fill
 
 -- a version's fill kept: that number is gone
-pub Puts-kept : (fills : Fills) (versions : List Version) (version : Version) → Puts fills versions → Puts (with_kept (Some version) fills) (without (Some version.number) versions)
+Puts-kept : (fills : Fills) (versions : List Version) (version : Version) → Puts fills versions → Puts (with_kept (Some version) fills) (without (Some version.number) versions)
 Puts-kept fills versions version puts k =
     put_at-with_kept version.number k version.fill fills
     ∙ elim (cases_Bool (version.number == k)) [
@@ -98,7 +76,7 @@ Puts-kept fills versions version puts k =
     ]
 
 -- a version's fill put again, where it is one of them
-pub Puts-again :
+Puts-again :
     (fills : Fills) (versions : List Version) (version : Version) → Puts fills (without (Some version.number) versions)
     → find (λ v. v.number == version.number) versions ≡ Some version → Puts (with_put (Some version) fills) versions
 Puts-again fills versions version puts found k =
@@ -124,31 +102,87 @@ same_held n k fill fills changed is same =
     ]
 
 -- keeping a fill that is put, and putting one that is kept, changes nothing that is held
-pub held-kept : (fills : Fills) (version : Version) (k : ℕ) → IsPut version fills → held_at (with_kept (Some version) fills) k ≡ held_at fills k
+held-kept : (fills : Fills) (version : Version) (k : ℕ) → IsPut version fills → held_at (with_kept (Some version) fills) k ≡ held_at fills k
 held-kept fills version k put = same_held version.number k version.fill fills _ (held_at-with_kept version.number k version.fill fills) (held_at-put fills version.number version.fill put)
 
-pub held-again : (fills : Fills) (version : Version) (k : ℕ) → IsKept version fills → held_at (with_put (Some version) fills) k ≡ held_at fills k
+held-again : (fills : Fills) (version : Version) (k : ℕ) → IsKept version fills → held_at (with_put (Some version) fills) k ≡ held_at fills k
 held-again fills version k kept = same_held version.number k version.fill fills _ (held_at-with_put version.number k version.fill fills) (held_at-kept fills version.number version.fill kept)
 
--- putting a fill changes nothing under another number, and it is held then
-pub held-put : (fills : Fills) (version : Version) (k : ℕ) → (k ≡ version.number → ⊥) → held_at (with_put (Some version) fills) k ≡ held_at fills k
-held-put fills version k other = held_at-with_put_other version.number k version.fill fills other
-
-pub held-own : (fills : Fills) (version : Version) → held_at (with_put (Some version) fills) version.number ≡ Some version.fill
-held-own fills version = held_at-with_put_same version.number version.fill fills
-
--- a fill that is put is put no more once it is kept, and the other way round
-pub kept-own : (fills : Fills) (version : Version) → IsKept version (with_kept (Some version) fills)
-kept-own fills version = kept_at-with_kept_same version.number version.fill fills
-
-pub put-own : (fills : Fills) (version : Version) → IsPut version (with_put (Some version) fills)
-put-own fills version = put_at-with_put_same version.number version.fill fills
-
 -- a fill that is held and not put is kept
-pub kept-from_held : (fills : Fills) (version : Version) → put_at fills version.number ≡ None → held_at fills version.number ≡ Some version.fill → IsKept version fills
+kept-from_held : (fills : Fills) (version : Version) → put_at fills version.number ≡ None → held_at fills version.number ≡ Some version.fill → IsKept version fills
 kept-from_held fills version unput held = kept_at-held fills version.number version.fill unput held
 
+-- ---- one version goes, and another comes
+
+pub puts_kept : (fills : Fills) (kept : Option Version) (versions : List Version) → Puts fills versions → Puts (with_kept kept fills) (without (number_if kept) versions)
+puts_kept fills None versions puts = subst (Puts fills) (sym (without-none versions)) puts
+puts_kept fills (Some w) versions puts = Puts-kept fills versions w puts
+
+puts_again :
+    (fills : Fills) (again : Option Version) (versions : List Version) → IfSome again (IsAmong versions) → Puts fills (without (number_if again) versions) → Puts (with_put again fills) versions
+puts_again fills None versions among puts = subst (Puts fills) (without-none versions) puts
+puts_again fills (Some w) versions among puts = Puts-again fills versions w puts among
+
+-- the fill of a version that is there is put
+put_among : (fills : Fills) (versions : List Version) (found : Option Version) → Puts fills versions → IfSome found (IsAmong versions) → IfSome found (λ version. IsPut version fills)
+put_among fills versions None puts among = tt
+put_among fills versions (Some w) puts among = puts w.number ∙ ap (option_map (λ v. v.fill)) among
+
+-- that of one that is out is kept
+kept_beside :
+    (fills : Fills) (versions : List Version) (found : Option Version) → Puts fills (without (number_if found) versions) → IfSome found (IsAmong versions) → All (IsHeld fills) versions
+    → IfSome found (λ version. IsKept version fills)
+kept_beside fills versions None puts among held = tt
+kept_beside fills versions (Some w) puts among held =
+    kept-from_held fills w
+    (puts w.number ∙ find-without w.number (Some w.number) versions ∙ rw (eq-eqb w.number w.number refl) refl)
+    (found-All (IsHeld fills) (λ v. v.number == w.number) versions w held among)
+
+held_kept : (fills : Fills) (kept : Option Version) (versions : List Version) → IfSome kept (λ v. IsPut v fills) → All (IsHeld fills) versions → All (IsHeld (with_kept kept fills)) versions
+held_kept fills None versions put held = held
+held_kept fills (Some w) versions put held = All-weaker (IsHeld fills) (IsHeld (with_kept (Some w) fills)) (λ v here. held-kept fills w v.number put ∙ here) versions held
+
+held_again : (fills : Fills) (again : Option Version) (versions : List Version) → IfSome again (λ v. IsKept v fills) → All (IsHeld fills) versions → All (IsHeld (with_put again fills)) versions
+held_again fills None versions kept held = held
+held_again fills (Some w) versions kept held = All-weaker (IsHeld fills) (IsHeld (with_put (Some w) fills)) (λ v here. held-again fills w v.number kept ∙ here) versions held
+
+-- the same versions stand of two lists, but for one that goes and one that comes
+pub record Trades (list rest : List Entry) (gone come : Option Version) : Type 0 where
+  pub same : without (number_if gone) (survivors list) ≡ without (number_if come) (survivors rest)
+  pub stood : IfSome gone (IsAmong (survivors list))
+  pub stands : IfSome come (IsAmong (survivors rest))
+
+pub trades-back : (list rest : List Entry) (gone come : Option Version) → Trades list rest gone come → Trades rest list come gone
+trades-back list rest lost gained trades = record { same = sym trades.same; stood = trades.stands; stands = trades.stood }
+
+-- the fill of the one that goes is taken, and that of the one that comes is put again
+pub record IsTraded (shown : Shown) (gone come : Option Version) (fills : Fills) : Type 0 where
+  pub taken : IfSome gone (λ version. IsPut version fills)
+  pub un_taken : IfSome come (λ version. IsKept version (with_kept gone fills))
+  pub shows : Shows shown (with_put come (with_kept gone fills))
+
+pub traded :
+    (list : List Entry) (shown : Shown) (gone come : Option Version) (fills : Fills) → Trades list shown.list gone come → is_book shown.list ≡ true → Puts fills (survivors list)
+    → HoldsFills shown.list fills → HoldsFills shown.kept fills → IsTraded shown gone come fills
+traded list shown lost gained fills trades book puts held held_kept_ones =
+    let versions = survivors shown.list in
+    let between = with_kept lost fills in
+    let taken = put_among fills (survivors list) lost puts trades.stood in
+    let left : Puts between (without (number_if gained) versions) = subst (Puts between) trades.same (puts_kept fills lost (survivors list) puts) in
+    let there = held_kept fills lost (versions_of shown.list) taken held in
+    let un_taken = kept_beside between versions gained left trades.stands (All-filter (stands_in (links_of shown.list)) (IsHeld between) (versions_of shown.list) there) in
+    record {
+      taken = taken;
+      un_taken = un_taken;
+      shows = record {
+        book = book;
+        put = puts_again between gained versions trades.stands left;
+        held = held_again between gained (versions_of shown.list) un_taken there;
+        held_kept = held_again between gained (versions_of shown.kept) un_taken (held_kept fills lost (versions_of shown.kept) taken held_kept_ones);
+      };
+    }
+
 -- an empty book shows nothing
-pub shows-empty : (list : List Entry) (fills : Fills) → list ≡ [] → fills ≡ finite.empty → Shows list fills
-shows-empty list fills none empty =
-    rw (none, empty) (record { book = refl; put = put_at-empty; held = All-nil _ })
+pub shows-empty : (shown : Shown) (fills : Fills) → shown ≡ record { list = []; kept = [] } → fills ≡ finite.empty → Shows shown fills
+shows-empty shown fills none empty =
+    rw (none, empty) (record { book = refl; put = put_at-empty; held = All-nil _; held_kept = All-nil _ })

@@ -1,26 +1,23 @@
 -- One step on the book, as the code takes it and takes it back.
 use Rattle.std.proofs.Common.{◌≡◌, ℕ, ◌<◌, ◌≤◌, ◌+◌, true, List, [], ◌∷◌, ◌++◌, Option, Some, None, sym, ap, subst, refl, ◌∙◌, arith, inl, inr}
-use Rattle.std.specs.Prelude.{All, Contains, IsSome, nat_lt}
+use Rattle.std.specs.Prelude.{Contains, IsSome, nat_lt}
 use Rattle.std.proofs.lemmas.Bool.{and_from, lt-ltb, and_parts, ltb-true}
 use Rattle.std.proofs.lemmas.List.Elements.{All-head, All-tail, All-weaker, All-contains, All-contains_itself, Contains-append_left, Contains-append_right, Contains-append_cases}
 use Rattle.std.specs.Option.{option_map, option_and_then}
 use Rattle.std.proofs.lemmas.List.{same_from_push}
 use Rattle.blot_types.specs.declared.command.Command.{Command}
 use Rattle.blot_types.specs.declared.command.Entry.{Entry}
-use Rattle.blot_types.specs.declared.link.Link.{Link}
-use Rattle.blot_types.specs.Chains.{is_above_links}
 use Rattle.blot_types.specs.declared.TheConstants.{EVENTS_MAX}
-use Rattle.blot_types.specs.Legal.{is_book, entry_refusal}
+use Rattle.blot_types.specs.Legal.{is_above_entries, is_book, entry_refusal}
 use Rattle.blot_types.specs.Withdrawal.{without}
 use Rattle.blot_command.specs.declared.fault.ApplyFault.TheVariants.{Refused as RefusedBy}
-use Rattle.blot_command.specs.Book.{Shown, numbers_of, link_numbers, command_at}
+use Rattle.blot_command.specs.Book.{Shown, entry_number, numbers_of, command_at}
 use Rattle.blot_command.specs.Law.{lawful_by}
 use Rattle.blot_command.specs.Meanings.{meaning_by, entry_meaning}
 use Rattle.blot_command.specs.Undoable.{AllBelow, IsAboveNumbers, IsStep, numbers_in, Adds, TakesOut, Undoes}
 use Rattle.blot_command.specs.Withdrawing.{with_entry, HasLast}
-use Rattle.blot_command.proofs.WithinLemmas.{mapped, cons_cases, none_within}
-use Rattle.blot_command.proofs.MovedLemmas.{number_gone}
-use Rattle.blot_command.proofs.KeepsLemmas.{Carries, carries_push, carries_pop, keeps_earlier-entry, pushed_own}
+use Rattle.blot_command.proofs.WithinLemmas.{cons_cases, none_within}
+use Rattle.blot_command.proofs.KeepsLemmas.{Carries, carries_numbers, carries_push, carries_pop, popped_within, entries_within, numbers_from, keeps_earlier-entry, number_gone}
 
 -- ---- the last entry
 
@@ -55,39 +52,33 @@ is_of_kind embed project back book inverse command (earlier, c, number, undoes) 
     let given : option_and_then project (command_at book.list inverse) ≡ Some c = rw (step.list_is, step.inverse_is) (law.command_back earlier c number step.valid step.is_next) in
     kind_of project (command_at book.list inverse) command c given is
 
--- a book that a step led to has a last entry, which came after each one that is kept
-above_kept : (number : ℕ) (links : List Link) → All (λ (link : Link). link.number < number) links → is_above_links number links ≡ true
-above_kept number [] below = refl
-above_kept number (link ∷ links) below =
-    and_from _ _ (lt-ltb link.number number (All-head (λ (link : Link). link.number < number) link links below))
-    (above_kept number links (All-tail (λ (link : Link). link.number < number) link links below))
-
-pub has_last : (book : Shown) (inverse : ℕ) → Undoes entry_meaning inverse book → HasLast book
-has_last book inverse (earlier, command, number, undoes) =
-    let entry : Entry = record { number = number; command = command } in
-    record {
-      rest = earlier;
-      entry = entry;
-      is = undoes.step.list_is;
-      above = above_kept (number + 1) book.kept (All-weaker (Contains book.kept) (λ (link : Link). link.number < number + 1)
-          (λ link within. All-contains (λ k. k < number + 1) (numbers_in entry_meaning book) link.number undoes.latest
-          (Contains-append_left (link_numbers book.kept) (numbers_of book.list) link.number (mapped (λ (link : Link). link.number) book.kept link within)))
-          book.kept (All-contains_itself book.kept));
-    }
-
--- a number above all numbers is above those of the list, and of what is kept
+-- a number above all numbers in a book is above those of the list, and of what is kept
 pub above_list : (number : ℕ) (book : Shown) → IsAboveNumbers entry_meaning number book → AllBelow number (numbers_of book.list)
 above_list number book above =
     All-weaker (Contains (numbers_of book.list)) (λ k. k < number)
-    (λ k within. All-contains (λ k. k < number) (numbers_in entry_meaning book) k above (Contains-append_right (link_numbers book.kept) (numbers_of book.list) k within))
+    (λ k within. All-contains (λ k. k < number) (numbers_in entry_meaning book) k above (Contains-append_right (numbers_of book.kept) (numbers_of book.list) k within))
     (numbers_of book.list) (All-contains_itself (numbers_of book.list))
 
-pub above_links : (number : ℕ) (book : Shown) → IsAboveNumbers entry_meaning number book → is_above_links number book.kept ≡ true
-above_links number book above =
-    above_kept number book.kept (All-weaker (Contains book.kept) (λ (link : Link). link.number < number)
-    (λ link within. All-contains (λ k. k < number) (numbers_in entry_meaning book) link.number above
-    (Contains-append_left (link_numbers book.kept) (numbers_of book.list) link.number (mapped (λ (link : Link). link.number) book.kept link within)))
-    book.kept (All-contains_itself book.kept))
+above_entries : (number : ℕ) (entries : List Entry) → AllBelow number (numbers_of entries) → is_above_entries number entries ≡ true
+above_entries number [] below = refl
+above_entries number (entry ∷ entries) below =
+    and_from _ _ (lt-ltb entry.number number (All-head (λ k. k < number) entry.number (numbers_of entries) below))
+    (above_entries number entries (All-tail (λ k. k < number) entry.number (numbers_of entries) below))
+
+pub above_kept : (number : ℕ) (book : Shown) → IsAboveNumbers entry_meaning number book → is_above_entries number book.kept ≡ true
+above_kept number book above =
+    above_entries number book.kept (All-weaker (Contains (numbers_of book.kept)) (λ k. k < number)
+    (λ k within. All-contains (λ k. k < number) (numbers_in entry_meaning book) k above (Contains-append_left (numbers_of book.kept) (numbers_of book.list) k within))
+    (numbers_of book.kept) (All-contains_itself (numbers_of book.kept)))
+
+-- a book that a step led to has a last entry, which came after each one that is kept
+pub has_last : (book : Shown) (inverse : ℕ) → Undoes entry_meaning inverse book → HasLast book
+has_last book inverse (earlier, command, number, undoes) = record {
+  rest = earlier;
+  entry = record { number = number; command = command };
+  is = undoes.step.list_is;
+  above = above_kept (number + 1) book undoes.latest;
+}
 
 -- ---- what the state keeps
 
@@ -96,7 +87,7 @@ pub adds : (old : Shown) (entry : Entry) → IsAboveNumbers entry_meaning entry.
 adds old entry above =
     let carries = carries_push old entry in
     record {
-      brings = carries.numbers;
+      brings = carries_numbers entry.number old (with_entry entry old) carries;
       own = tt;
       earlier = keeps_earlier-entry entry.number old (with_entry entry old) carries;
     }
@@ -113,34 +104,29 @@ enters old new command number book accepted above within is = record {
   list_is = ap (λ (shown : Shown). shown.list) is;
 }
 
--- the last entry taken out takes its number out, and brings in none
--- a number isn't among links that it is above
-not_above : (number : ℕ) (links : List Link) → is_above_links number links ≡ true → Contains (link_numbers links) number → ⊥
+-- a number isn't among entries that it is above
+not_above : (number : ℕ) (entries : List Entry) → is_above_entries number entries ≡ true → Contains (numbers_of entries) number → ⊥
 not_above number [] above within = none_within number within
-not_above number (link ∷ links) above within =
-    let parts : (nat_lt link.number number ≡ true) × (is_above_links number links ≡ true) = and_parts _ _ above in
-    let less : link.number < number = ltb-true _ _ parts.0 in
-    elim (cons_cases link.number (link_numbers links) number within) [
+not_above number (entry ∷ entries) above within =
+    let parts : (nat_lt entry.number number ≡ true) × (is_above_entries number entries ≡ true) = and_parts _ _ above in
+    let less : entry.number < number = ltb-true _ _ parts.0 in
+    elim (cons_cases entry.number (numbers_of entries) number within) [
       | inl own ↦ omega (arith, own, less)
-      | inr later ↦ not_above number links parts.1 later
+      | inr later ↦ not_above number entries parts.1 later
     ]
 
+-- the last entry taken out takes its number out, and brings in none
 pub takes_out :
-    (old new : Shown) (inverse : ℕ) (entry : Entry) → old ≡ with_entry entry new → is_above_links entry.number new.kept ≡ true → new.list ≡ without inverse old.list
+    (old new : Shown) (inverse : ℕ) (entry : Entry) → old ≡ with_entry entry new → is_above_entries entry.number new.kept ≡ true → new.list ≡ without inverse old.list
     → TakesOut entry_meaning inverse old new
 takes_out old new inverse entry is above list earlier command number undoes =
     let last = same_from_push new.list earlier entry (record { number = number; command = command }) (sym (ap (λ (shown : Shown). shown.list) is) ∙ undoes.step.list_is) in
-    let own : entry.number ≡ number = ap (λ (e : Entry). e.number) last.1 in
+    let own : entry.number ≡ number = ap entry_number last.1 in
     let carries : Carries number old new = subst (λ shown. Carries number shown new) (sym is) (subst (λ n. Carries n (with_entry entry new) new) own (carries_pop new entry)) in
     record {
-      brings_none = λ k within. elim (carries.numbers k within) [
-        | inl was ↦ was
-        | inr same ↦ Contains-append_right (link_numbers old.kept) (numbers_of old.list) k
-            (subst (λ l. Contains (numbers_of l) k) (sym undoes.step.list_is)
-            (subst (Contains (numbers_of (earlier ++ record { number = number; command = command } ∷ []))) (sym same) (pushed_own earlier (record { number = number; command = command }))))
-      ];
-      gone = λ within. elim (Contains-append_cases (link_numbers new.kept) (numbers_of new.list) number within) [
-        | inl kept ↦ not_above number new.kept (ap (λ n. is_above_links n new.kept) (sym own) ∙ above) kept
+      brings_none = numbers_from old new (λ other within. subst (λ shown. Contains (entries_within shown) other) (sym is) (popped_within new entry other within));
+      gone = λ within. elim (Contains-append_cases (numbers_of new.kept) (numbers_of new.list) number within) [
+        | inl kept ↦ not_above number new.kept (ap (λ n. is_above_entries n new.kept) (sym own) ∙ above) kept
         | inr listed ↦ number_gone number old.list (subst (λ l. Contains (numbers_of l) number) (list ∙ ap (λ n. without n old.list) undoes.step.inverse_is) listed)
       ];
       earlier = keeps_earlier-entry number old new carries;

@@ -1,21 +1,25 @@
 -- Withdrawals, computed on worked days.
-use Rattle.std.specs.Prelude.{◌≡◌, ℕ, ◌*◌, ◌^◌, pos, List, [], ◌∷◌, Some, None, refl}
+use Rattle.std.specs.Prelude.{◌≡◌, ℕ, ◌*◌, ◌^◌, true, pos, List, [], ◌∷◌, Some, None, refl}
 use Rattle.blot_types.specs.declared.allocation.Terms.{Terms}
-use Rattle.blot_types.specs.declared.command.Command.TheVariants.{Trade, Correct, Bust, AllocNew, Withdraw}
+use Rattle.blot_types.specs.declared.command.Command.TheVariants.{Trade, Correct, Bust, AllocNew, AllocReplace, AllocCancel, Withdraw}
 use Rattle.blot_types.specs.declared.command.Entry.{Entry}
 use Rattle.blot_types.specs.declared.fill.Fill.{Fill}
 use Rattle.blot_types.specs.declared.fill.Sign.TheVariants.{Buy}
+use Rattle.blot_types.specs.declared.keys.AllocKey.{AllocKey}
 use Rattle.blot_types.specs.declared.keys.ExecKey.{ExecKey}
 use Rattle.blot_types.specs.declared.keys.OrderKey.{OrderKey}
 use Rattle.blot_types.specs.declared.lines.OrderLine.{OrderLine}
-use Rattle.blot_types.specs.declared.refused.Refused.TheVariants.{NotLive}
-use Rattle.blot_types.specs.Legal.{refusal_of}
+use Rattle.blot_types.specs.declared.refused.Refused.TheVariants.{Needed, NotLive}
+use Rattle.blot_types.specs.Legal.{is_book, refusal_of}
 use Rattle.blot_types.specs.Order.{order_of}
 use Rattle.blot_command.specs.declared.inverse.Inverse.TheVariants.{Taken}
 use Rattle.blot_command.specs.Book.{after, before, inverse_of}
 
 abbrev exec : ℕ → ExecKey
 exec n = record { peer = 66 ∷ []; id = 69 ∷ n ∷ [] }
+
+abbrev alloc : ℕ → AllocKey
+alloc n = record { peer = 66 ∷ []; id = 76 ∷ n ∷ [] }
 
 abbrev order : ℕ → OrderKey
 order n = record { peer = 66 ∷ []; id = 79 ∷ n ∷ [] }
@@ -41,6 +45,27 @@ correct number key reference fill = record { number = number; command = Correct 
 
 abbrev bust : ℕ → ℕ → ℕ → Entry
 bust number key reference = record { number = number; command = Bust (record { key = exec key; reference = exec reference }) }
+
+-- a block of so many of one execution, all to one account
+abbrev block : ℕ → ℕ → Terms
+block key qty = record {
+  symbol = 88 ∷ [];
+  sign = Buy;
+  day = pos 0;
+  block = qty * 10 ^ 6;
+  execs = exec key ∷ [];
+  lines = record { account = 65 ∷ []; qty = qty * 10 ^ 6; price = pos 1 } ∷ [];
+}
+
+abbrev allocated : ℕ → ℕ → ℕ → ℕ → Entry
+allocated number key listed qty = record { number = number; command = AllocNew (record { key = alloc key; terms = block listed qty }) }
+
+abbrev replaced : ℕ → ℕ → ℕ → ℕ → ℕ → Entry
+replaced number key reference listed qty =
+    record { number = number; command = AllocReplace (record { key = alloc key; reference = alloc reference; terms = block listed qty }) }
+
+abbrev cancelled : ℕ → ℕ → ℕ → Entry
+cancelled number key reference = record { number = number; command = AllocCancel (record { key = alloc key; reference = alloc reference }) }
 
 -- the line of an order: cum, leaves, and value in hundredths
 abbrev line : ℕ → ℕ → ℕ → OrderLine
@@ -78,29 +103,47 @@ again = refl
 no_entry : refusal_of corrected (Withdraw 5) ≡ Some (NotLive 5)
 no_entry = refl
 
-no_bust : refusal_of corrected (Withdraw 1) ≡ Some (NotLive 1)
-no_bust = refl
+-- ---- entries that later ones need: the first of those is named
+
+needed_by_correct : refusal_of corrected (Withdraw 1) ≡ Some (Needed 3)
+needed_by_correct = refl
+
+needed_by_bust : refusal_of busted (Withdraw 3) ≡ Some (Needed 4)
+needed_by_bust = refl
+
+unneeded : refusal_of busted (Withdraw 2) ≡ None
+unneeded = refl
+
+-- an allocation, replaced, and its end
+abbrev ended : List Entry
+ended = trade 1 1 (filled 1 300 100 1000) ∷ allocated 2 1 1 100 ∷ replaced 3 2 1 1 100 ∷ cancelled 4 3 2 ∷ []
+
+ended_book : is_book ended ≡ true
+ended_book = refl
+
+needed_by_end : refusal_of ended (Withdraw 3) ≡ Some (Needed 4)
+needed_by_end = refl
+
+end_accepted : refusal_of ended (Withdraw 4) ≡ None
+end_accepted = refl
+
+-- a correction, and an allocation of the quantity that it leaves
+abbrev reduced : List Entry
+reduced = trade 1 1 (filled 1 300 100 1000) ∷ correct 2 3 1 (filled 1 300 80 1000) ∷ allocated 3 1 1 80 ∷ []
+
+reduced_book : is_book reduced ≡ true
+reduced_book = refl
+
+needed_by_allocation : refusal_of reduced (Withdraw 2) ≡ Some (Needed 3)
+needed_by_allocation = refl
 
 -- ---- a bust withdrawn out of order: what came after it stays
-
-abbrev terms : Terms
-terms = record {
-  symbol = 88 ∷ [];
-  sign = Buy;
-  day = pos 0;
-  block = 20 * 10 ^ 6;
-  execs = exec 6 ∷ [];
-  lines = record { account = 65 ∷ []; qty = 20 * 10 ^ 6; price = pos 1 } ∷ [];
-}
-
-abbrev allocated : Entry
-allocated = record { number = 6; command = AllocNew (record { key = record { peer = 66 ∷ []; id = 76 ∷ [] }; terms = terms }) }
 
 abbrev first : Entry
 first = trade 1 1 (filled 1 300 100 1000)
 
 abbrev after_it : List Entry
-after_it = trade 3 2 (filled 2 300 50 1000) ∷ trade 4 6 (filled 2 300 20 1000) ∷ correct 5 5 2 (filled 2 300 40 1000) ∷ allocated ∷ []
+after_it = trade 3 2 (filled 2 300 50 1000) ∷ trade 4 6 (filled 2 300 20 1000) ∷ correct 5 5 2 (filled 2 300 40 1000) ∷ allocated 6 1 6 20 ∷ []
 
 out_of_order : after (first ∷ bust 2 4 1 ∷ after_it) (Withdraw 2) 7 ≡ first ∷ after_it
 out_of_order = refl

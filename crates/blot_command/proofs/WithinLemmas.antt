@@ -1,8 +1,9 @@
 -- What is in a list, and what is found in it.
-use Rattle.std.proofs.Common.{◌≡◌, ℕ, ◌<◌, Bool, true, false, List, [], ◌∷◌, ◌++◌, map, Option, Some, None, ◌⊎◌, refl, sym, ap, subst, ◌∙◌, inl, inr, arith}
+use Rattle.std.proofs.Common.{◌≡◌, ℕ, ◌<◌, Bool, true, false, List, [], ◌∷◌, ◌++◌, length, get_or, suc, reverse, map, Option, Some, None, ◌⊎◌, refl, sym, ap, subst, ◌∙◌, inl, inr, arith}
 use Rattle.std.specs.Prelude.{Contains, filter, find, nat_eq, nat_lt, not}
 use Rattle.std.proofs.lemmas.Bool.{cases_Bool, eqb-true, ltb-true}
 use Rattle.std.proofs.lemmas.Option.{same_Some}
+use Rattle.std.proofs.lemmas.List.{reverse-append}
 use Rattle.std.proofs.lemmas.List.Elements.{Contains-append_left, Contains-append_right, Contains-append_cases, Contains-push, Contains-push_cases}
 use Rattle.blot_places.specs.Shown.{item_at, without, with_item}
 use Rattle.blot_places.proofs.ShownLemmas.{at-here, at-on, at-its, more-other}
@@ -205,3 +206,24 @@ module _ {T : Type 0} (number_of : T → ℕ) where
       not_true : (b : Bool) → not b ≡ true → b ≡ false
       not_true true is = cc
       not_true false is = refl
+
+-- ---- a list turned
+
+-- what is in a list turned has a place in the list
+pub turned_within : {X : Type 0} (xs : List X) (x : X) → Contains (reverse xs) x → (k : ℕ) × (k < length xs) × (get_or xs k x ≡ x)
+turned_within [] x within = within
+turned_within (first ∷ xs) x within =
+    elim (Contains-append_cases (reverse xs) (first ∷ []) x (subst (λ l. Contains l x) (reverse-append (first ∷ []) xs) within)) [
+      | inl later ↦ (let it = turned_within xs x later in (suc it.0, omega (arith, it.1), it.2))
+      | inr own ↦ elim (cons_cases first [] x own) [ inl same ↦ (0, omega arith, same) | inr none ↦ absurd (none_within x none) ]
+    ]
+
+-- what is in a list is in it turned
+pub within_turned : {X : Type 0} (xs : List X) (x : X) → Contains xs x → Contains (reverse xs) x
+within_turned [] x within = within
+within_turned (first ∷ xs) x within =
+    subst (λ l. Contains l x) (sym (reverse-append (first ∷ []) xs))
+    (elim (cons_cases first xs x within) [
+      | inl own ↦ subst (Contains (reverse xs ++ first ∷ [])) own (Contains-push (reverse xs) first)
+      | inr later ↦ Contains-append_left (reverse xs) (first ∷ []) x (within_turned xs x later)
+    ])

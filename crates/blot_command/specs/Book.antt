@@ -4,28 +4,28 @@ use Rattle.std.specs.Option.{option_map, option_map_or}
 use Rattle.blot_types.specs.declared.command.Command.{Command}
 use Rattle.blot_types.specs.declared.command.Command.TheVariants.{Withdraw}
 use Rattle.blot_types.specs.declared.command.Entry.{Entry}
-use Rattle.blot_types.specs.declared.link.Link.{Link}
 use Rattle.blot_types.specs.Refusals.{withdrawn_by}
 use Rattle.blot_types.specs.Withdrawal.{without, put_back}
 use Rattle.blot_command.specs.declared.inverse.Inverse.{Inverse}
 use Rattle.blot_command.specs.declared.inverse.Inverse.TheVariants.{Number, Taken}
 
--- what a contract sees of the book: its live list, and the links of the entries that were taken out of its middle and whose
--- slots are kept, newest first
+-- what a contract sees of the book: its live list, in rising order of number, and the entries that were taken out of its middle
+-- and whose slots are kept, newest first
 pub record Shown : Type 0 where
   pub list : List Entry
-  pub kept : List Link
+  pub kept : List Entry
+
+-- the number of an entry
+abbrev pub entry_number : Entry → ℕ
+entry_number entry = entry.number
 
 -- whether an entry bears a number
 abbrev pub has_number : ℕ → Entry → Bool
 has_number number entry = entry.number == number
 
--- the numbers of a list of entries, and of links
+-- the numbers of a list of entries
 abbrev pub numbers_of : List Entry → List ℕ
-numbers_of list = map (λ entry. entry.number) list
-
-abbrev pub link_numbers : List Link → List ℕ
-link_numbers links = map (λ link. link.number) links
+numbers_of list = map entry_number list
 
 -- the list after a command that is an entry: it stands at its end under its number
 abbrev pub entered : List Entry → Command → ℕ → List Entry

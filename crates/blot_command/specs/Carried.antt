@@ -11,6 +11,7 @@ use Rattle.blot_types.specs.Position.{house, account_of, parts_of, FillFits, Ter
 use Rattle.blot_types.specs.Survivors.{version_by, versions_of}
 use Rattle.blot_position.specs.Carried.{Carries}
 use Rattle.blot_position.specs.Positions.{Cells, sums_at, has_cell}
+use Rattle.blot_command.specs.Book.{Shown}
 
 -- the cells of a fill are made: that of its own account, and that of the house account
 pub record HasFillCells (cells : Cells) (fill : Fill) : Type 0 where
@@ -45,7 +46,9 @@ pub record IsReady (list : List Entry) (cells : Cells) : Type 0 where
   pub fills_fit : All (λ version. FillFits version.fill) (versions_of list)
   pub terms_fit : All (λ allocation. TermsFit allocation.terms) (filter_map (λ entry. allocation_of entry.command) list)
 
--- the cells show the positions of a list: they carry its parts, and are ready for its entries to come and go
-pub record ShowsPositions (list : List Entry) (cells : Cells) : Type 0 where
-  pub carried : Carries (λ amount. total amount (parts_of list)) cells
-  pub ready : IsReady list cells
+-- the cells show the positions of a book: they carry the parts of its list, and are ready for its entries to come and go, and for
+-- those that are kept to come back
+pub record ShowsPositions (shown : Shown) (cells : Cells) : Type 0 where
+  pub carried : Carries (λ amount. total amount (parts_of shown.list)) cells
+  pub ready : IsReady shown.list cells
+  pub ready_kept : IsReady shown.kept cells

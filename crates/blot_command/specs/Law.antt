@@ -1,24 +1,29 @@
 -- Every command obeys the law: what stands before what stands after it is the book itself.
-use Rattle.std.specs.Prelude.{◌≡◌, ℕ, ◌<◌, ◌≤◌, ◌⊎◌, true, false, List, [], ◌∷◌, ◌++◌, Option, Some, None, find, is_none, refl}
+use Rattle.std.specs.Prelude.{◌≡◌, ℕ, ◌==◌, ◌<◌, ◌≤◌, ◌⊎◌, Bool, true, false, not, List, [], ◌∷◌, ◌++◌, reverse, Option, Some, None, find, is_none, refl, if◌then◌else◌}
 use Rattle.std.specs.Option.{option_map, option_and_then}
 use Rattle.std.proofs.Common.{ap, sym, ◌∙◌, arith, inl, inr}
-use Rattle.std.proofs.lemmas.Bool.{cases_Bool, ne_eqb, eq-eqb, eqb-true}
-use Rattle.std.proofs.lemmas.List.{append-nil}
+use Rattle.std.proofs.lemmas.Bool.{cases_Bool, and_parts, ne_eqb, eq-eqb, eqb-true}
+use Rattle.std.proofs.lemmas.List.{append-nil, reverse-append, reverse-reverse}
 use Rattle.std.proofs.lemmas.List.Elements.{All-head, All-tail, filter-append}
 use Rattle.std.proofs.lemmas.List.Folds.{find-append}
-use Rattle.blot_types.specs.declared.command.Bust.{Bust}
 use Rattle.blot_types.specs.declared.command.Command.{Command}
 use Rattle.blot_types.specs.declared.command.Command.TheVariants.{Trade, Correct, Bust as BustCommand, AllocNew, AllocReplace, AllocCancel, Withdraw}
 use Rattle.blot_types.specs.declared.command.Entry.{Entry}
 use Rattle.blot_types.specs.declared.TheConstants.{EVENTS_MAX}
 use Rattle.blot_types.specs.declared.refused.Refused.{Refused}
-use Rattle.blot_types.specs.declared.refused.Refused.TheVariants.{NotLive}
-use Rattle.blot_types.specs.Legal.{is_book, withdrawal_refusal}
-use Rattle.blot_types.specs.Refusals.{is_bust, is_live_bust, withdrawn_by}
-use Rattle.blot_types.specs.Withdrawal.{without, put_back, least_needing}
-use Rattle.blot_types.proofs.BustLemmas.{bust_unneeded}
+use Rattle.blot_types.specs.declared.refused.Refused.TheVariants.{Needed, NotLive}
+use Rattle.blot_types.specs.Legal.{is_book, legal_in, least_needing, numbers_rise, refusal_in, rises_in, without, withdrawal_refusal}
+use Rattle.blot_types.specs.Refusals.{is_live, withdrawn_by}
+use Rattle.blot_types.specs.Withdrawal.{put_back}
+use Rattle.blot_types.proofs.AcceptLemmas.{unmapped}
+use Rattle.blot_types.proofs.AcceptOutLemmas.{accepts}
+use Rattle.blot_types.proofs.BringLemmas.{present}
+use Rattle.blot_types.proofs.BustLemmas.{reverse-middle}
+use Rattle.blot_types.proofs.ChainLemmas.{none_is}
 use Rattle.blot_types.proofs.LawLemmas.{book_parts}
 use Rattle.blot_types.proofs.LegalLemmas.{is_book-push}
+use Rattle.blot_types.proofs.NeedLemmas.{without-out}
+use Rattle.blot_types.proofs.StayLemmas.{filter-reverse}
 use Rattle.blot_types.proofs.WithdrawLemmas.{withdrawn, put-back}
 use Rattle.blot_command.specs.Book.{has_number, numbers_of, entered, after, inverse_of, before, command_at, command_of}
 use Rattle.blot_command.specs.Meanings.{meaning_by, entry_meaning, command_meaning}
@@ -68,85 +73,91 @@ lawful_by {C} embed project back = record {
 
 -- ---- the law, for a Withdraw
 
--- an entry of a list that is a Bust
-pub record HasBust (list : List Entry) (number : ℕ) : Type 0 where
+-- an entry of a list, by its number
+pub record HasEntry (list : List Entry) (number : ℕ) (entry : Entry) : Type 0 where
   pub front : List Entry
   pub back : List Entry
-  pub entry : Entry
   pub is : list ≡ front ++ entry ∷ back
   pub own : entry.number ≡ number
-  pub found : find (has_number number) list ≡ Some entry
-  pub bust : is_bust entry.command ≡ true
 
-more_busts : (first : Entry) (list : List Entry) (number : ℕ) → has_number number first ≡ false → HasBust list number → HasBust (first ∷ list) number
-more_busts first list number other has = record {
-  front = first ∷ has.front;
-  back = has.back;
-  entry = has.entry;
-  is = ap (λ l. first ∷ l) has.is;
-  own = has.own;
-  found = rw other has.found;
-  bust = has.bust;
-}
-
-pub has_bust : (list : List Entry) (number : ℕ) → is_live_bust number list ≡ true → HasBust list number
-has_bust [] number is = cc
-has_bust (first ∷ list) number is =
+pub has_entry : (list : List Entry) (number : ℕ) (entry : Entry) → find (has_number number) list ≡ Some entry → HasEntry list number entry
+has_entry [] number entry found = cc
+has_entry (first ∷ list) number entry found =
     elim (cases_Bool (has_number number first)) [
-      | inl here ↦ record {
-        front = [];
-        back = list;
-        entry = first;
-        is = refl;
-        own = eqb-true first.number number here;
-        found = rw here refl;
-        bust = rw here at is;
-      }
-      | inr other ↦ more_busts first list number other (has_bust list number (rw other at is))
+      | inl here ↦
+          let some : Some first ≡ Some entry = rw here at found in
+          let same : first ≡ entry = cc in
+          record {
+            front = [];
+            back = list;
+            is = ap (λ e. e ∷ list) same;
+            own = ap (λ (e : Entry). e.number) (sym same) ∙ eqb-true first.number number here;
+          }
+      | inr other ↦
+          let has = has_entry list number entry (rw other at found) in
+          record { front = first ∷ has.front; back = has.back; is = ap (λ l. first ∷ l) has.is; own = has.own }
     ]
 
--- a Bust is one
-bust_of : (command : Command) → is_bust command ≡ true → (bust : Bust) × (command ≡ BustCommand bust)
-bust_of (Trade trade) is = cc
-bust_of (Correct correct) is = cc
-bust_of (BustCommand bust) is = (bust, refl)
-bust_of (AllocNew new) is = cc
-bust_of (AllocReplace replace) is = cc
-bust_of (AllocCancel cancel) is = cc
-bust_of (Withdraw number) is = cc
+-- the list without it
+pub without-split : (list front back : List Entry) (entry : Entry) → list ≡ front ++ entry ∷ back → numbers_rise list ≡ true → without entry.number list ≡ front ++ back
+without-split list front back entry is rise =
+    let whole : reverse list ≡ reverse back ++ entry ∷ reverse front = ap reverse is ∙ reverse-middle front back entry in
+    let turned : reverse (without entry.number list) ≡ reverse back ++ reverse front =
+    sym (filter-reverse (λ (e : Entry). not (e.number == entry.number)) list) ∙ ap (without entry.number) whole
+    ∙ without-out entry (reverse back) (reverse front) (ap rises_in (sym whole) ∙ rise) in
+    sym (reverse-reverse (without entry.number list)) ∙ ap reverse (turned ∙ sym (reverse-append front back)) ∙ reverse-reverse (front ++ back)
 
--- a book without it is a book
-pub book-without : (list : List Entry) (number : ℕ) → is_book list ≡ true → HasBust list number → is_book (without number list) ≡ true
-book-without list number book has =
-    let bust = bust_of has.entry.command has.bust in
-    let is : list ≡ has.front ++ record { number = has.entry.number; command = BustCommand bust.0 } ∷ has.back =
-    has.is ∙ ap (λ c. has.front ++ record { number = has.entry.number; command = c } ∷ has.back) bust.1 in
-    let unneeded : least_needing list has.entry.number ≡ None = bust_unneeded list book has.front has.back has.entry.number bust.0 is in
-    ap (λ n. is_book (without n list)) (sym has.own) ∙ withdrawn list book has.front has.back has.entry has.is ∙ ap is_none unneeded
+-- no entry of a book takes another out
+legal-none : (later earlier : List Entry) (entry : Entry) → legal_in (later ++ entry ∷ earlier) ≡ true → withdrawn_by entry.command ≡ None
+legal-none [] earlier entry legal =
+    let parts : (is_none (refusal_in earlier entry.command) ≡ true) × (legal_in earlier ≡ true) = and_parts _ _ legal in
+    unmapped NotLive (withdrawn_by entry.command) (accepts earlier entry.command (none_is _ parts.0)).enters
+legal-none (first ∷ later) earlier entry legal = legal-none later earlier entry (and_parts _ _ legal).1
 
--- and put back it stands where it stood
-pub back-again : (list : List Entry) (number : ℕ) → is_book list ≡ true → (has : HasBust list number) → put_back has.entry (without number list) ≡ list
-back-again list number book has =
-    ap (λ n. put_back has.entry (without n list)) (sym has.own) ∙ put-back list (book_parts list book).0 has.front has.back has.entry has.is
+pub withdrawn-none : (list : List Entry) (entry : Entry) → find (has_number entry.number) list ≡ Some entry → is_book list ≡ true → withdrawn_by entry.command ≡ None
+withdrawn-none list entry found book =
+    let has = has_entry list entry.number entry found in
+    legal-none (reverse has.back) (reverse has.front) entry (ap legal_in (sym (ap reverse has.is ∙ reverse-middle has.front has.back entry)) ∙ (book_parts list book).1)
 
-accepted_bust : (list : List Entry) (number : ℕ) → option_map RefusedBy (withdrawal_refusal list number) ≡ None → is_live_bust number list ≡ true
-accepted_bust list number none =
-    elim (cases_Bool (is_live_bust number list)) [
-      | inl is ↦ is
-      | inr other ↦ (let clash : option_map RefusedBy (Some (NotLive number)) ≡ None = rw other at none in cc)
-    ]
+-- what a Withdraw that a book accepts takes out: an entry that is there; the list without it is a book, and put back it stands where
+-- it stood
+pub record Takes (list : List Entry) (number : ℕ) : Type 0 where
+  pub entry : Entry
+  pub found : find (has_number number) list ≡ Some entry
+  pub own : entry.number ≡ number
+  pub rest : is_book (without number list) ≡ true
+  pub back : put_back entry (without number list) ≡ list
 
--- a command that a book accepts next: as an entry, or as a Withdraw of a Bust
+accepted-parts : (live : Bool) (needing : Option ℕ) (number : ℕ) → (if live then option_map Needed needing else Some (NotLive number)) ≡ None → (live ≡ true) × (needing ≡ None)
+accepted-parts true None number none = (refl, refl)
+accepted-parts true (Some first) number none = cc
+accepted-parts false needing number none = cc
+
+pub takes : (list : List Entry) (number : ℕ) → is_book list ≡ true → withdrawal_refusal list number ≡ None → Takes list number
+takes list number book none =
+    let parts = accepted-parts (is_live number list) (least_needing list number) number none in
+    let it = present (find (has_number number) list) parts.0 in
+    let has = has_entry list number it.0 it.1 in
+    record {
+      entry = it.0;
+      found = it.1;
+      own = has.own;
+      rest = ap (λ n. is_book (without n list)) (sym has.own) ∙ withdrawn list book has.front has.back it.0 has.is
+          ∙ ap is_none (ap (least_needing list) has.own ∙ parts.1);
+      back = ap (λ n. put_back it.0 (without n list)) (sym has.own) ∙ put-back list (book_parts list book).0 has.front has.back it.0 has.is;
+    }
+
+-- a command that a book accepts next: as an entry, or as a Withdraw
 pub enters_or_takes :
-    (list : List Entry) (command : Command) (number : ℕ) → IsNext command_meaning list command number
-    → ((withdrawn_by command ≡ None) × IsNext entry_meaning list command number) ⊎ ((taken : ℕ) × (command ≡ Withdraw taken) × HasBust list taken)
-enters_or_takes list (Trade trade) number next = inl (refl, record { accepted = next.accepted; above = next.above })
-enters_or_takes list (Correct correct) number next = inl (refl, record { accepted = next.accepted; above = next.above })
-enters_or_takes list (BustCommand bust) number next = inl (refl, record { accepted = next.accepted; above = next.above })
-enters_or_takes list (AllocNew new) number next = inl (refl, record { accepted = next.accepted; above = next.above })
-enters_or_takes list (AllocReplace replace) number next = inl (refl, record { accepted = next.accepted; above = next.above })
-enters_or_takes list (AllocCancel cancel) number next = inl (refl, record { accepted = next.accepted; above = next.above })
-enters_or_takes list (Withdraw taken) number next = inr (taken, refl, has_bust list taken (accepted_bust list taken next.accepted))
+    (list : List Entry) (command : Command) (number : ℕ) → is_book list ≡ true → IsNext command_meaning list command number
+    → ((withdrawn_by command ≡ None) × IsNext entry_meaning list command number) ⊎ ((taken : ℕ) × (command ≡ Withdraw taken) × Takes list taken)
+enters_or_takes list (Trade trade) number book next = inl (refl, record { accepted = next.accepted; above = next.above })
+enters_or_takes list (Correct correct) number book next = inl (refl, record { accepted = next.accepted; above = next.above })
+enters_or_takes list (BustCommand bust) number book next = inl (refl, record { accepted = next.accepted; above = next.above })
+enters_or_takes list (AllocNew new) number book next = inl (refl, record { accepted = next.accepted; above = next.above })
+enters_or_takes list (AllocReplace replace) number book next = inl (refl, record { accepted = next.accepted; above = next.above })
+enters_or_takes list (AllocCancel cancel) number book next = inl (refl, record { accepted = next.accepted; above = next.above })
+enters_or_takes list (Withdraw taken) number book next = inr (taken, refl, takes list taken book (not_refused _ next.accepted))
 
 pub entry_lawful : IsLawful entry_meaning
 entry_lawful = lawful_by (λ command. command) (λ command. Some command) (λ command. refl)
@@ -154,9 +165,9 @@ entry_lawful = lawful_by (λ command. command) (λ command. Some command) (λ co
 command-before :
     (list : List Entry) (c : Command) (n : ℕ) → is_book list ≡ true → IsNext command_meaning list c n → before (after list c n) (inverse_of list c n) ≡ list
 command-before list c n valid next =
-    elim (enters_or_takes list c n next) [
+    elim (enters_or_takes list c n valid next) [
       | inl enters ↦ rw enters.0 (entry_lawful.before_after list c n valid enters.1)
-      | inr takes ↦ rw (takes.1, takes.2.found) (back-again list takes.0 valid takes.2)
+      | inr taken ↦ rw (taken.1, taken.2.found) taken.2.back
     ]
 
 some_then : (found : Option Command) → option_and_then (λ command. Some command) found ≡ found
@@ -166,17 +177,17 @@ some_then (Some command) = refl
 command-back :
     (list : List Entry) (c : Command) (n : ℕ) → is_book list ≡ true → IsNext command_meaning list c n → command_of (after list c n) (inverse_of list c n) ≡ Some c
 command-back list c n valid next =
-    elim (enters_or_takes list c n next) [
+    elim (enters_or_takes list c n valid next) [
       | inl enters ↦ rw enters.0 (sym (some_then (command_at (entered list c n) n)) ∙ entry_lawful.command_back list c n valid enters.1)
-      | inr takes ↦ rw (takes.1, takes.2.found) (ap (λ k. Some (Withdraw k)) takes.2.own)
+      | inr taken ↦ rw (taken.1, taken.2.found) (ap (λ k. Some (Withdraw k)) taken.2.own)
     ]
 
 command-valid :
     (list : List Entry) (c : Command) (n : ℕ) → is_book list ≡ true → n ≤ EVENTS_MAX → IsNext command_meaning list c n → is_book (after list c n) ≡ true
 command-valid list c n valid within next =
-    elim (enters_or_takes list c n next) [
+    elim (enters_or_takes list c n valid next) [
       | inl enters ↦ rw enters.0 (entry_lawful.valid_after list c n valid within enters.1)
-      | inr takes ↦ rw takes.1 (book-without list takes.0 valid takes.2)
+      | inr taken ↦ rw taken.1 taken.2.rest
     ]
 
 -- the law, for a command of any kind

@@ -1,3 +1,4 @@
+pub mod Blocking
 pub mod Book
 pub mod Booking
 pub mod Carried

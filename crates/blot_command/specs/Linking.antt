@@ -1,18 +1,21 @@
 -- An entry as the chains and the allocations see it.
-use Rattle.std.specs.Prelude.{◌≡◌, ℕ, ◌==◌, true, List, [], ◌∷◌, None, IfSome}
-use Rattle.std.specs.List.{cons_option, list_any}
+use Rattle.std.specs.Prelude.{◌≡◌, Bool, true, false, List, [], ◌∷◌, reverse, None, IfSome, IsSome}
+use Rattle.std.specs.List.{cons_option}
+use Rattle.blot_places.specs.declared.slots.Slot.{Slot}
+use Rattle.blot_places.specs.Shown.{Shown}
 use Rattle.blot_types.specs.declared.allocation.Instruction.{Instruction}
 use Rattle.blot_types.specs.declared.command.Command.{Command}
 use Rattle.blot_types.specs.declared.command.Command.TheVariants.{Trade, Correct, Bust, AllocNew, AllocReplace, AllocCancel, Withdraw}
 use Rattle.blot_types.specs.declared.command.Entry.{Entry}
 use Rattle.blot_types.specs.declared.link.Link.{Link}
 use Rattle.blot_types.specs.Allocations.{instruction_by}
-use Rattle.blot_types.specs.Chains.{link_refusal, is_above_links}
-use Rattle.blot_types.specs.Instructions.{may_follow, is_above_instructions}
+use Rattle.blot_types.specs.Chains.{link_refusal, is_above_links, is_chained}
+use Rattle.blot_types.specs.Instructions.{may_follow, is_above_instructions, is_instructed}
 use Rattle.blot_types.specs.Legal.{HoldsList}
-use Rattle.blot_types.specs.Survivors.{link_of}
-use Rattle.blot_command.specs.declared.slots.EntrySlot.{EntrySlot}
-use Rattle.blot_command.specs.Slots.{AreNumbered, entries_in, is_left}
+use Rattle.blot_types.specs.Survivors.{link_of, links_in}
+use Rattle.blot_alloc.specs.Allocs.{instruction_at, lifted_out as lifted_instruction, put_back as put_back_instruction}
+use Rattle.blot_chain.specs.Steps.{CanReturn as CanReturnLink, link_at, lifted_out as lifted_link, put_back as put_back_link}
+use Rattle.blot_command.specs.Slots.{AreNumbered, NewestThere, entries_in, left_in, left_instructions}
 
 -- a link may come next: it is accepted, and its number is above the others
 pub record CanLinkNext (links : List Link) (link : Link) : Type 0 where
@@ -60,14 +63,42 @@ without_instruction (AllocReplace replace) instructions = rest_of instructions
 without_instruction (AllocCancel cancel) instructions = rest_of instructions
 without_instruction (Withdraw withdrawn) instructions = instructions
 
--- the slots hold a book; the links and the instructions are those of its entries, and the links that are kept those of the
--- entries that were taken out
-pub record HoldsSlots (slots : List EntrySlot) (links kept : List Link) (instructions : List Instruction) : Type 0 where
-  pub numbered : AreNumbered slots
-  pub holds : HoldsList (entries_in slots) links instructions
-  pub left : (number : ℕ) → is_left number slots ≡ list_any (λ link. link.number == number) kept
+-- whether a command is a link, or an instruction
+abbrev pub is_link : Command → Bool
+is_link (Trade trade) = true
+is_link (Correct correct) = true
+is_link (Bust bust) = true
+is_link (AllocNew new) = false
+is_link (AllocReplace replace) = false
+is_link (AllocCancel cancel) = false
+is_link (Withdraw withdrawn) = false
 
--- and no instruction is kept beside the others
-pub record HoldsLive (slots : List EntrySlot) (links kept : List Link) (instructions unlisted : List Instruction) : Type 0 where
-  pub holds_slots : HoldsSlots slots links kept instructions
-  pub unlifted : unlisted ≡ []
+abbrev pub is_instruction : Command → Bool
+is_instruction (Trade trade) = false
+is_instruction (Correct correct) = false
+is_instruction (Bust bust) = false
+is_instruction (AllocNew new) = true
+is_instruction (AllocReplace replace) = true
+is_instruction (AllocCancel cancel) = true
+is_instruction (Withdraw withdrawn) = false
+
+-- an entry can be lifted out of the chains and the allocations: it is listed there, and what is left is chained, and instructed
+pub record CanLift (entry : Entry) (chains : Shown Link) (allocs : Shown Instruction) : Type 0 where
+  pub link : is_link entry.command ≡ true → IsSome (link_at entry.number chains.list) × (is_chained (lifted_link entry.number chains).list ≡ true)
+  pub instruction :
+      is_instruction entry.command ≡ true → IsSome (instruction_at entry.number allocs.list) × (is_instructed (lifted_instruction entry.number allocs).list ≡ true)
+
+-- and it can be put back
+pub record CanUnLift (entry : Entry) (chains : Shown Link) (allocs : Shown Instruction) : Type 0 where
+  pub link : is_link entry.command ≡ true → CanReturnLink entry.number chains × (is_chained (put_back_link entry.number chains).list ≡ true)
+  pub instruction :
+      is_instruction entry.command ≡ true → IsSome (instruction_at entry.number allocs.kept) × (is_instructed (put_back_instruction entry.number allocs).list ≡ true)
+
+-- what the live list keeps: its slots hold a book, the links and the instructions are those of the entries that are there; those
+-- that are kept are of the entries that were taken out. Of the slots of one execution none but the newest has its entry there
+pub record HoldsLive (slots : List (Slot Entry)) (chains : Shown Link) (allocs : Shown Instruction) : Type 0 where
+  pub numbered : AreNumbered slots
+  pub holds : HoldsList (entries_in slots) chains.list allocs.list
+  pub kept_links : chains.kept ≡ links_in (left_in slots)
+  pub kept_instructions : allocs.kept ≡ left_instructions (reverse slots)
+  pub newest : NewestThere (reverse slots)

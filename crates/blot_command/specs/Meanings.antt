@@ -1,15 +1,16 @@
 -- What commands mean on the book: those that are entries, by their kind, and those of any kind.
-use Rattle.std.specs.Prelude.{ℕ, List, Option, Some}
+use Rattle.std.specs.Prelude.{ℕ, true, List, Option, Some, is_none}
 use Rattle.std.specs.Option.{option_map, option_and_then}
 use Rattle.blot_types.specs.declared.command.Command.{Command}
 use Rattle.blot_types.specs.declared.command.Entry.{Entry}
 use Rattle.blot_types.specs.Legal.{is_book, entry_refusal, refusal_of}
+use Rattle.blot_types.specs.Refusals.{withdrawn_by}
 use Rattle.blot_types.specs.Withdrawal.{without}
 use Rattle.blot_command.specs.declared.fault.ApplyFault.{ApplyFault}
 use Rattle.blot_command.specs.declared.fault.ApplyFault.TheVariants.{Refused, NoMemory}
 use Rattle.blot_command.specs.declared.inverse.Inverse.{Inverse}
 use Rattle.blot_command.specs.declared.inverse.Inverse.TheVariants.{Number, Taken}
-use Rattle.blot_command.specs.Book.{Shown, numbers_of, link_numbers, entered, after, inverse_of, before, command_at, command_of}
+use Rattle.blot_command.specs.Book.{Shown, numbers_of, entered, after, inverse_of, before, command_at, command_of}
 use Rattle.blot_command.specs.Undoable.{Meaning}
 use Rattle.blot_command.specs.Withdrawing.{Keeps}
 
@@ -22,7 +23,7 @@ BookMeaning C I = Meaning Shown (List Entry) C I ApplyFault
 abbrev pub meaning_by : {C : Type 0} → (C → Command) → (Command → Option C) → BookMeaning C ℕ
 meaning_by embed project = record {
   list_of = λ book. book.list;
-  spare = λ book. link_numbers book.kept;
+  spare = λ book. numbers_of book.kept;
   kept = λ book number inverse. Unit {0};
   is_valid = is_book;
   numbers = numbers_of;
@@ -31,6 +32,7 @@ meaning_by embed project = record {
   inverse_of = λ list command number. number;
   before = λ list number. without number list;
   command_of = λ list number. option_and_then project (command_at list number);
+  takes_memory = λ command. true;
   no_memory = NoMemory;
 }
 
@@ -47,7 +49,7 @@ KeepsFor book number (Taken entry) = Keeps book number entry
 abbrev pub command_meaning : BookMeaning Command Inverse
 command_meaning = record {
   list_of = λ book. book.list;
-  spare = λ book. link_numbers book.kept;
+  spare = λ book. numbers_of book.kept;
   kept = KeepsFor;
   is_valid = is_book;
   numbers = numbers_of;
@@ -56,5 +58,6 @@ command_meaning = record {
   inverse_of = inverse_of;
   before = before;
   command_of = command_of;
+  takes_memory = λ command. is_none (withdrawn_by command);
   no_memory = NoMemory;
 }

@@ -16,6 +16,7 @@ use Rattle.blot_types.specs.Keys.{same_alloc}
 use Rattle.blot_types.specs.Legal.{is_book}
 use Rattle.blot_types.specs.Survivors.{link_of, links_of, versions_of, survivors}
 use Rattle.blot_types.specs.declared.TheConstants.{EVENTS_MAX}
+use Rattle.blot_command.specs.Book.{Shown}
 use Rattle.blot_order.specs.Fills.{Fills, put_at, kept_at, held_at, with_put as with_put_at, with_kept as with_kept_at}
 
 -- the version of a number, of those that a list's entries bring
@@ -44,12 +45,17 @@ terms_keyed list key =
 abbrev pub roots_keyed : List Entry → AllocKey → Option (List ExecKey)
 roots_keyed list key = option_map (λ instruction. instruction.roots) (find (is_keyed key) (instructions_of list))
 
--- the live list is a book, the fills that are put are those of the survivors, and the fill of each version is held,
--- so that it can be put again without memory
-pub record Shows (list : List Entry) (fills : Fills) : Type 0 where
-  pub book : is_book list ≡ true
-  pub put : (number : ℕ) → put_at fills number ≡ fill_numbered number (survivors list)
-  pub held : All (λ version. held_at fills version.number ≡ Some version.fill) (versions_of list)
+-- the fill of each version of some entries is held
+abbrev pub HoldsFills : List Entry → Fills → Type 0
+HoldsFills entries fills = All (λ version. held_at fills version.number ≡ Some version.fill) (versions_of entries)
+
+-- the live list is a book, the fills that are put are those of the survivors, and the fill of each version is held, so that it
+-- can be put again without memory; so is that of each version that is kept
+pub record Shows (shown : Shown) (fills : Fills) : Type 0 where
+  pub book : is_book shown.list ≡ true
+  pub put : (number : ℕ) → put_at fills number ≡ fill_numbered number (survivors shown.list)
+  pub held : HoldsFills shown.list fills
+  pub held_kept : HoldsFills shown.kept fills
 
 -- the fills by number with that of a version put, or kept; without a version they are as they were
 abbrev pub with_put : Option Version → Fills → Fills

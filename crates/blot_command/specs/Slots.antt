@@ -1,27 +1,44 @@
--- The slots of the live list, in rising order of number: each has its number, and its entry, unless that was taken out.
-use Rattle.std.specs.Prelude.{◌≡◌, ℕ, ◌==◌, Bool, true, ◌&&◌, List, [], ◌∷◌, nat_lt, is_none, All, IfSome}
-use Rattle.std.specs.List.{filter_map, list_all, list_any}
+-- The slots of the live list, in rising order of number: each has an entry, which is there, or was taken out.
+use Rattle.std.specs.Prelude.{◌≡◌, true, List, [], ◌∷◌, reverse, Some}
+use Rattle.std.specs.Bool.{⊤}
+use Rattle.std.specs.List.{cons_option}
+use Rattle.std.specs.Prelude.{IfSome, None, if◌then◌else◌}
+use Rattle.blot_places.specs.declared.slots.Slot.{Slot}
+use Rattle.blot_places.specs.Shown.{item_at}
+use Rattle.blot_places.specs.Slots.{items, live, lifted, numbers_fall}
+use Rattle.blot_types.specs.declared.allocation.Instruction.{Instruction}
 use Rattle.blot_types.specs.declared.command.Entry.{Entry}
-use Rattle.blot_command.specs.declared.slots.EntrySlot.{EntrySlot}
+use Rattle.blot_types.specs.Allocations.{instruction_by}
+use Rattle.blot_types.specs.Chains.{taker_in}
+use Rattle.blot_types.specs.Refusals.{exec_key}
+use Rattle.blot_types.specs.Survivors.{links_in}
+use Rattle.blot_command.specs.Book.{entry_number}
 
--- the entries that are there
-abbrev pub entries_in : List EntrySlot → List Entry
-entries_in slots = filter_map (λ slot. slot.entry) slots
+-- the entries that are there, and those that were taken out, newest first
+abbrev pub entries_in : List (Slot Entry) → List Entry
+entries_in slots = live slots
 
--- whether the entry of a number was taken out, and its slot is left
-abbrev pub is_left : ℕ → List EntrySlot → Bool
-is_left number slots = list_any (λ slot. (slot.number == number) && is_none slot.entry) slots
+abbrev pub left_in : List (Slot Entry) → List Entry
+left_in slots = lifted (reverse slots)
 
--- whether a number is below those of the slots
-abbrev pub is_below_slots : ℕ → List EntrySlot → Bool
-is_below_slots number slots = list_all (λ slot. nat_lt number slot.number) slots
+-- the numbers rise
+abbrev pub AreNumbered : List (Slot Entry) → Type 0
+AreNumbered slots = numbers_fall entry_number (items (reverse slots)) ≡ true
 
--- whether the numbers rise
-abbrev pub slots_rise : List EntrySlot → Bool
-slots_rise [] = true
-slots_rise (slot ∷ later) = is_below_slots slot.number later && slots_rise later
+-- an entry was taken out
+abbrev pub IsLeft : Entry → List (Slot Entry) → Type 0
+IsLeft entry slots = item_at entry_number entry.number (left_in slots) ≡ Some entry
 
--- the numbers rise, and an entry bears that of its slot
-pub record AreNumbered (slots : List EntrySlot) : Type 0 where
-  pub rise : slots_rise slots ≡ true
-  pub own : All (λ slot. IfSome slot.entry (λ entry. entry.number ≡ slot.number)) slots
+-- ---- newest first: after a slot stand the earlier ones
+
+-- the instructions of the entries that were taken out: the roots are those that all earlier slots tell
+abbrev pub left_instructions : List (Slot Entry) → List Instruction
+left_instructions [] = []
+left_instructions (slot ∷ earlier) =
+    if slot.is_live
+    then left_instructions earlier else cons_option (instruction_by (links_in (items earlier)) slot.item.number slot.item.command) (left_instructions earlier)
+
+-- of the slots whose entries take up one execution, none but the newest has its entry there
+abbrev pub NewestThere : List (Slot Entry) → Type 0
+NewestThere [] = ⊤
+NewestThere (slot ∷ earlier) = IfSome (exec_key slot.item.command) (λ key. taker_in (links_in (live earlier)) key ≡ None) × NewestThere earlier

@@ -25,6 +25,8 @@ pub record Meaning (S L C I R : Type 0) : Type 1 where
   pub before : L → I → L
   -- the command that an inverse takes back
   pub command_of : L → I → Option C
+  -- whether a command may want memory
+  pub takes_memory : C → Bool
   -- the refusal that says that memory ran out
   pub no_memory : R
 
@@ -79,11 +81,13 @@ pub record Leaves {S L C I R : Type 0} (m : Meaning S L C I R) (number : ℕ) (o
   pub earlier : KeepsEarlier m number old new
 
 -- a refusal: the command comes back and the state is as it was; the reason is the list's own, or where the list
--- accepts the command, out of memory
+-- accepts the command and that may want memory, out of memory
 pub record IsRefusal {S L C I R : Type 0} (m : Meaning S L C I R) (state : S) (command returned : C) (reason : R) (next : S) : Type 0 where
   pub command_is : returned ≡ command
   pub state_is : next ≡ state
-  pub reason_is : m.refused (m.list_of state) command ≡ Some reason ⊎ ((m.refused (m.list_of state) command ≡ None) × (reason ≡ m.no_memory))
+  pub reason_is :
+      m.refused (m.list_of state) command ≡ Some reason
+      ⊎ ((m.refused (m.list_of state) command ≡ None) × (m.takes_memory command ≡ true) × (reason ≡ m.no_memory))
 
 -- an inverse undoes the step of a command under a number: the step led from a list to the state's list and handed out
 -- this inverse, the state keeps what taking it back needs, and no number in the state came later

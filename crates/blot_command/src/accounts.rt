@@ -1,10 +1,9 @@
 //! The live list with its positions.
-ghost use Rattle.std.specs.Prelude.{◌≡◌, [], ◌∷◌, ◌++◌, find, Some, IsTrue, OnOk, OnErr, IfErr};
+ghost use Rattle.std.specs.Prelude.{◌≡◌, [], ◌∷◌, ◌++◌, find, Some, IsSome, IsTrue, OnOk, OnErr, IfErr};
 ghost use Rattle.std.specs.Option.{option_map};
 ghost use Rattle.blot_types.specs.Laws.{HasBoundedTotals};
-ghost use Rattle.blot_types.specs.Chains.{is_above_links};
-ghost use Rattle.blot_types.specs.Legal.{is_book};
-ghost use Rattle.blot_types.specs.Refusals.{is_live_bust};
+ghost use Rattle.blot_types.specs.Legal.{is_above_entries, is_book};
+ghost use Rattle.blot_types.specs.Withdrawal.{without};
 ghost use Rattle.blot_types.specs.Position.{part_of, position_of};
 ghost use Rattle.blot_command.specs.Book.{has_number};
 ghost use Rattle.blot_command.specs.Shown.{version_replaced};
@@ -34,7 +33,7 @@ impl Model for Accounts {
 
     ghost view = { λ accounts. accounts.live };
 
-    ghost invariant = { λ accounts. ShowsPositions accounts.live.list accounts.positions };
+    ghost invariant = { λ accounts. ShowsPositions accounts.live accounts.positions };
 }
 
 impl Accounts {
@@ -74,7 +73,7 @@ impl Accounts {
     /// replaces this version, if one.
     pub(crate) fn push(&mut self, entry: Entry, replaced: &Option<Version>) -> Result<(), Entry>
         requires book { IsTrue (is_book (self.old.list ++ entry ∷ [])) }
-        requires above { IsTrue (is_above_links entry.number self.old.kept) }
+        requires above { IsTrue (is_above_entries entry.number self.old.kept) }
         requires replaces { replaced.now ≡ version_replaced self.old.list entry }
         ensures ok { OnOk result (self.new ≡ with_entry entry self.old) }
         ensures err { OnErr result (self.new ≡ self.old) }
@@ -103,7 +102,7 @@ impl Accounts {
     pub(crate) fn pop(&mut self) -> Entry
         requires { HasLast self.old }
         ensures rest { self.old ≡ with_entry result self.new }
-        ensures above { IsTrue (is_above_links result.number self.new.kept) }
+        ensures above { IsTrue (is_above_entries result.number self.new.kept) }
         ensures book { IsTrue (is_book self.old.list) }
     {
         let last = self.live.last();
@@ -119,32 +118,46 @@ impl Accounts {
         entry
     }
 
-    /// Takes the Bust of a number out, whatever came later, and keeps its slot: the version that it busted stands again. No memory
-    /// is taken.
+    /// Takes the entry of a number out, whatever came later, and keeps its slot: what it brought goes, and what it took the place of,
+    /// busted or ended stands again. The list without it is a book. No memory is taken.
     pub(crate) fn lift(&mut self, number: u64) -> BoxedEntry
-        requires { IsTrue (is_live_bust number self.old.list) }
+        requires book { IsTrue (is_book self.old.list) }
+        requires there { IsSome (find (has_number number) self.old.list) }
+        requires rest { IsTrue (is_book (without number self.old.list)) }
         ensures entry { find (has_number number) self.old.list ≡ Some result }
-        ensures lifted { self.new ≡ lifted number self.old }
+        ensures lifted { self.new ≡ lifted result self.old }
         ensures kept { CanReturn result self.new }
-        ensures book { IsTrue (is_book self.old.list) }
     {
+        let Some(entry) = self.live.entry(number) else {
+            unreachable!()
+        };
+        let ended = entry.command.alloc_reference();
+        let brought = entry.command.brought_key();
+        let chain = self.live.chain_of(&entry.link());
+        release(&mut self.positions, &self.live, &brought);
+        allocate(&mut self.positions, &self.live, &ended);
+        let gone = part_of(&self.live, &self.live.stood(&chain));
         let entry = self.live.lift(number);
-        let busted = self.live.replaced(&entry.as_entry().link());
-        let come = part_of(&self.live, &busted);
-        rebook(&mut self.positions, &None, &come);
+        let come = part_of(&self.live, &self.live.stood(&chain));
+        rebook(&mut self.positions, &gone, &come);
         entry
     }
 
-    /// Puts a Bust whose slot is kept back at its place: the version that it busts stands no more. No memory is taken.
+    /// Puts an entry whose slot is kept back at its place. No memory is taken.
     pub(crate) fn un_lift(&mut self, entry: BoxedEntry)
         requires { CanReturn entry self.old }
         ensures returned { self.new ≡ returned entry self.old }
         ensures book { IsTrue (is_book self.old.list) }
     {
-        let busted = self.live.replaced(&entry.as_entry().link());
-        let gone = part_of(&self.live, &busted);
+        let ended = entry.as_entry().command.alloc_reference();
+        let brought = entry.as_entry().command.brought_key();
+        let chain = self.live.chain_of(&entry.as_entry().link());
+        let gone = part_of(&self.live, &self.live.stood(&chain));
         self.live.un_lift(entry);
-        rebook(&mut self.positions, &gone, &None);
+        let come = part_of(&self.live, &self.live.stood(&chain));
+        rebook(&mut self.positions, &gone, &come);
+        release(&mut self.positions, &self.live, &ended);
+        allocate(&mut self.positions, &self.live, &brought);
     }
 }
 

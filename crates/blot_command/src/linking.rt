@@ -1,11 +1,13 @@
 //! An entry as the chains and the allocations see it: added to them, and taken back.
-ghost use Rattle.std.specs.Prelude.{◌≡◌, [], IsTrue, IfOk, OnOk, OnErr};
+ghost use Rattle.std.specs.Prelude.{◌≡◌, [], IsTrue, IfOk, OnOk, OnErr, if◌then◌else◌};
 ghost use Rattle.std.specs.List.{cons_option, filter_map};
 ghost use Rattle.blot_types.specs.Allocations.{instruction_by};
 ghost use Rattle.blot_types.specs.Chains.{root_in, is_above_links};
 ghost use Rattle.blot_types.specs.Instructions.{is_above_instructions};
 ghost use Rattle.blot_types.specs.Survivors.{link_of};
-ghost use Rattle.blot_command.specs.Linking.{CanLink, IsLinkedLast, without_link, without_instruction};
+ghost use Rattle.blot_alloc.specs.Allocs.{lifted_out as lifted_instruction, put_back as put_back_instruction};
+ghost use Rattle.blot_chain.specs.Steps.{lifted_out as lifted_link, put_back as put_back_link};
+ghost use Rattle.blot_command.specs.Linking.{CanLift, CanLink, CanUnLift, IsLinkedLast, is_instruction, is_link, without_link, without_instruction};
 
 use blot_alloc::Allocs;
 use blot_chain::Chains;
@@ -82,6 +84,36 @@ pub(crate) fn unlink_entry(chains: &mut Chains, allocs: &mut Allocs, entry: &Ent
         Command::AllocNew(new) => allocs.un_admit(&new.key),
         Command::AllocReplace(replace) => allocs.un_replace(&replace.key, &replace.reference),
         Command::AllocCancel(cancel) => allocs.un_cancel(&cancel.key, &cancel.reference),
+        Command::Withdraw(_) => {}
+    }
+}
+
+/// Lifts an entry out of the chains and the allocations, whatever came later. No memory is taken.
+pub(crate) fn lift_entry(chains: &mut Chains, allocs: &mut Allocs, entry: &Entry)
+    requires { CanLift entry.now chains.old allocs.old }
+    ensures chains { chains.new ≡ (if is_link entry.now.command then lifted_link entry.now.number chains.old else chains.old) }
+    ensures allocs { allocs.new ≡ (if is_instruction entry.now.command then lifted_instruction entry.now.number allocs.old else allocs.old) }
+{
+    match &entry.command {
+        Command::Trade(_) | Command::Correct(_) | Command::Bust(_) => chains.lift(entry.number),
+        Command::AllocNew(_) | Command::AllocReplace(_) | Command::AllocCancel(_) => {
+            allocs.lift(entry.number);
+        }
+        Command::Withdraw(_) => {}
+    }
+}
+
+/// Puts an entry that was lifted out back at its place. No memory is taken.
+pub(crate) fn un_lift_entry(chains: &mut Chains, allocs: &mut Allocs, entry: &Entry)
+    requires { CanUnLift entry.now chains.old allocs.old }
+    ensures chains { chains.new ≡ (if is_link entry.now.command then put_back_link entry.now.number chains.old else chains.old) }
+    ensures allocs { allocs.new ≡ (if is_instruction entry.now.command then put_back_instruction entry.now.number allocs.old else allocs.old) }
+{
+    match &entry.command {
+        Command::Trade(_) | Command::Correct(_) | Command::Bust(_) => chains.un_lift(entry.number),
+        Command::AllocNew(_) | Command::AllocReplace(_) | Command::AllocCancel(_) => {
+            allocs.un_lift(entry.number);
+        }
         Command::Withdraw(_) => {}
     }
 }

@@ -1,24 +1,25 @@
 //! The live list.
-ghost use Rattle.std.specs.Prelude.{◌≡◌, ◌<◌, [], ◌∷◌, ◌++◌, length, find, None, Some, IsTrue, OnOk, OnErr, IfOk, IfErr};
+ghost use Rattle.std.specs.Prelude.{◌≡◌, ◌<◌, [], ◌∷◌, ◌++◌, length, find, None, Some, IsSome, IsTrue, OnOk, OnErr, IfOk, IfErr};
 ghost use Rattle.std.specs.List.{last_or};
 ghost use Rattle.std.specs.Option.{option_map, option_and_then, option_copied};
 ghost use Rattle.blot_types.specs.Allocations.{instructions_of};
-ghost use Rattle.blot_types.specs.Chains.{replaced_by, is_above_links};
+ghost use Rattle.blot_types.specs.Chains.{replaced_by};
 ghost use Rattle.blot_types.specs.Instructions.{is_keyed};
-ghost use Rattle.blot_types.specs.Legal.{is_book, entry_refusal};
-ghost use Rattle.blot_types.specs.Refusals.{is_live_bust};
+ghost use Rattle.blot_types.specs.Legal.{is_above_entries, is_book, entry_refusal, least_needing};
 ghost use Rattle.blot_types.specs.Position.{is_named};
-ghost use Rattle.blot_types.specs.Standing.{standing};
+ghost use Rattle.blot_types.specs.Standing.{chain_by, standing};
 ghost use Rattle.blot_types.specs.Survivors.{links_of};
+ghost use Rattle.blot_types.specs.Withdrawal.{without};
 ghost use Rattle.blot_command.specs.Book.{has_number};
 ghost use Rattle.blot_command.specs.Shown.{version_numbered, terms_of_key, terms_keyed, roots_keyed};
 ghost use Rattle.blot_command.specs.Slots.{entries_in};
 ghost use Rattle.blot_command.specs.Withdrawing.{with_entry, HasLast, lifted, returned, CanReturn};
 
 use crate::BoxedEntry;
-use crate::linking::{link_entry, unlink_entry};
+use crate::blocked::blocked;
+use crate::linking::{lift_entry, link_entry, un_lift_entry, unlink_entry};
 use crate::refusal::{current_version, refusal};
-use crate::slots::{EntrySlot, entry_numbered, put_in, take_out, version_numbered};
+use crate::slots::{EntrySlot, entry_numbered, newest_number, put_in, take_out, version_numbered};
 use blot_alloc::Allocs;
 use blot_chain::Chains;
 use blot_types::{AllocKey, Command, Entry, ExecKey, Link, Refused, Role, Terms, Version};
@@ -26,8 +27,8 @@ use std::alloc::{AllocError as NoMemory, Global};
 use std::marker::Model;
 
 /// The live list of entries, in rising order of number, with the chains of its executions and the
-/// instructions of its allocations. An entry that is taken out of the middle leaves its slot, and the slot of its link.
-/// A contract sees the list, which is always legal, and the links whose slots are left.
+/// instructions of its allocations. An entry that is taken out of the middle leaves its slot, and that of its link or instruction.
+/// A contract sees the list, which is always legal, and the entries whose slots are left.
 #[derive(Drop)]
 pub(crate) struct LiveList {
     slots: Vec<EntrySlot>,
@@ -38,13 +39,13 @@ pub(crate) struct LiveList {
 impl Model for LiveList {
     ghost use Rattle.blot_command.specs.Book.{Shown};
     ghost use Rattle.blot_command.specs.Linking.{HoldsLive};
-    ghost use Rattle.blot_command.specs.Slots.{entries_in};
+    ghost use Rattle.blot_command.specs.Slots.{entries_in, left_in};
 
     ghost Value = { Shown };
 
-    ghost view = { λ live. record { list = entries_in live.slots.items; kept = live.chains.kept } };
+    ghost view = { λ live. record { list = entries_in live.slots.items; kept = left_in live.slots.items } };
 
-    ghost invariant = { λ live. HoldsLive live.slots.items live.chains.list live.chains.kept live.allocs.list live.allocs.kept };
+    ghost invariant = { λ live. HoldsLive live.slots.items live.chains live.allocs };
 }
 
 impl LiveList {
@@ -66,14 +67,22 @@ impl LiveList {
         entry_numbered(&self.slots, number)
     }
 
-    /// The entries, copied: the one walk over all of them.
+    /// The greatest number of the list: that of its last entry.
+    pub(crate) fn newest(&self) -> Option<u64>
+        ensures newest { result ≡ option_map (λ entry. entry.number) (last_or None self.now.list) }
+        ensures book { IsTrue (is_book self.now.list) }
+    {
+        newest_number(&self.slots)
+    }
+
+    /// The entries, copied.
     pub(crate) fn entries(&self, alloc: Global) -> Result<Vec<Entry>, NoMemory>
         ensures { IfOk result (λ entries. entries.items ≡ self.now.list) }
     {
         let mut copies = Vec::with_capacity(alloc, self.slots.len())?;
         for slot in &self.slots {
-            if let Some(entry) = &slot.entry {
-                let copy = copy_of(alloc, entry.as_entry())?;
+            if let Some(entry) = slot.entry() {
+                let copy = copy_of(alloc, entry)?;
                 copies.push(copy)?;
             }
         }
@@ -96,10 +105,10 @@ impl LiveList {
         let Some(slot) = self.slots.last() else {
             unreachable!()
         };
-        let Some(entry) = &slot.entry else {
+        let Some(entry) = slot.entry() else {
             unreachable!()
         };
-        entry.as_entry()
+        entry
     }
 
     /// Why the list refuses a command as its next entry.
@@ -108,6 +117,15 @@ impl LiveList {
         ensures book { IsTrue (is_book self.now.list) }
     {
         refusal(&self.slots, &self.chains, &self.allocs, command)
+    }
+
+    /// The number of the first entry that needs the one of a number, which is in the list.
+    pub(crate) fn blocked(&self, number: u64) -> Option<u64>
+        requires { IsSome (find (has_number number) self.now.list) }
+        ensures blocked { result ≡ least_needing self.now.list number }
+        ensures book { IsTrue (is_book self.now.list) }
+    {
+        blocked(&self.slots, &self.chains, &self.allocs, number)
     }
 
     /// The version whose place an entry's link takes, or which it busts.
@@ -134,6 +152,31 @@ impl LiveList {
         }
         let number = self.chains.current(root)?;
         version_numbered(&self.slots, number)
+    }
+
+    /// The root of the chain that an entry's link begins, corrects or busts.
+    pub(crate) fn chain_of(&self, link: &Option<Link>) -> Option<ExecKey>
+        ensures { result ≡ chain_by (links_of self.now.list) link.now }
+    {
+        match link {
+            None => None,
+            Some(link) => match link.role {
+                Role::Begins => Some(link.key),
+                Role::Corrects(reference) | Role::Busts(reference) => {
+                    self.chains.root_of(&reference)
+                }
+            },
+        }
+    }
+
+    /// The version that stands of a chain, if there is one.
+    pub(crate) fn stood(&self, chain: &Option<ExecKey>) -> Option<Version>
+        ensures { result ≡ option_and_then (standing self.now.list) chain.now }
+    {
+        match chain {
+            None => None,
+            Some(root) => self.standing(root),
+        }
     }
 
     /// Whether the chain of a key is named by a live allocation.
@@ -169,7 +212,7 @@ impl LiveList {
     /// Puts an entry after the others, or hands it back where memory runs out. Its number is above those whose slots are left.
     pub(crate) fn push(&mut self, entry: Entry) -> Result<(), Entry>
         requires book { IsTrue (is_book (self.old.list ++ entry ∷ [])) }
-        requires above { IsTrue (is_above_links entry.number self.old.kept) }
+        requires above { IsTrue (is_above_entries entry.number self.old.kept) }
         ensures ok { OnOk result (self.new ≡ with_entry entry self.old) }
         ensures err { OnErr result (self.new ≡ self.old) }
         ensures returned { IfErr result (λ back. back ≡ entry) }
@@ -182,10 +225,7 @@ impl LiveList {
         let Ok(()) = link_entry(alloc, &mut self.chains, &mut self.allocs, entry.as_entry()) else {
             return Err(entry.into_entry());
         };
-        self.slots.push_reserved(EntrySlot {
-            number: entry.as_entry().number,
-            entry: Some(entry),
-        });
+        self.slots.push_reserved(EntrySlot::new(entry));
         Ok(())
     }
 
@@ -193,39 +233,40 @@ impl LiveList {
     pub(crate) fn pop(&mut self) -> Entry
         requires { HasLast self.old }
         ensures rest { self.old ≡ with_entry result self.new }
-        ensures above { IsTrue (is_above_links result.number self.new.kept) }
+        ensures above { IsTrue (is_above_entries result.number self.new.kept) }
         ensures book { IsTrue (is_book self.old.list) }
     {
         let Some(slot) = self.slots.pop() else {
             unreachable!()
         };
-        let Some(taken) = slot.entry else {
+        let Some(entry) = slot.into_entry() else {
             unreachable!()
         };
-        let entry = taken.into_entry();
         unlink_entry(&mut self.chains, &mut self.allocs, &entry);
         entry
     }
 
-    /// Takes the Bust of a number out, whatever came later, and keeps its slot. No memory is taken.
+    /// Takes the entry of a number out, whatever came later, and keeps its slot. The list without it is a book. No memory is taken.
     pub(crate) fn lift(&mut self, number: u64) -> BoxedEntry
-        requires { IsTrue (is_live_bust number self.old.list) }
+        requires there { IsSome (find (has_number number) self.old.list) }
+        requires rest { IsTrue (is_book (without number self.old.list)) }
         ensures entry { find (has_number number) self.old.list ≡ Some result }
-        ensures lifted { self.new ≡ lifted number self.old }
+        ensures lifted { self.new ≡ lifted result self.old }
         ensures kept { CanReturn result self.new }
         ensures book { IsTrue (is_book self.old.list) }
     {
-        self.chains.lift(number);
-        take_out(&mut self.slots, number)
+        let entry = take_out(&mut self.slots, number);
+        lift_entry(&mut self.chains, &mut self.allocs, entry.as_entry());
+        entry
     }
 
-    /// Puts a Bust whose slot is kept back at its place. No memory is taken.
+    /// Puts an entry whose slot is kept back at its place. No memory is taken.
     pub(crate) fn un_lift(&mut self, entry: BoxedEntry)
         requires { CanReturn entry self.old }
         ensures returned { self.new ≡ returned entry self.old }
         ensures book { IsTrue (is_book self.old.list) }
     {
-        self.chains.un_lift(entry.as_entry().number);
+        un_lift_entry(&mut self.chains, &mut self.allocs, entry.as_entry());
         put_in(&mut self.slots, entry);
     }
 }
@@ -236,8 +277,8 @@ fn entries_of(slots: Vec<EntrySlot>) -> Result<Vec<Entry>, NoMemory>
 {
     let mut entries = Vec::with_capacity(*slots.allocator(), slots.len())?;
     for slot in slots {
-        if let Some(entry) = slot.entry {
-            entries.push(entry.into_entry())?;
+        if let Some(entry) = slot.into_entry() {
+            entries.push(entry)?;
         }
     }
     Ok(entries)

@@ -1,20 +1,99 @@
 //! The slots of the live list. The numbers rise.
-ghost use Rattle.std.specs.Prelude.{◌≡◌, ℕ, ◌<◌, ◌≤◌, ◌&&◌, ◌||◌, ◌==◌, not, find, length, slice_index_or, IsTrue, IsSome, Some};
-ghost use Rattle.std.specs.Option.{option_copied};
-ghost use Rattle.blot_types.specs.Withdrawal.{without, put_back};
-ghost use Rattle.blot_command.specs.declared.slots.EntrySlot.{EntrySlot};
-ghost use Rattle.blot_command.specs.Book.{has_number};
+ghost use Rattle.std.specs.Prelude.{◌≡◌, ℕ, ◌<◌, ◌≤◌, find, length, reverse, slice_index_or, IsTrue, IsSome, Some, None, true, false, if◌then◌else◌};
+ghost use Rattle.std.specs.List.{last_or};
+ghost use Rattle.std.specs.Option.{option_copied, option_map};
+ghost use Rattle.blot_places.specs.declared.slots.Slot.{Slot};
+ghost use Rattle.blot_places.specs.Slots.{marked};
+ghost use Rattle.blot_command.specs.Book.{has_number, entry_number};
 ghost use Rattle.blot_command.specs.Shown.{version_numbered};
-ghost use Rattle.blot_command.specs.Slots.{AreNumbered, entries_in, is_left};
+ghost use Rattle.blot_types.specs.declared.command.Entry.{Entry};
+ghost use Rattle.blot_command.specs.Slots.{AreNumbered, IsLeft, entries_in};
 
 use crate::BoxedEntry;
+use blot_places::Remembered;
 use blot_types::{Entry, Version};
+use std::marker::Model;
 
-/// The number of an entry, and the entry, unless it was taken out of the list.
+/// The slot of an entry. The entry is there, or it was taken out of the list; then the slot has its number alone. A contract
+/// sees the entry, and whether it is there.
 #[derive(Drop)]
 pub(crate) struct EntrySlot {
-    pub(crate) number: u64,
-    pub(crate) entry: Option<BoxedEntry>,
+    number: u64,
+    entry: Option<BoxedEntry>,
+    was: Remembered<Entry>,
+}
+
+impl Model for EntrySlot {
+    ghost use Rattle.std.specs.Prelude.{◌≡◌, is_some, IfSome};
+    ghost use Rattle.blot_places.specs.declared.slots.Slot.{Slot};
+    ghost use Rattle.blot_types.specs.declared.command.Entry.{Entry};
+
+    ghost Value = { Slot Entry };
+
+    ghost view = { λ slot. record { item = slot.was.value; is_live = is_some slot.entry } };
+
+    ghost invariant = { λ slot. (slot.number ≡ slot.was.value.number) × IfSome slot.entry (λ entry. entry ≡ slot.was.value) };
+}
+
+impl EntrySlot {
+    /// The slot of an entry, which is there.
+    pub(crate) fn new(entry: BoxedEntry) -> EntrySlot
+        ensures { result ≡ record { item = entry; is_live = true } }
+    {
+        let was = Remembered::of(entry.as_entry());
+        EntrySlot {
+            number: entry.as_entry().number,
+            entry: Some(entry),
+            was,
+        }
+    }
+
+    /// The number of its entry.
+    pub(crate) fn number(&self) -> u64
+        ensures { result ≡ self.now.item.number }
+    {
+        self.number
+    }
+
+    /// Its entry, if that is there.
+    pub(crate) fn entry(&self) -> Option<&Entry>
+        ensures { option_copied result ≡ (if self.now.is_live then Some self.now.item else None) }
+    {
+        match &self.entry {
+            None => None,
+            Some(entry) => Some(entry.as_entry()),
+        }
+    }
+
+    /// Its entry, if that is there, off the heap.
+    pub(crate) fn into_entry(self) -> Option<Entry>
+        ensures { result ≡ (if self.is_live then Some self.item else None) }
+    {
+        match self.entry {
+            None => None,
+            Some(entry) => Some(entry.into_entry()),
+        }
+    }
+
+    // Takes its entry, which is there.
+    fn take(&mut self) -> BoxedEntry
+        requires there { IsTrue self.old.is_live }
+        ensures entry { result ≡ self.old.item }
+        ensures taken { self.new ≡ record self.old { is_live = false } }
+    {
+        match self.entry.take() {
+            Some(entry) => entry,
+            None => unreachable!(),
+        }
+    }
+
+    // Puts its entry back, which was taken.
+    fn put(&mut self, entry: BoxedEntry)
+        requires own { entry ≡ self.old.item }
+        ensures put { self.new ≡ record self.old { is_live = true } }
+    {
+        self.entry = Some(entry);
+    }
 }
 
 /// The entry of a number.
@@ -23,13 +102,10 @@ pub(crate) fn entry_numbered(slots: &[EntrySlot], number: u64) -> Option<&Entry>
     ensures { option_copied result ≡ find (has_number number) (entries_in slots.now) }
 {
     let slot = slots.get(place_of(slots, number))?;
-    if slot.number != number {
+    if slot.number() != number {
         return None;
     }
-    match &slot.entry {
-        None => None,
-        Some(entry) => Some(entry.as_entry()),
-    }
+    slot.entry()
 }
 
 /// The version of a number.
@@ -43,40 +119,50 @@ pub(crate) fn version_numbered(slots: &[EntrySlot], number: u64) -> Option<Versi
     }
 }
 
+/// The number of the last entry that is there. An empty slot behind it is passed over.
+pub(crate) fn newest_number(slots: &[EntrySlot]) -> Option<u64>
+    ensures { result ≡ option_map (λ entry. entry.number) (last_or None (entries_in slots.now)) }
+{
+    match last_there(slots) {
+        None => None,
+        Some(slot) => Some(slot.number()),
+    }
+}
+
+// The last slot whose entry is there.
+fn last_there(slots: &[EntrySlot]) -> Option<&EntrySlot>
+    ensures { option_copied result ≡ find (λ slot. slot.is_live) (reverse slots.now) }
+{
+    slots.iter().rev().find(|slot| slot.entry().is_some())
+}
+
 /// Takes the entry of a number, which is there, out of its slot.
 pub(crate) fn take_out(slots: &mut [EntrySlot], number: u64) -> BoxedEntry
     requires numbered { AreNumbered slots.old }
     requires there { IsSome (find (has_number number) (entries_in slots.old)) }
     ensures entry { find (has_number number) (entries_in slots.old) ≡ Some result }
-    ensures rest { entries_in slots.new ≡ without number (entries_in slots.old) }
-    ensures left { (other : ℕ) → is_left other slots.new ≡ ((number == other) || is_left other slots.old) }
-    ensures numbered { AreNumbered slots.new }
+    ensures taken { slots.new ≡ marked entry_number number false slots.old }
 {
     let place = place_of(slots, number);
-    match slots[place].entry.take() {
-        Some(entry) => entry,
-        None => unreachable!(),
-    }
+    slots[place].take()
 }
 
 /// Puts an entry back into its slot, which it was taken out of.
 pub(crate) fn put_in(slots: &mut [EntrySlot], entry: BoxedEntry)
     requires numbered { AreNumbered slots.old }
-    requires left { IsTrue (is_left entry.number slots.old) }
-    ensures entries { entries_in slots.new ≡ put_back entry (entries_in slots.old) }
-    ensures left { (other : ℕ) → is_left other slots.new ≡ (not (entry.number == other) && is_left other slots.old) }
-    ensures numbered { AreNumbered slots.new }
+    requires left { IsLeft entry slots.old }
+    ensures { slots.new ≡ marked entry_number entry.number true slots.old }
 {
     let place = place_of(slots, entry.as_entry().number);
-    slots[place].entry = Some(entry);
+    slots[place].put(entry);
 }
 
 // The first place at which the number isn't below this one.
 fn place_of(slots: &[EntrySlot], number: u64) -> usize
     requires { AreNumbered slots.now }
     ensures within { result ≤ length slots.now }
-    ensures below { (k : ℕ) (d : EntrySlot) → k < result → (slice_index_or slots.now k d).number < number }
-    ensures above { (k : ℕ) (d : EntrySlot) → result ≤ k → k < length slots.now → number ≤ (slice_index_or slots.now k d).number }
+    ensures below { (k : ℕ) (d : Slot Entry) → k < result → (slice_index_or slots.now k d).item.number < number }
+    ensures above { (k : ℕ) (d : Slot Entry) → result ≤ k → k < length slots.now → number ≤ (slice_index_or slots.now k d).item.number }
 {
-    slots.partition_point(|slot| slot.number < number)
+    slots.partition_point(|slot| slot.number() < number)
 }

@@ -1,12 +1,13 @@
 //! The book.
 ghost use Rattle.std.specs.Prelude.{◌≡◌, ◌<◌, [], ◌∷◌, ◌++◌, None, Some, IsSome, length, find, IsTrue, OnOk, OnErr, IfOk, IfErr, IfSome};
-ghost use Rattle.std.specs.Option.{option_copied};
+ghost use Rattle.std.specs.List.{last_or};
+ghost use Rattle.std.specs.Option.{option_and_then, option_copied, option_map};
 ghost use Rattle.blot_types.specs.Laws.{HasBoundedTotals, IsConserving};
-ghost use Rattle.blot_types.specs.Chains.{is_above_links};
-ghost use Rattle.blot_types.specs.Legal.{is_book, entry_refusal};
-ghost use Rattle.blot_types.specs.Refusals.{is_live_bust};
+ghost use Rattle.blot_types.specs.Legal.{is_above_entries, is_book, entry_refusal, least_needing};
+ghost use Rattle.blot_types.specs.Withdrawal.{without};
 ghost use Rattle.blot_types.specs.Order.{order_of};
 ghost use Rattle.blot_types.specs.Position.{position_of};
+ghost use Rattle.blot_types.specs.Standing.{chain_of};
 ghost use Rattle.blot_types.specs.declared.TheConstants.{EVENTS_MAX};
 ghost use Rattle.blot_order.specs.Fills.{put_at, kept_at};
 ghost use Rattle.blot_command.specs.Book.{has_number};
@@ -16,13 +17,15 @@ ghost use Rattle.blot_command.specs.Withdrawing.{with_entry, HasLast, lifted, re
 use crate::BoxedEntry;
 use crate::accounts::Accounts;
 use blot_order::Orders;
-use blot_types::{Command, Entry, OrderKey, OrderLine, PositionLine, Refused, Text64, Version};
+use blot_types::{
+    Command, Entry, ExecKey, OrderKey, OrderLine, PositionLine, Refused, Text64, Version,
+};
 use std::alloc::{AllocError as NoMemory, Global};
 use std::marker::Model;
 
 /// The book: its live list of entries, in rising order of number, with the chains, the allocations and the
-/// positions of its entries, and the fills that stand. A contract sees its live list, which is always legal, and the links of
-/// the entries that were taken out of its middle and whose slots are kept.
+/// positions of its entries, and the fills that stand. A contract sees its live list, which is always legal, and the entries that
+/// were taken out of its middle and whose slots are kept.
 #[derive(Drop)]
 pub struct Tables {
     accounts: Accounts,
@@ -37,7 +40,7 @@ impl Model for Tables {
 
     ghost view = { λ tables. tables.accounts };
 
-    ghost invariant = { λ tables. Shows tables.accounts.list tables.orders };
+    ghost invariant = { λ tables. Shows tables.accounts tables.orders };
 }
 
 impl Tables {
@@ -81,6 +84,25 @@ impl Tables {
         self.accounts.live().entry(number)
     }
 
+    /// The number of the first entry that needs the one of a number, which is live: the least above it at which the entries up to
+    /// it, without that one, aren't legal. None where all later entries can do without it. No memory is taken. This project's
+    /// rule.
+    pub fn blocked(&self, number: u64) -> Option<u64>
+        requires live { IsSome (find (has_number number) self.now.list) }
+        ensures blocked { result ≡ least_needing self.now.list number }
+        ensures book { IsTrue (is_book self.now.list) }
+    {
+        self.accounts.live().blocked(number)
+    }
+
+    /// The greatest number of the live list, which is that of its last entry, or none where the list is empty. No memory is taken.
+    pub fn newest(&self) -> Option<u64>
+        ensures newest { result ≡ option_map (λ entry. entry.number) (last_or None self.now.list) }
+        ensures book { IsTrue (is_book self.now.list) }
+    {
+        self.accounts.live().newest()
+    }
+
     /// The live entries, copied, in rising order of number.
     pub fn entries(&self, alloc: Global) -> Result<Vec<Entry>, NoMemory>
         ensures entries { IfOk result (λ entries. entries.items ≡ self.now.list) }
@@ -108,7 +130,7 @@ impl Tables {
     /// Puts an entry after the others, or hands it back where memory runs out. Its number is above those whose slots are kept.
     pub(crate) fn record(&mut self, entry: Entry) -> Result<(), Entry>
         requires book { IsTrue (is_book (self.old.list ++ entry ∷ [])) }
-        requires above { IsTrue (is_above_links entry.number self.old.kept) }
+        requires above { IsTrue (is_above_entries entry.number self.old.kept) }
         ensures ok { OnOk result (self.new ≡ with_entry entry self.old) }
         ensures err { OnErr result (self.new ≡ self.old) }
         ensures returned { IfErr result (λ back. back ≡ entry) }
@@ -132,7 +154,7 @@ impl Tables {
     pub(crate) fn take_last(&mut self) -> Entry
         requires { HasLast self.old }
         ensures rest { self.old ≡ with_entry result self.new }
-        ensures above { IsTrue (is_above_links result.number self.new.kept) }
+        ensures above { IsTrue (is_above_entries result.number self.new.kept) }
     {
         let entry = self.accounts.pop();
         let version = entry.version();
@@ -142,30 +164,49 @@ impl Tables {
         entry
     }
 
-    /// Takes the Bust of a number, which is live, out of the list, whatever came later, and keeps its slot. No memory is taken.
-    /// This project's rule.
+    /// Takes the entry of a number, which is live, out of the list, whatever came later, and keeps its slot. The list without it is a
+    /// book. No memory is taken. This project's rule.
     pub fn lift(&mut self, number: u64) -> BoxedEntry
-        requires { IsTrue (is_live_bust number self.old.list) }
+        requires there { IsSome (find (has_number number) self.old.list) }
+        requires rest { IsTrue (is_book (without number self.old.list)) }
         ensures entry { find (has_number number) self.old.list ≡ Some result }
-        ensures lifted { self.new ≡ lifted number self.old }
+        ensures lifted { self.new ≡ lifted result self.old }
         ensures kept { CanReturn result self.new }
         ensures book { IsTrue (is_book self.old.list) }
     {
+        let chain = self.chain_of(number);
+        let gone = self.accounts.live().stood(&chain);
         let entry = self.accounts.lift(number);
-        let busted = self.accounts.live().replaced(&entry.as_entry().link());
-        un_take(&mut self.orders, &busted);
+        let come = self.accounts.live().stood(&chain);
+        take(&mut self.orders, &gone);
+        un_take(&mut self.orders, &come);
         entry
     }
 
-    /// Puts a Bust whose slot is kept back at its place, under its number. No memory is taken. This project's rule.
+    /// Puts an entry back at its place, under its number. Its slot is kept, no kept entry above it takes up its execution, and with it the
+    /// list is a book: so it is of an entry that `lift` gave, once all that was done since is undone. No memory is taken. This project's
+    /// rule.
     pub fn un_lift(&mut self, entry: BoxedEntry)
         requires { CanReturn entry self.old }
         ensures returned { self.new ≡ returned entry self.old }
         ensures book { IsTrue (is_book self.old.list) }
     {
-        let busted = self.accounts.live().replaced(&entry.as_entry().link());
+        let chain = self.accounts.live().chain_of(&entry.as_entry().link());
+        let gone = self.accounts.live().stood(&chain);
         self.accounts.un_lift(entry);
-        take(&mut self.orders, &busted);
+        let come = self.accounts.live().stood(&chain);
+        take(&mut self.orders, &gone);
+        un_take(&mut self.orders, &come);
+    }
+
+    // The root of the chain of the entry of a number, which is live.
+    fn chain_of(&self, number: u64) -> Option<ExecKey>
+        ensures { result ≡ option_and_then (chain_of self.now.list) (find (has_number number) self.now.list) }
+    {
+        match self.entry(number) {
+            None => None,
+            Some(entry) => self.accounts.live().chain_of(&entry.link()),
+        }
     }
 }
 

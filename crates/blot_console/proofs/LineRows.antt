@@ -11,20 +11,20 @@ use Rattle.blot_desk.specs.declared.event.Reply.TheVariants as replies
 use Rattle.blot_time.specs.Calendar.{day_number}
 use Rattle.blot_time.specs.Day.{day_of, civil_day}
 use Rattle.blot_types.specs.declared.allocation.Line.{Line}
-use Rattle.blot_types.specs.declared.command.Command.TheVariants.{AllocNew}
+use Rattle.blot_types.specs.declared.command.Command.TheVariants.{AllocNew, Withdraw}
 use Rattle.blot_types.specs.declared.fill.Sign.TheVariants.{Buy}
 use Rattle.blot_types.specs.declared.keys.ExecKey.{ExecKey}
 use Rattle.blot_types.specs.declared.keys.OrderKey.{OrderKey}
-use Rattle.blot_types.specs.declared.refused.Refused.TheVariants.{NothingToUndo, Moved, UnknownExec, Quantity}
+use Rattle.blot_types.specs.declared.refused.Refused.TheVariants.{NotLive, NothingToUndo, Moved, UnknownExec, Quantity}
 use Rattle.blot_console.specs.declared.answer.Answer.TheVariants as answers
 use Rattle.blot_console.specs.declared.ask.Ask.{Ask}
-use Rattle.blot_console.specs.declared.ask.Ask.TheVariants.{Step, Report}
+use Rattle.blot_console.specs.declared.ask.Ask.TheVariants.{Step, Report, Mine}
 use Rattle.blot_console.specs.declared.fault.LineFault.{LineFault}
 use Rattle.blot_console.specs.declared.fault.LineFault.TheVariants.{UnknownWord, WrongCount, BadValue}
 use Rattle.blot_console.specs.Allocate.{execs_counted, execs_of, line_of, lines_of, allocate_line}
 use Rattle.blot_console.specs.Answers.{answer_text}
 use Rattle.blot_console.specs.Forms.{number_form, count_form, text_form, sign_form, day_form, price_form, qty_form}
-use Rattle.blot_console.specs.Lines.{undo_line, redo_line, order_line, position_line, report_line}
+use Rattle.blot_console.specs.Lines.{undo_line, redo_line, withdraw_line, mine_line, order_line, position_line, report_line}
 use Rattle.blot_console.specs.Parsing.{kind_of, words_line, ask_of, parsed}
 use Rattle.blot_console.specs.Rows.{counted, value_at}
 
@@ -64,6 +64,26 @@ undoes_x = refl
 redoes : asks (codes "redo" ∷ []) ≡ Ok (Step Redo)
 unfolding parsed ask_of words_line kind_of redo_line counted
 redoes = refl
+
+withdraws : asks (codes "withdraw" ∷ codes "07" ∷ []) ≡ Ok (Step (Submit (Withdraw 7)))
+unfolding parsed ask_of words_line kind_of withdraw_line counted value_at number_form
+withdraws = refl
+
+withdraws_nothing : asks (codes "withdraw" ∷ []) ≡ Err WrongCount
+unfolding parsed ask_of words_line kind_of withdraw_line counted value_at number_form
+withdraws_nothing = refl
+
+withdraws_ten_digits : asks (codes "withdraw" ∷ codes "0000000001" ∷ []) ≡ Err (BadValue 1)
+unfolding parsed ask_of words_line kind_of withdraw_line counted value_at number_form
+withdraws_ten_digits = refl
+
+withdraws_mine : asks (codes "mine" ∷ []) ≡ Ok Mine
+unfolding parsed ask_of words_line kind_of mine_line counted
+withdraws_mine = refl
+
+withdraws_mine_of_one : asks (codes "mine" ∷ codes "1" ∷ []) ≡ Err WrongCount
+unfolding parsed ask_of words_line kind_of mine_line counted
+withdraws_mine_of_one = refl
 
 flies : asks (codes "fly" ∷ []) ≡ Err UnknownWord
 unfolding parsed ask_of words_line kind_of
@@ -170,6 +190,13 @@ bad_word = refl
 bad_place : answer_text (answers.Bad (BadValue 7)) ≡ told_line (codes "bad" ∷ codes "3" ∷ codes "7" ∷ [])
 unfolding digits
 bad_place = refl
+
+not_live : answer_text (answers.Replied (replies.Refused (NotLive 1))) ≡ told_line (codes "refused" ∷ codes "11" ∷ codes "NotLive" ∷ codes "1" ∷ [])
+unfolding digits
+not_live = refl
+
+nothing : answer_text answers.Nothing ≡ told_line (codes "none" ∷ [])
+nothing = refl
 
 full : answer_text answers.Full ≡ told_line (codes "full" ∷ [])
 full = refl

@@ -18,7 +18,7 @@ use Rattle.blot_console.specs.declared.kinds.Kind.TheVariants as kinds
 use Rattle.blot_console.specs.declared.parsing.TheConstants.{LINE_MAX}
 use Rattle.blot_console.specs.Allocate.{are_pairs, counted_by, execs_counted, execs_of, line_of, lines_of, block_of, allocate_line}
 use Rattle.blot_console.specs.Forms.{number_form, count_form, text_form, sign_form, day_form, price_form, qty_form}
-use Rattle.blot_console.specs.Lines.{undo_line, redo_line, order_line, position_line, report_line}
+use Rattle.blot_console.specs.Lines.{undo_line, redo_line, withdraw_line, mine_line, order_line, position_line, report_line}
 use Rattle.blot_console.specs.Parsing.{kind_of, line_by, words_line, ask_of, told, parsed}
 use Rattle.blot_console.specs.Rows.{counted, at, value_at}
 use Rattle.blot_console.specs.Tables.{Row, unless_read, needs, exec_rows, pair_rows, pairs_sum, block_row, rows_behind, allocate_rows, rows_of, IsFirstBad, IsBadAt}
@@ -73,6 +73,14 @@ undo-tells words = counted_row words 2 (rows_of kinds.Undo words) _ (value_row w
 redo-tells : (words : List (List ℕ)) → Tells words (rows_of kinds.Redo words) (redo_line words)
 unfolding redo_line
 redo-tells words = counted_row words 1 [] _ tt
+
+withdraw-tells : (words : List (List ℕ)) → Tells words (rows_of kinds.Withdraw words) (withdraw_line words)
+unfolding withdraw_line
+withdraw-tells words = counted_row words 2 (rows_of kinds.Withdraw words) _ (value_row words 1 number_form [] _ (λ number is. tt))
+
+mine-tells : (words : List (List ℕ)) → Tells words (rows_of kinds.Mine words) (mine_line words)
+unfolding mine_line
+mine-tells words = counted_row words 1 [] _ tt
 
 order-tells : (words : List (List ℕ)) → Tells words (rows_of kinds.Order words) (order_line words)
 unfolding order_line
@@ -188,6 +196,8 @@ allocate-tells words =
 line-tells : (kind : Kind) (words : List (List ℕ)) → Tells words (rows_of kind words) (line_by kind words)
 line-tells kinds.Undo words = undo-tells words
 line-tells kinds.Redo words = redo-tells words
+line-tells kinds.Withdraw words = withdraw-tells words
+line-tells kinds.Mine words = mine-tells words
 line-tells kinds.Order words = order-tells words
 line-tells kinds.Position words = position-tells words
 line-tells kinds.Report words = report-tells words
@@ -209,24 +219,28 @@ first_of_rows words (row ∷ rows) place some = by_row (row words) refl some (fi
 kind_never : (word : List ℕ) (place : ℕ) → kind_of word ≡ Err (BadValue place) → ⊥
 unfolding kind_of
 kind_never word place is =
-    by_word (same_text word (codes "undo")) (same_text word (codes "redo")) (same_text word (codes "order")) (same_text word (codes "position"))
-    (same_text word (codes "report")) (same_text word (codes "allocate")) is
+    by_word (same_text word (codes "undo")) (same_text word (codes "redo")) (same_text word (codes "withdraw")) (same_text word (codes "mine"))
+    (same_text word (codes "order")) (same_text word (codes "position")) (same_text word (codes "report")) (same_text word (codes "allocate")) is
   where
-    by_word : (undo redo order position report allocate : Bool)
+    by_word : (undo redo withdraw mine order position report allocate : Bool)
         → (if undo then Ok kinds.Undo
         else (if redo then Ok kinds.Redo
+        else (if withdraw then Ok kinds.Withdraw
+        else (if mine then Ok kinds.Mine
         else (if order then Ok kinds.Order
         else (if position then Ok kinds.Position
         else (if report then Ok kinds.Report
         else (if allocate then Ok kinds.Allocate
-        else Err UnknownWord)))))) ≡ Err (BadValue place) → ⊥
-    by_word true redo order position report allocate is = cc
-    by_word false true order position report allocate is = cc
-    by_word false false true position report allocate is = cc
-    by_word false false false true report allocate is = cc
-    by_word false false false false true allocate is = cc
-    by_word false false false false false true is = cc
-    by_word false false false false false false is = cc
+        else Err UnknownWord)))))))) ≡ Err (BadValue place) → ⊥
+    by_word true redo withdraw mine order position report allocate is = cc
+    by_word false true withdraw mine order position report allocate is = cc
+    by_word false false true mine order position report allocate is = cc
+    by_word false false false true order position report allocate is = cc
+    by_word false false false false true position report allocate is = cc
+    by_word false false false false false true report allocate is = cc
+    by_word false false false false false false true allocate is = cc
+    by_word false false false false false false false true is = cc
+    by_word false false false false false false false false is = cc
 
 -- a bad value of a line of words
 abbrev refused_at : ℕ → Result Ask Wrong

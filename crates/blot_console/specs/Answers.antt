@@ -10,7 +10,7 @@ use Rattle.blot_types.specs.declared.keys.OrderKey.{OrderKey}
 use Rattle.blot_types.specs.declared.lines.OrderLine.{OrderLine}
 use Rattle.blot_types.specs.declared.lines.PositionLine.{PositionLine}
 use Rattle.blot_types.specs.declared.refused.Refused.{Refused}
-use Rattle.blot_types.specs.declared.refused.Refused.TheVariants.{DuplicateExec, DuplicateAlloc, UnknownAlloc, DeadAlloc, UnknownExec, BustedExec, RepeatedExec, ExecTaken, Instrument, Quantity, NotLive, NothingToUndo, Moved, NothingToRedo}
+use Rattle.blot_types.specs.declared.refused.Refused.TheVariants.{DuplicateExec, DuplicateAlloc, UnknownAlloc, DeadAlloc, UnknownExec, BustedExec, RepeatedExec, ExecTaken, Instrument, Quantity, NotLive, Needed, NothingToUndo, Moved, NothingToRedo}
 use Rattle.blot_types.specs.Told.{refused_number, refused_name}
 use Rattle.blot_console.specs.declared.answer.Answer.{Answer}
 use Rattle.blot_console.specs.declared.answer.Answer.TheVariants as answers
@@ -47,6 +47,7 @@ values_text (ExecTaken number) = number_text number
 values_text (Instrument key) = exec_text key
 values_text (Quantity wanted found) = quantities_text wanted found
 values_text (NotLive number) = number_text number
+values_text (Needed number) = number_text number
 values_text NothingToUndo = []
 values_text (Moved newest) = number_text newest
 values_text NothingToRedo = []

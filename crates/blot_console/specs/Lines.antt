@@ -2,9 +2,10 @@
 -- Source: this project's rule.
 use Rattle.std.specs.Prelude.{ℕ, List, Result, Ok}
 use Rattle.blot_time.specs.Results.{◌>>=◌}
-use Rattle.blot_desk.specs.declared.event.Event.TheVariants.{Undo, Redo, AskOrder, AskPosition}
+use Rattle.blot_desk.specs.declared.event.Event.TheVariants.{Submit, Undo, Redo, AskOrder, AskPosition}
+use Rattle.blot_types.specs.declared.command.Command.TheVariants.{Withdraw}
 use Rattle.blot_console.specs.declared.ask.Ask.{Ask}
-use Rattle.blot_console.specs.declared.ask.Ask.TheVariants.{Step, Report}
+use Rattle.blot_console.specs.declared.ask.Ask.TheVariants.{Step, Report, Mine}
 use Rattle.blot_console.specs.declared.fault.Wrong.{Wrong}
 use Rattle.blot_console.specs.Forms.{number_form, text_form, day_form}
 use Rattle.blot_console.specs.Rows.{counted, value_at}
@@ -21,6 +22,19 @@ unfoldable pub redo_line : List (List ℕ) → Result Ask Wrong
 redo_line words = do
   done ← counted 1 words
   Ok (Step Redo)
+
+-- `withdraw N`
+unfoldable pub withdraw_line : List (List ℕ) → Result Ask Wrong
+withdraw_line words = do
+  done ← counted 2 words
+  number ← value_at 1 number_form words
+  Ok (Step (Submit (Withdraw number)))
+
+-- `mine`
+unfoldable pub mine_line : List (List ℕ) → Result Ask Wrong
+mine_line words = do
+  done ← counted 1 words
+  Ok Mine
 
 -- `order peer orderid`
 unfoldable pub order_line : List (List ℕ) → Result Ask Wrong

@@ -13,7 +13,7 @@ use Rattle.blot_console.specs.declared.kinds.Kind.TheVariants as kinds
 use Rattle.blot_console.specs.declared.parsing.TheConstants.{LINE_MAX}
 use Rattle.blot_console.specs.Allocate.{allocate_line}
 use Rattle.blot_console.specs.Faults.{fault_of}
-use Rattle.blot_console.specs.Lines.{undo_line, redo_line, order_line, position_line, report_line}
+use Rattle.blot_console.specs.Lines.{undo_line, redo_line, withdraw_line, mine_line, order_line, position_line, report_line}
 use Rattle.blot_console.specs.Words.{words_of, word_at}
 
 -- the kind of line that a first word names
@@ -21,16 +21,20 @@ unfoldable pub kind_of : List ℕ → Result Kind Wrong
 kind_of word =
     if same_text word (codes "undo") then Ok kinds.Undo
     else (if same_text word (codes "redo") then Ok kinds.Redo
+    else (if same_text word (codes "withdraw") then Ok kinds.Withdraw
+    else (if same_text word (codes "mine") then Ok kinds.Mine
     else (if same_text word (codes "order") then Ok kinds.Order
     else (if same_text word (codes "position") then Ok kinds.Position
     else (if same_text word (codes "report") then Ok kinds.Report
     else (if same_text word (codes "allocate") then Ok kinds.Allocate
-    else Err UnknownWord)))))
+    else Err UnknownWord)))))))
 
 -- a line of a kind
 abbrev pub line_by : Kind → List (List ℕ) → Result Ask Wrong
 line_by kinds.Undo words = undo_line words
 line_by kinds.Redo words = redo_line words
+line_by kinds.Withdraw words = withdraw_line words
+line_by kinds.Mine words = mine_line words
 line_by kinds.Order words = order_line words
 line_by kinds.Position words = position_line words
 line_by kinds.Report words = report_line words

@@ -60,6 +60,8 @@ allocate_rows words =
 abbrev pub rows_of : Kind → List (List ℕ) → List Row
 rows_of kinds.Undo words = needs 1 number_form ∷ []
 rows_of kinds.Redo words = []
+rows_of kinds.Withdraw words = needs 1 number_form ∷ []
+rows_of kinds.Mine words = []
 rows_of kinds.Order words = needs 1 text_form ∷ needs 2 text_form ∷ []
 rows_of kinds.Position words = needs 1 text_form ∷ needs 2 text_form ∷ []
 rows_of kinds.Report words = needs 1 day_form ∷ []

@@ -24,7 +24,7 @@ pub enum Answer {
     Bad(LineFault),
     /// The desk takes no more events.
     Full,
-    /// Nothing is there to be taken back.
+    /// No entry is there to be withdrawn.
     Nothing,
 }
 

@@ -10,6 +10,6 @@ pub enum Ask {
     Step(Event),
     /// The report of a day.
     Report(Day),
-    /// That the newest command of this seat is taken back. No line asks it yet.
+    /// That the newest entry is withdrawn: of the desk, or of the seat where one asks.
     Mine,
 }

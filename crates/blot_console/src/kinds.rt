@@ -10,6 +10,8 @@ use crate::fault::Wrong;
 pub(crate) enum Kind {
     Undo,
     Redo,
+    Withdraw,
+    Mine,
     Order,
     Position,
     Report,
@@ -25,6 +27,10 @@ pub(crate) fn kind_of(word: &[u8]) -> Result<Kind, Wrong>
         Ok(Kind::Undo)
     } else if is_word(word, b"redo") {
         Ok(Kind::Redo)
+    } else if is_word(word, b"withdraw") {
+        Ok(Kind::Withdraw)
+    } else if is_word(word, b"mine") {
+        Ok(Kind::Mine)
     } else if is_word(word, b"order") {
         Ok(Kind::Order)
     } else if is_word(word, b"position") {

@@ -1,6 +1,6 @@
 //! What each line asks, except `allocate`.
 ghost use Rattle.std.specs.Prelude.{◌≡◌};
-ghost use Rattle.blot_console.specs.Lines.{undo_line, redo_line, order_line, position_line, report_line};
+ghost use Rattle.blot_console.specs.Lines.{undo_line, redo_line, withdraw_line, mine_line, order_line, position_line, report_line};
 
 use crate::Ask;
 use crate::fault::Wrong;
@@ -8,7 +8,7 @@ use crate::rows::{counted, number_at, value_at};
 use crate::words::Words;
 use blot_desk::Event;
 use blot_time::Day;
-use blot_types::{OrderKey, Text64};
+use blot_types::{Command, OrderKey, Text64};
 
 /// `undo N`.
 #[tactic(auto, unfolding(crate::specs::Lines::undo_line))]
@@ -27,6 +27,25 @@ pub(crate) fn redo_line(words: &Words) -> Result<Ask, Wrong>
 {
     counted(words, 1)?;
     Ok(Ask::Step(Event::Redo))
+}
+
+/// `withdraw N`.
+#[tactic(auto, unfolding(crate::specs::Lines::withdraw_line))]
+pub(crate) fn withdraw_line(words: &Words) -> Result<Ask, Wrong>
+    ensures { result ≡ withdraw_line words.now }
+{
+    counted(words, 2)?;
+    let number = number_at(words, 1)?;
+    Ok(Ask::Step(Event::Submit(Command::Withdraw(number))))
+}
+
+/// `mine`.
+#[tactic(auto, unfolding(crate::specs::Lines::mine_line))]
+pub(crate) fn mine_line(words: &Words) -> Result<Ask, Wrong>
+    ensures { result ≡ mine_line words.now }
+{
+    counted(words, 1)?;
+    Ok(Ask::Mine)
 }
 
 /// `order peer orderid`.

@@ -7,7 +7,9 @@ ghost use Rattle.blot_console.specs.Tables.{IsBadAt};
 use crate::allocate::allocate_line;
 use crate::fault::{Refusal, Wrong};
 use crate::kinds::{Kind, kind_of};
-use crate::lines::{order_line, position_line, redo_line, report_line, undo_line};
+use crate::lines::{
+    mine_line, order_line, position_line, redo_line, report_line, undo_line, withdraw_line,
+};
 use crate::words::Words;
 use crate::{Ask, LineFault};
 use std::alloc::Global;
@@ -51,6 +53,8 @@ fn words_line(alloc: Global, words: &Words) -> Result<Ask, Refusal>
     let ask = match kind_of(words.at(0))? {
         Kind::Undo => undo_line(words)?,
         Kind::Redo => redo_line(words)?,
+        Kind::Withdraw => withdraw_line(words)?,
+        Kind::Mine => mine_line(words)?,
         Kind::Order => order_line(words)?,
         Kind::Position => position_line(words)?,
         Kind::Report => report_line(words)?,

@@ -66,6 +66,7 @@ fn put_values(alloc: Global, text: &mut Vec<u8>, refused: Refused) -> Result<(),
         | Refused::BustedExec(number)
         | Refused::ExecTaken(number)
         | Refused::NotLive(number)
+        | Refused::Needed(number)
         | Refused::Moved(number) => put_number(alloc, text, number),
         Refused::UnknownExec(key) | Refused::RepeatedExec(key) | Refused::Instrument(key) => {
             put_exec(text, &key)

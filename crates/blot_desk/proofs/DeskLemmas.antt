@@ -1,12 +1,17 @@
 -- A refused command, and a run with one event more.
-use Rattle.std.proofs.Common.{◌≡◌, ◌⊎◌, ℕ, ◌+◌, ◌<◌, ◌≤◌, ◌==◌, List, [], ◌∷◌, ◌++◌, length, Option, Some, None, refl, sym, ap, subst, ◌∙◌, arith, inl, inr}
-use Rattle.std.proofs.lemmas.Bool.{cases_Bool}
+use Rattle.std.proofs.Common.{◌≡◌, ◌⊎◌, ℕ, ◌+◌, ◌<◌, ◌≤◌, ◌==◌, true, List, [], ◌∷◌, ◌++◌, length, reverse, Option, Some, None, refl, sym, ap, subst, ◌∙◌, arith, inl, inr}
+use Rattle.std.specs.Prelude.{All, IfSome, IsTrue, nat_lt}
+use Rattle.std.proofs.lemmas.Bool.{and_parts, cases_Bool, ltb-true}
 use Rattle.std.proofs.lemmas.Grind.{fold-append}
-use Rattle.std.proofs.lemmas.List.{map_push, length_push}
+use Rattle.std.proofs.lemmas.List.{map_push, length_push, reverse-append, reverse-reverse}
+use Rattle.std.proofs.lemmas.List.Elements.{All-nil, All-push}
 use Rattle.std.specs.Option.{option_map}
 use Rattle.blot_types.specs.declared.command.Command.{Command}
 use Rattle.blot_types.specs.declared.refused.Refused.{Refused as Reason}
-use Rattle.blot_types.specs.Legal.{refusal_of}
+use Rattle.blot_types.specs.declared.command.Entry.{Entry}
+use Rattle.blot_types.specs.Legal.{is_above_entries, is_book, refusal_of, rises_in}
+use Rattle.blot_types.proofs.LawLemmas.{book_parts}
+use Rattle.blot_types.proofs.OrderLemmas.{last_or-push}
 use Rattle.blot_types.specs.declared.TheConstants.{EVENTS_MAX}
 use Rattle.blot_command.specs.declared.fault.ApplyFault.{ApplyFault}
 use Rattle.blot_command.specs.declared.fault.ApplyFault.TheVariants.{Refused, NoMemory}
@@ -22,7 +27,7 @@ use Rattle.blot_desk.specs.declared.event.Event.TheVariants.{Submit, Undo, Redo,
 use Rattle.blot_desk.specs.declared.event.Recorded.{Recorded}
 use Rattle.blot_desk.specs.declared.event.Reply.{Reply}
 use Rattle.blot_desk.specs.declared.event.Reply.TheVariants.{Accepted}
-use Rattle.blot_desk.specs.Desk.{DeskBook, Outcome, empty_book, submit_by, submit_of, refused_by, undo_by, redo_by, step_of, run_on, run_of, events_of, replies_of, IsRunOf, IsJournal}
+use Rattle.blot_desk.specs.Desk.{DeskBook, Outcome, empty_book, newest_entry_of, submit_by, submit_of, refused_by, undo_by, redo_by, step_of, run_on, run_of, events_of, replies_of, IsRunOf, IsJournal}
 
 -- the list's own reason, where the fault gives one
 reason_in : (found : Option Reason) (reason : ApplyFault) (why : Reason) → (option_map Refused found ≡ Some reason) ⊎ ((option_map Refused found ≡ None) × (reason ≡ NoMemory)) → reason ≡ Refused why → found ≡ Some why
@@ -109,3 +114,28 @@ journal_more book next history later event copy reply journal room is same items
       few = omega (arith, long, room);
       next = omega (arith, long, grown, journal.next);
     }
+
+-- ---- the newest entry
+
+at_most : (n : ℕ) (entries : List Entry) → is_above_entries n entries ≡ true → All (λ entry. entry.number ≤ n) (reverse entries)
+at_most n [] above = All-nil (λ (entry : Entry). entry.number ≤ n)
+at_most n (entry ∷ earlier) above =
+    let parts : (nat_lt entry.number n ≡ true) × (is_above_entries n earlier ≡ true) = and_parts _ _ above in
+    let less : entry.number < n = ltb-true entry.number n parts.0 in
+    subst (All (λ (entry : Entry). entry.number ≤ n)) (sym (reverse-append (entry ∷ []) earlier))
+    (All-push (λ (entry : Entry). entry.number ≤ n) (reverse earlier) entry (at_most n earlier parts.1) (omega (arith, less)))
+
+greatest_in : (entries : List Entry) → rises_in entries ≡ true → IfSome (newest_entry_of (reverse entries)) (λ newest. All (λ entry. entry.number ≤ newest) (reverse entries))
+greatest_in [] rises = tt
+greatest_in (entry ∷ earlier) rises =
+    let parts : (is_above_entries entry.number earlier ≡ true) × (rises_in earlier ≡ true) = and_parts _ _ rises in
+    subst (λ list. IfSome (newest_entry_of list) (λ newest. All (λ (e : Entry). e.number ≤ newest) list)) (sym (reverse-append (entry ∷ []) earlier))
+    (subst (λ last. IfSome (option_map (λ (e : Entry). e.number) last) (λ newest. All (λ (e : Entry). e.number ≤ newest) (reverse earlier ++ entry ∷ [])))
+    (sym (last_or-push None (reverse earlier) entry))
+    (All-push (λ (e : Entry). e.number ≤ entry.number) (reverse earlier) entry (at_most entry.number earlier parts.0) (omega arith)))
+
+-- the number of the last entry is the greatest, since the numbers rise
+pub greatest_last : (list : List Entry) → IsTrue (is_book list) → IfSome (newest_entry_of list) (λ newest. All (λ entry. entry.number ≤ newest) list)
+greatest_last list book =
+    subst (λ list. IfSome (newest_entry_of list) (λ newest. All (λ (e : Entry). e.number ≤ newest) list)) (reverse-reverse list)
+    (greatest_in (reverse list) (book_parts list book).0)

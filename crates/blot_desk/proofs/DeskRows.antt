@@ -1,5 +1,5 @@
 -- A desk's day with a withdrawal, computed.
-use Rattle.std.specs.Prelude.{◌≡◌, ℕ, ◌*◌, ◌^◌, pos, List, [], ◌∷◌, map, Some, None, refl}
+use Rattle.std.specs.Prelude.{◌≡◌, ℕ, ◌*◌, ◌^◌, pos, List, [], ◌∷◌, map, None, refl}
 use Rattle.blot_types.specs.declared.command.Command.{Command}
 use Rattle.blot_types.specs.declared.command.Command.TheVariants.{Trade, Bust, Withdraw}
 use Rattle.blot_types.specs.declared.fill.Sign.TheVariants.{Buy}

@@ -159,6 +159,7 @@ refused_same (refused_of.ExecTaken a) (refused_of.ExecTaken b) = told (Decides-e
 refused_same (refused_of.Instrument a) (refused_of.Instrument b) = told (exec_same a b) (λ e. ap refused_of.Instrument e) (λ is. cc)
 refused_same (refused_of.Quantity a a2) (refused_of.Quantity b b2) = told (both (Decides-int_eq a b) (Decides-int_eq a2 b2)) (λ e i. refused_of.Quantity (e.0 i) (e.1 i)) (λ is. (cc, cc))
 refused_same (refused_of.NotLive a) (refused_of.NotLive b) = told (Decides-eqb a b) (λ e. ap refused_of.NotLive e) (λ is. cc)
+refused_same (refused_of.Needed a) (refused_of.Needed b) = told (Decides-eqb a b) (λ e. ap refused_of.Needed e) (λ is. cc)
 refused_same refused_of.NothingToUndo refused_of.NothingToUndo = (λ same. refl, λ is. refl)
 refused_same (refused_of.Moved a) (refused_of.Moved b) = told (Decides-eqb a b) (λ e. ap refused_of.Moved e) (λ is. cc)
 refused_same refused_of.NothingToRedo refused_of.NothingToRedo = (λ same. refl, λ is. refl)

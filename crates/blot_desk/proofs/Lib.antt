@@ -2,3 +2,5 @@ pub mod DeskLemmas
 pub mod DeskRows
 pub mod EqualLemmas
 pub mod MarkLemmas
+pub mod SeatLemmas
+pub mod SeatRows

@@ -1,5 +1,7 @@
 -- What a desk does: one event on the book, and a run of events from the empty book.
 use Rattle.std.specs.Prelude.{◌≡◌, ℕ, ◌+◌, ◌≤◌, ◌==◌, List, [], ◌∷◌, ◌++◌, length, map, fold, Option, Some, None, if◌then◌else◌}
+use Rattle.std.specs.List.{last_or}
+use Rattle.std.specs.Option.{option_map}
 use Rattle.blot_types.specs.declared.command.Command.{Command}
 use Rattle.blot_types.specs.declared.command.Entry.{Entry}
 use Rattle.blot_types.specs.declared.refused.Refused.{Refused as Reason}
@@ -20,6 +22,10 @@ use Rattle.blot_desk.specs.declared.event.Reply.TheVariants.{Accepted, Refused, 
 -- the book of a desk: the live list, the done and the undone steps, newest first, and the next number
 abbrev pub DeskBook : Type 0
 DeskBook = Book (List Entry) Command Inverse
+
+-- the number of the newest entry of a live list: its last, which has the greatest number
+abbrev pub newest_entry_of : List Entry → Option ℕ
+newest_entry_of list = option_map (λ entry. entry.number) (last_or None list)
 
 -- the empty book: the first number is 1
 abbrev pub empty_book : DeskBook

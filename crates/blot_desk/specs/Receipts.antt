@@ -1,8 +1,8 @@
 -- The receipts of a seat: what it was told, at which place of the history.
-use Rattle.std.specs.Prelude.{◌≡◌, ℕ, ◌+◌, ◌<◌, ◌≤◌, ◌==◌, Bool, true, false, nat_le, List, [], ◌∷◌, ◌++◌, fold, length, slice_get, Option, Some, None, is_none, if◌then◌else◌}
-use Rattle.std.specs.Option.{option_map_or, option_and_then}
-use Rattle.blot_types.specs.declared.command.Command.{Command}
-use Rattle.blot_types.specs.Refusals.{withdrawn_by}
+use Rattle.std.specs.Prelude.{◌≡◌, ℕ, ◌+◌, ◌<◌, ◌≤◌, ◌==◌, Bool, true, false, ◌&&◌, ◌||◌, nat_le, List, [], ◌∷◌, ◌++◌, fold, length, slice_get, Option, Some, None, if◌then◌else◌}
+use Rattle.std.specs.List.{list_any}
+use Rattle.std.specs.Option.{option_and_then}
+use Rattle.blot_types.specs.declared.command.Command.TheVariants.{Withdraw}
 use Rattle.blot_desk.specs.declared.event.Event.{Event}
 use Rattle.blot_desk.specs.declared.event.Event.TheVariants.{Submit}
 use Rattle.blot_desk.specs.declared.event.Recorded.{Recorded}
@@ -17,39 +17,60 @@ pub record IsOneMore (before after : List Receipt) (event : Event) (reply : Repl
 
 -- ---- the newest number of a seat
 
--- the number of the entry that a command came to, or that it took out, where a receipt shows it as accepted
-abbrev pub entered_by : Command → Reply → Option ℕ
-entered_by command (Accepted number) = if is_none (withdrawn_by command) then Some number else None
-entered_by command reply = None
+-- what some receipts show of the number of an entry: whether it is gone, undone or withdrawn; and the numbers of the steps that
+-- withdrew it
+pub record Seen : Type 0 where
+  pub gone : Bool
+  pub withdrawals : List ℕ
 
-abbrev pub entered : Event → Reply → Option ℕ
-entered (Submit command) reply = entered_by command reply
-entered event reply = None
+-- before the first of them it isn't gone, and no step withdrew it
+abbrev pub unseen : Seen
+unseen = record { gone = false; withdrawals = [] }
 
-abbrev pub taken_by : Command → Reply → Option ℕ
-taken_by command (Accepted number) = withdrawn_by command
-taken_by command reply = None
+-- whether an event withdraws the entry of a number
+abbrev pub withdraws : ℕ → Event → Bool
+withdraws number (Submit (Withdraw withdrawn)) = withdrawn == number
+withdraws number event = false
 
-abbrev pub taken : Event → Reply → Option ℕ
-taken (Submit command) reply = taken_by command reply
-taken event reply = None
+-- an event is accepted as a step: an entry that it withdraws is gone, and the step is one of its withdrawals from then on
+abbrev pub seen_accepted : ℕ → Seen → Event → ℕ → Seen
+seen_accepted number seen event step = if withdraws number event then record { gone = true; withdrawals = step ∷ seen.withdrawals } else seen
 
--- whether a number is undone after a reply; a number that is done again isn't
-abbrev pub undone_by : ℕ → Bool → Reply → Bool
-undone_by number undone (Undone other) = if other == number then true else undone
-undone_by number undone (Redone other) = if other == number then false else undone
-undone_by number undone reply = undone
+-- a step is undone: an entry is gone with its own step. A withdrawal that is undone still counts
+abbrev pub seen_undone : ℕ → Seen → ℕ → Seen
+seen_undone number seen step = if step == number then record { gone = true; withdrawals = seen.withdrawals } else seen
 
--- whether a number is gone after a receipt: undone, or withdrawn
-abbrev pub gone_by : ℕ → Bool → Receipt → Bool
-gone_by number gone receipt =
-    option_map_or (λ other. if other == number then true else gone) (taken receipt.event receipt.reply) (undone_by number gone receipt.reply)
+-- a step is done again: an entry is back with its own step, and gone with a step that withdrew it
+abbrev pub seen_redone : ℕ → Seen → ℕ → Seen
+seen_redone number seen step =
+    if step == number then record { gone = false; withdrawals = seen.withdrawals }
+    else record { gone = seen.gone || list_any (λ withdrawal. withdrawal == step) seen.withdrawals; withdrawals = seen.withdrawals }
+
+-- one receipt more, by its event and its reply
+abbrev pub seen_by : ℕ → Seen → Event → Reply → Seen
+seen_by number seen event (Accepted step) = seen_accepted number seen event step
+seen_by number seen event (Undone step) = seen_undone number seen step
+seen_by number seen event (Redone step) = seen_redone number seen step
+seen_by number seen event reply = seen
+
+abbrev pub seen_on : ℕ → Seen → Receipt → Seen
+seen_on number seen receipt = seen_by number seen receipt.event receipt.reply
+
+-- some receipts, in their order
+abbrev pub seen_in : ℕ → List Receipt → Seen
+seen_in number receipts = fold (seen_on number) unseen receipts
 
 -- whether some receipts leave a number undone or withdrawn
 abbrev pub is_gone : ℕ → List Receipt → Bool
-is_gone number receipts = fold (gone_by number) false receipts
+is_gone number receipts = (seen_in number receipts).gone
 
--- the number of an entry that a receipt shows as accepted, where the later receipts don't leave it undone or withdrawn
+-- the number of the entry that an event came to, where the reply accepts it; a withdrawal comes to none
+abbrev pub entered : Event → Reply → Option ℕ
+entered (Submit (Withdraw withdrawn)) (Accepted step) = None
+entered (Submit command) (Accepted number) = Some number
+entered event reply = None
+
+-- the number of the entry that a receipt shows as accepted, where the later receipts don't leave it undone or withdrawn
 abbrev pub standing : Receipt → List Receipt → Option ℕ
 standing receipt later =
     option_and_then (λ number. if is_gone number later then None else Some number) (entered receipt.event receipt.reply)
@@ -64,6 +85,15 @@ greater (Some number) (Some other) = if nat_le number other then Some other else
 abbrev pub newest_of : List Receipt → Option ℕ
 newest_of [] = None
 newest_of (receipt ∷ later) = greater (standing receipt later) (newest_of later)
+
+-- whether an event and its reply show a number as withdrawn by this step
+abbrev pub is_withdrawal_by : ℕ → ℕ → Event → Reply → Bool
+is_withdrawal_by number step event (Accepted own) = own == step && withdraws number event
+is_withdrawal_by number step event reply = false
+
+-- whether a receipt does
+abbrev pub is_withdrawal : ℕ → ℕ → Receipt → Bool
+is_withdrawal number step receipt = is_withdrawal_by number step receipt.event receipt.reply
 
 -- ---- receipts laid beside the history
 

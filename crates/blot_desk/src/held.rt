@@ -1,9 +1,9 @@
 //! What a desk holds.
-ghost use Rattle.std.specs.Prelude.{◌≡◌, ◌≢◌, ◌↔◌, ◌∷◌, ◌++◌, [], Err, IfOk, OnErr, IsOk, IsTrue, ◌<◌, ◌≤◌, length, vec_capacity};
+ghost use Rattle.std.specs.Prelude.{◌≡◌, ◌≢◌, ◌↔◌, ◌∷◌, ◌++◌, [], Err, All, IfOk, IfSome, OnErr, IsOk, IsTrue, ◌<◌, ◌≤◌, length, vec_capacity};
 ghost use Rattle.blot_types.specs.Legal.{is_book};
 ghost use Rattle.blot_types.specs.Order.{order_of};
 ghost use Rattle.blot_types.specs.Position.{position_of};
-ghost use Rattle.blot_desk.specs.Desk.{empty_journal, step_of, recorded_of, events_of, run_of, IsRun};
+ghost use Rattle.blot_desk.specs.Desk.{empty_journal, newest_entry_of, step_of, recorded_of, events_of, run_of, IsRun};
 
 use crate::taking::take;
 use crate::{DeskFault, Event, Recorded, Reply, Snapshot};
@@ -79,6 +79,15 @@ impl Held {
         };
         let _ = record(&mut self.history, copy, &reply);
         Ok(reply)
+    }
+
+    /// The greatest number of the live list, which is that of its last entry, or none where the list is empty. No memory is taken.
+    pub fn newest_entry(&self) -> Option<u64>
+        ensures newest { result ≡ newest_entry_of self.now.book.list }
+        ensures greatest { IfSome result (λ newest. All (λ entry. entry.number ≤ newest) self.now.book.list) }
+        ensures run { result ≡ newest_entry_of (run_of (events_of self.now.history)).book.list }
+    {
+        self.steps.state().newest()
     }
 
     /// The live list as it is now.

@@ -1,12 +1,13 @@
 //! A seat at a desk, which keeps its receipts.
-ghost use Rattle.std.specs.Prelude.{◌≡◌, ◌≢◌, ◌↔◌, ◌<◌, ◌++◌, ◌∷◌, [], length, vec_capacity, Err, IfOk, OnErr};
+ghost use Rattle.std.specs.Prelude.{◌≡◌, ◌≢◌, ◌↔◌, ◌<◌, ◌++◌, ◌∷◌, [], false, length, vec_capacity, Err, IfOk, OnErr};
+ghost use Rattle.std.specs.List.{list_any};
 ghost use Rattle.blot_types.specs.declared.TheConstants.{EVENTS_MAX};
 ghost use Rattle.blot_desk.specs.Desk.{IsReply, recorded_of, step_of};
-ghost use Rattle.blot_desk.specs.Receipts.{entered, gone_by, greater, is_gone, newest_of, standing, taken, undone_by};
+ghost use Rattle.blot_desk.specs.Receipts.{entered, greater, is_gone, is_withdrawal, newest_of, seen_by, seen_in, standing, withdraws};
 
 use crate::counted::Counted;
 use crate::{DeskFault, Event, Receipt, Reply};
-use blot_types::EVENTS_MAX;
+use blot_types::{Command, EVENTS_MAX};
 use std::alloc::Global;
 use std::marker::Model;
 use std::sync::ledger::{Ledger, Share};
@@ -86,8 +87,9 @@ impl<L: Ledger> Seat<L> {
         &self.receipts
     }
 
-    /// The greatest number of an entry that its receipts show as accepted and don't leave undone or withdrawn. No memory is taken,
-    /// so a seat whose last commands are gone is looked through once for each of these.
+    /// The greatest number of an entry that its receipts show as accepted and don't leave undone or withdrawn. What is done again
+    /// counts again. A withdrawal that is undone still counts, until its entry is done again itself. No memory is taken, so a seat
+    /// whose last commands are gone is looked through once for each of these.
     pub fn newest(&self) -> Option<u64>
         ensures { result ≡ newest_of self.now }
     {
@@ -139,51 +141,75 @@ fn is_gone(number: u64, receipts: &[Receipt]) -> bool
     ensures { result ≡ is_gone number receipts.now }
 {
     let mut gone = false;
-    for receipt in receipts {
-        gone = gone_by(number, gone, receipt);
+    let mut withdrawn = false;
+    for place in 0..receipts.len() {
+        let Receipt { event, reply, .. } = &receipts[place];
+        gone = gone_by(number, gone, withdrawn, &receipts[..place], event, reply);
+        withdrawn = withdrawn || withdraws(number, event);
     }
     gone
 }
 
-// Whether a number is gone after a receipt.
-fn gone_by(number: u64, gone: bool, receipt: &Receipt) -> bool
-    ensures { result ≡ gone_by number gone receipt.now }
-{
-    match taken(&receipt.event, &receipt.reply) {
-        Some(other) => other == number || gone,
-        None => undone_by(number, gone, &receipt.reply),
-    }
-}
-
-// Whether a number is undone after a reply.
-fn undone_by(number: u64, undone: bool, reply: &Reply) -> bool
-    ensures { result ≡ undone_by number undone reply.now }
+// Whether a number is gone after one receipt more. The earlier ones are looked through only where the number isn't gone, and yet
+// one of them withdraws it.
+#[tactic(auto, using(crate::proofs::SeatLemmas::among_receipts))]
+fn gone_by(
+    number: u64,
+    gone: bool,
+    withdrawn: bool,
+    earlier: &[Receipt],
+    event: &Event,
+    reply: &Reply,
+) -> bool
+    requires gone { gone ≡ (seen_in number earlier.now).gone }
+    requires withdrawn { withdrawn ≡ false → (seen_in number earlier.now).withdrawals ≡ [] }
+    ensures { result ≡ (seen_by number (seen_in number earlier.now) event.now reply.now).gone }
 {
     match *reply {
-        Reply::Undone(other) if other == number => true,
-        Reply::Redone(other) if other == number => false,
-        _ => undone,
+        Reply::Accepted(_) => gone || withdraws(number, event),
+        Reply::Undone(step) => gone || step == number,
+        Reply::Redone(step) if step == number => false,
+        Reply::Redone(step) => gone || withdrawn && has_withdrawal(number, step, earlier),
+        Reply::Refused(_) | Reply::Order(_) | Reply::Position(_) => gone,
     }
 }
 
-// The number of the entry that an event came to, where the reply accepts it.
+// Whether one of these receipts shows a number as withdrawn by this step.
+fn has_withdrawal(number: u64, step: u64, receipts: &[Receipt]) -> bool
+    ensures { result ≡ list_any (is_withdrawal number step) receipts.now }
+{
+    receipts
+        .iter()
+        .any(|receipt| is_withdrawal(number, step, receipt))
+}
+
+// Whether a receipt does.
+fn is_withdrawal(number: u64, step: u64, receipt: &Receipt) -> bool
+    ensures { result ≡ is_withdrawal number step receipt.now }
+{
+    match receipt.reply {
+        Reply::Accepted(own) => own == step && withdraws(number, &receipt.event),
+        _ => false,
+    }
+}
+
+// Whether an event withdraws the entry of a number.
+fn withdraws(number: u64, event: &Event) -> bool
+    ensures { result ≡ withdraws number event.now }
+{
+    match event {
+        Event::Submit(Command::Withdraw(withdrawn)) => *withdrawn == number,
+        _ => false,
+    }
+}
+
+// The number of the entry that an event came to, where the reply accepts it. A withdrawal comes to none.
 fn entered(event: &Event, reply: &Reply) -> Option<u64>
     ensures { result ≡ entered event.now reply.now }
 {
     match (event, *reply) {
-        (Event::Submit(command), Reply::Accepted(number)) if command.withdrawn().is_none() => {
-            Some(number)
-        }
-        _ => None,
-    }
-}
-
-// The number of the entry that an event took out, where the reply accepts it.
-fn taken(event: &Event, reply: &Reply) -> Option<u64>
-    ensures { result ≡ taken event.now reply.now }
-{
-    match (event, *reply) {
-        (Event::Submit(command), Reply::Accepted(_)) => command.withdrawn(),
+        (Event::Submit(Command::Withdraw(_)), _) => None,
+        (Event::Submit(_), Reply::Accepted(number)) => Some(number),
         _ => None,
     }
 }

@@ -1,13 +1,14 @@
 //! Which commands a list refuses.
 ghost use Rattle.std.specs.Prelude.{◌≡◌, IfOk};
 ghost use Rattle.blot_types.specs.Allocations.{instructions_of};
-ghost use Rattle.blot_types.specs.Legal.{entry_refusal, refusal_of, is_legal};
+ghost use Rattle.blot_types.specs.Legal.{entry_refusal, refusal_of, withdrawal_refusal, is_legal};
 
 use crate::instructions::instructions;
 use crate::rules::{
-    busted_exec, dead_alloc, duplicate_alloc, duplicate_exec, exec_taken, instrument, never_entry,
-    quantity, repeated_exec, unknown_alloc, unknown_exec, withdrawal_refusal,
+    busted_exec, dead_alloc, duplicate_alloc, duplicate_exec, exec_taken, instrument, is_live,
+    never_entry, quantity, repeated_exec, unknown_alloc, unknown_exec,
 };
+use crate::withdrawal::first_failing;
 use blot_types::{Command, Entry, Instruction, Refused};
 use std::alloc::{AllocError as NoMemory, Global};
 
@@ -20,9 +21,23 @@ pub fn accepts(
     ensures { IfOk result (λ refused. refused ≡ refusal_of list.now command.now) }
 {
     if let Some(number) = command.withdrawn() {
-        return Ok(withdrawal_refusal(list, number));
+        return withdrawal_refusal(alloc, list, number);
     }
     entry_refusal(alloc, list, command)
+}
+
+// Why the entry of a number may not be taken out of a list: it isn't there, or the first entry that needs it.
+fn withdrawal_refusal(
+    alloc: Global,
+    list: &[Entry],
+    number: u64,
+) -> Result<Option<Refused>, NoMemory>
+    ensures { IfOk result (λ refused. refused ≡ withdrawal_refusal list.now number) }
+{
+    if !is_live(list, number) {
+        return Ok(Some(Refused::NotLive(number)));
+    }
+    Ok(first_failing(alloc, list, number)?.map(Refused::Needed))
 }
 
 // Why a list refuses a command as its next entry.

@@ -4,8 +4,7 @@ ghost use Rattle.std.specs.List.{list_any};
 ghost use Rattle.std.specs.Option.{option_copied, option_map_or};
 ghost use Rattle.blot_types.specs.Allocations.{instructions_of};
 ghost use Rattle.blot_types.specs.Chains.{root_in};
-ghost use Rattle.blot_types.specs.Legal.{withdrawal_refusal};
-ghost use Rattle.blot_types.specs.Refusals.{never_entry, duplicate_exec, duplicate_alloc, unknown_alloc, dead_alloc, unknown_exec, busted_exec, repeated_exec, exec_taken, instrument, quantity, first_of, bust_of_key, same_chain, repeated_in, other_holder, current_fill, differs};
+ghost use Rattle.blot_types.specs.Refusals.{is_live, never_entry, duplicate_exec, duplicate_alloc, unknown_alloc, dead_alloc, unknown_exec, busted_exec, repeated_exec, exec_taken, instrument, quantity, first_of, bust_of_key, same_chain, repeated_in, other_holder, current_fill, differs};
 ghost use Rattle.blot_types.specs.Survivors.{links_of};
 
 use crate::allocations::{ended_by, is_allocation, other_holder_of, taker_of};
@@ -20,14 +19,11 @@ pub(crate) fn never_entry(command: &Command) -> Option<Refused>
     command.withdrawn().map(Refused::NotLive)
 }
 
-/// The entry that it takes out isn't there, or is no Bust.
-pub(crate) fn withdrawal_refusal(list: &[Entry], number: u64) -> Option<Refused>
-    ensures { result ≡ withdrawal_refusal list.now number }
+/// Whether the entry of a number is there.
+pub(crate) fn is_live(list: &[Entry], number: u64) -> bool
+    ensures { result ≡ is_live number list.now }
 {
-    match entry_at(list, number) {
-        Some(entry) if entry.command.is_bust() => None,
-        _ => Some(Refused::NotLive(number)),
-    }
+    entry_at(list, number).is_some()
 }
 
 // The entry of a number.

@@ -22,8 +22,12 @@ pub fn blocked_of(alloc: Global, list: &[Entry], number: u64) -> Result<Option<u
     first_failing(alloc, list, number)
 }
 
-// The first number at which the entries up to it fail without the withdrawn one.
-fn first_failing(alloc: Global, list: &[Entry], withdrawn: u64) -> Result<Option<u64>, NoMemory>
+/// The first number at which the entries up to it fail without the withdrawn one.
+pub(crate) fn first_failing(
+    alloc: Global,
+    list: &[Entry],
+    withdrawn: u64,
+) -> Result<Option<u64>, NoMemory>
     ensures { IfOk result (λ number. number ≡ least_needing list.now withdrawn) }
 {
     for entry in list {

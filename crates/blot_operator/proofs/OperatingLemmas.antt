@@ -7,12 +7,14 @@ use Rattle.std.proofs.KnownBytes.{Appends-trans, Appends-kept}
 use Rattle.std.proofs.lemmas.Bool.{cases_Bool, eqb-true, eq-eqb}
 use Rattle.std.proofs.lemmas.List.{append_assoc, append-nil}
 use Rattle.std.proofs.lemmas.List.Sums.{fold-append}
+use Rattle.blot_types.specs.declared.command.Command.TheVariants.{Withdraw}
 use Rattle.blot_types.specs.declared.TheConstants.{EVENTS_MAX}
 use Rattle.blot_desk.specs.declared.event.Event.{Event}
+use Rattle.blot_desk.specs.declared.event.Event.TheVariants.{Submit}
 use Rattle.blot_desk.specs.declared.event.Reply.{Reply}
 use Rattle.blot_desk.specs.declared.fault.DeskFault.{DeskFault}
 use Rattle.blot_desk.specs.declared.fault.DeskFault.TheVariants.{Full, NoMemory, Unsettled}
-use Rattle.blot_desk.specs.Desk.{Journal, step_of, recorded_of}
+use Rattle.blot_desk.specs.Desk.{Journal, newest_entry_of, step_of, recorded_of}
 use Rattle.blot_console.specs.declared.answer.Answer.{Answer}
 use Rattle.blot_console.specs.declared.answer.Answer.TheVariants as answers
 use Rattle.blot_console.specs.declared.ask.Ask.{Ask}
@@ -20,8 +22,8 @@ use Rattle.blot_console.specs.declared.ask.Ask.TheVariants as asks
 use Rattle.blot_console.specs.declared.fault.LineFault.{LineFault}
 use Rattle.blot_console.specs.Answers.{answer_text}
 use Rattle.blot_console.specs.Parsing.{parsed}
-use Rattle.blot_operator.specs.Dialogue.{answer_by, AnswersAsk, AnswersLine, AnswersLines, TellsLines, Stops, StopsAmong, OwnStep, own_ways}
-use Rattle.blot_operator.specs.Operating.{asked_by, with_key, telling, told_event, told_ask, answer_to, told_on, told_over, StoppedIn}
+use Rattle.blot_operator.specs.Dialogue.{answer_by, AnswersMine, AnswersAsk, AnswersLine, AnswersLines, TellsLines, Stops, StopsAmong, OwnStep, own_ways}
+use Rattle.blot_operator.specs.Operating.{asked_by, with_key, telling, told_event, told_mine, told_ask, answer_to, told_on, told_over, StoppedIn}
 
 -- an event that is recorded is told by its reply
 told-recorded : (old new : Journal) (event : Event) (reply : Reply) → length old.history ≢ EVENTS_MAX
@@ -47,10 +49,14 @@ own-event old new event answer (Err Full) step is =
 own-event old new event answer (Err NoMemory) step is = cc
 own-event old new event answer (Err Unsettled) step is = cc
 
+own-mine : (old new : Journal) (newest : Option ℕ) (answer : Answer) → AnswersMine own_ways old newest answer new → telling new answer ≡ told_mine old newest
+own-mine old new (Some newest) answer answered = own-event old new (Submit (Withdraw newest)) answer answered.reply answered.stepped answered.answer_is
+own-mine old new None answer answered = rw (answered.0, answered.1) refl
+
 own-ask : (old new : Journal) (ask : Result Ask LineFault) (answer : Answer) → AnswersAsk own_ways old ask answer new → telling new answer ≡ told_ask old ask
 own-ask old new (Ok (asks.Step event)) answer answered = own-event old new event answer answered.reply answered.stepped answered.answer_is
 own-ask old new (Ok (asks.Report day)) answer answered = rw (answered.0, answered.1.answer_is, answered.1.shown) refl
-own-ask old new (Ok asks.Mine) answer answered = rw (answered.0, answered.1) refl
+own-ask old new (Ok asks.Mine) answer answered = own-mine old new (newest_entry_of old.book.list) answer answered
 own-ask old new (Err fault) answer answered = rw (answered.0, answered.1) refl
 
 own-line : (old new : Journal) (line : List ℕ) (answer : Answer) → AnswersLine own_ways old line answer new → telling new answer ≡ answer_to old line

@@ -3,16 +3,18 @@
 use Rattle.std.specs.Prelude.{◌≡◌, ◌↔◌, ℕ, ℤ, List, [], ◌∷◌, ◌++◌, length, IsTrue, IfOk, OnOk, OnErr, Option, Some, None, option_to_list, Result, Ok, Err, ◌⊎◌}
 use Rattle.std.specs.Io.KnownBytes.{Appends, Keeps}
 use Rattle.std.specs.List.{flat_map}
+use Rattle.blot_types.specs.declared.command.Command.TheVariants.{Withdraw}
 use Rattle.blot_types.specs.declared.command.Entry.{Entry}
 use Rattle.blot_types.specs.declared.TheConstants.{EVENTS_MAX}
 use Rattle.blot_types.specs.Legal.{is_book}
 use Rattle.blot_desk.specs.declared.event.Event.{Event}
+use Rattle.blot_desk.specs.declared.event.Event.TheVariants.{Submit}
 use Rattle.blot_desk.specs.declared.event.Reply.{Reply}
 use Rattle.blot_desk.specs.declared.fault.DeskFault.{DeskFault}
 use Rattle.blot_desk.specs.declared.fault.DeskFault.TheVariants.{Full}
 use Rattle.blot_desk.specs.declared.receipt.Receipt.{Receipt}
-use Rattle.blot_desk.specs.Desk.{Journal, step_of, recorded_of}
-use Rattle.blot_desk.specs.Receipts.{IsOneMore}
+use Rattle.blot_desk.specs.Desk.{Journal, newest_entry_of, step_of, recorded_of}
+use Rattle.blot_desk.specs.Receipts.{IsOneMore, newest_of}
 use Rattle.blot_report.specs.Lines.{day_lines_of}
 use Rattle.blot_console.specs.declared.answer.Answer.{Answer}
 use Rattle.blot_console.specs.declared.answer.Answer.TheVariants as answers
@@ -28,6 +30,8 @@ use Rattle.blot_operator.specs.Operating.{asked_by, with_key}
 pub record Ways (S : Type 0) : Type 1 where
   -- what is there before an event, the reply to it, and what is there after it
   pub steps : S → Event → Result Reply DeskFault → S → Type 0
+  -- the number of the newest entry, if there is one
+  pub newest : S → Option ℕ
   -- a list that it may show
   pub shows : S → List Entry → Type 0
 
@@ -51,17 +55,22 @@ pub record Declines {S : Type 0} (ways : Ways S) (before : S) (event : Event) (a
   pub stepped : ways.steps before event reply after
   pub none : answer_by event reply ≡ None
 
+-- the newest entry is withdrawn; where there is none, nothing is submitted, and that is told
+abbrev pub AnswersMine : {S : Type 0} → Ways S → S → Option ℕ → Answer → S → Type 0
+AnswersMine ways before (Some newest) answer after = AnswersEvent ways before (Submit (Withdraw newest)) answer after
+AnswersMine ways before None answer after = (after ≡ before) × (answer ≡ answers.Nothing)
+
 -- the report of a day is made of a list that may be shown
 pub record AnswersReport {S : Type 0} (ways : Ways S) (before : S) (day : ℤ) (answer : Answer) : Type 0 where
   pub list : List Entry
   pub shown : ways.shows before list
   pub answer_is : answer ≡ answers.Report (day_lines_of list day)
 
--- what a line asks, or its fault, is answered: only an event is submitted
+-- what a line asks, or its fault, is answered: only an event is submitted, and `mine` submits one
 abbrev pub AnswersAsk : {S : Type 0} → Ways S → S → Result Ask LineFault → Answer → S → Type 0
 AnswersAsk ways before (Ok (asks.Step event)) answer after = AnswersEvent ways before event answer after
 AnswersAsk ways before (Ok (asks.Report day)) answer after = (after ≡ before) × AnswersReport ways before day answer
-AnswersAsk ways before (Ok asks.Mine) answer after = (after ≡ before) × (answer ≡ answers.Nothing)
+AnswersAsk ways before (Ok asks.Mine) answer after = AnswersMine ways before (ways.newest before) answer after
 AnswersAsk ways before (Err fault) answer after = (after ≡ before) × (answer ≡ answers.Bad fault)
 
 -- a line is answered
@@ -137,7 +146,7 @@ OwnList journal list = list ≡ journal.book.list
 
 -- its ways
 abbrev pub own_ways : Ways Journal
-own_ways = record { steps = OwnStep; shows = OwnList }
+own_ways = record { steps = OwnStep; newest = λ journal. newest_entry_of journal.book.list; shows = OwnList }
 
 -- an event of a seat at a desk of many: a reply adds the receipt of it, and a fault none
 pub record SeatStep (before : List Receipt) (event : Event) (given : Result Reply DeskFault) (after : List Receipt) : Type 0 where
@@ -150,4 +159,4 @@ SeatList receipts list = IsTrue (is_book list)
 
 -- the ways of a seat
 abbrev pub seat_ways : Ways (List Receipt)
-seat_ways = record { steps = SeatStep; shows = SeatList }
+seat_ways = record { steps = SeatStep; newest = newest_of; shows = SeatList }

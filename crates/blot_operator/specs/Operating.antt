@@ -1,13 +1,14 @@
 -- What an operator is told at a desk of one's own: each line is answered for itself, and its answer is told before the next line
 -- is taken. Source: this project's rule.
-use Rattle.std.specs.Prelude.{◌≡◌, ℕ, ◌==◌, List, [], ◌++◌, length, fold, Option, option_to_list, Result, Ok, Err, if◌then◌else◌}
+use Rattle.std.specs.Prelude.{◌≡◌, ℕ, ◌==◌, List, [], ◌++◌, length, fold, Option, Some, None, option_to_list, Result, Ok, Err, if◌then◌else◌}
 use Rattle.std.specs.Io.KnownBytes.{Appends}
+use Rattle.blot_types.specs.declared.command.Command.TheVariants.{Withdraw}
 use Rattle.blot_types.specs.declared.TheConstants.{EVENTS_MAX}
 use Rattle.blot_desk.specs.declared.event.Event.{Event}
-use Rattle.blot_desk.specs.declared.event.Event.TheVariants.{AskOrder, AskPosition}
+use Rattle.blot_desk.specs.declared.event.Event.TheVariants.{Submit, AskOrder, AskPosition}
 use Rattle.blot_desk.specs.declared.event.Reply.{Reply}
 use Rattle.blot_desk.specs.declared.event.Reply.TheVariants as replies
-use Rattle.blot_desk.specs.Desk.{Journal, step_of, recorded_of}
+use Rattle.blot_desk.specs.Desk.{Journal, newest_entry_of, step_of, recorded_of}
 use Rattle.blot_report.specs.Lines.{day_lines_of}
 use Rattle.blot_console.specs.declared.answer.Answer.{Answer}
 use Rattle.blot_console.specs.declared.answer.Answer.TheVariants as answers
@@ -46,11 +47,16 @@ told_event journal event =
     if length journal.history == EVENTS_MAX then telling journal answers.Full
     else telling (recorded_of journal event) (with_key (asked_by event) (step_of journal.book event).reply)
 
+-- the newest entry is withdrawn; where there is none, that is told, and it is no event
+abbrev pub told_mine : Journal → Option ℕ → Told
+told_mine journal (Some newest) = told_event journal (Submit (Withdraw newest))
+told_mine journal None = telling journal answers.Nothing
+
 -- what a line asks, or its fault: only an event changes what the desk holds
 abbrev pub told_ask : Journal → Result Ask LineFault → Told
 told_ask journal (Ok (asks.Step event)) = told_event journal event
 told_ask journal (Ok (asks.Report day)) = telling journal (answers.Report (day_lines_of journal.book.list day))
-told_ask journal (Ok asks.Mine) = telling journal answers.Nothing
+told_ask journal (Ok asks.Mine) = told_mine journal (newest_entry_of journal.book.list)
 told_ask journal (Err fault) = telling journal (answers.Bad fault)
 
 -- a line

@@ -2,7 +2,7 @@
 ghost use Rattle.std.specs.Prelude.{◌≡◌, ◌≢◌, None, IsOk, OnOk, OnErr, IfOk, Ok, Err};
 ghost use Rattle.blot_console.specs.Answers.{CanBeTold};
 ghost use Rattle.blot_console.specs.Parsing.{parsed};
-ghost use Rattle.blot_operator.specs.Dialogue.{AnswersEvent, AnswersAsk, AnswersLine, AnswersReport, Declines, TellsLine, StopsAtLine};
+ghost use Rattle.blot_operator.specs.Dialogue.{AnswersEvent, AnswersMine, AnswersAsk, AnswersLine, AnswersReport, Declines, TellsLine, StopsAtLine};
 ghost use Rattle.blot_operator.specs.Operating.{asked_by, with_key};
 
 use crate::operated::Operated;
@@ -11,7 +11,7 @@ use blot_desk::{DeskFault, Event, Reply};
 use blot_report::day_lines;
 use blot_stream::{ReplayFault, write_text};
 use blot_time::Day;
-use blot_types::{OrderKey, Text64};
+use blot_types::{Command, OrderKey, Text64};
 use std::alloc::{AllocError as NoMemory, Global};
 use std::io::Write;
 
@@ -74,7 +74,19 @@ fn answer_ask<D: Operated>(
     match ask {
         Ask::Step(event) => answer_event(desk, state, event),
         Ask::Report(day) => report(alloc, desk, state, day),
-        Ask::Mine => Ok(Answer::Nothing),
+        Ask::Mine => withdraw_newest(desk, state),
+    }
+}
+
+// Withdraws the newest entry, where there is one. An error is out of memory.
+fn withdraw_newest<D: Operated>(desk: &D, state: &mut D::State) -> Result<Answer, NoMemory>
+    ensures ok { IfOk result (λ answer. AnswersMine D.ways state.old (D.ways.newest state.old) answer state.new) }
+    ensures tellable { IfOk result CanBeTold }
+    ensures err { OnErr result (state.new ≡ state.old) }
+{
+    match desk.newest(state) {
+        None => Ok(Answer::Nothing),
+        Some(number) => answer_event(desk, state, Event::Submit(Command::Withdraw(number))),
     }
 }
 

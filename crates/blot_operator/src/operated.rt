@@ -23,6 +23,10 @@ pub(crate) trait Operated {
         ensures tellable { IfOk result (λ reply. CanBeTold (with_key (asked_by event) reply)) }
         ensures err { OnErr result (state.new ≡ state.old) };
 
+    /// The number of its newest entry, which `mine` withdraws.
+    fn newest(&self, state: &Self::State) -> Option<u64>
+        ensures { result ≡ ways.newest state.now };
+
     /// A live list.
     fn snapshot(&self, state: &Self::State) -> Result<Snapshot, NoMemory>
         ensures { IfOk result (λ snapshot. ways.shows state.now snapshot) };
@@ -41,6 +45,10 @@ impl Operated for Own {
 
     fn step(&self, held: &mut Held, event: Event) -> Result<Reply, DeskFault> {
         held.step(event)
+    }
+
+    fn newest(&self, held: &Held) -> Option<u64> {
+        held.newest_entry()
     }
 
     fn snapshot(&self, held: &Held) -> Result<Snapshot, NoMemory> {
@@ -64,6 +72,10 @@ impl<R: Wait, L: Ledger> Operated for Shared<'_, R, L> {
 
     fn step(&self, seat: &mut Seat<L>, event: Event) -> Result<Reply, DeskFault> {
         self.desk.submit(self.rt, seat, event)
+    }
+
+    fn newest(&self, seat: &Seat<L>) -> Option<u64> {
+        seat.newest()
     }
 
     fn snapshot(&self, _seat: &Seat<L>) -> Result<Snapshot, NoMemory> {

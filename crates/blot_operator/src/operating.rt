@@ -16,9 +16,10 @@ use std::sync::Wait;
 use std::sync::ledger::Ledger;
 
 /// Answers an operator's lines to the end of the input. Each line's answer is written and flushed before the next line
-/// is taken. A line that asks nothing is answered by its fault, and an event that the desk has no room for by `full`;
-/// both leave what the desk holds as it is, and the next line is taken. It ends early where a read, a write or a flush
-/// fails, where memory runs out, and after 2^30 reads; never as `Full`.
+/// is taken. `mine` withdraws the newest entry of the desk; where there is none it is no event, and answered by `none`. A line
+/// that asks nothing is answered by its fault, and an event that the desk has no room for by `full`; both leave what the desk
+/// holds as it is, and the next line is taken. It ends early where a read, a write or a flush fails, where memory runs out,
+/// and after 2^30 reads; never as `Full`.
 pub fn desk_lines<R: Read, W: Write>(
     alloc: Global,
     input: &mut R,
@@ -39,8 +40,9 @@ pub fn desk_lines<R: Read, W: Write>(
 }
 
 /// The same for a seat at a desk of many. Each event of the lines is submitted once. The seat gets a receipt of the reply, and the
-/// line is answered by that reply; an event that is answered by `full` has no receipt, and no other line has one. A report
-/// shows the desk as it is when its line is taken.
+/// line is answered by that reply; an event that is answered by `full` has no receipt, and no other line has one. `mine` withdraws
+/// the newest entry that the seat itself submitted, as its receipts show it. A report shows the desk as it is when its line is
+/// taken.
 pub fn seat_lines<R: Read, W: Write, L: Ledger>(
     rt: &impl Wait,
     alloc: Global,

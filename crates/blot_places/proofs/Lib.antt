@@ -1,5 +1,9 @@
+pub mod AroundLemmas
+pub mod FirstLemmas
 pub mod MarkLemmas
+mod NumberedLemmas
 mod PlaceLemmas
-mod SearchLemmas
+mod PointLemmas
+pub mod SearchLemmas
 pub mod ShownLemmas
 pub mod SlotLemmas

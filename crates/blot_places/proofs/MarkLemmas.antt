@@ -50,7 +50,7 @@ module _ {T : Type 0} (number_of : T → ℕ) (n : ℕ) (b : Bool) where
 
   -- ---- the slots of a Vec
 
-  reverse-marked : (slots : List (Slot T)) → reverse (marked number_of n b slots) ≡ marked number_of n b (reverse slots)
+  pub reverse-marked : (slots : List (Slot T)) → reverse (marked number_of n b slots) ≡ marked number_of n b (reverse slots)
   reverse-marked [] = refl
   reverse-marked (slot ∷ slots) =
       reverse-append (mark number_of n b slot ∷ []) (marked number_of n b slots)

@@ -8,7 +8,7 @@ use Rattle.blot_places.proofs.MarkLemmas.{mark-same}
 use Rattle.blot_places.proofs.ShownLemmas.{falling-parts, less-other, more-other}
 
 module _ {T : Type 0} (number_of : T → ℕ) where
-  above-at : (n : ℕ) (slots : List (Slot T)) (j : ℕ) (d : Slot T) → is_above number_of n (items slots) ≡ true → j < length slots → number_of (get_or slots j d).item < n
+  pub above-at : (n : ℕ) (slots : List (Slot T)) (j : ℕ) (d : Slot T) → is_above number_of n (items slots) ≡ true → j < length slots → number_of (get_or slots j d).item < n
   above-at n [] j d above within = absurd (omega arith)
   above-at n (slot ∷ earlier) zero d above within = ltb-true _ _ (and_parts _ _ above).0
   above-at n (slot ∷ earlier) (suc j) d above within = above-at n earlier j d (and_parts _ _ above).1 (omega arith)
@@ -21,12 +21,12 @@ module _ {T : Type 0} (number_of : T → ℕ) where
   falling-at (slot ∷ earlier) zero (suc j) d fall less within = above-at (number_of slot.item) earlier j d (falling-parts number_of slot.item (items earlier) fall).0 (omega arith)
   falling-at (slot ∷ earlier) (suc i) (suc j) d fall less within = falling-at earlier i j d (falling-parts number_of slot.item (items earlier) fall).1 (omega arith) (omega arith)
 
-  from-end : (slots : List (Slot T)) (k : ℕ) (d : Slot T) → k < length slots → get_or slots k d ≡ get_or (reverse slots) (length slots - 1 - k) d
+  pub from-end : (slots : List (Slot T)) (k : ℕ) (d : Slot T) → k < length slots → get_or slots k d ≡ get_or (reverse slots) (length slots - 1 - k) d
   from-end slots k d within =
       let len : length (reverse slots) ≡ length slots = length-reverse slots in
       ap (λ all. get_or all k d) (sym (reverse-reverse slots)) ∙ get_or-reverse (reverse slots) k d (omega (arith, len)) ∙ ap (λ n. get_or (reverse slots) (n - 1 - k) d) len
 
-  rises :
+  pub rises :
       (slots : List (Slot T)) (i j : ℕ) (d : Slot T) → numbers_fall number_of (items (reverse slots)) ≡ true → i < j → j < length slots
       → number_of (get_or slots i d).item < number_of (get_or slots j d).item
   rises slots i j d fall less within =

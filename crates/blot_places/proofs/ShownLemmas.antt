@@ -69,7 +69,7 @@ module _ {T : Type 0} (number_of : T → ℕ) (n : ℕ) where
       ]
 
   -- where none has the number, the first hasn't, and none of the others
-  at-none : (first : T) (items : List T) → item_at number_of n (first ∷ items) ≡ None → (nat_eq (number_of first) n ≡ false) × (item_at number_of n items ≡ None)
+  pub at-none : (first : T) (items : List T) → item_at number_of n (first ∷ items) ≡ None → (nat_eq (number_of first) n ≡ false) × (item_at number_of n items ≡ None)
   at-none first items none =
       elim (cases_Bool (nat_eq (number_of first) n)) [
         | inl here ↦ absurd (clash (sym (at-here first items here) ∙ none))
@@ -79,7 +79,7 @@ module _ {T : Type 0} (number_of : T → ℕ) (n : ℕ) where
       clash : {item : T} → Some item ≡ None → ⊥
       clash same = cc
 
-  without-none : (items : List T) → item_at number_of n items ≡ None → without number_of n items ≡ items
+  pub without-none : (items : List T) → item_at number_of n items ≡ None → without number_of n items ≡ items
   without-none [] none = refl
   without-none (first ∷ items) none =
       let parts = at-none first items none in
@@ -94,10 +94,10 @@ module _ {T : Type 0} (number_of : T → ℕ) where
       let less : number_of first < number_of item = ltb-true _ _ (and_parts _ _ above).0 in
       ap (λ t. cond t (first ∷ with_item number_of item items) (item ∷ first ∷ items)) (le-ltb (number_of item) (number_of first) (omega arith))
 
-  with_item-on : (item first : T) (items : List T) → nat_lt (number_of item) (number_of first) ≡ true → with_item number_of item (first ∷ items) ≡ first ∷ with_item number_of item items
+  pub with_item-on : (item first : T) (items : List T) → nat_lt (number_of item) (number_of first) ≡ true → with_item number_of item (first ∷ items) ≡ first ∷ with_item number_of item items
   with_item-on item first items less = ap (λ t. cond t (first ∷ with_item number_of item items) (item ∷ first ∷ items)) less
 
-  with_item-here : (item first : T) (items : List T) → nat_lt (number_of item) (number_of first) ≡ false → with_item number_of item (first ∷ items) ≡ item ∷ first ∷ items
+  pub with_item-here : (item first : T) (items : List T) → nat_lt (number_of item) (number_of first) ≡ false → with_item number_of item (first ∷ items) ≡ item ∷ first ∷ items
   with_item-here item first items more = ap (λ t. cond t (first ∷ with_item number_of item items) (item ∷ first ∷ items)) more
 
   pub with_some-behind : (first : T) (item : Option T) (items : List T) → ((found : T) → item ≡ Some found → nat_lt (number_of found) (number_of first) ≡ true) → with_some number_of item (first ∷ items) ≡ first ∷ with_some number_of item items

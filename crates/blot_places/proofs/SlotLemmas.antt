@@ -51,10 +51,10 @@ module _ {T : Type 0} where
       let is : slot.is_live ≡ true = unlifted_live slot earlier none in
       live_here slot earlier is ∙ ap (λ behind. slot.item ∷ behind) (unlifted-items earlier (sym (lifted_on slot earlier is) ∙ none))
 
-  places_here : (test : T → Bool) (slot : Slot T) (earlier : List (Slot T)) → test slot.item ≡ true → places_by test (slot ∷ earlier) ≡ length earlier ∷ places_by test earlier
+  pub places_here : (test : T → Bool) (slot : Slot T) (earlier : List (Slot T)) → test slot.item ≡ true → places_by test (slot ∷ earlier) ≡ length earlier ∷ places_by test earlier
   places_here test slot earlier is = ap (λ b. cond b (length earlier ∷ places_by test earlier) (places_by test earlier)) is
 
-  places_on : (test : T → Bool) (slot : Slot T) (earlier : List (Slot T)) → test slot.item ≡ false → places_by test (slot ∷ earlier) ≡ places_by test earlier
+  pub places_on : (test : T → Bool) (slot : Slot T) (earlier : List (Slot T)) → test slot.item ≡ false → places_by test (slot ∷ earlier) ≡ places_by test earlier
   places_on test slot earlier is = ap (λ b. cond b (length earlier ∷ places_by test earlier) (places_by test earlier)) is
 
   -- ---- what the places lead to
@@ -63,11 +63,11 @@ module _ {T : Type 0} where
   at_end [] later slot = refl
   at_end (first ∷ slots) later slot = at_end slots later slot
 
-  reverse-cons : (slot : Slot T) (earlier later : List (Slot T)) → reverse (slot ∷ earlier) ++ later ≡ reverse earlier ++ slot ∷ later
+  pub reverse-cons : (slot : Slot T) (earlier later : List (Slot T)) → reverse (slot ∷ earlier) ++ later ≡ reverse earlier ++ slot ∷ later
   reverse-cons slot earlier later =
       ap (λ slots. slots ++ later) (reverse-append (slot ∷ []) earlier) ∙ append_assoc (reverse earlier) (slot ∷ []) later
 
-  at_place : (slot : Slot T) (earlier later : List (Slot T)) → slice_get (reverse (slot ∷ earlier) ++ later) (length earlier) ≡ Some slot
+  pub at_place : (slot : Slot T) (earlier later : List (Slot T)) → slice_get (reverse (slot ∷ earlier) ++ later) (length earlier) ≡ Some slot
   at_place slot earlier later =
       rw (reverse-cons slot earlier later)
       (subst (λ place. slice_get (reverse earlier ++ slot ∷ later) place ≡ Some slot) (length-reverse earlier) (at_end (reverse earlier) later slot))

@@ -1,6 +1,6 @@
 -- Slots, newest first: after a slot stand the earlier ones. A slot is live, or lifted out of what the list shows.
-use Rattle.std.specs.Prelude.{ℕ, Bool, true, false, ◌&&◌, not, nat_eq, nat_lt, List, [], ◌∷◌, map, find, length, slice_get, Option, if◌then◌else◌}
-use Rattle.std.specs.List.{filter, list_all}
+use Rattle.std.specs.Prelude.{ℕ, Bool, true, false, ◌&&◌, not, nat_eq, nat_le, nat_lt, List, [], ◌∷◌, map, find, length, slice_get, Option, Some, None, if◌then◌else◌}
+use Rattle.std.specs.List.{filter, filter_map, list_all}
 use Rattle.std.specs.Option.{option_and_then, option_map, option_map_or}
 use Rattle.blot_places.specs.declared.slots.Slot.{Slot}
 
@@ -28,6 +28,13 @@ module _ {T : Type 0} where
   abbrev pub newest_live : List (Slot T) → List ℕ → Option T
   newest_live slots places = option_map (λ slot. slot.item) (option_and_then (slice_get slots) (find (is_live_at slots) places))
 
+  -- the item at a place, if its slot is live; and those at some places
+  abbrev pub live_item : List (Slot T) → ℕ → Option T
+  live_item slots place = option_and_then (λ slot. if slot.is_live then Some slot.item else None) (slice_get slots place)
+
+  abbrev pub live_items : List (Slot T) → List ℕ → List T
+  live_items slots places = filter_map (live_item slots) places
+
 -- where items have numbers. A list of items stands newest first again; a mark looks at no order
 module _ {T : Type 0} (number_of : T → ℕ) where
   -- whether a number is above those of the items
@@ -45,3 +52,10 @@ module _ {T : Type 0} (number_of : T → ℕ) where
 
   abbrev pub marked : ℕ → Bool → List (Slot T) → List (Slot T)
   marked number is_live slots = map (mark number is_live) slots
+
+  -- whether the item at a place has a number up to this one, or below it
+  abbrev pub is_up_to : ℕ → List (Slot T) → ℕ → Bool
+  is_up_to number slots place = option_map_or (λ slot. nat_le (number_of slot.item) number) (slice_get slots place) false
+
+  abbrev pub is_below : ℕ → List (Slot T) → ℕ → Bool
+  is_below number slots place = option_map_or (λ slot. nat_lt (number_of slot.item) number) (slice_get slots place) false

@@ -3,8 +3,12 @@
 //! knows nothing of the slots. So a slot is lifted and put back without touching any place.
 #![tactic(auto)]
 
+mod around;
 mod places;
+mod remembered;
 mod slots;
 
+pub use around::{places_above, places_below};
 pub use places::Places;
-pub use slots::{Slot, mark, newest_live};
+pub use remembered::Remembered;
+pub use slots::{Slot, live_at, live_numbered, mark, newest_live, oldest_live};

@@ -2,7 +2,8 @@
 ghost use Rattle.std.specs.Prelude.{◌≡◌, ℕ, ◌<◌, ◌≤◌, find, length, reverse, slice_index_or, IsTrue};
 ghost use Rattle.std.specs.Option.{option_copied};
 ghost use Rattle.blot_places.specs.declared.slots.Slot.{Slot};
-ghost use Rattle.blot_places.specs.Slots.{is_live_at, items, mark, marked, newest_live, numbers_fall};
+ghost use Rattle.blot_places.specs.Shown.{item_at};
+ghost use Rattle.blot_places.specs.Slots.{is_live_at, items, live, live_item, mark, marked, newest_live, numbers_fall};
 
 use blot_types::Numbered;
 
@@ -21,6 +22,37 @@ pub fn newest_live<'a, T>(slots: &'a [Slot<T>], stack: &[usize]) -> Option<&'a T
     slots.get(place).map(|slot| &slot.item)
 }
 
+/// The item of the oldest live slot on a stack of places.
+pub fn oldest_live<'a, T>(slots: &'a [Slot<T>], stack: &[usize]) -> Option<&'a T>
+    ensures { option_copied result ≡ newest_live slots.now stack.now }
+{
+    let place = oldest_place(slots, stack)?;
+    slots.get(place).map(|slot| &slot.item)
+}
+
+/// The item at a place, if its slot is live.
+pub fn live_at<T>(slots: &[Slot<T>], place: usize) -> Option<&T>
+    ensures { option_copied result ≡ live_item slots.now place }
+{
+    match slots.get(place) {
+        Some(slot) if slot.is_live => Some(&slot.item),
+        _ => None,
+    }
+}
+
+/// The item of a number, if its slot is live. The numbers rise.
+pub fn live_numbered<T: Numbered>(slots: &[Slot<T>], number: u64) -> Option<&T>
+    requires { IsTrue (numbers_fall T.number_of (items (reverse slots.now))) }
+    ensures { option_copied result ≡ item_at T.number_of number (live (reverse slots.now)) }
+{
+    let item = live_at(slots, place_of(slots, number))?;
+    if item.number() == number {
+        Some(item)
+    } else {
+        None
+    }
+}
+
 // The newest of these places at which the slot is live.
 fn newest_place<T>(slots: &[Slot<T>], stack: &[usize]) -> Option<usize>
     ensures { result ≡ find (is_live_at slots.now) (reverse stack.now) }
@@ -28,6 +60,16 @@ fn newest_place<T>(slots: &[Slot<T>], stack: &[usize]) -> Option<usize>
     stack
         .iter()
         .rev()
+        .copied()
+        .find(|place| is_live_at(slots, *place))
+}
+
+// The oldest of these places at which the slot is live.
+fn oldest_place<T>(slots: &[Slot<T>], stack: &[usize]) -> Option<usize>
+    ensures { result ≡ find (is_live_at slots.now) stack.now }
+{
+    stack
+        .iter()
         .copied()
         .find(|place| is_live_at(slots, *place))
 }

@@ -133,7 +133,7 @@ ends-refers key Allocates ended = cc
 ends-refers key (Replaces reference) ended = ap Some (same_alloc-true reference key ended)
 ends-refers key (Cancels reference) ended = ap Some (same_alloc-true reference key ended)
 
-live-reference : (earlier : List Instruction) (i : Instruction) (key : AllocKey) → may_follow earlier i.key i.role i.roots ≡ true → ends key i.role ≡ true → ended_in earlier key ≡ None
+pub live-reference : (earlier : List Instruction) (i : Instruction) (key : AllocKey) → may_follow earlier i.key i.role i.roots ≡ true → ends key i.role ≡ true → ended_in earlier key ≡ None
 live-reference earlier i key may ended =
     let refers : option_map_or (is_live_key earlier) (reference_of i.role) true ≡ true = (follows earlier i.key i.role i.roots may).refers in
     let live : is_live_key earlier key ≡ true = ap (λ o. option_map_or (is_live_key earlier) o true) (sym (ends-refers key i.role ended)) ∙ refers in

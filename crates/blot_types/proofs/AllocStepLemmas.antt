@@ -11,7 +11,7 @@ use Rattle.blot_types.specs.declared.command.AllocCancel.{AllocCancel}
 use Rattle.blot_types.specs.declared.command.AllocNew.{AllocNew}
 use Rattle.blot_types.specs.declared.command.AllocReplace.{AllocReplace}
 use Rattle.blot_types.specs.declared.command.Command.{Command}
-use Rattle.blot_types.specs.declared.command.Command.TheVariants.{AllocNew as NewCommand, AllocReplace as ReplaceCommand, AllocCancel as CancelCommand, Withdraw as WithdrawCommand}
+use Rattle.blot_types.specs.declared.command.Command.TheVariants.{AllocNew as NewCommand, AllocReplace as ReplaceCommand, AllocCancel as CancelCommand}
 use Rattle.blot_types.specs.declared.command.Entry.{Entry}
 use Rattle.blot_types.specs.declared.keys.AllocKey.{AllocKey}
 use Rattle.blot_types.specs.declared.keys.ExecKey.{ExecKey}
@@ -37,15 +37,15 @@ use Rattle.blot_types.proofs.StayLemmas.{any-agree}
 use Rattle.blot_types.proofs.VersionLemmas.{any-none, none-any, unnamed}
 
 -- an entry of an allocation that is taken out
-record GoneAlloc (later front : List Entry) (k : Entry) (j : Instruction) : Type 0 where
-  unlinked : link_of k ≡ None
-  instruction : instruction_by (links_in front) k.number k.command ≡ Some j
-  legal : legal_in (later ++ k ∷ front) ≡ true
-  out : legal_in (later ++ front) ≡ true
+pub record GoneAlloc (later front : List Entry) (k : Entry) (j : Instruction) : Type 0 where
+  pub unlinked : link_of k ≡ None
+  pub instruction : instruction_by (links_in front) k.number k.command ≡ Some j
+  pub legal : legal_in (later ++ k ∷ front) ≡ true
+  pub out : legal_in (later ++ front) ≡ true
 
 -- ---- the executions are as they were
 
-same-links : (later front : List Entry) (k : Entry) → link_of k ≡ None → links_in (later ++ front) ≡ links_in (later ++ k ∷ front)
+pub same-links : (later front : List Entry) (k : Entry) → link_of k ≡ None → links_in (later ++ front) ≡ links_in (later ++ k ∷ front)
 same-links later front k none =
     filter_map-append link_of later front ∙ ap (λ found. links_in later ++ cons_option found (links_in front)) (sym none) ∙ sym (filter_map-append link_of later (k ∷ front))
 
@@ -60,7 +60,7 @@ same-fill later front k key none =
 
 -- ---- the instructions
 
-abbrev laters : List Entry → List Entry → List Instruction
+abbrev pub laters : List Entry → List Entry → List Instruction
 laters [] base = []
 laters (entry ∷ later) base = cons_option (instruction_by (links_in (later ++ base)) entry.number entry.command) (laters later base)
 
@@ -68,7 +68,7 @@ cons-append : {A : Type 0} (o : Option A) (xs ys : List A) → cons_option o (xs
 cons-append None xs ys = refl
 cons-append (Some x) xs ys = refl
 
-by-laters : (later base : List Entry) → instructions_in (later ++ base) ≡ laters later base ++ instructions_in base
+pub by-laters : (later base : List Entry) → instructions_in (later ++ base) ≡ laters later base ++ instructions_in base
 by-laters [] base = refl
 by-laters (entry ∷ later) base =
     let found = instruction_by (links_in (later ++ base)) entry.number entry.command in
@@ -80,12 +80,12 @@ same-laters (entry ∷ later) front k none =
     ap (λ links. cons_option (instruction_by links entry.number entry.command) (laters later (k ∷ front))) (sym (same-links later front k none))
     ∙ ap (cons_option (instruction_by (links_in (later ++ front)) entry.number entry.command)) (same-laters later front k none)
 
-whole-is : (later front : List Entry) (k : Entry) (j : Instruction) → GoneAlloc later front k j → instructions_in (later ++ k ∷ front) ≡ laters later front ++ j ∷ instructions_in front
+pub whole-is : (later front : List Entry) (k : Entry) (j : Instruction) → GoneAlloc later front k j → instructions_in (later ++ k ∷ front) ≡ laters later front ++ j ∷ instructions_in front
 whole-is later front k j gone =
     by-laters later (k ∷ front) ∙ ap (λ is. is ++ instructions_in (k ∷ front)) (same-laters later front k gone.unlinked)
     ∙ ap (λ found. laters later front ++ cons_option found (instructions_in front)) gone.instruction
 
-whole-instructed : (later front : List Entry) (k : Entry) (j : Instruction) → GoneAlloc later front k j → is_instructed (laters later front ++ j ∷ instructions_in front) ≡ true
+pub whole-instructed : (later front : List Entry) (k : Entry) (j : Instruction) → GoneAlloc later front k j → is_instructed (laters later front ++ j ∷ instructions_in front) ≡ true
 whole-instructed later front k j gone = ap is_instructed (sym (whole-is later front k j gone)) ∙ instructed (later ++ k ∷ front) gone.legal
 
 -- ---- what the others answer
@@ -120,13 +120,13 @@ answers-alloc later front k j gone =
 -- ---- what can need it
 
 -- whether an execution is of a chain that an allocation names which j ended
-abbrev regained : Instruction → List Entry → ExecKey → Bool
+abbrev pub regained : Instruction → List Entry → ExecKey → Bool
 regained j entries key = option_map_or (λ root. list_any (regains j root) (instructions_in entries)) (root_in (links_in entries) key) false
 
-abbrev refers_to : Instruction → Option AllocKey → Bool
+abbrev pub refers_to : Instruction → Option AllocKey → Bool
 refers_to j reference = option_map_or (λ key. is_allocation_of key j) reference false
 
-abbrev asks : Instruction → List Entry → Command → Bool
+abbrev pub asks : Instruction → List Entry → Command → Bool
 asks j entries command = refers_to j (alloc_reference command) || list_any (regained j entries) (listed_by command)
 
 unknown-refused : (instructions : List Instruction) (j : Instruction) (found : Option AllocKey) → alloc_taker_in instructions j.key ≡ None → refers_to j found ≡ true
@@ -242,7 +242,7 @@ cancels-none j None brings = refl
 cancels-none j (Some key) brings = and_right (same_alloc j.key key) (brings_allocation j.role) brings
 
 -- what ends nothing gives nothing back
-nothing-regained : (j : Instruction) (entries : List Entry) (found : Option ExecKey) → ((key : AllocKey) → ends key j.role ≡ false) → option_map_or (λ root. list_any (regains j root) (instructions_in entries)) found false ≡ false
+pub nothing-regained : (j : Instruction) (entries : List Entry) (found : Option ExecKey) → ((key : AllocKey) → ends key j.role ≡ false) → option_map_or (λ root. list_any (regains j root) (instructions_in entries)) found false ≡ false
 nothing-regained j entries None none = refl
 nothing-regained j entries (Some root) none =
     none-any (regains j root) (instructions_in entries)
@@ -257,16 +257,16 @@ regained-names j entries reference (Some root) same =
     (all-of (λ i. (is_allocation_of reference i && names root i) ≡ regains j root i) (instructions_in entries)
     (λ i. ap (λ b. (b && brings_allocation i.role) && names root i) (same_alloc-sym i.key reference ∙ sym (same i.key))))
 
-abbrev as_new : ℕ → AllocNew → Entry
+abbrev pub as_new : ℕ → AllocNew → Entry
 as_new number new = record { number = number; command = NewCommand new }
 
-abbrev as_replace : ℕ → AllocReplace → Entry
+abbrev pub as_replace : ℕ → AllocReplace → Entry
 as_replace number replace = record { number = number; command = ReplaceCommand replace }
 
-abbrev as_cancel : ℕ → AllocCancel → Entry
+abbrev pub as_cancel : ℕ → AllocCancel → Entry
 as_cancel number cancel = record { number = number; command = CancelCommand cancel }
 
-new-needs : (j : Instruction) (entries : List Entry) (number : ℕ) (new : AllocNew) (command : Command) → j.key ≡ new.key → j.role ≡ Allocates → needs entries (as_new number new) command ≡ asks j entries command
+pub new-needs : (j : Instruction) (entries : List Entry) (number : ℕ) (new : AllocNew) (command : Command) → j.key ≡ new.key → j.role ≡ Allocates → needs entries (as_new number new) command ≡ asks j entries command
 new-needs j entries number new command key role =
     let first : refers_to j (alloc_reference command) ≡ is_reference (alloc_reference command) new.key = referred-brings j (alloc_reference command) (ap brings_allocation role) ∙ ap (is_reference (alloc_reference command)) key in
     let second : list_any (regained j entries) (listed_by command) ≡ false =
@@ -279,13 +279,13 @@ names-listed j entries reference command same =
     any-agree (names_chain_of entries reference) (regained j entries) (listed_by command)
     (all-of (λ key. names_chain_of entries reference key ≡ regained j entries key) (listed_by command) (λ key. regained-names j entries reference (root_in (links_in entries) key) same))
 
-replace-needs : (j : Instruction) (entries : List Entry) (number : ℕ) (replace : AllocReplace) (command : Command) → j.key ≡ replace.key → j.role ≡ Replaces replace.reference → needs entries (as_replace number replace) command ≡ asks j entries command
+pub replace-needs : (j : Instruction) (entries : List Entry) (number : ℕ) (replace : AllocReplace) (command : Command) → j.key ≡ replace.key → j.role ≡ Replaces replace.reference → needs entries (as_replace number replace) command ≡ asks j entries command
 replace-needs j entries number replace command key role =
     let first : refers_to j (alloc_reference command) ≡ is_reference (alloc_reference command) replace.key = referred-brings j (alloc_reference command) (ap brings_allocation role) ∙ ap (is_reference (alloc_reference command)) key in
     ap (λ b. is_reference (alloc_reference command) replace.key || b) (names-listed j entries replace.reference command (λ a. ap (ends a) role))
     ∙ ap (λ b. b || list_any (regained j entries) (listed_by command)) (sym first)
 
-cancel-needs : (j : Instruction) (entries : List Entry) (number : ℕ) (cancel : AllocCancel) (command : Command) → j.role ≡ Cancels cancel.reference → needs entries (as_cancel number cancel) command ≡ asks j entries command
+pub cancel-needs : (j : Instruction) (entries : List Entry) (number : ℕ) (cancel : AllocCancel) (command : Command) → j.role ≡ Cancels cancel.reference → needs entries (as_cancel number cancel) command ≡ asks j entries command
 cancel-needs j entries number cancel command role =
     let first : refers_to j (alloc_reference command) ≡ false = cancels-none j (alloc_reference command) (ap brings_allocation role) in
     names-listed j entries cancel.reference command (λ a. ap (ends a) role) ∙ ap (λ b. b || list_any (regained j entries) (listed_by command)) (sym first)

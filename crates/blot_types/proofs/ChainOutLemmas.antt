@@ -13,7 +13,7 @@ use Rattle.blot_types.proofs.ChainLemmas.{clash, differing, none_is, fresh-parts
 use Rattle.blot_types.proofs.KeyLemmas.{same_exec-true, same_exec-refl, same_exec-sym}
 
 -- a key that is taken up by none of the links isn't that of one of them
-untaken : (later front : List Link) (k : Link) (key : ExecKey) → taker_in (later ++ k ∷ front) key ≡ None → same_exec k.key key ≡ false
+pub untaken : (later front : List Link) (k : Link) (key : ExecKey) → taker_in (later ++ k ∷ front) key ≡ None → same_exec k.key key ≡ false
 untaken [] front k key fresh = (fresh-parts k front key fresh).0
 untaken (link ∷ later) front k key fresh = untaken later front k key (fresh-parts link (later ++ k ∷ front) key fresh).1
 

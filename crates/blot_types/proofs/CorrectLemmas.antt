@@ -40,10 +40,10 @@ use Rattle.blot_types.proofs.NeedLemmas.{IsStep}
 use Rattle.blot_types.proofs.LinkOutLemmas.{GoneLink, links-rest, root-gone, answers-gone, uses-gone, IsOther, ShapeStays, AnyKey}
 use Rattle.blot_types.proofs.VersionLemmas.{any-none, unnamed, fill-behind, last-of, refused-among, or-falses}
 
-abbrev as_entry : ℕ → Correct → Entry
+abbrev pub as_entry : ℕ → Correct → Entry
 as_entry number correct = record { number = number; command = CorrectCommand correct }
 
-abbrev as_link : ℕ → Correct → Link
+abbrev pub as_link : ℕ → Correct → Link
 as_link number correct = record { number = number; key = correct.key; role = Corrects correct.reference }
 
 abbrev as_version : ℕ → Correct → Version
@@ -65,7 +65,7 @@ same-not n =
       | inr other ↦ other
     ]
 
-front-above : (n : ℕ) (later front : List Entry) (k : Entry) → is_above_entries n (later ++ k ∷ front) ≡ true → (k.number < n) × (is_above_entries n front ≡ true)
+pub front-above : (n : ℕ) (later front : List Entry) (k : Entry) → is_above_entries n (later ++ k ∷ front) ≡ true → (k.number < n) × (is_above_entries n front ≡ true)
 front-above n [] front k above =
     let parts : (nat_lt k.number n ≡ true) × (is_above_entries n front ≡ true) = and_parts _ _ above in
     (ltb-true _ _ parts.0, parts.1)
@@ -107,7 +107,7 @@ front-legal k (entry ∷ later) front legal =
 
 -- ---- versions by their numbers
 
-version-pass : (entry : Entry) (found : Option Version) (versions : List Version) (n : ℕ) → version_of entry ≡ found → (entry.number == n) ≡ false
+pub version-pass : (entry : Entry) (found : Option Version) (versions : List Version) (n : ℕ) → version_of entry ≡ found → (entry.number == n) ≡ false
     → find (λ v. v.number == n) (cons_option found versions) ≡ find (λ v. v.number == n) versions
 version-pass entry None versions n is other = refl
 version-pass entry (Some v) versions n is other =

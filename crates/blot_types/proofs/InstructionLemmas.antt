@@ -57,7 +57,7 @@ live-step i earlier j =
       | inr not_ended ↦ rw not_ended (sym (and-true (is_live_in earlier j)))
     ]
 
-swap : (a b c : Bool) → ((a && b) && c) ≡ ((a && c) && b)
+pub swap : (a b c : Bool) → ((a && b) && c) ≡ ((a && c) && b)
 swap true true c = sym (and-true c)
 swap true false c = sym (and-false c)
 swap false b c = refl

@@ -4,6 +4,8 @@ pub mod AllocOutLemmas
 pub mod AllocStepLemmas
 pub mod AllocationLawLemmas
 mod AllocationRows
+pub mod ApartLemmas
+pub mod BetweenLemmas
 pub mod BookedLemmas
 pub mod BringLemmas
 pub mod BustLemmas

@@ -89,7 +89,7 @@ uninstructed links number (AllocCancel cancel) l is = cc
 uninstructed links number (Withdraw withdrawn) l is = cc
 
 -- the same instruction, where the executions that it lists have the same roots
-same-instruction :
+pub same-instruction :
     (links others : List Link) (number : ℕ) (command : Command) → All (λ key. root_in others key ≡ root_in links key) (listed_by command)
     → instruction_by others number command ≡ instruction_by links number command
 same-instruction links others number (Trade trade) same = refl

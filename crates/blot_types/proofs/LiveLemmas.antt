@@ -37,7 +37,7 @@ or-nothing : {A : Type 0} (o : Option A) → option_or o None ≡ o
 or-nothing None = refl
 or-nothing (Some a) = refl
 
-filter-same : {X : Type 0} (p q : X → Bool) (xs : List X) → ((x : X) → p x ≡ q x) → filter p xs ≡ filter q xs
+pub filter-same : {X : Type 0} (p q : X → Bool) (xs : List X) → ((x : X) → p x ≡ q x) → filter p xs ≡ filter q xs
 filter-same p q [] same = refl
 filter-same p q (x ∷ xs) same = rw (same x, filter-same p q xs same) refl
 
@@ -174,7 +174,7 @@ alloc_once list key legal =
 
 -- ---- the live allocations with one more instruction
 
-unended-step : (i : Instruction) (instructions : List Instruction) (key : AllocKey) → is_none (ended_in (i ∷ instructions) key) ≡ (is_none (ended_in instructions key) && not (ends key i.role))
+pub unended-step : (i : Instruction) (instructions : List Instruction) (key : AllocKey) → is_none (ended_in (i ∷ instructions) key) ≡ (is_none (ended_in instructions key) && not (ends key i.role))
 unended-step i instructions key =
     elim (cases_Bool (ends key i.role)) [
       | inl ended ↦ rw ended (sym (and-false (is_none (ended_in instructions key))))
@@ -185,7 +185,7 @@ new-stands : (p : Allocation → Bool) (brought : Option Allocation) → ((a : A
 new-stands p None each = refl
 new-stands p (Some a) each = rw (each a refl) refl
 
-own-key : (found : Instruction) (brought : Option Allocation) → IsOfInstruction (Some found) brought → (a : Allocation) → brought ≡ Some a → a.key ≡ found.key
+pub own-key : (found : Instruction) (brought : Option Allocation) → IsOfInstruction (Some found) brought → (a : Allocation) → brought ≡ Some a → a.key ≡ found.key
 own-key i None is a brought = cc
 own-key i (Some b) is a brought = let one : b ≡ a = cc in ap (λ x. x.key) (sym one) ∙ is.0
 

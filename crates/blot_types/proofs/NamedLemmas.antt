@@ -18,7 +18,7 @@ use Rattle.blot_types.proofs.StandLemmas.{and-true, and-false}
 
 -- ---- lists
 
-any-length : {X : Type 0} (p : X → Bool) (xs : List X) → list_any p xs ≡ true → 1 ≤ length (filter p xs)
+pub any-length : {X : Type 0} (p : X → Bool) (xs : List X) → list_any p xs ≡ true → 1 ≤ length (filter p xs)
 any-length p [] any = cc
 any-length p (x ∷ xs) any =
     elim (cases_Bool (p x)) [
@@ -54,7 +54,7 @@ length-split a b (x ∷ xs) =
       | inr fails ↦ rw fails rest
     ]
 
-any-same : {X : Type 0} (p q : X → Bool) (xs : List X) → ((x : X) → p x ≡ q x) → list_any p xs ≡ list_any q xs
+pub any-same : {X : Type 0} (p q : X → Bool) (xs : List X) → ((x : X) → p x ≡ q x) → list_any p xs ≡ list_any q xs
 any-same p q [] same = refl
 any-same p q (x ∷ xs) same = rw (same x, any-same p q xs same) refl
 

@@ -16,7 +16,7 @@ use Rattle.blot_types.proofs.NeedLemmas.{blocked_in, IsStep, turned, found-first
 use Rattle.blot_types.proofs.VersionLemmas.{trade-step}
 
 -- a legal list has no Withdraw
-no_withdraw : (number withdrawn : ℕ) (later front : List Entry) → legal_in (later ++ record { number = number; command = Withdraw withdrawn } ∷ front) ≡ true → ⊥
+pub no_withdraw : (number withdrawn : ℕ) (later front : List Entry) → legal_in (later ++ record { number = number; command = Withdraw withdrawn } ∷ front) ≡ true → ⊥
 no_withdraw number withdrawn [] front legal =
     let parts : (is_none (refusal_in front (Withdraw withdrawn)) ≡ true) × (legal_in front ≡ true) = and_parts _ _ legal in
     cc

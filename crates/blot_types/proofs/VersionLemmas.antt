@@ -108,10 +108,10 @@ last-of later front k l r gone rise last =
 
 -- ---- a Trade
 
-abbrev as_entry : ℕ → Trade → Entry
+abbrev pub as_entry : ℕ → Trade → Entry
 as_entry number trade = record { number = number; command = TradeCommand trade }
 
-abbrev as_link : ℕ → Trade → Link
+abbrev pub as_link : ℕ → Trade → Link
 as_link number trade = record { number = number; key = trade.key; role = Begins }
 
 -- another key of its chain would refer to it
@@ -167,7 +167,7 @@ or-false true = refl
 or-false false = refl
 
 -- all that can need a Trade is a reference to it
-trade-needs : (before : List Entry) (number : ℕ) (trade : Trade) (command : Command) → needs before (as_entry number trade) command ≡ is_among (exec_references command) trade.key
+pub trade-needs : (before : List Entry) (number : ℕ) (trade : Trade) (command : Command) → needs before (as_entry number trade) command ≡ is_among (exec_references command) trade.key
 trade-needs before number trade command = or-false (is_among (exec_references command) trade.key)
 
 pub trade-step : (number : ℕ) (trade : Trade) → IsStep (as_entry number trade)

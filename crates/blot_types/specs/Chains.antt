@@ -2,8 +2,8 @@
 --
 -- "The entries before it" is natural on a list newest first. So a word that ends in `_in` reads the links
 -- newest first: after a link stand the earlier ones.
-use Rattle.std.specs.Prelude.{ℕ, Bool, true, false, ◌&&◌, List, [], ◌∷◌, Option, Some, None, find, is_none, nat_lt, if◌then◌else◌}
-use Rattle.std.specs.List.{cons_option, list_all}
+use Rattle.std.specs.Prelude.{ℕ, Bool, true, false, ◌&&◌, List, [], ◌∷◌, reverse, Option, Some, None, find, is_none, nat_eq, nat_lt, if◌then◌else◌}
+use Rattle.std.specs.List.{cons_option, filter, list_all}
 use Rattle.std.specs.Option.{option_map, option_or, option_and_then}
 use Rattle.blot_types.specs.declared.keys.ExecKey.{ExecKey}
 use Rattle.blot_types.specs.declared.link.Link.{Link}
@@ -102,3 +102,30 @@ is_above_links number links = list_all (λ link. nat_lt link.number number) link
 abbrev pub falls : List Link → Bool
 falls [] = true
 falls (link ∷ earlier) = is_above_links link.number earlier && falls earlier
+
+-- whether a link of this role refers to a key
+abbrev pub refers_to : ExecKey → Role → Bool
+refers_to key Begins = false
+refers_to key (Corrects reference) = same_exec reference key
+refers_to key (Busts reference) = same_exec reference key
+
+-- the number of the first link above a number that refers to a key
+abbrev pub first_referring : List Link → ℕ → ExecKey → Option ℕ
+first_referring links number key =
+    option_map (λ link. link.number) (find (λ link. nat_lt number link.number && refers_to key link.role) (reverse links))
+
+-- the number of the first link above that of another, given by its number, that refers to the other's key
+abbrev pub first_needing_link : List Link → ℕ → Option ℕ
+first_needing_link links number =
+    option_and_then (λ link. first_referring links number link.key) (find (λ link. nat_eq link.number number) links)
+
+-- the number of the last version of the chain of a root below a number
+abbrev pub version_before_in : List Link → ℕ → ExecKey → Option ℕ
+version_before_in links number root = current_in (filter (λ link. nat_lt link.number number) links) root
+
+-- the number of the first version of the chain of a root above a number
+abbrev pub version_after_in : List Link → ℕ → ExecKey → Option ℕ
+version_after_in [] number root = None
+version_after_in (link ∷ earlier) number root =
+    option_or (version_after_in earlier number root)
+    (if nat_lt number link.number && is_root root (own_root (root_in earlier) link.key link.role) then Some link.number else None)

@@ -1,8 +1,8 @@
 -- The allocations that instructions bring: an AllocNew brings one, an AllocReplace one in the place of another,
 -- an AllocCancel ends one. Each word reads the instructions newest first: after one stand the earlier ones.
-use Rattle.std.specs.Prelude.{ℕ, Bool, true, false, ◌&&◌, not, List, [], ◌∷◌, filter, Option, Some, None, find, is_none, nat_lt}
+use Rattle.std.specs.Prelude.{ℕ, Bool, true, false, ◌&&◌, ◌||◌, not, List, [], ◌∷◌, filter, reverse, Option, Some, None, find, is_none, nat_eq, nat_lt}
 use Rattle.std.specs.List.{list_any, list_all, flat_map}
-use Rattle.std.specs.Option.{option_map, option_map_or}
+use Rattle.std.specs.Option.{option_map, option_map_or, option_and_then}
 use Rattle.blot_types.specs.declared.allocation.AllocRole.{AllocRole}
 use Rattle.blot_types.specs.declared.allocation.AllocRole.TheVariants.{Allocates, Replaces, Cancels}
 use Rattle.blot_types.specs.declared.allocation.Instruction.{Instruction}
@@ -106,3 +106,34 @@ is_instructed (instruction ∷ earlier) = may_follow earlier instruction.key ins
 -- whether a number is above those of the instructions
 abbrev pub is_above_instructions : ℕ → List Instruction → Bool
 is_above_instructions number instructions = list_all (λ instruction. nat_lt instruction.number number) instructions
+
+-- the number of the first instruction above a number that passes a test
+abbrev pub first_instruction : (Instruction → Bool) → ℕ → List Instruction → Option ℕ
+first_instruction test number instructions =
+    option_map (λ instruction. instruction.number)
+    (find (λ instruction. nat_lt number instruction.number && test instruction) (reverse instructions))
+
+-- the number of the first instruction above a number that lists an execution of the chain of this root
+abbrev pub first_naming : List Instruction → ℕ → ExecKey → Option ℕ
+first_naming instructions number root = first_instruction (names root) number instructions
+
+-- the roots that the allocation names which an instruction of this role ended
+abbrev pub ended_roots : List Instruction → AllocRole → List ExecKey
+ended_roots instructions role =
+    option_map_or (λ ended. ended.roots) (option_and_then (λ key. find (is_keyed key) instructions) (reference_of role)) []
+
+-- whether an instruction lists an execution of the chain of one of these roots
+abbrev pub names_any : List ExecKey → Instruction → Bool
+names_any roots instruction = list_any (λ root. names root instruction) roots
+
+-- whether one instruction needs another: it refers to the other's allocation, or lists an execution of a chain that the
+-- allocation names which the other ended
+abbrev pub needs_instruction : List Instruction → Instruction → Instruction → Bool
+needs_instruction instructions other instruction =
+    ends other.key instruction.role || names_any (ended_roots instructions other.role) instruction
+
+-- the number of the first instruction above that of another, given by its number, that needs the other
+abbrev pub first_needing_instruction : List Instruction → ℕ → Option ℕ
+first_needing_instruction instructions number =
+    option_and_then (λ other. first_instruction (needs_instruction instructions other) number instructions)
+    (find (λ instruction. nat_eq instruction.number number) instructions)

@@ -1,17 +1,17 @@
 -- Which commands a list of entries refuses, and which lists are legal. A word that ends in `_in` reads the
 -- entries newest first.
-use Rattle.std.specs.Prelude.{◌≡◌, ℕ, ◌+◌, Bool, true, ◌&&◌, List, [], ◌∷◌, reverse, Option, Some, None, is_none, nat_lt, if◌then◌else◌}
+use Rattle.std.specs.Prelude.{◌≡◌, ℕ, ◌+◌, ◌==◌, Bool, true, ◌&&◌, not, List, [], ◌∷◌, map, filter, find, reverse, Option, Some, None, is_none, nat_lt, if◌then◌else◌}
 use Rattle.std.specs.List.{list_all}
-use Rattle.std.specs.Option.{option_map_or, option_or}
+use Rattle.std.specs.Option.{option_map, option_map_or, option_or}
 use Rattle.blot_types.specs.declared.allocation.Instruction.{Instruction}
 use Rattle.blot_types.specs.declared.command.Command.{Command}
 use Rattle.blot_types.specs.declared.command.Entry.{Entry}
 use Rattle.blot_types.specs.declared.link.Link.{Link}
 use Rattle.blot_types.specs.declared.refused.Refused.{Refused}
-use Rattle.blot_types.specs.declared.refused.Refused.TheVariants.{NotLive}
+use Rattle.blot_types.specs.declared.refused.Refused.TheVariants.{Needed, NotLive}
 use Rattle.blot_types.specs.declared.TheConstants.{EVENTS_MAX}
 use Rattle.blot_types.specs.Allocations.{instructions_of}
-use Rattle.blot_types.specs.Refusals.{withdrawn_by, never_entry, is_live_bust, duplicate_exec, duplicate_alloc, unknown_alloc, dead_alloc, unknown_exec, busted_exec, repeated_exec, exec_taken, instrument, quantity}
+use Rattle.blot_types.specs.Refusals.{withdrawn_by, never_entry, is_live, duplicate_exec, duplicate_alloc, unknown_alloc, dead_alloc, unknown_exec, busted_exec, repeated_exec, exec_taken, instrument, quantity}
 use Rattle.blot_types.specs.Survivors.{links_of}
 
 -- whether a number is above those of the entries
@@ -44,14 +44,6 @@ refusal_in entries command =
 abbrev pub entry_refusal : List Entry → Command → Option Refused
 entry_refusal list command = refusal_in (reverse list) command
 
--- NotLive: the entry that a command takes out isn't there, or is no Bust
-abbrev pub withdrawal_refusal : List Entry → ℕ → Option Refused
-withdrawal_refusal list number = if is_live_bust number list then None else Some (NotLive number)
-
--- why a list refuses a command: to be its next entry, or to take an entry out of it
-abbrev pub refusal_of : List Entry → Command → Option Refused
-refusal_of list command = option_map_or (withdrawal_refusal list) (withdrawn_by command) (entry_refusal list command)
-
 -- whether each entry is accepted after those before it
 abbrev pub legal_in : List Entry → Bool
 legal_in [] = true
@@ -59,6 +51,34 @@ legal_in (entry ∷ earlier) = is_none (refusal_in earlier entry.command) && leg
 
 abbrev pub is_legal : List Entry → Bool
 is_legal list = legal_in (reverse list)
+
+-- ---- an entry that is taken out
+
+-- the entries without that of a number
+abbrev pub without : ℕ → List Entry → List Entry
+without number entries = filter (λ entry. not (entry.number == number)) entries
+
+-- the entries numbered up to a number
+abbrev pub up_to : ℕ → List Entry → List Entry
+up_to number entries = filter (λ entry. not (nat_lt number entry.number)) entries
+
+-- whether a number is above k, and the entries numbered up to it, without k, aren't legal
+abbrev pub fails_at : List Entry → ℕ → ℕ → Bool
+fails_at list k number = nat_lt k number && not (is_legal (without k (up_to number list)))
+
+-- the least number in the list at which that is so: that of the first entry that needs k
+abbrev pub least_needing : List Entry → ℕ → Option ℕ
+least_needing list k = find (fails_at list k) (map (λ entry. entry.number) list)
+
+-- NotLive: the entry that a command takes out isn't there. Needed: the list without it isn't legal; the first entry that needs it
+abbrev pub withdrawal_refusal : List Entry → ℕ → Option Refused
+withdrawal_refusal list number = if is_live number list then option_map Needed (least_needing list number) else Some (NotLive number)
+
+-- why a list refuses a command: to be its next entry, or to take an entry out of it
+abbrev pub refusal_of : List Entry → Command → Option Refused
+refusal_of list command = option_map_or (withdrawal_refusal list) (withdrawn_by command) (entry_refusal list command)
+
+-- ---- the book
 
 -- a list of entries: the numbers rise, up to EVENTS_MAX
 abbrev pub is_numbered : List Entry → Bool

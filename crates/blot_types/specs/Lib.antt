@@ -6,6 +6,7 @@ pub mod Keys
 pub mod Laws
 pub mod Legal
 pub mod Making
+pub mod Numbers
 pub mod Order
 pub mod Position
 pub mod Refusals

@@ -1,5 +1,5 @@
 -- Why a list of entries refuses a command: one definition a rule. The entries are newest first.
-use Rattle.std.specs.Prelude.{ℕ, ◌==◌, Bool, true, false, ◌&&◌, not, ℤ, pos, List, [], ◌∷◌, ◌++◌, Option, Some, None, find, is_none, if◌then◌else◌}
+use Rattle.std.specs.Prelude.{ℕ, ◌==◌, Bool, true, false, ◌&&◌, not, ℤ, pos, List, [], ◌∷◌, ◌++◌, Option, Some, None, find, is_none, is_some, if◌then◌else◌}
 use Rattle.std.specs.List.{filter_map, list_any}
 use Rattle.std.specs.Option.{option_map, option_map_or, option_or, option_and_then}
 use Rattle.std.specs.Ordering.{int_eq}
@@ -87,19 +87,9 @@ withdrawn_by (Withdraw withdrawn) = Some withdrawn
 
 -- ---- what the rules ask
 
--- whether a command is a Bust
-abbrev pub is_bust : Command → Bool
-is_bust (Trade trade) = false
-is_bust (Correct correct) = false
-is_bust (Bust bust) = true
-is_bust (AllocNew new) = false
-is_bust (AllocReplace replace) = false
-is_bust (AllocCancel cancel) = false
-is_bust (Withdraw withdrawn) = false
-
--- whether the entry of a number is there, and is a Bust
-abbrev pub is_live_bust : ℕ → List Entry → Bool
-is_live_bust number list = option_map_or (λ entry. is_bust entry.command) (find (λ entry. entry.number == number) list) false
+-- whether the entry of a number is there
+abbrev pub is_live : ℕ → List Entry → Bool
+is_live number list = is_some (find (λ entry. entry.number == number) list)
 
 -- the first answer that a question gives of some items, in their order
 abbrev pub first_of : {A B : Type 0} → (A → Option B) → List A → Option B

@@ -1,7 +1,7 @@
 -- How a refusal is told: by its number and its name. Source: this project's rule.
 use Rattle.std.specs.Prelude.{ℕ, ◌==◌, ◌||◌, List, codes, if◌then◌else◌}
 use Rattle.blot_types.specs.declared.refused.Refused.{Refused}
-use Rattle.blot_types.specs.declared.refused.Refused.TheVariants.{DuplicateExec, DuplicateAlloc, UnknownAlloc, DeadAlloc, UnknownExec, BustedExec, RepeatedExec, ExecTaken, Instrument, Quantity, NotLive, NothingToUndo, Moved, NothingToRedo}
+use Rattle.blot_types.specs.declared.refused.Refused.TheVariants.{DuplicateExec, DuplicateAlloc, UnknownAlloc, DeadAlloc, UnknownExec, BustedExec, RepeatedExec, ExecTaken, Instrument, Quantity, NotLive, Needed, NothingToUndo, Moved, NothingToRedo}
 
 -- the number of a refusal: of those that apply to a command, the least is answered
 abbrev pub refused_number : Refused → ℕ
@@ -16,6 +16,7 @@ refused_number (ExecTaken number) = 8
 refused_number (Instrument key) = 9
 refused_number (Quantity wanted found) = 10
 refused_number (NotLive number) = 11
+refused_number (Needed number) = 12
 refused_number NothingToUndo = 13
 refused_number (Moved newest) = 14
 refused_number NothingToRedo = 15
@@ -33,6 +34,7 @@ refused_name (ExecTaken number) = codes "ExecTaken"
 refused_name (Instrument key) = codes "Instrument"
 refused_name (Quantity wanted found) = codes "Quantity"
 refused_name (NotLive number) = codes "NotLive"
+refused_name (Needed number) = codes "Needed"
 refused_name NothingToUndo = codes "NothingToUndo"
 refused_name (Moved newest) = codes "Moved"
 refused_name NothingToRedo = codes "NothingToRedo"

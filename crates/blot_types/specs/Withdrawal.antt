@@ -1,5 +1,4 @@
--- Which entry is the first that needs another: a list without entry k, up to the first m at which it isn't legal, and
--- what of k such an m uses.
+-- Which entry is the first that needs another: what an entry uses of an earlier one, and a list without one, and with it put back.
 use Rattle.std.specs.Prelude.{◌≡◌, ℕ, ◌==◌, Bool, false, ◌&&◌, ◌||◌, not, List, [], ◌∷◌, ◌++◌, map, filter, find, reverse, Option, Some, None, is_none, nat_lt, if◌then◌else◌}
 use Rattle.std.specs.List.{list_any}
 use Rattle.std.specs.Option.{option_map_or, option_or, option_and_then}
@@ -14,27 +13,10 @@ use Rattle.blot_types.specs.Allocations.{allocation_of, instructions_in}
 use Rattle.blot_types.specs.Chains.{root_in, current_in}
 use Rattle.blot_types.specs.Instructions.{is_allocation_of, names, is_reference}
 use Rattle.blot_types.specs.Keys.{same_text, is_among}
-use Rattle.blot_types.specs.Legal.{is_legal, is_book}
+pub use Rattle.blot_types.specs.Legal.{without, up_to, fails_at, least_needing}
+use Rattle.blot_types.specs.Legal.{is_book}
 use Rattle.blot_types.specs.Refusals.{alloc_reference, exec_references, listed_by, current_fill, same_sign}
 use Rattle.blot_types.specs.Survivors.{is_number, links_in, version_of}
-
--- ---- by legality
-
--- the entries without that of a number
-abbrev pub without : ℕ → List Entry → List Entry
-without number entries = filter (λ entry. not (entry.number == number)) entries
-
--- the entries numbered up to a number
-abbrev pub up_to : ℕ → List Entry → List Entry
-up_to number entries = filter (λ entry. not (nat_lt number entry.number)) entries
-
--- whether a number is above k, and the entries numbered up to it, without k, aren't legal
-abbrev pub fails_at : List Entry → ℕ → ℕ → Bool
-fails_at list k number = nat_lt k number && not (is_legal (without k (up_to number list)))
-
--- the least number in the list at which that is so
-abbrev pub least_needing : List Entry → ℕ → Option ℕ
-least_needing list k = find (fails_at list k) (map (λ entry. entry.number) list)
 
 -- ---- by what is used of k. The entries stand newest first: those before m, k among them
 

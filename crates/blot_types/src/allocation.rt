@@ -1,8 +1,9 @@
 //! What an allocation books, and where.
 ghost use Rattle.std.specs.Prelude.{◌≡◌, pos};
 ghost use Rattle.blot_types.specs.declared.refused.Refused.TheVariants.{Quantity};
-ghost use Rattle.blot_types.specs.Refusals.{booked, differs, mismatch, same_sign};
+ghost use Rattle.blot_types.specs.Refusals.{booked, differs, mismatch};
 
+use crate::fill::is_same_sign;
 use crate::{AllocKey, ExecKey, Fill, Items, Refused, Sign, Text64};
 use blot_decimal::{Price, Qty, QtySum};
 use blot_time::Day;
@@ -56,16 +57,6 @@ impl Terms {
             return Some(quantity(wanted, booked));
         }
         None
-    }
-}
-
-// Whether two signs are one.
-fn is_same_sign(a: Sign, b: Sign) -> bool
-    ensures { result ≡ same_sign a b }
-{
-    match (a, b) {
-        (Sign::Buy, Sign::Buy) | (Sign::Sell, Sign::Sell) => true,
-        (Sign::Buy, Sign::Sell) | (Sign::Sell, Sign::Buy) => false,
     }
 }
 

@@ -2,7 +2,7 @@
 ghost use Rattle.std.specs.Prelude.{◌≡◌, IfOk};
 ghost use Rattle.std.specs.Option.{option_copied, option_map};
 ghost use Rattle.blot_types.specs.Allocations.{allocation_of};
-ghost use Rattle.blot_types.specs.Refusals.{is_bust, withdrawn_by, exec_key, alloc_key, alloc_reference, terms_of, listed_by, exec_references};
+ghost use Rattle.blot_types.specs.Refusals.{withdrawn_by, exec_key, alloc_key, alloc_reference, terms_of, listed_by, exec_references};
 
 use crate::{AllocKey, ExecKey, Fill, Link, Role, Terms, Version};
 use std::alloc::{AllocError as NoMemory, Global};
@@ -172,21 +172,6 @@ impl Command {
             | Command::AllocReplace(_)
             | Command::AllocCancel(_) => None,
             Command::Withdraw(number) => Some(*number),
-        }
-    }
-
-    /// Whether the command is a Bust.
-    pub fn is_bust(&self) -> bool
-        ensures { result ≡ is_bust self.now }
-    {
-        match self {
-            Command::Bust(_) => true,
-            Command::Trade(_)
-            | Command::Correct(_)
-            | Command::AllocNew(_)
-            | Command::AllocReplace(_)
-            | Command::AllocCancel(_)
-            | Command::Withdraw(_) => false,
         }
     }
 

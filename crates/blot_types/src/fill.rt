@@ -1,4 +1,7 @@
 //! What an execution brings to an order.
+ghost use Rattle.std.specs.Prelude.{◌≡◌};
+ghost use Rattle.blot_types.specs.Refusals.{same_sign};
+ghost use Rattle.blot_types.specs.Withdrawal.{alike};
 
 use crate::{OrderKey, Text64};
 use blot_decimal::{Price, Qty, QtySum};
@@ -29,4 +32,23 @@ pub struct Fill {
     pub price: Price,
     /// The day of the execution.
     pub day: Day,
+}
+
+impl Fill {
+    /// Whether an allocation may take one fill for the other: they have the same symbol, sign and quantity.
+    pub fn is_alike(&self, other: &Fill) -> bool
+        ensures { result ≡ alike self.now other.now }
+    {
+        self.symbol == other.symbol && is_same_sign(self.sign, other.sign) && self.qty == other.qty
+    }
+}
+
+/// Whether two signs are one.
+pub(crate) fn is_same_sign(a: Sign, b: Sign) -> bool
+    ensures { result ≡ same_sign a b }
+{
+    match (a, b) {
+        (Sign::Buy, Sign::Buy) | (Sign::Sell, Sign::Sell) => true,
+        (Sign::Buy, Sign::Sell) | (Sign::Sell, Sign::Buy) => false,
+    }
 }

@@ -24,7 +24,7 @@ pub use keys::{AllocKey, ExecKey, OrderKey, PositionKey};
 pub use lines::{OrderLine, PositionLine, Version};
 pub use link::{Link, Role};
 pub use making::Making;
-pub use numbered::Numbered;
+pub use numbered::{Numbered, lesser};
 pub use part::{Part, house_account};
 pub use refused::Refused;
 pub use text::{TEXT_MAX, Text64};

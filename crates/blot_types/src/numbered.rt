@@ -1,4 +1,6 @@
 //! What has a number.
+ghost use Rattle.std.specs.Prelude.{◌≡◌};
+ghost use Rattle.blot_types.specs.Numbers.{lesser};
 
 use crate::Instruction;
 
@@ -20,5 +22,15 @@ impl Numbered for Instruction {
 
     fn number(&self) -> u64 {
         self.number
+    }
+}
+
+/// The lesser of two numbers, of which there may be one or none.
+pub fn lesser(a: Option<u64>, b: Option<u64>) -> Option<u64>
+    ensures { result ≡ lesser a b }
+{
+    match (a, b) {
+        (None, number) | (number, None) => number,
+        (Some(a), Some(b)) => Some(a.min(b)),
     }
 }

@@ -26,8 +26,10 @@ pub enum Refused {
     Instrument(ExecKey),
     /// The quantity of the executions, in units of 10^-6, and the block's or the lines' that differs from it.
     Quantity(QtySum, QtySum),
-    /// No entry of this number is live, or it is no Bust.
+    /// No entry of this number is live.
     NotLive(u64),
+    /// Without the entry that is to be withdrawn the list isn't legal: the entry of this number is the first that needs it.
+    Needed(u64),
     /// No step is done.
     NothingToUndo,
     /// The newest done step has this other number.
@@ -56,6 +58,7 @@ impl Refused {
             Refused::Instrument(_) => 9,
             Refused::Quantity(..) => 10,
             Refused::NotLive(_) => 11,
+            Refused::Needed(_) => 12,
             Refused::NothingToUndo => 13,
             Refused::Moved(_) => 14,
             Refused::NothingToRedo => 15,
@@ -78,6 +81,7 @@ impl Refused {
             Refused::Instrument(_) => b"Instrument",
             Refused::Quantity(..) => b"Quantity",
             Refused::NotLive(_) => b"NotLive",
+            Refused::Needed(_) => b"Needed",
             Refused::NothingToUndo => b"NothingToUndo",
             Refused::Moved(_) => b"Moved",
             Refused::NothingToRedo => b"NothingToRedo",

@@ -4,43 +4,36 @@ use Rattle.std.specs.Prelude.{find, if◌then◌else◌}
 use Rattle.std.specs.Option.{option_map, option_map_or}
 use Rattle.blot_types.specs.declared.command.Command.TheVariants.{Withdraw as WithdrawCommand}
 use Rattle.blot_types.specs.declared.command.Entry.{Entry}
-use Rattle.blot_types.specs.declared.refused.Refused.TheVariants.{NotLive}
 use Rattle.blot_types.specs.declared.TheConstants.{EVENTS_MAX}
 use Rattle.blot_types.specs.Legal.{is_book, withdrawal_refusal}
-use Rattle.blot_types.specs.Refusals.{is_live_bust, is_bust}
 use Rattle.blot_types.specs.Withdrawal.{without}
 use Rattle.blot_command.specs.declared.fault.ApplyFault.TheVariants.{Refused}
 use Rattle.blot_command.specs.declared.inverse.Inverse.TheVariants.{Number, Taken}
 use Rattle.blot_command.specs.Book.{Shown, has_number, numbers_of, taken_of}
+use Rattle.blot_command.specs.Law.{has_entry}
 use Rattle.blot_command.specs.Meanings.{command_meaning}
 use Rattle.blot_command.specs.Undoable.{AllBelow, IsAboveNumbers, IsStep, Adds, UndoesStep, Undoes, TakesOut}
 use Rattle.blot_command.specs.Withdrawing.{lifted, returned, CanReturn}
 use Rattle.blot_command.proofs.TakenLemmas.{withdraw_adds, returns_taken, puts_back}
 use Rattle.blot_withdraw.specs.declared.withdrawing.Withdraw.{Withdraw}
-use Rattle.blot_withdraw.specs.Withdrawing.{withdraw_meaning, taken_from, taken_bust}
-
--- a Bust that is found isn't refused
-accepted : (list : List Entry) (taken : ℕ) (entry : Entry) → find (has_number taken) list ≡ Some entry → is_bust entry.command ≡ true → withdrawal_refusal list taken ≡ None
-accepted list taken entry found bust =
-    let live : is_live_bust taken list ≡ true = ap (λ found. option_map_or (λ (e : Entry). is_bust e.command) found false) found ∙ bust in
-    ap (λ live. if live then None else Some (NotLive taken)) live
+use Rattle.blot_withdraw.specs.Withdrawing.{withdraw_meaning, taken_from, taken_by}
 
 pub withdraw_step :
-    (list next : List Entry) (withdraw : Withdraw) (number : ℕ) (entry : Entry) → is_book list ≡ true → find (has_number withdraw.0) list ≡ Some entry → is_bust entry.command ≡ true
-    → number ≤ EVENTS_MAX → AllBelow number (numbers_of list) → next ≡ without withdraw.0 list → IsStep withdraw_meaning list withdraw number entry next
-withdraw_step list next withdraw number entry book found bust within above is = record {
+    (list next : List Entry) (withdraw : Withdraw) (number : ℕ) (entry : Entry) → is_book list ≡ true → withdrawal_refusal list withdraw.0 ≡ None → find (has_number withdraw.0) list ≡ Some entry
+    → number ≤ EVENTS_MAX → AllBelow number (numbers_of list) → next ≡ without entry.number list → IsStep withdraw_meaning list withdraw number entry next
+withdraw_step list next withdraw number entry book accepted found within above is = record {
   valid = book;
   within = within;
-  is_next = record { accepted = ap (option_map Refused) (accepted list withdraw.0 entry found bust); above = above };
+  is_next = record { accepted = ap (option_map Refused) accepted; above = above };
   inverse_is = sym (ap (λ o. option_map_or (λ (e : Entry). e) o (record { number = withdraw.0; command = WithdrawCommand withdraw.0 })) found);
-  list_is = is;
+  list_is = is ∙ ap (λ k. without k list) (has_entry list withdraw.0 entry found).own;
 }
 
 pub withdraw_keeps :
-    (old new : Shown) (taken number : ℕ) (entry : Entry) → is_book old.list ≡ true → find (has_number taken) old.list ≡ Some entry → new ≡ lifted taken old → CanReturn entry new
+    (old new : Shown) (taken number : ℕ) (entry : Entry) → is_book old.list ≡ true → find (has_number taken) old.list ≡ Some entry → new ≡ lifted entry old → CanReturn entry new
     → IsAboveNumbers withdraw_meaning number old → Adds withdraw_meaning number entry old new
 withdraw_keeps old new taken number entry book found is can above =
-    let adds = withdraw_adds old new taken number entry book (accepted old.list taken entry found can.bust) found is can above in
+    let adds = withdraw_adds old new taken number entry book found is can above in
     record { brings = adds.brings; own = adds.own; earlier = λ n other below kept. adds.earlier n (Taken other) below kept }
 
 -- what it takes back
@@ -49,7 +42,7 @@ undoes_command :
     → UndoesStep command_meaning list (WithdrawCommand withdraw.0) number (Taken entry) state
 undoes_command list withdraw number entry state undoes =
     let step = undoes.step in
-    let has = taken_bust list withdraw number step.is_next in
+    let has = taken_by list withdraw number step.valid step.is_next in
     let own : Taken (taken_from list withdraw.0) ≡ taken_of list withdraw.0 = rw has.found refl in
     record {
       step = record {

@@ -9,7 +9,7 @@ use Rattle.blot_types.specs.declared.keys.ExecKey.{ExecKey}
 use Rattle.blot_types.specs.Chains.{is_root, bust_in}
 use Rattle.blot_types.specs.Refusals.{listed_by}
 use Rattle.blot_types.specs.Survivors.{links_of, root_of}
-use Rattle.blot_command.specs.Book.{Shown, numbers_of, link_numbers}
+use Rattle.blot_command.specs.Book.{Shown, numbers_of}
 use Rattle.blot_withdraw.specs.declared.fault.EraseFault.{EraseFault}
 use Rattle.blot_withdraw.specs.declared.fault.EraseFault.TheVariants.{UnknownExec, NotBusted, Named, NoMemory}
 
@@ -61,4 +61,4 @@ IsEraseFault list key fault = erase_fault list key ≡ Some fault ⊎ ((erase_fa
 
 -- what a book keeps beside its list has no number but those of its list
 abbrev pub HasOnlyListed : Shown → Type 0
-HasOnlyListed book = (number : ℕ) → Contains (link_numbers book.kept) number → Contains (numbers_of book.list) number
+HasOnlyListed book = (number : ℕ) → Contains (numbers_of book.kept) number → Contains (numbers_of book.list) number

@@ -1,10 +1,9 @@
-//! A Bust taken out of the book.
+//! An entry taken out of the book.
 
-use blot_command::{ApplyFault, BoxedEntry, Tables, Undoable};
-use blot_types::Refused;
+use blot_command::{ApplyFault, BoxedEntry, Tables, Undoable, withdraw};
 
-/// Takes the Bust of this number out of the live list, whatever came later. Undone, the Bust stands again at its place, under
-/// its number. No memory is taken. This project's rule.
+/// Takes the entry of this number out of the live list, whatever came later, exactly where the list without it is legal. Undone, the
+/// entry stands again at its place, under its number. No memory is taken. This project's rule.
 #[derive(Clone, Copy, Debug, PartialEq, Eq)]
 pub struct Withdraw(pub u64);
 
@@ -28,11 +27,10 @@ impl Undoable for Withdraw {
     fn apply(self, tables: &mut Tables, number: u64) -> Result<BoxedEntry, (Withdraw, ApplyFault)> {
         // No entry bears the number of the step.
         let _ = number;
-        match tables.entry(self.0) {
-            Some(entry) if entry.command.is_bust() => {}
-            _ => return Err((self, ApplyFault::Refused(Refused::NotLive(self.0)))),
+        match withdraw(tables, self.0) {
+            Ok(entry) => Ok(entry),
+            Err(refused) => Err((self, ApplyFault::Refused(refused))),
         }
-        Ok(tables.lift(self.0))
     }
 
     fn revert(entry: BoxedEntry, tables: &mut Tables) -> Withdraw {

@@ -238,6 +238,9 @@ The words of a line are divided by tabs (shown here as spaces):
   report 20240105           the report of that day alone
   undo 1                    undoes the newest step, which has to be number 1
   redo                      does again what was undone last
+  withdraw 1                takes command 1 out of the book, whatever came after it, where none of that
+                            needs it; this is a step too, and can be undone
+  mine                      withdraws the newest command in the book
   allocate BRKA AL1 XYZ B 20240105 10.5 1 E1 A1 60 A2 40
                             books executions to accounts: broker, AllocID, symbol, side (B or S), day,
                             price, how many executions and their ExecIDs, and then each account with
@@ -248,10 +251,11 @@ The answers:
                                       value (the sum of quantity times price)
   position A1 XYZ 100 1050            account, symbol, quantity and value; negative where it sold
   report 20240105 ..                  lines of orders and positions, and end with their count
-  none                                no such order or position
+  none                                no such order or position; nothing that mine could withdraw
   accepted 2, undone 1, redone 1      what was done, with its number
   refused 10 Quantity 100 90          the book doesn't take it: the refusal's number, its name, and
                                       what it names
+  refused 12 Needed 4                 so it is with a withdrawal: command 4 needs what is to go
   bad 3 2                             the line isn't understood: 1 an unknown word, 2 too few or too
                                       many words, 3 a bad value and its place behind the first word,
                                       4 a line that is too long
@@ -333,7 +337,7 @@ that what was lost is asked for. A heartbeat interval of 1 to 86400 seconds is k
 once as many connections as --sessions says have come.
 
 The operator's lines are those of `blotter desk`, and the report's lines those of `blotter replay` (see their
-help).
+help). But mine withdraws the newest command that you have entered here yourself, and never a broker's.
 
 After a round a line of standard error tells how each connection ended, in the order in which they came:
   wire 0 ended 1

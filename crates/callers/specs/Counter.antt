@@ -20,6 +20,7 @@ add_meaning = record {
   inverse_of = λ total add number. add.amount;
   before = λ total amount. total - amount;
   command_of = λ total amount. Some (record { amount = amount });
+  takes_memory = λ add. true;
   no_memory = NoMemory;
 }
 

@@ -23,6 +23,7 @@ put_meaning = record {
   inverse_of = λ places put number. record { place = put.place; value = slice_index_or places put.place None };
   before = λ places was. slice_set places was.place was.value;
   command_of = λ places was. option_map (λ value. record { place = was.place; value = value }) (slice_index_or places was.place None);
+  takes_memory = λ put. true;
   no_memory = NoMemory;
 }
 

@@ -2,7 +2,7 @@ use Rattle.std.proofs.Common.{sym, subst, ◌∙◌}
 use Rattle.blot_types.proofs.LegalLemmas.{is_book-push}
 use Rattle.blot_command.specs.Meanings.{entry_meaning}
 use Rattle.blot_command.specs.Undoable.{Adds}
-use Rattle.blot_command.proofs.StepLemmas.{above_list, above_links, enters, adds}
+use Rattle.blot_command.proofs.StepLemmas.{above_list, above_kept, enters, adds}
 use Rattle.blot_command.proofs.entering.enter.Goals as goal
 
 pub record-requires-clause-book : goal.record-requires-clause-book
@@ -10,7 +10,7 @@ record-requires-clause-book c =
     is_book-push c.args.tables.now.list _ c.refusal.ensures.book (sym c.refusal.ensures.refusal ∙ c.in_default.is) (above_list c.args.number c.args.tables.now c.requires.above) c.requires.within
 
 pub record-requires-clause-above : goal.record-requires-clause-above
-record-requires-clause-above c = above_links c.args.number c.args.tables.now c.requires.above
+record-requires-clause-above c = above_kept c.args.number c.args.tables.now c.requires.above
 
 pub returns-in-Ok-clause-accepted : goal.returns-in-Ok-clause-accepted
 returns-in-Ok-clause-accepted c =

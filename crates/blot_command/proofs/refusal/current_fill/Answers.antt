@@ -3,7 +3,7 @@ use Rattle.std.specs.Option.{option_map}
 use Rattle.blot_types.specs.declared.lines.Version.{Version}
 use Rattle.blot_command.proofs.RefusalLemmas.{fill_found}
 use Rattle.blot_command.specs.Slots.{entries_in}
-use Rattle.blot_command.proofs.SlotLemmas.{entries_rise}
+use Rattle.blot_command.proofs.TurnLemmas.{entries_rise}
 use Rattle.blot_command.proofs.refusal.current_fill.Goals as goal
 
 pub returns-in-Some : goal.returns-in-Some

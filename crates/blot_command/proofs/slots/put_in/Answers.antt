@@ -1,46 +1,36 @@
-use Rattle.std.proofs.Common.{◌≤◌, ◌<◌, length, get_or, Some, refl, sym, subst}
+use Rattle.std.proofs.Common.{◌≡◌, ◌<◌, length, get_or, true, set, sym, ap, ◌∙◌}
+use Rattle.blot_places.specs.declared.slots.Slot.{Slot}
+use Rattle.blot_places.specs.Slots.{marked}
 use Rattle.blot_types.specs.declared.command.Entry.{Entry}
-use Rattle.blot_command.proofs.SlotLemmas.{IsEmptyAt, place_at, empty_at, within-left, entries-filled, left-filled, numbered-changed}
+use Rattle.blot_command.specs.Book.{entry_number}
+use Rattle.blot_command.proofs.SlotLemmas.{left-at, marked-there}
 use Rattle.blot_command.proofs.slots.put_in.Goals as goal
-use Rattle.blot_command.proofs.slots.put_in.Goals.{After-place_of-place, Joined-slots-place}
+use Rattle.blot_command.proofs.slots.put_in.Goals.{After-place_of-place}
 
--- there is a slot at the place
-there : (c : After-place_of-place) → c.place_of-place.result < length c.args.slots.now
-there c =
-    let slots = c.args.slots.now in
-    within-left slots c.args.entry.number c.place_of-place.result
-    (λ k d less. subst (λ (entry : Entry). (get_or slots k d).number < entry.number) c.as_entry.ensures (c.place_of-place.ensures.below k d less)) c.requires.left
+-- the slot that the entry was taken out of
+left : (c : After-place_of-place)
+    → (c.place_of-place.result < length c.args.slots.now) × ((slot : Slot Entry) → slot ≡ get_or c.args.slots.now c.place_of-place.result slot → slot.item ≡ c.args.entry)
+left c =
+    left-at c.args.slots.now c.as_entry.result.now.number c.place_of-place.result c.requires.numbered (λ k d less. c.place_of-place.ensures.below k d less)
+    (λ k d le within. c.place_of-place.ensures.above k d le within) c.args.entry (ap (λ (e : Entry). e.number) (sym c.as_entry.ensures)) c.requires.left
 
 pub bounds-slots-place : goal.bounds-slots-place
-bounds-slots-place c = there c
+bounds-slots-place c = (left c).0
 
-pub bounds-slots-place-2 : goal.bounds-slots-place-2
-bounds-slots-place-2 c = there c
+pub put-requires : goal.put-requires
+put-requires c =
+    let slot = c.index-slots-place.result in
+    let is = c.index-slots-place.is in
+    record { own = sym (ap (λ (s : Slot Entry). s.item) (sym is) ∙ (left (goal.at.put-requires c).After-place_of-place).1 slot is) }
 
--- it is empty, and bears the number
-empty : (c : Joined-slots-place) → IsEmptyAt c.args.slots.now c.args.entry.number c.place_of-place.result (get_or c.args.slots.now c.place_of-place.result c.index-slots-place.result)
-empty c =
+pub returns : goal.returns
+returns c =
     let slots = c.args.slots.now in
     let place = c.place_of-place.result in
-    let within : place < length slots =
-    within-left slots c.args.entry.number place
-    (λ k d less. subst (λ (entry : Entry). (get_or slots k d).number < entry.number) c.as_entry.ensures (c.place_of-place.ensures.below k d less)) c.requires.left in
-    empty_at slots c.args.entry.number place (get_or slots place c.index-slots-place.result)
-    (place_at slots c.args.entry.number place c.index-slots-place.result c.requires.numbered within
-    (λ k d less. subst (λ (entry : Entry). (get_or slots k d).number < entry.number) c.as_entry.ensures (c.place_of-place.ensures.below k d less))
-    (λ k d le within. subst (λ (entry : Entry). entry.number ≤ (get_or slots k d).number) c.as_entry.ensures (c.place_of-place.ensures.above k d le within)))
-    c.requires.left
-
-pub returns-clause-entries : goal.returns-clause-entries
-returns-clause-entries c =
-    entries-filled c.args.slots.now c.args.entry.number c.place_of-place.result (get_or c.args.slots.now c.place_of-place.result c.index-slots-place.result) c.args.entry c.requires.numbered (empty c) refl
-
-pub returns-clause-left : goal.returns-clause-left
-returns-clause-left c =
-    left-filled c.args.slots.now c.args.entry.number c.place_of-place.result (get_or c.args.slots.now c.place_of-place.result c.index-slots-place.result) c.args.entry (empty c)
-
-pub returns-clause-numbered : goal.returns-clause-numbered
-returns-clause-numbered c =
-    let it = empty c in
-    numbered-changed c.args.slots.now c.args.entry.number c.place_of-place.result (get_or c.args.slots.now c.place_of-place.result c.index-slots-place.result) (Some c.args.entry) c.requires.numbered it.at
-    (sym it.own)
+    let slot = c.index-slots-place.result in
+    let is = c.index-slots-place.is in
+    let it = left (goal.at.returns c).After-place_of-place in
+    ap (set slots place) (c.put.ensures.put ∙ ap (λ (s : Slot Entry). record s { is_live = true }) (sym is))
+    ∙ marked-there slots c.as_entry.result.now.number place c.requires.numbered (λ k d less. c.place_of-place.ensures.below k d less) (λ k d le within. c.place_of-place.ensures.above k d le within) true
+    slot is it.0 (ap (λ (e : Entry). e.number) (it.1 slot is ∙ sym c.as_entry.ensures))
+    ∙ ap (λ (e : Entry). marked entry_number e.number true slots) c.as_entry.ensures

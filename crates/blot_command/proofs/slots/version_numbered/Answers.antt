@@ -3,7 +3,7 @@ use Rattle.std.specs.Option.{option_and_then, option_copied}
 use Rattle.blot_types.specs.Survivors.{version_of}
 use Rattle.blot_command.specs.Slots.{entries_in}
 use Rattle.blot_command.proofs.SearchLemmas.{rise, version-by_number}
-use Rattle.blot_command.proofs.SlotLemmas.{entries_rise}
+use Rattle.blot_command.proofs.TurnLemmas.{entries_rise}
 use Rattle.blot_command.proofs.slots.version_numbered.Goals as goal
 
 pub returns-in-None : goal.returns-in-None

@@ -1,6 +1,8 @@
-use Rattle.std.proofs.Common.{◌≡◌, drop, fold}
-use Rattle.blot_desk.specs.Receipts.{is_gone, gone_by}
+use Rattle.std.proofs.Common.{◌≡◌, false, [], take}
+use Rattle.blot_desk.specs.Receipts.{seen_in}
 use Rattle.blot_desk.proofs.seat.is_gone.Given as goal
 
-abbrev pub invariant-loop-receipt : goal.invariant-loop-receipt
-invariant-loop-receipt l = fold (gone_by l.number) l.gone (drop l.receipt-index l.receipts) ≡ is_gone l.number l.receipts
+-- the receipts so far: whether the number is gone, and, where none of them withdraws it, that no step did
+abbrev pub invariant-loop-place : goal.invariant-loop-place
+invariant-loop-place l =
+    (l.gone ≡ (seen_in l.number (take l.place l.receipts)).gone) × (l.withdrawn ≡ false → (seen_in l.number (take l.place l.receipts)).withdrawals ≡ [])

@@ -12,7 +12,7 @@ use Rattle.blot_types.proofs.AcceptLemmas.{enters}
 use Rattle.blot_command.specs.declared.fault.ApplyFault.{ApplyFault}
 use Rattle.blot_command.specs.declared.fault.ApplyFault.TheVariants.{Refused}
 use Rattle.blot_command.specs.declared.inverse.Inverse.{Inverse}
-use Rattle.blot_command.specs.Book.{Shown, numbers_of, link_numbers}
+use Rattle.blot_command.specs.Book.{Shown, numbers_of}
 use Rattle.blot_command.specs.Meanings.{command_meaning}
 use Rattle.blot_command.specs.Undoable.{IsAboveNumbers, IsStep, IsRefusal, Adds}
 use Rattle.blot_command.proofs.KeepsLemmas.{pushed_was, pushed_own}
@@ -31,10 +31,10 @@ never_refused book next command returned fault reason accepted refusal is = elim
 above : (book : Shown) (entry : Entry) → is_book (book.list ++ entry ∷ []) ≡ true → HasOnlyListed book → IsAboveNumbers command_meaning entry.number book
 above book entry is listed =
     let below = (last_of book.list entry is).above in
-    All-append (λ earlier. earlier < entry.number) (link_numbers book.kept) (numbers_of book.list)
-    (All-weaker (Contains (link_numbers book.kept)) (λ earlier. earlier < entry.number)
+    All-append (λ earlier. earlier < entry.number) (numbers_of book.kept) (numbers_of book.list)
+    (All-weaker (Contains (numbers_of book.kept)) (λ earlier. earlier < entry.number)
     (λ k within. All-contains (λ earlier. earlier < entry.number) (numbers_of book.list) k below (listed k within))
-    (link_numbers book.kept) (All-contains_itself (link_numbers book.kept)))
+    (numbers_of book.kept) (All-contains_itself (numbers_of book.kept)))
     below
 
 put_list :
@@ -48,8 +48,8 @@ put_listed :
     (old new : Shown) (entry : Entry) (inverse : Inverse) → HasOnlyListed old → new.list ≡ old.list ++ entry ∷ [] → Adds command_meaning entry.number inverse old new → HasOnlyListed new
 put_listed old new entry inverse listed list adds k within =
     subst (λ l. Contains (numbers_of l) k) (sym list)
-    (elim (adds.brings k (Contains-append_left (link_numbers new.kept) (numbers_of new.list) k within)) [
-      | inl was ↦ pushed_was old.list entry k (elim (Contains-append_cases (link_numbers old.kept) (numbers_of old.list) k was) [ inl kept ↦ listed k kept | inr there ↦ there ])
+    (elim (adds.brings k (Contains-append_left (numbers_of new.kept) (numbers_of new.list) k within)) [
+      | inl was ↦ pushed_was old.list entry k (elim (Contains-append_cases (numbers_of old.kept) (numbers_of old.list) k was) [ inl kept ↦ listed k kept | inr there ↦ there ])
       | inr own ↦ subst (Contains (numbers_of (old.list ++ entry ∷ []))) (sym own) (pushed_own old.list entry)
     ])
 

@@ -1,87 +1,91 @@
-use Rattle.std.proofs.Common.{◌≡◌, ◌++◌, ◌∷◌, [], refl, ap, ◌∙◌, sym}
-use Rattle.blot_types.specs.Legal.{is_book}
+use Rattle.std.proofs.Common.{◌≡◌, refl, ap, ◌∙◌, sym}
+use Rattle.std.specs.Option.{option_map}
+use Rattle.blot_types.specs.Position.{part_of}
 use Rattle.blot_types.specs.Refusals.{alloc_reference}
-use Rattle.blot_types.specs.Survivors.{version_of}
+use Rattle.blot_types.specs.Survivors.{version_of, links_of}
+use Rattle.blot_types.specs.Chains.{replaced_by}
+use Rattle.std.specs.Option.{option_and_then}
+use Rattle.blot_types.proofs.ChangeLemmas.{replaced_version}
 use Rattle.blot_command.specs.Book.{Shown}
 use Rattle.blot_command.specs.Booking.{rebooked, released, allocated}
-use Rattle.blot_command.proofs.EntryMoveLemmas.{replaced_part, own_part}
-use Rattle.blot_command.proofs.AccountLemmas.{own_key, Reads, reads, goes-as, last-split, same-ends, move-second, move-third, move-shows}
+use Rattle.blot_command.specs.Shown.{version_numbered}
+use Rattle.blot_command.specs.Withdrawing.{with_entry}
+use Rattle.blot_command.proofs.EntryMoveLemmas.{own_key}
+use Rattle.blot_command.proofs.AccountLemmas.{Reads, pops, last-split, same-ends, move-second, move-third, move-shows}
 use Rattle.blot_command.proofs.accounts.Accounts.pop.Goals as goal
 
 pub release-requires : goal.release-requires
 release-requires c =
-    let list = c.self.inside.live.list in
-    let last = c.last-last.result.now in
-    let cells = c.self.inside.positions in
-    let split = last-split list last c.last-last.ensures.last in
-    let front = split.0 in
+    let old = c.self.inside.live in
+    let entry = c.last-last.result.now in
+    let split = last-split old.list entry c.last-last.ensures.last in
+    let new : Shown = record { list = split.0; kept = old.kept } in
+    let is : old ≡ with_entry entry new = λ k. record { list = split.1 k; kept = old.kept } in
+    let gone = option_map (part_of old.list) (version_of entry) in
+    let come = option_map (part_of new.list) (replaced_version new.list entry) in
     let ended = c.alloc_reference-ended.result in
     let brought = c.brought_key-brought.result in
-    let it : Reads front list last (replaced_part front last) (own_part front last) ended brought = record {
-      after_is = split.1;
-      replaced_is = refl;
-      own_is = refl;
-      ended_is = c.alloc_reference-ended.ensures;
-      brought_is = c.brought_key-brought.ensures;
-    } in
-    let moves = goes-as front list last (replaced_part front last) (own_part front last) ended brought cells it (ap is_book (sym split.1) ∙ c.last-last.ensures.book) c.self.invariant in
-    moves.first
+    let it : Reads old.list new.list entry (version_of entry) (replaced_version new.list entry) gone come ended brought =
+    record { lost_is = refl; gained_is = refl; ended_is = c.alloc_reference-ended.ensures; brought_is = c.brought_key-brought.ensures } in
+    let leads = pops old new entry gone come ended brought c.self.inside.positions is c.last-last.ensures.book it c.self.invariant in
+    leads.moves.first
 
 pub allocate-requires : goal.allocate-requires
 allocate-requires c =
-    let list = c.self.inside.live.list in
-    let last = c.last-last.result.now in
-    let cells = c.self.inside.positions in
-    let split = last-split list last c.last-last.ensures.last in
-    let front = split.0 in
+    let old = c.self.inside.live in
+    let entry = c.last-last.result.now in
+    let split = last-split old.list entry c.last-last.ensures.last in
+    let new : Shown = record { list = split.0; kept = old.kept } in
+    let is : old ≡ with_entry entry new = λ k. record { list = split.1 k; kept = old.kept } in
+    let gone = option_map (part_of old.list) (version_of entry) in
+    let come = option_map (part_of new.list) (replaced_version new.list entry) in
     let ended = c.alloc_reference-ended.result in
     let brought = c.brought_key-brought.result in
-    let it : Reads front list last (replaced_part front last) (own_part front last) ended brought = record {
-      after_is = split.1;
-      replaced_is = refl;
-      own_is = refl;
-      ended_is = c.alloc_reference-ended.ensures;
-      brought_is = c.brought_key-brought.ensures;
-    } in
-    let moves = goes-as front list last (replaced_part front last) (own_part front last) ended brought cells it (ap is_book (sym split.1) ∙ c.last-last.ensures.book) c.self.invariant in
-    move-second (released list brought) (allocated list ended) (rebooked (own_part front last) (replaced_part front last)) cells c.release.new.positions front moves c.release.ensures
+    let it : Reads old.list new.list entry (version_of entry) (replaced_version new.list entry) gone come ended brought =
+    record { lost_is = refl; gained_is = refl; ended_is = c.alloc_reference-ended.ensures; brought_is = c.brought_key-brought.ensures } in
+    let leads = pops old new entry gone come ended brought c.self.inside.positions is c.last-last.ensures.book it c.self.invariant in
+    move-second (released old.list brought) (allocated old.list ended) (rebooked gone come) c.self.inside.positions c.release.new.positions new.list leads.moves c.release.ensures
 
 pub rebook-requires : goal.rebook-requires
 rebook-requires c =
-    let list = c.self.inside.live.list in
-    let last = c.last-last.result.now in
-    let cells = c.self.inside.positions in
-    let split = last-split list last c.last-last.ensures.last in
-    let front = c.pop-entry.new.self.list in
-    let rest : list ≡ front ++ c.pop-entry.result ∷ [] = ap (λ (shown : Shown). shown.list) c.pop-entry.ensures.rest in
+    let old = c.self.inside.live in
+    let new = c.pop-entry.new.self in
     let entry = c.pop-entry.result in
-    let same : last ≡ entry = (same-ends split.0 front last entry (sym split.1 ∙ rest)).1 in
+    let split = last-split old.list c.last-last.result.now c.last-last.ensures.last in
+    let same : c.last-last.result.now ≡ entry =
+    (same-ends split.0 new.list c.last-last.result.now entry (sym split.1 ∙ ap (λ (shown : Shown). shown.list) c.pop-entry.ensures.rest)).1 in
     let gone = c.part_of-gone.result in
     let come = c.part_of-come.result in
     let ended = c.alloc_reference-ended.result in
     let brought = c.brought_key-brought.result in
-    let it =
-    reads front list entry c.replaced.result c.version-version.result c.link.result come gone ended brought rest c.link.ensures c.replaced.ensures c.part_of-come.ensures
-    (c.version-version.ensures ∙ ap version_of same) c.part_of-gone.ensures (c.alloc_reference-ended.ensures ∙ ap (λ e. alloc_reference e.command) same) (c.brought_key-brought.ensures ∙ ap own_key same) in
-    let moves = goes-as front list entry come gone ended brought cells it (ap is_book (sym rest) ∙ c.pop-entry.ensures.book) c.self.invariant in
-    move-third (released list brought) (allocated list ended) (rebooked gone come) cells c.release.new.positions c.allocate.new.positions front moves c.release.ensures c.allocate.ensures
+    let it : Reads old.list new.list entry (version_of entry) (replaced_version new.list entry) gone come ended brought = record {
+      lost_is = c.part_of-gone.ensures ∙ ap (option_map (part_of old.list)) (c.version-version.ensures ∙ ap version_of same);
+      gained_is = c.part_of-come.ensures
+          ∙ ap (option_map (part_of new.list)) (c.replaced.ensures ∙ ap (λ link. option_and_then (version_numbered new.list) (replaced_by (links_of new.list) link)) c.link.ensures);
+      ended_is = c.alloc_reference-ended.ensures ∙ ap (λ e. alloc_reference e.command) same;
+      brought_is = c.brought_key-brought.ensures ∙ ap own_key same;
+    } in
+    let leads = pops old new entry gone come ended brought c.self.inside.positions c.pop-entry.ensures.rest c.pop-entry.ensures.book it c.self.invariant in
+    move-third (released old.list brought) (allocated old.list ended) (rebooked gone come) c.self.inside.positions c.release.new.positions c.allocate.new.positions new.list leads.moves c.release.ensures c.allocate.ensures
 
 pub invariant_of-self : goal.invariant_of-self
 invariant_of-self c =
-    let list = c.self.inside.live.list in
-    let last = c.last-last.result.now in
-    let cells = c.self.inside.positions in
-    let split = last-split list last c.last-last.ensures.last in
-    let front = c.pop-entry.new.self.list in
-    let rest : list ≡ front ++ c.pop-entry.result ∷ [] = ap (λ (shown : Shown). shown.list) c.pop-entry.ensures.rest in
+    let old = c.self.inside.live in
+    let new = c.pop-entry.new.self in
     let entry = c.pop-entry.result in
-    let same : last ≡ entry = (same-ends split.0 front last entry (sym split.1 ∙ rest)).1 in
+    let split = last-split old.list c.last-last.result.now c.last-last.ensures.last in
+    let same : c.last-last.result.now ≡ entry =
+    (same-ends split.0 new.list c.last-last.result.now entry (sym split.1 ∙ ap (λ (shown : Shown). shown.list) c.pop-entry.ensures.rest)).1 in
     let gone = c.part_of-gone.result in
     let come = c.part_of-come.result in
     let ended = c.alloc_reference-ended.result in
     let brought = c.brought_key-brought.result in
-    let it =
-    reads front list entry c.replaced.result c.version-version.result c.link.result come gone ended brought rest c.link.ensures c.replaced.ensures c.part_of-come.ensures
-    (c.version-version.ensures ∙ ap version_of same) c.part_of-gone.ensures (c.alloc_reference-ended.ensures ∙ ap (λ e. alloc_reference e.command) same) (c.brought_key-brought.ensures ∙ ap own_key same) in
-    let moves = goes-as front list entry come gone ended brought cells it (ap is_book (sym rest) ∙ c.pop-entry.ensures.book) c.self.invariant in
-    move-shows (released list brought) (allocated list ended) (rebooked gone come) cells c.release.new.positions c.allocate.new.positions c.rebook.new.positions front moves c.release.ensures c.allocate.ensures c.rebook.ensures
+    let it : Reads old.list new.list entry (version_of entry) (replaced_version new.list entry) gone come ended brought = record {
+      lost_is = c.part_of-gone.ensures ∙ ap (option_map (part_of old.list)) (c.version-version.ensures ∙ ap version_of same);
+      gained_is = c.part_of-come.ensures
+          ∙ ap (option_map (part_of new.list)) (c.replaced.ensures ∙ ap (λ link. option_and_then (version_numbered new.list) (replaced_by (links_of new.list) link)) c.link.ensures);
+      ended_is = c.alloc_reference-ended.ensures ∙ ap (λ e. alloc_reference e.command) same;
+      brought_is = c.brought_key-brought.ensures ∙ ap own_key same;
+    } in
+    let leads = pops old new entry gone come ended brought c.self.inside.positions c.pop-entry.ensures.rest c.pop-entry.ensures.book it c.self.invariant in
+    move-shows (released old.list brought) (allocated old.list ended) (rebooked gone come) c.self.inside.positions c.release.new.positions c.allocate.new.positions c.rebook.new.positions new leads c.release.ensures c.allocate.ensures c.rebook.ensures

@@ -17,5 +17,4 @@ returns-in-Ok-withdraw-clause-accepted c =
 pub returns-in-Ok-withdraw-clause-kept : goal.returns-in-Ok-withdraw-clause-kept
 returns-in-Ok-withdraw-clause-kept c =
     withdraw_adds c.args.tables.now c.withdraw.new.tables c.in-Some.taken c.args.number c.in-Ok-withdraw.entry
-    c.in-Ok-withdraw.ensures.book c.in-Ok-withdraw.ensures.accepted c.in-Ok-withdraw.ensures.entry
-    c.in-Ok-withdraw.ensures.lifted c.in-Ok-withdraw.ensures.kept c.requires.above
+    c.in-Ok-withdraw.ensures.book c.in-Ok-withdraw.ensures.entry c.in-Ok-withdraw.ensures.lifted c.in-Ok-withdraw.ensures.kept c.requires.above

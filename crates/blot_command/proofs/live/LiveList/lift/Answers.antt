@@ -1,54 +1,55 @@
-use Rattle.std.proofs.Common.{◌≡◌, ◌==◌, length, ap, sym, subst, ◌∙◌}
-use Rattle.std.specs.Prelude.{◌||◌, find}
+use Rattle.std.proofs.Common.{◌≡◌, false, length, ap, sym, subst, ◌∙◌}
+use Rattle.std.specs.Prelude.{find, if◌then◌else◌}
 use Rattle.std.specs.Vec.{with_items}
 use Rattle.std.proofs.lemmas.List.{with_items_is}
-use Rattle.blot_types.specs.Refusals.{is_live_bust}
+use Rattle.blot_places.specs.Slots.{marked}
+use Rattle.blot_types.specs.declared.command.Entry.{Entry}
+use Rattle.blot_types.specs.Legal.{is_book}
 use Rattle.blot_types.specs.Withdrawal.{without}
-use Rattle.blot_command.specs.Book.{Shown, has_number}
-use Rattle.blot_command.specs.Linking.{HoldsSlots}
-use Rattle.blot_command.specs.Slots.{entries_in, is_left}
-use Rattle.blot_command.proofs.LiftListLemmas.{IsLiveBust, live_bust, listed, holds-lifted, can_return}
+use Rattle.blot_alloc.specs.Allocs.{lifted_out as lifted_instruction}
+use Rattle.blot_chain.specs.Steps.{lifted_out as lifted_link}
+use Rattle.blot_command.specs.Book.{Shown, entry_number, has_number}
+use Rattle.blot_command.specs.Linking.{CanLift, is_instruction, is_link}
+use Rattle.blot_command.specs.Slots.{entries_in}
+use Rattle.blot_command.specs.Withdrawing.{lifted}
+use Rattle.blot_command.proofs.HoldLemmas.{TakesOut, takes-out}
 use Rattle.blot_command.proofs.live.LiveList.lift.Goals as goal
-use Rattle.blot_command.proofs.live.LiveList.lift.Goals.{After-take_out}
+use Rattle.blot_command.proofs.live.LiveList.lift.Goals.{After-take_out-entry}
 
-pub lift-requires-clause-listed : goal.lift-requires-clause-listed
-lift-requires-clause-listed c =
+-- the entry goes from these slots
+taken : (c : After-take_out-entry) → TakesOut c.self.inside.slots.items c.args.number c.take_out-entry.result c.self.inside.chains c.self.inside.allocs
+taken c =
     let v = c.self.inside in
-    let live = ap (λ (shown : Shown). is_live_bust c.args.number shown.list) c.self.view_is ∙ c.requires in
-    listed v.slots.items c.args.number v.chains.list (live_bust v.slots.items c.args.number v.chains.list v.chains.kept v.allocs.list c.self.invariant.holds_slots live)
+    takes-out v.slots.items c.args.number c.take_out-entry.result v.chains v.allocs c.self.invariant
+    (ap (λ all. find (has_number c.args.number) (entries_in all)) (sym c.deref_mut.ensures.value) ∙ c.take_out-entry.ensures.entry)
+    (ap (λ (shown : Shown). is_book (without c.args.number shown.list)) c.self.view_is ∙ c.requires.rest)
 
-pub lift-requires-clause-chained : goal.lift-requires-clause-chained
-lift-requires-clause-chained c =
-    let v = c.self.inside in
-    let live = ap (λ (shown : Shown). is_live_bust c.args.number shown.list) c.self.view_is ∙ c.requires in
-    (live_bust v.slots.items c.args.number v.chains.list v.chains.kept v.allocs.list c.self.invariant.holds_slots live).chained
+-- the slots after that
+emptied : (c : After-take_out-entry) → (with_items c.self.inside.slots c.take_out-entry.new.slots).items ≡ marked entry_number c.args.number false c.self.inside.slots.items
+emptied c =
+    with_items_is c.self.inside.slots c.take_out-entry.new.slots (c.take_out-entry.auto.slots ∙ ap length c.deref_mut.ensures.value ∙ sym c.self.inside.slots.ok.0)
+    ∙ c.take_out-entry.ensures.taken ∙ ap (marked entry_number c.args.number false) c.deref_mut.ensures.value
 
--- the slots of the list, with the Bust out
-emptied : (c : After-take_out) → (with_items c.self.inside.slots c.take_out.new.slots).items ≡ c.take_out.new.slots
-emptied c = with_items_is c.self.inside.slots c.take_out.new.slots (c.take_out.auto.slots ∙ ap length c.deref_mut.ensures.value ∙ sym c.self.inside.slots.ok.0)
-
-live : (c : After-take_out) → IsLiveBust c.self.inside.slots.items c.args.number c.self.inside.chains.list
-live c =
-    let v = c.self.inside in
-    live_bust v.slots.items c.args.number v.chains.list v.chains.kept v.allocs.list c.self.invariant.holds_slots (ap (λ (shown : Shown). is_live_bust c.args.number shown.list) c.self.view_is ∙ c.requires)
+pub lift_entry-requires : goal.lift_entry-requires
+lift_entry-requires c =
+    subst (λ (entry : Entry). CanLift entry c.self.inside.chains c.self.inside.allocs) (sym c.as_entry.ensures) (taken (goal.at.lift_entry-requires c).After-take_out-entry).can
 
 pub invariant_of-self : goal.invariant_of-self
 invariant_of-self c =
     let v = c.self.inside in
-    let slots = c.deref_mut.ensures.value in
-    record {
-      holds_slots =
-          subst (λ all. HoldsSlots all c.lift.new.self.list c.lift.new.self.kept v.allocs.list) (sym (emptied (goal.at.invariant_of-self c).After-take_out))
-          (holds-lifted v.slots.items c.take_out.new.slots c.args.number v.chains c.lift.new.self v.allocs.list c.self.invariant.holds_slots (live (goal.at.invariant_of-self c).After-take_out) c.lift.ensures.lifted
-          (c.take_out.ensures.rest ∙ ap (λ all. without c.args.number (entries_in all)) slots)
-          (λ other. c.take_out.ensures.left other ∙ ap (λ all. (c.args.number == other) || is_left other all) slots) c.take_out.ensures.numbered);
-      unlifted = c.self.invariant.unlifted;
-    }
+    let at = (goal.at.invariant_of-self c).After-take_out-entry in
+    (taken at).holds (with_items v.slots c.take_out-entry.new.slots).items c.lift_entry.new.chains c.lift_entry.new.allocs (emptied at)
+    (subst (λ (entry : Entry). c.lift_entry.new.chains ≡ (if is_link entry.command then lifted_link entry.number v.chains else v.chains)) c.as_entry.ensures c.lift_entry.ensures.chains)
+    (subst (λ (entry : Entry). c.lift_entry.new.allocs ≡ (if is_instruction entry.command then lifted_instruction entry.number v.allocs else v.allocs)) c.as_entry.ensures c.lift_entry.ensures.allocs)
+
+pub returns-clause-lifted : goal.returns-clause-lifted
+returns-clause-lifted c =
+    let v = c.self.inside in
+    let at = (goal.at.returns-clause-lifted c).After-take_out-entry in
+    (taken at).seen (with_items v.slots c.take_out-entry.new.slots).items (emptied at) ∙ ap (lifted c.take_out-entry.result) c.self.view_is
 
 pub returns-clause-kept : goal.returns-clause-kept
 returns-clause-kept c =
     let v = c.self.inside in
-    let slots = c.deref_mut.ensures.value in
-    can_return v.slots.items c.take_out.result c.args.number v.chains c.lift.new.self (entries_in (with_items v.slots c.take_out.new.slots).items) c.self.invariant.holds_slots.holds.book (live (goal.at.returns-clause-kept c).After-take_out)
-    (ap (λ all. find (has_number c.args.number) (entries_in all)) (sym slots) ∙ c.take_out.ensures.entry) c.lift.ensures.lifted c.lift.ensures.kept
-    (ap entries_in (emptied (goal.at.returns-clause-kept c).After-take_out) ∙ c.take_out.ensures.rest ∙ ap (λ all. without c.args.number (entries_in all)) slots)
+    let at = (goal.at.returns-clause-kept c).After-take_out-entry in
+    (taken at).returns (with_items v.slots c.take_out-entry.new.slots).items (emptied at)

@@ -1,59 +1,63 @@
-use Rattle.std.proofs.Common.{◌≡◌, ◌++◌, ◌∷◌, [], Some, ap, sym, subst, ◌∙◌}
+use Rattle.std.proofs.Common.{◌≡◌, ◌++◌, ◌∷◌, [], true, ap, sym, subst, ◌∙◌}
 use Rattle.std.specs.List.{cons_option}
 use Rattle.blot_types.specs.declared.command.Entry.{Entry}
 use Rattle.blot_types.specs.Allocations.{instruction_by}
-use Rattle.blot_types.specs.Chains.{is_above_links}
-use Rattle.blot_types.specs.Instructions.{is_above_instructions}
-use Rattle.blot_types.specs.Legal.{is_book}
+use Rattle.blot_types.specs.Legal.{is_above_entries, is_book}
 use Rattle.blot_types.specs.Survivors.{link_of}
-use Rattle.blot_command.specs.declared.slots.EntrySlot.{EntrySlot}
 use Rattle.blot_command.specs.Book.{Shown}
-use Rattle.blot_command.specs.Linking.{CanLink, HoldsSlots}
-use Rattle.blot_command.specs.Slots.{entries_in}
+use Rattle.blot_command.specs.Linking.{CanLink, HoldsLive}
+use Rattle.blot_command.specs.Slots.{entries_in, left_in}
 use Rattle.blot_command.specs.Withdrawing.{with_entry}
-use Rattle.blot_command.proofs.LiveLemmas.{can-link}
-use Rattle.blot_command.proofs.LiftListLemmas.{holds-pushed}
-use Rattle.blot_command.proofs.SlotLemmas.{entries-push}
+use Rattle.blot_command.proofs.HoldLemmas.{above-kept-instructions, above-kept-links, can-push, holds-pushed}
+use Rattle.blot_command.proofs.TurnLemmas.{kept-push, list-push}
 use Rattle.blot_command.proofs.live.LiveList.push.Goals as goal
-use Rattle.blot_command.proofs.live.LiveList.push.Goals.{After-push_reserved}
+use Rattle.blot_command.proofs.live.LiveList.push.Goals.{After-as_entry, After-push_reserved}
+
+same : (c : After-as_entry) → c.as_entry.result.now ≡ c.args.entry
+same c = c.as_entry.ensures ∙ c.in_ok-entry.ensures.ok
+
+above : (c : After-as_entry) → is_above_entries c.as_entry.result.now.number (left_in c.self.inside.slots.items) ≡ true
+above c =
+    ap (λ (e : Entry). is_above_entries e.number (left_in c.self.inside.slots.items)) (same c)
+    ∙ ap (λ (shown : Shown). is_above_entries c.args.entry.number shown.kept) c.self.view_is ∙ c.requires.above
 
 pub link_entry-requires-clause-next : goal.link_entry-requires-clause-next
 link_entry-requires-clause-next c =
-    subst (λ (entry : Entry). CanLink entry c.self.inside.chains.list c.self.inside.allocs.list) (sym (c.as_entry.ensures ∙ c.in_ok-entry.ensures.ok))
-    (can-link (entries_in c.self.inside.slots.items) c.args.entry c.self.inside.chains.list c.self.inside.allocs.list c.self.invariant.holds_slots.holds
-    (ap (λ (shown : Shown). is_book (shown.list ++ c.args.entry ∷ [])) c.self.view_is ∙ c.requires.book))
+    let v = c.self.inside in
+    subst (λ (entry : Entry). CanLink entry v.chains.list v.allocs.list) (sym (same (goal.at.link_entry-requires-clause-next c).After-as_entry))
+    (can-push v.slots.items c.args.entry v.chains v.allocs c.self.invariant (ap (λ (shown : Shown). is_book (shown.list ++ c.args.entry ∷ [])) c.self.view_is ∙ c.requires.book))
+
+pub link_entry-requires-clause-above : goal.link_entry-requires-clause-above
+link_entry-requires-clause-above c =
+    let v = c.self.inside in
+    above-kept-links v.slots.items c.as_entry.result.now.number v.chains v.allocs c.self.invariant (above (goal.at.link_entry-requires-clause-above c).After-as_entry)
 
 pub link_entry-requires-clause-above_instructions : goal.link_entry-requires-clause-above_instructions
-link_entry-requires-clause-above_instructions c = ap (is_above_instructions c.as_entry.result.now.number) c.self.invariant.unlifted
+link_entry-requires-clause-above_instructions c =
+    let v = c.self.inside in
+    above-kept-instructions v.slots.items c.as_entry.result.now.number v.chains v.allocs c.self.invariant (above (goal.at.link_entry-requires-clause-above_instructions c).After-as_entry)
 
 -- the slots with that of the entry after them
-pushed : (c : After-push_reserved) → c.push_reserved.new.self.items ≡ c.self.inside.slots.items ++ record { number = c.args.entry.number; entry = Some c.args.entry } ∷ []
+pushed : (c : After-push_reserved) → c.push_reserved.new.self.items ≡ c.self.inside.slots.items ++ record { item = c.args.entry; is_live = true } ∷ []
 pushed c =
-    let slot : Entry → EntrySlot = λ entry. record { number = entry.number; entry = Some entry } in
-    let own = c.in_ok-entry.ensures.ok in
     c.push_reserved.ensures.items
-    ∙ (λ i. c.reserve.ensures.items i ++ record { number = (c.as_entry-2.ensures i).number; entry = Some c.in_ok-entry.entry } ∷ [])
-    ∙ ap (λ entry. c.self.inside.slots.items ++ slot entry ∷ []) own
+    ∙ (λ i. c.reserve.ensures.items i ++ (c.new-2.ensures ∙ ap (λ (entry : Entry). record { item = entry; is_live = true }) c.in_ok-entry.ensures.ok) i ∷ [])
 
 pub invariant_of-self-2 : goal.invariant_of-self-2
 invariant_of-self-2 c =
     let v = c.self.inside in
     let linked = c.in-Ok-link_entry.ensures in
-    let same = c.as_entry.ensures ∙ c.in_ok-entry.ensures.ok in
-    record {
-      holds_slots =
-          subst (λ kept. HoldsSlots c.push_reserved.new.self.items c.link_entry.new.chains.list kept c.link_entry.new.allocs.list) (sym linked.kept)
-          (holds-pushed v.slots.items c.push_reserved.new.self.items c.args.entry v.chains.list c.link_entry.new.chains.list v.chains.kept v.allocs.list c.link_entry.new.allocs.list c.self.invariant.holds_slots (pushed c)
-          (ap (λ (shown : Shown). is_book (shown.list ++ c.args.entry ∷ [])) c.self.view_is ∙ c.requires.book)
-          (ap (λ (shown : Shown). is_above_links c.args.entry.number shown.kept) c.self.view_is ∙ c.requires.above)
-          (linked.chains ∙ ap (λ (entry : Entry). cons_option (link_of entry) v.chains.list) same)
-          (linked.allocs ∙ ap (λ (entry : Entry). cons_option (instruction_by v.chains.list entry.number entry.command) v.allocs.list) same));
-      unlifted = linked.kept_instructions ∙ c.self.invariant.unlifted;
-    }
+    let own = same (goal.at.invariant_of-self-2 c).After-as_entry in
+    subst (λ slots. HoldsLive slots c.link_entry.new.chains c.link_entry.new.allocs) (sym (pushed (goal.at.invariant_of-self-2 c).After-push_reserved))
+    (holds-pushed v.slots.items c.args.entry v.chains c.link_entry.new.chains v.allocs c.link_entry.new.allocs c.self.invariant
+    (ap (λ (shown : Shown). is_book (shown.list ++ c.args.entry ∷ [])) c.self.view_is ∙ c.requires.book)
+    (ap (λ (shown : Shown). is_above_entries c.args.entry.number shown.kept) c.self.view_is ∙ c.requires.above)
+    (linked.chains ∙ ap (λ (entry : Entry). cons_option (link_of entry) v.chains.list) own) linked.kept
+    (linked.allocs ∙ ap (λ (entry : Entry). cons_option (instruction_by v.chains.list entry.number entry.command) v.allocs.list) own) linked.kept_instructions)
 
 pub returns-clause-ok : goal.returns-clause-ok
 returns-clause-ok c =
     let v = c.self.inside in
-    (λ i. record { list = entries_in (pushed c i); kept = c.in-Ok-link_entry.ensures.kept i })
-    ∙ (λ i. record { list = entries-push v.slots.items c.args.entry.number c.args.entry i; kept = v.chains.kept })
+    ap (λ slots. record { list = entries_in slots; kept = left_in slots }) (pushed (goal.at.returns-clause-ok c).After-push_reserved)
+    ∙ (λ i. record { list = list-push v.slots.items c.args.entry i; kept = kept-push v.slots.items c.args.entry i })
     ∙ ap (with_entry c.args.entry) c.self.view_is

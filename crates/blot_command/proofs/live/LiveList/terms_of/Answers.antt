@@ -11,7 +11,7 @@ pub returns-in-None : goal.returns-in-None
 returns-in-None c =
     let key = c.args.key.now in
     ap (option_and_then (terms_at (entries_in c.self.inside.slots.items) key)) (sym c.in-None.is ∙ c.number_of.ensures)
-    ∙ terms-found (entries_in c.self.inside.slots.items) c.self.inside.chains.list c.self.inside.allocs.list key c.self.invariant.holds_slots.holds
+    ∙ terms-found (entries_in c.self.inside.slots.items) c.self.inside.chains.list c.self.inside.allocs.list key c.self.invariant.holds
     ∙ ap (λ (shown : Shown). terms_keyed shown.list key) c.self.view_is
 
 pub returns-in-None-entry : goal.returns-in-None-entry
@@ -20,7 +20,7 @@ returns-in-None-entry c =
     let list = (entries_in c.self.inside.slots.items) in
     ap (option_and_then (λ entry. terms_of_key key entry.command)) (sym (ap option_copied c.in-None-entry.is) ∙ c.entry.ensures ∙ ap (λ (shown : Shown). find (has_number c.in-Some.number) shown.list) (sym c.self.view_is))
     ∙ ap (option_and_then (terms_at list key)) (sym c.in-Some.is ∙ c.number_of.ensures)
-    ∙ terms-found list c.self.inside.chains.list c.self.inside.allocs.list key c.self.invariant.holds_slots.holds
+    ∙ terms-found list c.self.inside.chains.list c.self.inside.allocs.list key c.self.invariant.holds
     ∙ ap (λ (shown : Shown). terms_keyed shown.list key) c.self.view_is
 
 pub returns-in-Some-entry : goal.returns-in-Some-entry
@@ -30,5 +30,5 @@ returns-in-Some-entry c =
     c.terms_under.ensures
     ∙ ap (option_and_then (λ entry. terms_of_key key entry.command)) (sym (ap option_copied c.in-Some-entry.is) ∙ c.entry.ensures ∙ ap (λ (shown : Shown). find (has_number c.in-Some.number) shown.list) (sym c.self.view_is))
     ∙ ap (option_and_then (terms_at list key)) (sym c.in-Some.is ∙ c.number_of.ensures)
-    ∙ terms-found list c.self.inside.chains.list c.self.inside.allocs.list key c.self.invariant.holds_slots.holds
+    ∙ terms-found list c.self.inside.chains.list c.self.inside.allocs.list key c.self.invariant.holds
     ∙ ap (λ (shown : Shown). terms_keyed shown.list key) c.self.view_is

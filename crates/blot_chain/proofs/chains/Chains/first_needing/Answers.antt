@@ -1,0 +1,40 @@
+use Rattle.std.proofs.Common.{◌≡◌, Some, reverse, sym, ap, subst, ◌∙◌}
+use Rattle.std.specs.List.Sorted.{IsPartitionedBy}
+use Rattle.std.specs.Option.{option_copied}
+use Rattle.blot_places.specs.Shown.{item_at}
+use Rattle.blot_places.specs.Slots.{is_up_to, live}
+use Rattle.blot_types.specs.Chains.{first_needing_link}
+use Rattle.blot_types.specs.Numbers.{lesser}
+use Rattle.blot_chain.specs.Index.{stack_under}
+use Rattle.blot_chain.specs.Rooted.{link_number}
+use Rattle.blot_chain.proofs.AroundLemmas.{needing-held, needing-none, parted-busts, parted-versions}
+use Rattle.blot_chain.proofs.chains.Chains.first_needing.Goals as goal
+
+pub returns-in_err-item : goal.returns-in_err-item
+returns-in_err-item c =
+    let found = rw c.deref.ensures.value at c.live_numbered.ensures in
+    c.from_residual.ensures ∙ sym (needing-none c.self.inside.slots.items c.args.number (sym found ∙ ap option_copied c.in_err-item.was))
+    ∙ ap (λ shown. first_needing_link shown.list c.args.number) c.self.view_is
+
+pub referring_at-requires : goal.referring_at-requires
+referring_at-requires c =
+    let k = c.in_ok-item.item.now in
+    subst (λ slots. IsPartitionedBy (is_up_to link_number k.link.number slots) (stack_under c.self.inside.index.versions k.root)) (sym c.deref-2.ensures.value)
+    (parted-versions c.self.inside.index c.self.inside.slots.items k.root k.link.number c.self.invariant)
+
+pub referring_at-requires-2 : goal.referring_at-requires-2
+referring_at-requires-2 c =
+    let k = c.in_ok-item.item.now in
+    subst (λ slots. IsPartitionedBy (is_up_to link_number k.link.number slots) (stack_under c.self.inside.index.busts k.root)) (sym c.deref-3.ensures.value)
+    (parted-busts c.self.inside.index c.self.inside.slots.items k.root k.link.number c.self.invariant)
+
+pub returns : goal.returns
+returns c =
+    let k = c.in_ok-item.item.now in
+    let slots = c.self.inside.slots.items in
+    let found : item_at link_number c.args.number (live (reverse slots)) ≡ Some k =
+    sym (rw c.deref.ensures.value at c.live_numbered.ensures) ∙ ap option_copied c.in_ok-item.was in
+    let versions = rw c.deref-2.ensures.value at c.referring_at.ensures in
+    let busts = rw c.deref-3.ensures.value at c.referring_at-2.ensures in
+    c.lesser.ensures ∙ (λ i. lesser (versions i) (busts i)) ∙ needing-held c.self.inside.index slots c.args.number k c.self.invariant found
+    ∙ ap (λ shown. first_needing_link shown.list c.args.number) c.self.view_is

@@ -1,0 +1,10 @@
+use Rattle.blot_places.specs.Slots.{is_below}
+use Rattle.blot_places.specs.Places.{places_in}
+use Rattle.blot_types.specs.Keys.{same_exec}
+use Rattle.blot_chain.specs.Rooted.{link_number}
+use Rattle.blot_chain.proofs.IndexLemmas.{parted-turned}
+use Rattle.blot_chain.proofs.index.number_below.Goals as goal
+
+pub places_below-stack-requires : goal.places_below-stack-requires
+places_below-stack-requires c =
+    parted-turned (is_below link_number c.args.number c.args.slots.now) c.under.result.now (places_in same_exec c.args.places.now c.args.key.now) c.under.ensures c.requires

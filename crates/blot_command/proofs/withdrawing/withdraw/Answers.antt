@@ -1,0 +1,17 @@
+use Rattle.std.proofs.Common.{◌≡◌, ℕ, true, refl, List, None, sym, ◌∙◌, arith}
+use Rattle.std.proofs.lemmas.Grind.{common_steps}
+use Rattle.std.specs.Prelude.{find, IsSome}
+use Rattle.blot_types.specs.declared.command.Entry.{Entry}
+use Rattle.blot_types.specs.Legal.{is_book, least_needing}
+use Rattle.blot_types.specs.Withdrawal.{without}
+use Rattle.blot_command.specs.Book.{has_number}
+use Rattle.blot_command.specs.Law.{takes}
+use Rattle.blot_command.proofs.withdrawing.withdraw.Goals as goal
+
+-- a book without an entry that none needs is a book
+rest : (list : List Entry) (number : ℕ) → is_book list ≡ true → IsSome (find (has_number number) list) → least_needing list number ≡ None → is_book (without number list) ≡ true
+rest list number book live free = (takes list number book (rw (live, free) refl)).rest
+
+pub lift-requires-clause-rest : goal.lift-requires-clause-rest
+lift-requires-clause-rest c =
+    rest c.args.tables.now.list c.args.number c.blocked.ensures.book (grind (arith, common_steps)) (sym c.blocked.ensures.blocked ∙ c.in-None.is)

@@ -1,0 +1,53 @@
+//! The places of a stack on either side of a number.
+ghost use Rattle.std.specs.Prelude.{◌≡◌, filter, not};
+ghost use Rattle.std.specs.List.Sorted.{IsPartitionedBy};
+ghost use Rattle.blot_places.specs.Slots.{is_below, is_up_to};
+
+use crate::Slot;
+use blot_types::Numbered;
+
+/// The places at which no item is numbered up to this number. Those at which one is come first on the stack.
+pub fn places_above<'a, T: Numbered>(
+    slots: &[Slot<T>],
+    stack: &'a [usize],
+    number: u64,
+) -> &'a [usize]
+    requires { IsPartitionedBy (is_up_to T.number_of number slots.now) stack.now }
+    ensures { result.now ≡ filter (λ place. not (is_up_to T.number_of number slots.now place)) stack.now }
+{
+    let count = stack.partition_point(|place| is_up_to(slots, *place, number));
+    &stack[count..]
+}
+
+/// The places at which the item's number is below this one. They come first on the stack.
+pub fn places_below<'a, T: Numbered>(
+    slots: &[Slot<T>],
+    stack: &'a [usize],
+    number: u64,
+) -> &'a [usize]
+    requires { IsPartitionedBy (is_below T.number_of number slots.now) stack.now }
+    ensures { result.now ≡ filter (is_below T.number_of number slots.now) stack.now }
+{
+    let count = stack.partition_point(|place| is_below(slots, *place, number));
+    &stack[..count]
+}
+
+// Whether the item at a place has a number up to this one.
+fn is_up_to<T: Numbered>(slots: &[Slot<T>], place: usize, number: u64) -> bool
+    ensures { result ≡ is_up_to T.number_of number slots.now place }
+{
+    match slots.get(place) {
+        Some(slot) => slot.item.number() <= number,
+        None => false,
+    }
+}
+
+// Whether the item at a place has a number below this one.
+fn is_below<T: Numbered>(slots: &[Slot<T>], place: usize, number: u64) -> bool
+    ensures { result ≡ is_below T.number_of number slots.now place }
+{
+    match slots.get(place) {
+        Some(slot) => slot.item.number() < number,
+        None => false,
+    }
+}

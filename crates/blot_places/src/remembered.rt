@@ -1,0 +1,29 @@
+//! A value that proofs alone read.
+ghost use Rattle.std.specs.Prelude.{◌≡◌};
+ghost use Rattle.std.specs.Borrow.{ftrue};
+
+use std::marker::{Model, PhantomData};
+
+/// A value that is remembered after it went elsewhere. It takes no memory, and does nothing when the program runs: proofs alone
+/// read it, as `value`.
+#[derive(Drop)]
+pub struct Remembered<T> {
+    of: PhantomData<T>,
+    pub ghost value: { T },
+}
+
+impl<T> Model for Remembered<T> {
+    ghost also_owns = { λ _. ftrue };
+}
+
+// It owns nothing.
+unsafe impl<T: Send> Send for Remembered<T> {}
+
+impl<T> Remembered<T> {
+    /// Remembers a value.
+    pub fn of(value: &T) -> Remembered<T>
+        ensures { result.value ≡ value.now }
+    {
+        Remembered { of: PhantomData }
+    }
+}
