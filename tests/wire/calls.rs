@@ -6,7 +6,7 @@ use blot_desk::Held;
 use blot_slots::are_distinct;
 use blot_time::Day;
 use blot_types::Text64;
-use blotter::{ReplayFault, audit, capture, replay};
+use blotter::{ReplayFault, audit, capture, replay, replay_within};
 use std::alloc::{AllocError, Global};
 use std::process::Abort;
 use std::test::Fail;
@@ -43,6 +43,18 @@ pub fn called(
         Call::Replay => Ok(replay(alloc, source, sink, own, &peers, day)),
         Call::Audit => Ok(audit(alloc, source, sink, own, &peers)),
     }
+}
+
+/// What `replay` comes to with so many reads at most.
+pub fn replayed_within(
+    alloc: Global,
+    source: &mut Source,
+    sink: &mut Sink,
+    reads: u64,
+) -> Result<Result<(), ReplayFault>, Fail> {
+    let peers = peers()?;
+    let day = Day::read(b"20240105")?;
+    Ok(replay_within(alloc, source, sink, text(b"MO")?, &peers, day, reads))
 }
 
 /// Takes a capture into a desk.

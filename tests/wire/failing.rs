@@ -1,7 +1,7 @@
 //! Wires that fail at each read and at each write in turn.
 
 use crate::frames::{frame, stream};
-use crate::rows::{allocation, first_trade, gap};
+use crate::rows::{allocation, booked, first_trade, gap, written_text};
 use crate::runs::{
     BY_BYTES, BY_SEVENS, Manner, Row, Run, WHOLE, commands_text, expect_ended, expect_number,
     expect_run, expect_text, expect_written, new_session, run_of, serve,
@@ -25,15 +25,6 @@ fn begun(row: &Row, place: usize) -> u64 {
         start = start.saturating_add(frame.len());
     }
     count
-}
-
-// What a row says is written.
-fn written_text(alloc: Global, row: &Row) -> Result<String, NoMemory> {
-    let mut text = String::new(alloc);
-    for frame in row.written {
-        text.push_str(frame)?;
-    }
-    Ok(text)
 }
 
 // What was taken and written is a front of what the row says.
@@ -163,7 +154,7 @@ fn expect_reads(alloc: Global, row: &Row, manner: Manner) -> Result<(), Fail> {
 
 #[test]
 fn each_read_fails_in_turn(rt: HostRuntime) -> Result<(), Fail> {
-    for row in [first_trade(), gap(), allocation()] {
+    for row in [first_trade(), gap(), allocation(), booked()] {
         for manner in [WHOLE, BY_SEVENS] {
             expect_reads(rt.alloc(), row, manner)?;
         }
@@ -183,7 +174,7 @@ fn expect_writes(alloc: Global, row: &Row) -> Result<(), Fail> {
 
 #[test]
 fn each_write_fails_in_turn(rt: HostRuntime) -> Result<(), Fail> {
-    for row in [first_trade(), gap(), allocation()] {
+    for row in [first_trade(), gap(), allocation(), booked()] {
         expect_writes(rt.alloc(), row)?;
     }
     Ok(())

@@ -1,13 +1,16 @@
 //! Tests of the wire side and of the program's calls that only a caller can make: what callers of single crates answer; the table of
-//! sessions, with and without its lock; what a session takes, sends and answers over a wire in memory, and how it ends, whole, cut and
-//! failing; two wires that are served at once; captures and operators' lines over readers and writers that fail; and a served day's
-//! connections, over streams, listeners and clocks in memory. Rows of single calls stand in `rows_wire`.
+//! sessions, with and without its lock; what a session takes, sends and answers over a wire in memory, and how it ends, whole, cut,
+//! failing and with few reads; two wires that are served at once; captures and operators' lines over readers and writers that fail; and
+//! a served day's connections, over streams, listeners and clocks in memory. Rows of single calls stand in `rows_wire`.
 #![tactic(auto)]
 
 mod at_once;
+mod booked;
+mod bounds;
 mod calls;
 mod capture_rows;
 mod clocks;
+mod cuts;
 mod desk_rows;
 mod desks;
 mod dialogues;

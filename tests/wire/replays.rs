@@ -1,6 +1,6 @@
 //! `replay`, `audit` and `capture` over captures in memory.
 
-use crate::calls::{Call, called, check_taken, spelled};
+use crate::calls::{Call, called, check_taken, replayed_within, spelled};
 use crate::capture_rows::{MIXED, MIXED_REPORT, REPORT, TRADE, TRAIL};
 use crate::dialogues::captured;
 use crate::frames::stream;
@@ -127,4 +127,68 @@ fn the_first_trade_at_every_cut_and_every_failure(rt: HostRuntime) -> Result<(),
     assert_eq!(rt; bytes.len(), 266);
     check_words(&rt, Call::Replay, &bytes, REPORT)?;
     check_words(&rt, Call::Audit, &bytes, TRAIL)
+}
+
+// With so many reads at most a capture comes to this outcome after so many calls of the reader, and this is written.
+fn check_within(
+    rt: &(impl Abort + AllocGlobal),
+    bytes: &[u8],
+    manner: Manner,
+    reads: u64,
+    expected: (Result<(), ReplayFault>, u64, &[u8]),
+) -> Result<(), Fail> {
+    let (mut source, mut sink) = (reader(bytes, manner), writer(rt.alloc(), AT_ONCE));
+    let outcome = replayed_within(rt.alloc(), &mut source, &mut sink, reads)?;
+    assert_eq!(rt; outcome, expected.0, "{reads} reads");
+    assert_eq!(rt; source.reads, expected.1, "{reads} reads");
+    assert_eq!(rt; sink.written.as_slice(), expected.2, "{reads} reads");
+    Ok(())
+}
+
+// A capture needs so many reads: with fewer they are all made, and one more is needed.
+fn check_needed(
+    rt: &(impl Abort + AllocGlobal),
+    bytes: &[u8],
+    manner: Manner,
+    needed: u64,
+    report: &[u8],
+) -> Result<(), Fail> {
+    for reads in 0..needed {
+        check_within(
+            rt,
+            bytes,
+            manner,
+            reads,
+            (Err(ReplayFault::TooLong), reads, b""),
+        )?;
+    }
+    for reads in [needed, needed + 1, u64::MAX] {
+        check_within(rt, bytes, manner, reads, (Ok(()), needed, report))?;
+    }
+    Ok(())
+}
+
+#[test]
+fn as_many_reads_as_are_needed(rt: HostRuntime) -> Result<(), Fail> {
+    let bytes = captured(rt.alloc(), TRADE)?;
+    let report = spelled(rt.alloc(), REPORT)?;
+    let empty = spelled(rt.alloc(), "report>20240105/end>0/")?;
+
+    // The read that finds the end is one of them, and so is each that is interrupted: half of those by sevens.
+    check_needed(&rt, &bytes, AT_ONCE, 2, &report)?;
+    check_needed(&rt, &bytes, cut_at(100), 3, &report)?;
+    check_needed(&rt, &bytes, BY_BYTES, 267, &report)?;
+    check_needed(&rt, &bytes, INTERRUPTED, 78, &report)?;
+    check_needed(&rt, b"", AT_ONCE, 1, &empty)
+}
+
+#[test]
+fn a_read_that_fails_is_no_read_too_many(rt: HostRuntime) -> Result<(), Fail> {
+    let bytes = captured(rt.alloc(), TRADE)?;
+
+    // The third read fails, if it is made.
+    let manner = failing(cut_at(100), 3);
+    check_within(&rt, &bytes, manner, 2, (Err(ReplayFault::TooLong), 2, b""))?;
+    check_within(&rt, &bytes, manner, 3, (Err(ReplayFault::Read), 3, b""))?;
+    check_within(&rt, &bytes, manner, 4, (Err(ReplayFault::Read), 3, b""))
 }

@@ -1,6 +1,16 @@
 //! Whole connections: what a peer sends, and what comes of it. The expected frames were made by hand.
 
 use crate::runs::Row;
+use std::alloc::{AllocError as NoMemory, Global};
+
+/// What a row says is written.
+pub fn written_text(alloc: Global, row: &Row) -> Result<String, NoMemory> {
+    let mut text = String::new(alloc);
+    for frame in row.written {
+        text.push_str(frame)?;
+    }
+    Ok(text)
+}
 
 /// The first trade of a connection.
 pub fn first_trade() -> &'static Row {
@@ -69,6 +79,28 @@ pub fn allocation() -> &'static Row {
         ],
         ended: "End",
         expected: 3,
+    };
+    &ROW
+}
+
+/// A trade of 50 at 11, and its allocation, which is acknowledged.
+pub fn booked() -> &'static Row {
+    static ROW: Row = Row {
+        name: "a trade and its allocation, acknowledged",
+        moments: "20240105-10:00:01.000",
+        stream: "\
+35=A|49=BRKA|56=MO|34=1|52=20240105-09:59:59|98=0|108=30|\n\
+35=8|49=BRKA|56=MO|34=2|52=20240105-10:00:00|37=O1|17=E2|150=F|39=1|1=A1|55=XYZ|54=1|38=300|32=50|31=11|151=250|14=50|6=11|60=20240105-10:00:00|75=20240105|\n\
+35=J|49=BRKA|56=MO|34=3|52=20240105-10:00:00|70=AL1|71=0|54=1|55=XYZ|53=50|6=11|75=20240105|124=1|17=E2|78=2|79=A|80=30|366=11|79=B|80=20|366=11|",
+        quiet: 0,
+        answer: "accepted",
+        taken: "trade E2; allocate AL1; ",
+        written: &[
+            "8=FIX.4.4|9=61|35=A|49=MO|56=BRKA|34=1|52=20240105-10:00:01.000|98=0|108=30|10=153|",
+            "8=FIX.4.4|9=86|35=P|49=MO|56=BRKA|34=2|52=20240105-10:00:01.000|70=AL1|60=20240105-10:00:01.000|87=0|10=138|",
+        ],
+        ended: "End",
+        expected: 4,
     };
     &ROW
 }

@@ -3,7 +3,9 @@
 use crate::expect::text;
 use crate::frames::stream;
 use crate::streams::{answers, moments, shown};
-use blot_gateway::{Ended, ListClock, ListSink, MemoryWire, Wire, greet, serve_session};
+use blot_gateway::{
+    Ended, ListClock, ListSink, MemoryWire, Wire, greet, serve_session, serve_session_within,
+};
 use blot_session::{Phase, Session};
 use blot_tag::Reader;
 use blot_types::{Command, Text64};
@@ -38,6 +40,8 @@ pub struct Manner {
     pub room: usize,
     /// Whether the wire is greeted before it is served.
     pub greets: bool,
+    /// The most reads after the greeting, where they are bounded.
+    pub reads: Option<u64>,
     pub failing_read: Option<usize>,
     pub failing_write: Option<usize>,
 }
@@ -47,6 +51,7 @@ pub const WHOLE: Manner = Manner {
     piece: 10_000_000,
     room: 10_000_000,
     greets: true,
+    reads: None,
     failing_read: None,
     failing_write: None,
 };
@@ -56,6 +61,7 @@ pub const BY_BYTES: Manner = Manner {
     piece: 1,
     room: 1,
     greets: false,
+    reads: None,
     failing_read: None,
     failing_write: None,
 };
@@ -65,6 +71,7 @@ pub const BY_SEVENS: Manner = Manner {
     piece: 7,
     room: 7,
     greets: true,
+    reads: None,
     failing_read: None,
     failing_write: None,
 };
@@ -82,8 +89,8 @@ pub fn new_session() -> Result<Session, Fail> {
     Ok(Session::new(text(b"MO")?, text(b"BRKA")?))
 }
 
-// The wire that gives a row's stream.
-fn wire_of(alloc: Global, row: &Row, manner: Manner) -> Result<MemoryWire, Fail> {
+/// The wire that gives a row's stream.
+pub fn wire_of(alloc: Global, row: &Row, manner: Manner) -> Result<MemoryWire, Fail> {
     let bytes = stream(alloc, row.stream)?;
     let mut sizes = Vec::new(alloc);
     for _ in 0..bytes.len().div_ceil(manner.piece.max(1)) {
@@ -102,6 +109,22 @@ fn wire_of(alloc: Global, row: &Row, manner: Manner) -> Result<MemoryWire, Fail>
         wire.fail_write(write);
     }
     Ok(wire)
+}
+
+// Serves a session, with so many reads at most where they are bounded.
+fn serve_at_most(
+    alloc: Global,
+    wire: &mut MemoryWire,
+    clock: &mut ListClock,
+    sink: &mut ListSink,
+    reader: &mut Reader,
+    session: &mut Session,
+    reads: Option<u64>,
+) -> Ended {
+    match reads {
+        Some(reads) => serve_session_within(alloc, wire, clock, sink, reader, session, reads),
+        None => serve_session(alloc, wire, clock, sink, reader, session),
+    }
 }
 
 /// Serves a session by a row's stream, from the greeting on where there is one.
@@ -123,13 +146,14 @@ pub fn run_of(
     if session.is_awaiting() {
         return Err(Fail::new("a reply is awaited"));
     }
-    let ended = serve_session(
+    let ended = serve_at_most(
         alloc,
         &mut wire,
         &mut clock,
         &mut sink,
         &mut reader,
         session,
+        manner.reads,
     );
     if session.phase() != Phase::Closed {
         return Err(Fail::new(format_args!("{}: not closed", row.name)));

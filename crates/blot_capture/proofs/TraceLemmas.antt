@@ -9,8 +9,7 @@ use Rattle.blot_tag.specs.Walking.{frames_of}
 use Rattle.blot_types.specs.declared.command.Command.{Command}
 use Rattle.blot_types.specs.declared.command.Entry.{Entry}
 use Rattle.blot_types.specs.declared.refused.Refused.{Refused as Reason}
-use Rattle.blot_types.specs.Legal.{refusal_of}
-use Rattle.blot_types.specs.Withdrawal.{without}
+use Rattle.blot_types.specs.Legal.{refusal_of, without}
 use Rattle.blot_session.specs.declared.met.Met.{Met}
 use Rattle.blot_session.specs.declared.state.State.{State}
 use Rattle.blot_session.specs.Met.{met_of}

@@ -1,5 +1,5 @@
--- The walk over a capture, message by message. What `capture` submits, what `replay` reports on and what an audit trail tells are
--- readings of it.
+-- The walk over a capture, message by message, which an audit trail tells. By the law below the commands that `capture` submits and the
+-- list that `replay` reports on are readings of it too.
 use Rattle.std.specs.Prelude.{◌≡◌, ℕ, ℤ, List, [], ◌∷◌, ◌++◌, map, Option, Some, None, Ok}
 use Rattle.std.specs.List.{flat_map}
 use Rattle.std.specs.Option.{option_and_then}

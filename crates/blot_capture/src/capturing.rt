@@ -23,8 +23,8 @@ use std::io::Read;
 /// dropped, and one that closes waits for its next Logon. The frames of others are passed over, and so are the bytes of an
 /// unfinished frame at the end. No peer may be listed twice.
 ///
-/// A fault is Read, Full (as many events are recorded as a day has, and a further command came), NoMemory or TooLong (more
-/// than 2^30 reads). By then the desk has taken a front of the commands.
+/// A fault is Read, Full (as many events are recorded as a day has, and a further command came), NoMemory or TooLong (2^30 reads
+/// were made, and one more is needed). By then the desk has taken a front of the commands.
 #[tactic(auto, using(crate::proofs::PeerLemmas::each_peer))]
 pub fn capture<R: Read>(
     alloc: Global,
@@ -43,8 +43,28 @@ pub fn capture<R: Read>(
     // The commands that a peer's frames bring are those that its own session takes of them, in their order.
     ensures each_peer { TakesEachPeer own peers.now }
 {
+    capture_within(alloc, input, own, peers, held, READS_MAX)
+}
+
+/// Takes a capture into a desk as `capture` does, with this many reads at most: TooLong is answered where that many were made and one
+/// more is needed, if only to find the end.
+pub(crate) fn capture_within<R: Read>(
+    alloc: Global,
+    input: &mut R,
+    own: Text64,
+    peers: &[Text64],
+    held: &mut Held,
+    reads: u64,
+) -> Result<(), ReplayFault>
+    requires { IsDistinct same_text peers.now }
+    ensures taken { OnOk result (IfSome (R.remaining input.old) (λ bytes. held.new ≡ submitted held.old (commands_of own peers.now bytes))) }
+    ensures read_to_the_end { OnOk result (IsAtEnd (R.remaining input.new)) }
+    ensures stopped { IfErr result (λ fault. IfSome (R.remaining input.old) (λ bytes.
+        Stopped fault held.old held.new (commands_of own peers.now bytes))) }
+    ensures no_write { result ≢ Err ReplayFault.Write }
+{
     match Sessions::new(alloc, own, peers) {
-        Ok(mut sessions) => take_all(alloc, input, &mut sessions, held),
+        Ok(mut sessions) => take_all(alloc, input, &mut sessions, held, reads),
         Err(_) => Err(ReplayFault::NoMemory),
     }
 }
@@ -55,6 +75,7 @@ fn take_all<R: Read>(
     input: &mut R,
     sessions: &mut Sessions,
     held: &mut Held,
+    reads: u64,
 ) -> Result<(), ReplayFault>
     ensures taken { OnOk result (IfSome (R.remaining input.old) (λ bytes.
         held.new ≡ submitted held.old (commands_over (sessions_of sessions.old) (frames_of bytes)))) }
@@ -65,7 +86,7 @@ fn take_all<R: Read>(
 {
     let mut reader = Reader::new(alloc);
     let mut buffer = empty_piece(alloc)?;
-    for _ in 0..READS_MAX {
+    for _ in 0..reads {
         let Some(count) = read_piece(input, &mut buffer)? else {
             return Ok(());
         };

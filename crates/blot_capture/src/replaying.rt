@@ -7,8 +7,9 @@ ghost use Rattle.blot_desk.specs.Desk.{events_of, run_of};
 ghost use Rattle.blot_capture.specs.Capture.{commands_of};
 ghost use Rattle.blot_capture.specs.Replay.{list_of, report_of};
 
-use crate::capturing::capture;
+use crate::capturing::capture_within;
 use blot_desk::Held;
+use blot_gateway::READS_MAX;
 use blot_report::{day_lines, report_text};
 use blot_stream::{ReplayFault, write_text};
 use blot_time::Day;
@@ -42,7 +43,33 @@ pub fn replay<R: Read, W: Write>(
     ensures other_faults { (fault : ReplayFault) → result ≡ Err fault → fault ≢ ReplayFault.Write
         → Keeps (W.contents output.old) (W.contents output.new) }
 {
-    match captured_report(alloc, input, own, peers, day) {
+    replay_within(alloc, input, output, own, peers, day, READS_MAX)
+}
+
+/// Takes a capture and writes the report of a day as `replay` does, with this many reads at most: TooLong is answered where that many
+/// were made and one more is needed, if only to find the end.
+pub fn replay_within<R: Read, W: Write>(
+    alloc: Global,
+    input: &mut R,
+    output: &mut W,
+    own: Text64,
+    peers: &[Text64],
+    day: Day,
+    reads: u64,
+) -> Result<(), ReplayFault>
+    requires { IsDistinct same_text peers.now }
+    ensures wrote { OnOk result (IfSome (R.remaining input.old) (λ bytes.
+        Appends (W.contents output.old) (W.contents output.new) (report_of (list_of own peers.now bytes) day))) }
+    ensures read_to_the_end { OnOk result (IsAtEnd (R.remaining input.new)) }
+    ensures few { OnOk result (IfSome (R.remaining input.old) (λ bytes. length (commands_of own peers.now bytes) ≤ EVENTS_MAX)) }
+    ensures full { result ≡ Err ReplayFault.Full
+        → IfSome (R.remaining input.old) (λ bytes. EVENTS_MAX < length (commands_of own peers.now bytes)) }
+    ensures write_fault { result ≡ Err ReplayFault.Write → IfSome (R.remaining input.old) (λ bytes. (front back : List ℕ)
+        × (front ++ back ≡ report_of (list_of own peers.now bytes) day) × Appends (W.contents output.old) (W.contents output.new) front) }
+    ensures other_faults { (fault : ReplayFault) → result ≡ Err fault → fault ≢ ReplayFault.Write
+        → Keeps (W.contents output.old) (W.contents output.new) }
+{
+    match captured_report(alloc, input, own, peers, day, reads) {
         Ok(text) => write_text(output, &text),
         Err(fault) => Err(fault),
     }
@@ -55,6 +82,7 @@ fn captured_report<R: Read>(
     own: Text64,
     peers: &[Text64],
     day: Day,
+    reads: u64,
 ) -> Result<Vec<u8>, ReplayFault>
     requires { IsDistinct same_text peers.now }
     ensures text { IfOk result (λ text. IfSome (R.remaining input.old) (λ bytes. text.items ≡ report_of (list_of own peers.now bytes) day)) }
@@ -65,7 +93,7 @@ fn captured_report<R: Read>(
     ensures no_write { result ≢ Err ReplayFault.Write }
 {
     let mut held = Held::new(alloc);
-    if let Err(fault) = capture(alloc, input, own, peers, &mut held) {
+    if let Err(fault) = capture_within(alloc, input, own, peers, &mut held, reads) {
         return Err(fault);
     }
     match day_report(alloc, held, day) {

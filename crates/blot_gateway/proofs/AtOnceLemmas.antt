@@ -44,7 +44,7 @@ adds-follows does ticks (Err cause) end unread before after follows = adds-none 
 adds-follows does ticks (Ok peer) end unread before after follows =
     elim follows [
       | inl turned ↦ adds-none before.sink after.sink (ap (λ line. line.sink) turned.same)
-      | inr serves ↦ adds-steps serves.served.ends.answers before.sink after.sink serves.served.ends.happens.sink
+      | inr serves ↦ adds-steps serves.served.within.ends.answers before.sink after.sink serves.served.within.ends.happens.sink
     ]
 
 adds-served : {W C : Type 0} (does : W → Did → W → Type 0) (ticks : C → ℤ → C → Type 0) (failures : W → ℕ) (own : List ℕ)

@@ -112,13 +112,13 @@ with-behind : (read : Read) (first second : List Read) → EndsWith read second 
 with-behind read first second two =
     record { earlier = first ++ two.earlier; joined = ap (λ rest. first ++ rest) two.joined ∙ sym (append_assoc first two.earlier (read ∷ [])) }
 
-pub cause-behind : (end : Ended) (first second : List Read) (left : List Due) → (end ≡ ended.TooLong → first ≡ []) → Cause end second left → Cause end (first ++ second) left
-cause-behind ended.End first second left other two = (with-behind _ first second two.0, two.1)
-cause-behind ended.ReadFault first second left other two = (with-behind _ first second two.0, two.1)
-cause-behind ended.TooLong first second left other two = (ap (λ (front : List Read). length (front ++ second)) (other refl) ∙ two.0, two.1)
-cause-behind (ended.Closed reason) first second left other two = tt
-cause-behind ended.WriteFault first second left other two = tt
-cause-behind ended.NoMemory first second left other two = tt
+pub cause-behind : (end : Ended) (first second : List Read) (left : List Due) → Cause end second left → Cause end (first ++ second) left
+cause-behind ended.End first second left two = (with-behind _ first second two.0, two.1)
+cause-behind ended.ReadFault first second left two = (with-behind _ first second two.0, two.1)
+cause-behind ended.TooLong first second left two = two
+cause-behind (ended.Closed reason) first second left two = tt
+cause-behind ended.WriteFault first second left two = tt
+cause-behind ended.NoMemory first second left two = tt
 
 -- ---- what happens
 
@@ -194,9 +194,9 @@ runs-on does ticks takes a b c due left rest reads reads_b one two =
     }
 
 pub ends-behind : {W C S : Type 0} (does : W → Did → W → Type 0) (ticks : C → ℤ → C → Type 0) (takes : S → Answered → S → Type 0)
-    (end : Ended) (a b c : Parties W C S) (due left : List Due) (reads reads_b : List Read) → (end ≡ ended.TooLong → reads ≡ [])
+    (end : Ended) (a b c : Parties W C S) (due left : List Due) (reads reads_b : List Read)
     → Runs does ticks takes a due reads left b → Ends does ticks takes end b left reads_b c → Ends does ticks takes end a due (reads ++ reads_b) c
-ends-behind does ticks takes end a b c due left reads reads_b other one two =
+ends-behind does ticks takes end a b c due left reads reads_b one two =
     record {
       calls = one.calls ++ two.calls;
       dids = one.dids ++ two.dids;
@@ -207,5 +207,5 @@ ends-behind does ticks takes end a b c due left reads reads_b other one two =
           one.happens.session one.in_turn two.in_turn;
       handed = handed-on one.answers two.answers one.calls two.calls a.session b.session one.happens.session one.handed two.handed;
       stops = stops-behind end one.calls two.calls a.session one.goes_on (subst (λ state. Stops end state two.calls) one.happens.session two.stops);
-      cause = cause-behind end reads reads_b two.left other two.cause;
+      cause = cause-behind end reads reads_b two.left two.cause;
     }

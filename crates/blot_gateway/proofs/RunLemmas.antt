@@ -14,7 +14,6 @@ use Rattle.blot_gateway.specs.declared.ended.Ended.{Ended}
 use Rattle.blot_gateway.specs.declared.ended.Ended.TheVariants as ended
 use Rattle.blot_gateway.specs.declared.ended.Stop.{Stop}
 use Rattle.blot_gateway.specs.declared.ended.Stop.TheVariants as stops
-use Rattle.blot_gateway.specs.declared.ended.TheConstants.{READS_MAX}
 use Rattle.blot_gateway.specs.Endings.{ended_by}
 use Rattle.blot_gateway.specs.Wires.{Read, Did, Answered, Steps, reads_of, written_of}
 use Rattle.blot_gateway.specs.Wires.Did.{Gave}
@@ -349,7 +348,7 @@ ends-there does ticks takes a b due left reads run =
 pub data ByWire : Ended → List Read → Type 0 where
   at_end : (reads : List Read) → EndsWith AtEnd reads → ByWire ended.End reads
   failed : (reads : List Read) → EndsWith Failed reads → ByWire ended.ReadFault reads
-  too_long : (reads : List Read) → length reads ≡ READS_MAX → ByWire ended.TooLong reads
+  too_long : (reads : List Read) → ByWire ended.TooLong reads
 
 pub ends-by-wire : {W C S : Type 0} (does : W → Did → W → Type 0) (ticks : C → ℤ → C → Type 0) (takes : S → Answered → S → Type 0)
     (end : Ended) (a b : Parties W C S) (due : List Due) (reads : List Read) → ByWire end reads → Runs does ticks takes a due reads [] b → Ends does ticks takes end a due reads b
@@ -377,7 +376,7 @@ ends-by-wire does ticks takes end a b due reads (failed given with_end) run =
       stops = run.goes_on;
       cause = (with_end, refl);
     }
-ends-by-wire does ticks takes end a b due reads (too_long given long) run =
+ends-by-wire does ticks takes end a b due reads (too_long given) run =
     record {
       calls = run.calls;
       dids = run.dids;
@@ -387,5 +386,5 @@ ends-by-wire does ticks takes end a b due reads (too_long given long) run =
       in_turn = in-turn-all (Wrote ended.TooLong) a.session run.calls run.dids due reads [] (λ _ _ is. is) run.in_turn;
       handed = run.handed;
       stops = run.goes_on;
-      cause = (long, refl);
+      cause = refl;
     }

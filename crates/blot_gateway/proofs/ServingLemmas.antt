@@ -11,12 +11,11 @@ use Rattle.blot_gateway.specs.declared.ended.Ended.{Ended}
 use Rattle.blot_gateway.specs.declared.ended.Ended.TheVariants as ended
 use Rattle.blot_gateway.specs.declared.ended.Stop.{Stop}
 use Rattle.blot_gateway.specs.declared.ended.Stop.TheVariants as stops
-use Rattle.blot_gateway.specs.declared.ended.TheConstants.{READS_MAX}
 use Rattle.blot_gateway.specs.Endings.{ended_by}
 use Rattle.blot_gateway.specs.Wires.{Read, Did, Answered, Counts}
 use Rattle.blot_gateway.specs.Wires.Read.{AtEnd, Failed}
 use Rattle.blot_gateway.specs.Wires.Did.{Gave}
-use Rattle.blot_gateway.specs.Serving.{Due, Parties, parties, Runs, Ends, IsCounted, due_behind, due_fed, due_of}
+use Rattle.blot_gateway.specs.Serving.{Due, Parties, parties, Runs, Ends, EndsWithin, IsCounted, due_behind, due_fed, due_of}
 use Rattle.blot_gateway.specs.Serving.Due.{Fed, Came, Passed}
 use Rattle.blot_gateway.specs.Sending.{Called, Halted}
 use Rattle.blot_gateway.proofs.CallLemmas.{runs-on, ends-behind}
@@ -33,9 +32,6 @@ rest-first old new text takes = ap (λ walk. walk.rest) takes.walk
 
 pub frames-none : (old new : Reading) → FindsNone old new → frames_of old.unread ≡ []
 frames-none old new none = ap (λ walk. walk.frames) none.walk
-
-pub rest-none : (old new : Reading) → FindsNone old new → rest_of old.unread ≡ new.unread
-rest-none old new none = ap (λ walk. walk.rest) none.walk
 
 -- what is left after a frame
 abbrev pub left_in : Reading → List Due → List Due
@@ -57,14 +53,8 @@ pub ends-frame : {W C S : Type 0} (does : W → Did → W → Type 0) (ticks : C
     → Runs does ticks takes a due [] (left_in old more) b → Ends does ticks takes end b (Came text ∷ left_in new more) [] c
     → Ends does ticks takes end a due [] c
 ends-frame does ticks takes end a b c due more old new text first one two =
-    ends-behind does ticks takes end a b c due (Came text ∷ left_in new more) [] [] (λ is. refl)
+    ends-behind does ticks takes end a b c due (Came text ∷ left_in new more) [] []
     (subst (λ left. Runs does ticks takes a due [] left b) (left-first old new text more first) one) two
-
-pub runs-drained : {W C S : Type 0} (does : W → Did → W → Type 0) (ticks : C → ℤ → C → Type 0) (takes : S → Answered → S → Type 0)
-    (a b : Parties W C S) (due more : List Due) (old new : Reading) → FindsNone old new
-    → Runs does ticks takes a due [] (left_in old more) b → Runs does ticks takes a due [] more b
-runs-drained does ticks takes a b due more old new none one =
-    subst (λ left. Runs does ticks takes a due [] left b) (ap (λ texts. map Came texts ++ more) (frames-none old new none)) one
 
 -- ---- a moment after the frames
 
@@ -82,7 +72,7 @@ pub ends-fed : {W C S : Type 0} (does : W → Did → W → Type 0) (ticks : C �
     → Runs does ticks takes a (due_fed unread more) [] (Passed ∷ due_behind (rest_of unread) more) b → Halted does ticks stop Tick b.wire b.clock b.session wire clock state
     → Ends does ticks takes (ended_by stop) a (due_fed unread more) [] (parties wire clock b.sink state)
 ends-fed does ticks takes stop a b unread more wire clock state idle one halted =
-    ends-behind does ticks takes (ended_by stop) a b (parties wire clock b.sink state) (due_fed unread more) (Passed ∷ due_behind (rest_of unread) more) [] [] (λ is. refl) one
+    ends-behind does ticks takes (ended_by stop) a b (parties wire clock b.sink state) (due_fed unread more) (Passed ∷ due_behind (rest_of unread) more) [] [] one
     (ends-one does ticks takes stop Tick b (Passed ∷ []) (due_behind (rest_of unread) more) wire clock state (tick-call b.session idle) halted)
 
 -- ---- one read
@@ -126,7 +116,7 @@ pub ends-behind-read : {W C S : Type 0} (does : W → Did → W → Type 0) (tic
     (stop : Stop) (read : Read) (a b : Parties W C S) (due : List Due) (wire : W) → does a.wire (Gave read) wire
     → Ends does ticks takes (ended_by stop) (parties wire a.clock a.sink a.session) due [] b → Ends does ticks takes (ended_by stop) a (Fed read ∷ due) (read ∷ []) b
 ends-behind-read does ticks takes stop read a b due wire step ends =
-    ends-behind does ticks takes (ended_by stop) a (parties wire a.clock a.sink a.session) b (Fed read ∷ due) due (read ∷ []) [] (λ is. absurd (ended-short stop is))
+    ends-behind does ticks takes (ended_by stop) a (parties wire a.clock a.sink a.session) b (Fed read ∷ due) due (read ∷ []) []
     (runs-read does ticks takes read a due wire step) ends
 
 -- the wire's end, and its failure
@@ -169,37 +159,55 @@ serves-more does ticks takes a b c unread rest left count read one two =
     }
 
 -- the end of the reads
-abbrev pub EndsBy : {W C S : Type 0} → (W → Did → W → Type 0) → (C → ℤ → C → Type 0) → (S → Answered → S → Type 0) → Ended → Parties W C S → List ℕ → Parties W C S → Type 0
-EndsBy does ticks takes end a unread b = (reads : List Read) × Ends does ticks takes end a (due_behind unread reads) reads b
-
 pub serves-end : {W C S : Type 0} (does : W → Did → W → Type 0) (ticks : C → ℤ → C → Type 0) (takes : S → Answered → S → Type 0)
-    (end : Ended) (a b c : Parties W C S) (unread rest : List ℕ) (count : ℕ) (read : Read) → end ≢ ended.TooLong → Serves does ticks takes a unread count b rest
-    → ((more : List Read) → Ends does ticks takes end b (due_behind rest (read ∷ more)) (read ∷ []) c) → EndsBy does ticks takes end a unread c
-serves-end does ticks takes end a b c unread rest count read short one two = (
-  one.reads ++ read ∷ [],
-  ends-behind does ticks takes end a b c (due_behind unread (one.reads ++ read ∷ [])) (due_behind rest (read ∷ [])) one.reads (read ∷ []) (λ is. absurd (short is))
-      (one.runs (read ∷ [])) (two []),
-)
+    (most : ℕ) (end : Ended) (a b c : Parties W C S) (unread rest : List ℕ) (count : ℕ) (read : Read) → end ≢ ended.TooLong → Serves does ticks takes a unread count b rest
+    → ((more : List Read) → Ends does ticks takes end b (due_behind rest (read ∷ more)) (read ∷ []) c) → EndsWithin does ticks takes most end a (due_behind unread) c
+serves-end does ticks takes most end a b c unread rest count read short one two =
+    record {
+      reads = one.reads ++ read ∷ [];
+      long = λ is. absurd (short is);
+      ends = ends-behind does ticks takes end a b c (due_behind unread (one.reads ++ read ∷ [])) (due_behind rest (read ∷ [])) one.reads (read ∷ [])
+          (one.runs (read ∷ [])) (two []);
+    }
 
 pub serves-long : {W C S : Type 0} (does : W → Did → W → Type 0) (ticks : C → ℤ → C → Type 0) (takes : S → Answered → S → Type 0)
-    (a b : Parties W C S) (unread rest : List ℕ) → Serves does ticks takes a unread READS_MAX b rest → EndsBy does ticks takes ended.TooLong a unread b
-serves-long does ticks takes a b unread rest one = (
-  one.reads,
-  ends-by-wire does ticks takes ended.TooLong a b (due_behind unread one.reads) one.reads (too_long one.reads one.many)
-      (subst (λ reads. Runs does ticks takes a (due_behind unread reads) one.reads [] b) (append-nil one.reads) (one.runs [])),
-)
+    (most : ℕ) (a b : Parties W C S) (unread rest : List ℕ) → Serves does ticks takes a unread most b rest
+    → EndsWithin does ticks takes most ended.TooLong a (due_behind unread) b
+serves-long does ticks takes most a b unread rest one =
+    record {
+      reads = one.reads;
+      long = λ is. one.many;
+      ends = ends-by-wire does ticks takes ended.TooLong a b (due_behind unread one.reads) one.reads (too_long one.reads)
+          (subst (λ reads. Runs does ticks takes a (due_behind unread reads) one.reads [] b) (append-nil one.reads) (one.runs []));
+    }
 
 pub ends-no-memory : {W C S : Type 0} (does : W → Did → W → Type 0) (ticks : C → ℤ → C → Type 0) (takes : S → Answered → S → Type 0)
-    (a : Parties W C S) (unread : List ℕ) → EndsBy does ticks takes ended.NoMemory a unread a
-ends-no-memory does ticks takes a unread = ([], ends-there does ticks takes a a [] [] [] (runs-nowhere does ticks takes a []))
+    (most : ℕ) (a : Parties W C S) (unread : List ℕ) → EndsWithin does ticks takes most ended.NoMemory a (due_behind unread) a
+ends-no-memory does ticks takes most a unread =
+    record { reads = []; long = λ is. absurd cc; ends = ends-there does ticks takes a a [] [] [] (runs-nowhere does ticks takes a []) }
 
 -- ---- the whole session
 
 pub served-reads : {W C S : Type 0} (does : W → Did → W → Type 0) (ticks : C → ℤ → C → Type 0) (takes : S → Answered → S → Type 0)
-    (end : Ended) (a b c : Parties W C S) (unread rest : List ℕ) → rest ≡ rest_of unread
-    → ((more : List Due) → Runs does ticks takes a (map Came (frames_of unread) ++ more) [] more b) → (ends : EndsBy does ticks takes end b rest c)
-    → Ends does ticks takes end a (due_of unread ends.0) ends.0 c
-served-reads does ticks takes end a b c unread rest left one two =
-    let due = due_behind (rest_of unread) two.0 in
-    ends-behind does ticks takes end a b c (due_of unread two.0) due [] two.0 (λ is. refl) (one due)
-    (subst (λ text. Ends does ticks takes end b (due_behind text two.0) two.0 c) left two.1)
+    (most : ℕ) (end : Ended) (a b c : Parties W C S) (unread rest : List ℕ) → rest ≡ rest_of unread
+    → ((more : List Due) → Runs does ticks takes a (map Came (frames_of unread) ++ more) [] more b) → EndsWithin does ticks takes most end b (due_behind rest) c
+    → EndsWithin does ticks takes most end a (due_of unread) c
+served-reads does ticks takes most end a b c unread rest left one two =
+    let due = due_behind (rest_of unread) two.reads in
+    record {
+      reads = two.reads;
+      long = two.long;
+      ends = ends-behind does ticks takes end a b c (due_of unread two.reads) due [] two.reads (one due)
+          (subst (λ text. Ends does ticks takes end b (due_behind text two.reads) two.reads c) left two.ends);
+    }
+
+-- what ends before the first read
+pub ends-unread : {W C S : Type 0} (does : W → Did → W → Type 0) (ticks : C → ℤ → C → Type 0) (takes : S → Answered → S → Type 0)
+    (most : ℕ) (stop : Stop) (end : Ended) (a b : Parties W C S) (unread : List ℕ) → end ≡ ended_by stop
+    → Ends does ticks takes (ended_by stop) a (due_of unread []) [] b → EndsWithin does ticks takes most end a (due_of unread) b
+ends-unread does ticks takes most stop end a b unread is ends =
+    record {
+      reads = [];
+      long = λ long. absurd (ended-short stop (sym is ∙ long));
+      ends = subst (λ ended. Ends does ticks takes ended a (due_of unread []) [] b) (sym is) ends;
+    }

@@ -18,7 +18,6 @@ use Rattle.blot_session.specs.Runs.Call.{Frame, Reply, Tick}
 use Rattle.blot_session.specs.States.{closed}
 use Rattle.blot_gateway.specs.declared.ended.Ended.{Ended}
 use Rattle.blot_gateway.specs.declared.ended.Ended.TheVariants as ended
-use Rattle.blot_gateway.specs.declared.ended.TheConstants.{READS_MAX}
 use Rattle.blot_gateway.specs.Wires.{Read, Did, Answered, Counts, Steps, reads_of, written_of}
 use Rattle.blot_gateway.specs.Wires.Did.{Gave}
 use Rattle.blot_gateway.specs.Wires.Read.{Piece, Silence, AtEnd, Failed}
@@ -150,7 +149,7 @@ pub record EndsWith (read : Read) (reads : List Read) : Type 0 where
 abbrev pub Cause : Ended → List Read → List Due → Type 0
 Cause ended.End reads left = EndsWith AtEnd reads × (left ≡ [])
 Cause ended.ReadFault reads left = EndsWith Failed reads × (left ≡ [])
-Cause ended.TooLong reads left = (length reads ≡ READS_MAX) × (left ≡ [])
+Cause ended.TooLong reads left = left ≡ []
 Cause end reads left = Unit {0}
 
 -- a front of a text, and not the whole
@@ -283,10 +282,16 @@ abbrev pub left_by : Ended → State → State
 left_by (ended.Closed reason) state = state
 left_by end state = closed state
 
--- the wire gave some reads; after what the reader held, they led to calls that end so
-pub record Served {W C S : Type 0} (does : W → Did → W → Type 0) (ticks : C → ℤ → C → Type 0) (takes : S → Answered → S → Type 0)
-    (end : Ended) (before : Parties W C S) (unread : List ℕ) (after : Parties W C S) : Type 0 where
+-- the wire gave some reads, which led to calls that end so; where it was read too often, they are this many
+pub record EndsWithin {W C S : Type 0} (does : W → Did → W → Type 0) (ticks : C → ℤ → C → Type 0) (takes : S → Answered → S → Type 0)
+    (most : ℕ) (end : Ended) (before : Parties W C S) (due : List Read → List Due) (after : Parties W C S) : Type 0 where
   pub reads : List Read
+  pub long : end ≡ ended.TooLong → length reads ≡ most
+  pub ends : Ends does ticks takes end before (due reads) reads after
+
+-- after what the reader held, the wire's reads led to calls that end so
+pub record Served {W C S : Type 0} (does : W → Did → W → Type 0) (ticks : C → ℤ → C → Type 0) (takes : S → Answered → S → Type 0)
+    (most : ℕ) (end : Ended) (before : Parties W C S) (unread : List ℕ) (after : Parties W C S) : Type 0 where
   pub last : State
-  pub ends : Ends does ticks takes end before (due_of unread reads) reads (record after { session = last })
+  pub within : EndsWithin does ticks takes most end before (due_of unread) (record after { session = last })
   pub closed : after.session ≡ left_by end last

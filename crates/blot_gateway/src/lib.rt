@@ -29,5 +29,5 @@ pub use list_sink::ListSink;
 pub use memory_wire::MemoryWire;
 pub use piece::{PIECE, empty_piece};
 pub use seat_sink::SeatSink;
-pub use serving::serve_session;
+pub use serving::{serve_session, serve_session_within};
 pub use wire::{Clock, Reading, Sink, Wire, Writing};

@@ -5,7 +5,8 @@ ghost use Rattle.blot_session.specs.States.{IsIdle};
 ghost use Rattle.blot_gateway.specs.declared.ended.Stop.{Stop};
 ghost use Rattle.blot_gateway.specs.Endings.{ended_by};
 ghost use Rattle.blot_gateway.specs.Wires.{Counts, Read};
-ghost use Rattle.blot_gateway.specs.Serving.{Due, Runs, Ends, Served, IsCounted, due_behind, due_fed, due_of, left_by, parties};
+ghost use Rattle.blot_gateway.specs.declared.ended.TheConstants.{READS_MAX};
+ghost use Rattle.blot_gateway.specs.Serving.{Due, Runs, Ends, EndsWithin, Served, IsCounted, due_behind, due_fed, due_of, left_by, parties};
 ghost use Rattle.blot_gateway.specs.Serving.Due.{Came};
 
 use crate::calling::{pass_moment, take_frame};
@@ -20,7 +21,7 @@ use std::alloc::Global;
 /// is told the answer.
 ///
 /// Closed: the session ended the connection, for this reason. End: the wire is at its end. ReadFault, WriteFault: it failed,
-/// and counted that. TooLong: 2^30 reads were made. NoMemory: memory ran out. The session is closed then.
+/// and counted that. TooLong: 2^30 reads were made, and one more is needed. NoMemory: memory ran out. The session is closed then.
 pub fn serve_session<W: Wire, C: Clock, S: Sink>(
     alloc: Global,
     wire: &mut W,
@@ -30,11 +31,30 @@ pub fn serve_session<W: Wire, C: Clock, S: Sink>(
     session: &mut Session,
 ) -> Ended
     requires { IsIdle session.old }
-    ensures served { Served W.does C.ticks S.takes result (parties wire.old clock.old sink.old session.old) reader.old.unread
+    ensures served { Served W.does C.ticks S.takes READS_MAX result (parties wire.old clock.old sink.old session.old) reader.old.unread
         (parties wire.new clock.new sink.new session.new) }
     ensures counted { IsCounted result (W.failures wire.old) (W.failures wire.new) }
 {
-    let ended = serve_all(alloc, wire, clock, sink, reader, session);
+    serve_session_within(alloc, wire, clock, sink, reader, session, READS_MAX)
+}
+
+/// Serves a session over a wire as `serve_session` does, with this many reads at most: TooLong is answered where that many were made and
+/// one more is needed.
+pub fn serve_session_within<W: Wire, C: Clock, S: Sink>(
+    alloc: Global,
+    wire: &mut W,
+    clock: &mut C,
+    sink: &mut S,
+    reader: &mut Reader,
+    session: &mut Session,
+    reads: u64,
+) -> Ended
+    requires { IsIdle session.old }
+    ensures served { Served W.does C.ticks S.takes reads result (parties wire.old clock.old sink.old session.old) reader.old.unread
+        (parties wire.new clock.new sink.new session.new) }
+    ensures counted { IsCounted result (W.failures wire.old) (W.failures wire.new) }
+{
+    let ended = serve_all(alloc, wire, clock, sink, reader, session, reads);
     leave(session, ended);
     ended
 }
@@ -47,15 +67,16 @@ fn serve_all<W: Wire, C: Clock, S: Sink>(
     sink: &mut S,
     reader: &mut Reader,
     session: &mut Session,
+    reads: u64,
 ) -> Ended
     requires { IsIdle session.old }
-    ensures ends { (reads : List Read) × Ends W.does C.ticks S.takes result (parties wire.old clock.old sink.old session.old)
-        (due_of reader.old.unread reads) reads (parties wire.new clock.new sink.new session.new) }
+    ensures ends { EndsWithin W.does C.ticks S.takes reads result (parties wire.old clock.old sink.old session.old)
+        (due_of reader.old.unread) (parties wire.new clock.new sink.new session.new) }
     ensures idle { IsIdle session.new }
     ensures counted { IsCounted result (W.failures wire.old) (W.failures wire.new) }
 {
     match take_frames(alloc, wire, clock, sink, reader, session) {
-        Ok(()) => serve_reads(alloc, wire, clock, sink, reader, session),
+        Ok(()) => serve_reads(alloc, wire, clock, sink, reader, session, reads),
         Err(stop) => stop.ended(),
     }
 }
@@ -79,17 +100,18 @@ fn serve_reads<W: Wire, C: Clock, S: Sink>(
     sink: &mut S,
     reader: &mut Reader,
     session: &mut Session,
+    reads: u64,
 ) -> Ended
     requires { IsIdle session.old }
-    ensures ends { (reads : List Read) × Ends W.does C.ticks S.takes result (parties wire.old clock.old sink.old session.old)
-        (due_behind reader.old.unread reads) reads (parties wire.new clock.new sink.new session.new) }
+    ensures ends { EndsWithin W.does C.ticks S.takes reads result (parties wire.old clock.old sink.old session.old)
+        (due_behind reader.old.unread) (parties wire.new clock.new sink.new session.new) }
     ensures idle { IsIdle session.new }
     ensures counted { IsCounted result (W.failures wire.old) (W.failures wire.new) }
 {
     let Ok(mut buffer) = empty_piece(alloc) else {
         return Ended::NoMemory;
     };
-    for _ in 0..READS_MAX {
+    for _ in 0..reads {
         match serve_read(alloc, wire, clock, sink, reader, session, &mut buffer) {
             Ok(()) => {}
             Err(ended) => return ended,

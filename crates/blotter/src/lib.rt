@@ -9,7 +9,7 @@ mod serving;
 mod socket;
 mod system_clock;
 
-pub use blot_capture::{capture, replay};
+pub use blot_capture::{capture, replay, replay_within};
 pub use blot_operator::{desk_lines, seat_lines};
 pub use blot_stream::{Outcome, ReplayFault, ServeFault};
 pub use blot_trail::audit;

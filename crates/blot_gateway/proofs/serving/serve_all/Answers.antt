@@ -1,18 +1,16 @@
 use Rattle.std.proofs.Common.{[], sym, subst}
 use Rattle.blot_tag.specs.Walking.{rest_of}
-use Rattle.blot_gateway.specs.Serving.{Ends, IsCounted, due_behind, due_of, parties}
-use Rattle.blot_gateway.proofs.ServingLemmas.{served-reads, ended-counted, counted-behind}
+use Rattle.blot_gateway.specs.Serving.{IsCounted, due_behind, parties}
+use Rattle.blot_gateway.proofs.ServingLemmas.{served-reads, ends-unread, ended-counted, counted-behind}
 use Rattle.blot_gateway.proofs.serving.serve_all.Goals as goal
 
 pub returns-in-Ok-clause-ends : goal.returns-in-Ok-clause-ends
 returns-in-Ok-clause-ends g c =
     let a = parties c.args.wire.now c.args.clock.now c.args.sink.now c.args.session.now in
     let b = parties c.take_frames.new.wire c.take_frames.new.clock c.take_frames.new.sink c.take_frames.new.session in
-    let d = parties c.serve_reads.new.wire c.serve_reads.new.clock c.serve_reads.new.sink c.serve_reads.new.session in (
-      c.serve_reads.ensures.ends.0,
-      served-reads g.W.Wire.does g.C.Clock.ticks g.S.Sink.takes c.serve_reads.result a b d c.args.reader.now.unread c.take_frames.new.reader.unread c.in-Ok.ensures.rest c.in-Ok.ensures.ok
-          c.serve_reads.ensures.ends,
-    )
+    let d = parties c.serve_reads.new.wire c.serve_reads.new.clock c.serve_reads.new.sink c.serve_reads.new.session in
+    served-reads g.W.Wire.does g.C.Clock.ticks g.S.Sink.takes c.args.reads c.serve_reads.result a b d c.args.reader.now.unread c.take_frames.new.reader.unread
+    c.in-Ok.ensures.rest c.in-Ok.ensures.ok c.serve_reads.ensures.ends
 
 pub returns-in-Ok-clause-counted : goal.returns-in-Ok-clause-counted
 returns-in-Ok-clause-counted g c =
@@ -22,11 +20,9 @@ returns-in-Ok-clause-counted g c =
 pub returns-in-Err-clause-ends : goal.returns-in-Err-clause-ends
 returns-in-Err-clause-ends g c =
     let a = parties c.args.wire.now c.args.clock.now c.args.sink.now c.args.session.now in
-    let b = parties c.take_frames.new.wire c.take_frames.new.clock c.take_frames.new.sink c.take_frames.new.session in (
-      [],
-      subst (λ end. Ends g.W.Wire.does g.C.Clock.ticks g.S.Sink.takes end a (due_of c.args.reader.now.unread []) [] b) (sym c.ended.ensures)
-          (c.in-Err.ensures.err (due_behind (rest_of c.args.reader.now.unread) [])),
-    )
+    let b = parties c.take_frames.new.wire c.take_frames.new.clock c.take_frames.new.sink c.take_frames.new.session in
+    ends-unread g.W.Wire.does g.C.Clock.ticks g.S.Sink.takes c.args.reads c.in-Err.stop _ a b c.args.reader.now.unread c.ended.ensures
+    (c.in-Err.ensures.err (due_behind (rest_of c.args.reader.now.unread) []))
 
 pub returns-in-Err-clause-counted : goal.returns-in-Err-clause-counted
 returns-in-Err-clause-counted g c =

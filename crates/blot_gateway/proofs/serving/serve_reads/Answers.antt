@@ -1,5 +1,4 @@
 use Rattle.std.proofs.Common.{◌≡◌, subst, arith}
-use Rattle.blot_gateway.specs.declared.ended.TheConstants.{READS_MAX}
 use Rattle.blot_gateway.specs.Serving.{parties}
 use Rattle.blot_gateway.proofs.ServingLemmas.{Serves, serves-none, serves-more, serves-end, serves-long, ends-no-memory}
 use Rattle.blot_gateway.proofs.serving.serve_reads.Goals as goal
@@ -7,7 +6,7 @@ use Rattle.blot_gateway.proofs.serving.serve_reads.Goals as goal
 pub returns-in_default-clause-ends : goal.returns-in_default-clause-ends
 returns-in_default-clause-ends g c =
     let a = parties c.args.wire.now c.args.clock.now c.args.sink.now c.args.session.now in
-    ends-no-memory g.W.Wire.does g.C.Clock.ticks g.S.Sink.takes a c.args.reader.now.unread
+    ends-no-memory g.W.Wire.does g.C.Clock.ticks g.S.Sink.takes c.args.reads a c.args.reader.now.unread
 
 pub loop-init : goal.loop-init
 loop-init g c =
@@ -24,7 +23,7 @@ returns-in-Err-clause-ends g c =
     let b = parties c.loop.wire c.loop.clock c.loop.sink c.loop.session in
     let d = parties c.serve_read.new.wire c.serve_read.new.clock c.serve_read.new.sink c.serve_read.new.session in
     let ends = c.in-Err.ensures.err in
-    serves-end g.W.Wire.does g.C.Clock.ticks g.S.Sink.takes c.in-Err.ended a b d c.args.reader.now.unread c.loop.reader.unread c.loop.counter ends.0 c.in-Err.ensures.not_long
+    serves-end g.W.Wire.does g.C.Clock.ticks g.S.Sink.takes c.args.reads c.in-Err.ended a b d c.args.reader.now.unread c.loop.reader.unread c.loop.counter ends.0 c.in-Err.ensures.not_long
     c.loop.invariant.0 ends.1
 
 pub loop-preserved : goal.loop-preserved
@@ -44,6 +43,6 @@ pub returns-clause-ends : goal.returns-clause-ends
 returns-clause-ends g c =
     let a = parties c.args.wire.now c.args.clock.now c.args.sink.now c.args.session.now in
     let b = parties c.loop.wire c.loop.clock c.loop.sink c.loop.session in
-    let all : c.loop.counter ≡ READS_MAX = omega (arith, c.loop-test.false, c.loop.auto.counter-end) in
-    serves-long g.W.Wire.does g.C.Clock.ticks g.S.Sink.takes a b c.args.reader.now.unread c.loop.reader.unread
+    let all : c.loop.counter ≡ c.args.reads = omega (arith, c.loop-test.false, c.loop.auto.counter-end) in
+    serves-long g.W.Wire.does g.C.Clock.ticks g.S.Sink.takes c.args.reads a b c.args.reader.now.unread c.loop.reader.unread
     (subst (λ count. Serves g.W.Wire.does g.C.Clock.ticks g.S.Sink.takes a c.args.reader.now.unread count b c.loop.reader.unread) all c.loop.invariant.0)
