@@ -115,10 +115,6 @@ pops-instruction key role slot earlier fall newest =
       kept = sym (lifted_on slot earlier is);
     }
 
--- the newest slot's roots are apart
-pub newest-apart : (index : Index) (slot : Slot Instruction) (earlier : List (Slot Instruction)) → HoldsAllocs index (slot ∷ earlier) → are_apart slot.item.roots ≡ true
-newest-apart index slot earlier holds = (and_parts _ _ holds.apart).0
-
 pub held-pop :
     (index new : Index) (slot : Slot Instruction) (earlier : List (Slot Instruction)) → HoldsAllocs index (slot ∷ earlier) → slot.is_live ≡ true
     → IsIndexed new earlier → HoldsAllocs new earlier

@@ -1,7 +1,7 @@
 //! Which entry of a list is the first that can't do without another.
 ghost use Rattle.std.specs.Prelude.{◌≡◌, IsTrue, IfOk};
-ghost use Rattle.blot_types.specs.Legal.{is_book};
-ghost use Rattle.blot_types.specs.Withdrawal.{without, up_to, fails_at, least_needing, IsBustUnneeded, IsNeededFirst, IsWithdrawn};
+ghost use Rattle.blot_types.specs.Legal.{is_book, without, up_to, fails_at, least_needing};
+ghost use Rattle.blot_types.specs.Withdrawal.{IsBustUnneeded, IsNeededFirst, IsWithdrawn};
 
 use crate::refusals::legal;
 use blot_types::Entry;

@@ -66,17 +66,8 @@ same_number n a b = ap (λ test. if test then a else b) (eq-eqb n n refl)
 other_number : {A : Type 0} (n k : ℕ) (a b : A) → k ≢ n → (if k == n then a else b) ≡ b
 other_number n k a b other = ap (λ test. if test then a else b) (ne_eqb k n other)
 
-pub put_at-with_put_same : (n : ℕ) (fill : Fill) (fills : Fills) → put_at (with_put n fill fills) n ≡ Some fill
-put_at-with_put_same n fill fills = put_at-with_put n n fill fills ∙ same_number n (Some fill) (put_at fills n)
-
 pub kept_at-with_kept_same : (n : ℕ) (fill : Fill) (fills : Fills) → kept_at (with_kept n fill fills) n ≡ Some fill
 kept_at-with_kept_same n fill fills = kept_at-with_kept n n fill fills ∙ same_number n (Some fill) (kept_at fills n)
-
-pub held_at-with_put_same : (n : ℕ) (fill : Fill) (fills : Fills) → held_at (with_put n fill fills) n ≡ Some fill
-held_at-with_put_same n fill fills = held_at-with_put n n fill fills ∙ same_number n (Some fill) (held_at fills n)
-
-pub held_at-with_put_other : (n k : ℕ) (fill : Fill) (fills : Fills) → k ≢ n → held_at (with_put n fill fills) k ≡ held_at fills k
-held_at-with_put_other n k fill fills other = held_at-with_put n k fill fills ∙ other_number n k (Some fill) (held_at fills k) other
 
 pub held_at-with_kept_same : (n : ℕ) (fill : Fill) (fills : Fills) → held_at (with_kept n fill fills) n ≡ Some fill
 held_at-with_kept_same n fill fills = held_at-with_kept n n fill fills ∙ same_number n (Some fill) (held_at fills n)

@@ -253,7 +253,3 @@ pub enters : (list : List Entry) (command : Command) → entry_refusal list comm
 enters list command accepted =
     let stays : withdrawn_by command ≡ None = unmapped NotLive (withdrawn_by command) (or_parts (never_entry command) _ accepted).0 in
     record { stays = stays; accepted = ap (λ k. option_map_or (withdrawal_refusal list) k (entry_refusal list command)) stays ∙ accepted }
-
--- a command that takes none out is accepted where it is accepted as an entry
-pub as-entry : (list : List Entry) (command : Command) → withdrawn_by command ≡ None → refusal_of list command ≡ entry_refusal list command
-as-entry list command stays = ap (λ k. option_map_or (withdrawal_refusal list) k (entry_refusal list command)) stays

@@ -220,10 +220,6 @@ alloc-step later front k j command gone is =
 
 -- ---- by kinds
 
-or-one : (b : Bool) → (b || false) ≡ b
-or-one true = refl
-or-one false = refl
-
 all-of : {A : Type 0} (q : A → Type 0) (xs : List A) → ((x : A) → q x) → All q xs
 all-of q [] each = All-nil q
 all-of q (x ∷ xs) each = All-cons q x xs (each x) (all-of q xs each)

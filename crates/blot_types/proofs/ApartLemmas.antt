@@ -105,9 +105,6 @@ standing-at list root None (Some number) book free is =
 standing-of : (list : List Entry) (root : ExecKey) → IsBook list → IfSome (standing list root) (IsStanding list root)
 standing-of list root book = standing-at list root (bust_in (links_of list) root) (current_in (links_of list) root) book refl refl
 
-pub standing-is : (list : List Entry) (root : ExecKey) → is_book list ≡ true → IfSome (standing list root) (IsStanding list root)
-standing-is list root book = standing-of list root (book_of list book)
-
 -- a version that stands is the one that stands of a chain exactly where it is of that chain
 standing-own :
     (links : List Link) (root : ExecKey) (number : ℕ) (found : Option ExecKey) → falls links ≡ true → stands_under links number found ≡ true

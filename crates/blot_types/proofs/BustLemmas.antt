@@ -13,11 +13,11 @@ use Rattle.blot_types.specs.declared.keys.ExecKey.{ExecKey}
 use Rattle.blot_types.specs.declared.link.Link.{Link}
 use Rattle.blot_types.specs.declared.link.Role.TheVariants.{Busts}
 use Rattle.blot_types.specs.Chains.{root_in, current_in}
-use Rattle.blot_types.specs.Legal.{rises_in, refusal_in, legal_in, is_book}
+use Rattle.blot_types.specs.Legal.{rises_in, refusal_in, legal_in, is_book, least_needing}
 use Rattle.blot_types.specs.Refusals.{listed_by, exec_references, version_in, current_fill, unknown_exec}
 use Rattle.blot_types.specs.Survivors.{links_in, version_of}
 use Rattle.blot_types.proofs.LawLemmas.{book_parts}
-use Rattle.blot_types.specs.Withdrawal.{least_needing, needed_in, IsBustUnneeded}
+use Rattle.blot_types.specs.Withdrawal.{needed_in, IsBustUnneeded}
 use Rattle.blot_types.proofs.AcceptOutLemmas.{accepts, accepted, accepts-out, rootless-other, shaped, listed}
 use Rattle.blot_types.proofs.NeedLemmas.{blocked_in, IsStep, turned, found-first}
 use Rattle.blot_types.proofs.ChainOutLemmas.{bust-key}

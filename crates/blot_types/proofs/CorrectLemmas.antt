@@ -135,9 +135,6 @@ version-front k (entry ∷ later) front r n rise is =
 
 -- ---- a chain that has a root has a last version
 
-some-key : {A : Type 0} {a b : A} → Some a ≡ Some b → a ≡ b
-some-key e = cc
-
 rooted-current : (links : List Link) (key r : ExecKey) → root_in links key ≡ Some r → current_in links r ≡ None → ⊥
 rooted-current [] key r is none = absurd (clash (sym is))
 rooted-current (link ∷ earlier) key r is none =

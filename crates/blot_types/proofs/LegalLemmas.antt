@@ -103,12 +103,3 @@ is_above_entries-weaker m n [] more above = refl
 is_above_entries-weaker m n (entry ∷ entries) more above =
     let parts : (nat_lt entry.number m ≡ true) × (is_above_entries m entries ≡ true) = and_parts _ _ above in
     and_from _ _ (lt-ltb _ _ (omega (arith, more, ltb-true _ _ parts.0))) (is_above_entries-weaker m n entries more parts.1)
-
--- a list whose numbers rise below n, with an entry of number n after it, has numbers that rise below n + 1
-pub rises-push :
-    (list : List Entry) (entry : Entry) → is_above_entries entry.number (reverse list) ≡ true → numbers_rise list ≡ true
-    → (is_above_entries (entry.number + 1) (reverse (list ++ entry ∷ [])) ≡ true) × (numbers_rise (list ++ entry ∷ []) ≡ true)
-rises-push list entry above rises =
-    let limited : nat_lt entry.number (entry.number + 1) ≡ true = lt-ltb _ _ (omega arith) in
-    let earlier : is_above_entries (entry.number + 1) (reverse list) ≡ true = is_above_entries-weaker entry.number (entry.number + 1) (reverse list) (omega arith) above in
-    (rw (reverse-append, limited, earlier) refl, rw (numbers_rise-push, above, rises) refl)

@@ -8,9 +8,9 @@ use Rattle.std.proofs.lemmas.List.Elements.{All-nil, All-cons, All-append, All-w
 use Rattle.std.proofs.lemmas.List.Folds.{find-append}
 use Rattle.blot_types.specs.declared.command.Command.{Command}
 use Rattle.blot_types.specs.declared.command.Entry.{Entry}
-use Rattle.blot_types.specs.Legal.{is_above_entries, rises_in, refusal_in, legal_in, is_legal}
+use Rattle.blot_types.specs.Legal.{is_above_entries, rises_in, refusal_in, legal_in, is_legal, without, up_to, fails_at, least_needing}
 use Rattle.blot_types.proofs.ChainLemmas.{none_is}
-use Rattle.blot_types.specs.Withdrawal.{without, up_to, fails_at, least_needing, needs, needed_in}
+use Rattle.blot_types.specs.Withdrawal.{needs, needed_in}
 use Rattle.blot_types.proofs.StayLemmas.{filter-reverse, find-agree}
 
 -- ---- newest first

@@ -6,9 +6,9 @@ use Rattle.std.proofs.lemmas.List.{reverse-reverse}
 use Rattle.blot_types.specs.declared.command.Command.{Command}
 use Rattle.blot_types.specs.declared.command.Command.TheVariants.{Trade, Correct, Bust, AllocNew, AllocReplace, AllocCancel, Withdraw}
 use Rattle.blot_types.specs.declared.command.Entry.{Entry}
-use Rattle.blot_types.specs.Legal.{rises_in, refusal_in, legal_in, is_book}
+use Rattle.blot_types.specs.Legal.{rises_in, refusal_in, legal_in, is_book, least_needing}
 use Rattle.blot_types.proofs.LawLemmas.{book_parts}
-use Rattle.blot_types.specs.Withdrawal.{least_needing, needed_in, IsNeededFirst}
+use Rattle.blot_types.specs.Withdrawal.{needed_in, IsNeededFirst}
 use Rattle.blot_types.proofs.AllocStepLemmas.{new-step, replace-step, cancel-step}
 use Rattle.blot_types.proofs.BustLemmas.{bust-step, reverse-middle}
 use Rattle.blot_types.proofs.CorrectLemmas.{correct-step}

@@ -16,20 +16,10 @@ use Rattle.blot_types.specs.Legal.{is_book}
 use Rattle.blot_types.specs.Laws.{is_correct, corrects_chain, StandsUncorrected}
 use Rattle.blot_types.specs.Survivors.{link_of, links_of, root_of, busted_roots, version_of, is_number, stands_under, stands_in}
 use Rattle.blot_types.proofs.KeyLemmas.{same_exec-true, same_exec-refl}
-use Rattle.blot_types.proofs.ChainLemmas.{none_is, root-fresh, rootless, accepted_key, clash, differing}
+use Rattle.blot_types.proofs.ChainLemmas.{none_is, root-fresh, accepted_key, clash, differing}
 use Rattle.blot_types.proofs.LawLemmas.{links_of-around, book_parts}
 use Rattle.blot_types.proofs.EntryLemmas.{IsVersionOf, version-unlinked, chained-links, falls-links}
 use Rattle.blot_types.proofs.SurvivorLemmas.{of_its_link}
-
--- a new link takes up no key that has a root
-new-other : (links : List Link) (link : Link) (key root : ExecKey) → taker_in links link.key ≡ None → root_in links key ≡ Some root → takes_up key link ≡ false
-new-other links link key root fresh is =
-    elim (cases_Bool (takes_up key link)) [
-      | inl same ↦
-          let none : root_in links key ≡ None = subst (λ k. root_in links k ≡ None) (same_exec-true link.key key same) (rootless links link.key fresh) in
-          absurd (clash (sym is ∙ none))
-      | inr other ↦ other
-    ]
 
 -- its own root is no root of theirs unless it corrects the chain
 own_correct :

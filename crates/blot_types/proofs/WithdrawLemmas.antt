@@ -5,8 +5,8 @@ use Rattle.std.proofs.lemmas.Bool.{cases_Bool, and_parts, and_from, and_right}
 use Rattle.std.proofs.lemmas.List.{reverse-reverse}
 use Rattle.blot_types.specs.declared.command.Entry.{Entry}
 use Rattle.blot_types.specs.declared.TheConstants.{EVENTS_MAX}
-use Rattle.blot_types.specs.Legal.{is_above_entries, rises_in, numbers_rise, refusal_in, legal_in, is_legal, is_book}
-use Rattle.blot_types.specs.Withdrawal.{without, least_needing, put_back_in, IsWithdrawn, IsPutBack}
+use Rattle.blot_types.specs.Legal.{is_above_entries, rises_in, numbers_rise, refusal_in, legal_in, is_legal, is_book, without, least_needing}
+use Rattle.blot_types.specs.Withdrawal.{put_back_in, IsWithdrawn, IsPutBack}
 use Rattle.blot_types.proofs.BustLemmas.{reverse-middle}
 use Rattle.blot_types.proofs.NeedLemmas.{blocked_in, turned, not-below, member-below, without-out, unblocked-base, found-legal}
 use Rattle.blot_types.proofs.StayLemmas.{filter-reverse, all-stays}
@@ -22,9 +22,6 @@ legal-unblocked k (entry ∷ later) front rise legal =
     let whole : legal_in (without k.number (entry ∷ all)) ≡ true = ap legal_in (without-out k (entry ∷ later) front rise) ∙ legal in
     let none : (nat_lt k.number entry.number && not (legal_in (without k.number (entry ∷ all)))) ≡ false = and_right (nat_lt k.number entry.number) _ (ap not whole) in
     rw (legal-unblocked k later front rises.1 legals.1, none) refl
-
-none-is : {A : Type 0} (o : Option A) → o ≡ None → is_none o ≡ true
-none-is o is = ap is_none is
 
 by-blocked : (found : Option ℕ) (legal : Bool) → (found ≡ None → legal ≡ true) → (legal ≡ true → found ≡ None) → legal ≡ is_none found
 by-blocked None legal there back = there refl

@@ -7,8 +7,8 @@ use Rattle.blot_types.specs.declared.fill.Fill.{Fill}
 use Rattle.blot_types.specs.declared.fill.Sign.TheVariants.{Buy}
 use Rattle.blot_types.specs.declared.keys.AllocKey.{AllocKey}
 use Rattle.blot_types.specs.declared.keys.ExecKey.{ExecKey}
-use Rattle.blot_types.specs.Legal.{is_legal}
-use Rattle.blot_types.specs.Withdrawal.{least_needing, first_needing}
+use Rattle.blot_types.specs.Legal.{is_legal, least_needing}
+use Rattle.blot_types.specs.Withdrawal.{first_needing}
 
 abbrev exec : ℕ → ExecKey
 exec n = record { peer = 66 ∷ []; id = 69 ∷ n ∷ [] }
@@ -56,53 +56,53 @@ abbrev by_use : List Entry → List (Option ℕ)
 by_use list = map (first_needing list) list
 
 -- an execution allocated, that allocation cancelled, and the execution allocated again
-abbrev row12 : List Entry
-row12 = trade 1 2 50 ∷ allocated 2 1 (block 50 (exec 2 ∷ [])) ∷ cancelled 3 3 1 ∷ allocated 4 2 (block 50 (exec 2 ∷ [])) ∷ []
+abbrev others_need : List Entry
+others_need = trade 1 2 50 ∷ allocated 2 1 (block 50 (exec 2 ∷ [])) ∷ cancelled 3 3 1 ∷ allocated 4 2 (block 50 (exec 2 ∷ [])) ∷ []
 
-row12_legal : is_legal row12 ≡ true
-row12_legal = refl
+others_need_legal : is_legal others_need ≡ true
+others_need_legal = refl
 
-row12_legality : by_legality row12 ≡ Some 2 ∷ Some 3 ∷ Some 4 ∷ None ∷ []
-row12_legality = refl
+others_need_legality : by_legality others_need ≡ Some 2 ∷ Some 3 ∷ Some 4 ∷ None ∷ []
+others_need_legality = refl
 
-row12_use : by_use row12 ≡ Some 2 ∷ Some 3 ∷ Some 4 ∷ None ∷ []
-row12_use = refl
+others_need_use : by_use others_need ≡ Some 2 ∷ Some 3 ∷ Some 4 ∷ None ∷ []
+others_need_use = refl
 
 -- a correction whose quantity an allocation took, by a reference to the Trade
-abbrev row15a : List Entry
-row15a = trade 1 1 100 ∷ correct 2 3 1 80 ∷ allocated 3 1 (block 80 (exec 1 ∷ [])) ∷ []
+abbrev by_quantity : List Entry
+by_quantity = trade 1 1 100 ∷ correct 2 3 1 80 ∷ allocated 3 1 (block 80 (exec 1 ∷ [])) ∷ []
 
-row15a_legal : is_legal row15a ≡ true
-row15a_legal = refl
+by_quantity_legal : is_legal by_quantity ≡ true
+by_quantity_legal = refl
 
-row15a_legality : by_legality row15a ≡ Some 2 ∷ Some 3 ∷ None ∷ []
-row15a_legality = refl
+by_quantity_legality : by_legality by_quantity ≡ Some 2 ∷ Some 3 ∷ None ∷ []
+by_quantity_legality = refl
 
-row15a_use : by_use row15a ≡ Some 2 ∷ Some 3 ∷ None ∷ []
-row15a_use = refl
+by_quantity_use : by_use by_quantity ≡ Some 2 ∷ Some 3 ∷ None ∷ []
+by_quantity_use = refl
 
 -- an allocation replaced, and the replacing one cancelled
-abbrev row15b : List Entry
-row15b = trade 1 1 100 ∷ allocated 2 1 (block 100 (exec 1 ∷ [])) ∷ replaced 3 2 1 (block 100 (exec 1 ∷ [])) ∷ cancelled 4 3 2 ∷ []
+abbrev chain_of_allocations : List Entry
+chain_of_allocations = trade 1 1 100 ∷ allocated 2 1 (block 100 (exec 1 ∷ [])) ∷ replaced 3 2 1 (block 100 (exec 1 ∷ [])) ∷ cancelled 4 3 2 ∷ []
 
-row15b_legal : is_legal row15b ≡ true
-row15b_legal = refl
+chain_of_allocations_legal : is_legal chain_of_allocations ≡ true
+chain_of_allocations_legal = refl
 
-row15b_legality : by_legality row15b ≡ Some 2 ∷ Some 3 ∷ Some 4 ∷ None ∷ []
-row15b_legality = refl
+chain_of_allocations_legality : by_legality chain_of_allocations ≡ Some 2 ∷ Some 3 ∷ Some 4 ∷ None ∷ []
+chain_of_allocations_legality = refl
 
-row15b_use : by_use row15b ≡ Some 2 ∷ Some 3 ∷ Some 4 ∷ None ∷ []
-row15b_use = refl
+chain_of_allocations_use : by_use chain_of_allocations ≡ Some 2 ∷ Some 3 ∷ Some 4 ∷ None ∷ []
+chain_of_allocations_use = refl
 
 -- a named execution busted, where the allocation was cancelled
-abbrev row15c : List Entry
-row15c = trade 1 1 100 ∷ allocated 2 1 (block 100 (exec 1 ∷ [])) ∷ cancelled 3 2 1 ∷ bust 4 4 1 ∷ []
+abbrev cancel_after_bust : List Entry
+cancel_after_bust = trade 1 1 100 ∷ allocated 2 1 (block 100 (exec 1 ∷ [])) ∷ cancelled 3 2 1 ∷ bust 4 4 1 ∷ []
 
-row15c_legal : is_legal row15c ≡ true
-row15c_legal = refl
+cancel_after_bust_legal : is_legal cancel_after_bust ≡ true
+cancel_after_bust_legal = refl
 
-row15c_legality : by_legality row15c ≡ Some 2 ∷ Some 3 ∷ None ∷ None ∷ []
-row15c_legality = refl
+cancel_after_bust_legality : by_legality cancel_after_bust ≡ Some 2 ∷ Some 3 ∷ None ∷ None ∷ []
+cancel_after_bust_legality = refl
 
-row15c_use : by_use row15c ≡ Some 2 ∷ Some 3 ∷ None ∷ None ∷ []
-row15c_use = refl
+cancel_after_bust_use : by_use cancel_after_bust ≡ Some 2 ∷ Some 3 ∷ None ∷ None ∷ []
+cancel_after_bust_use = refl

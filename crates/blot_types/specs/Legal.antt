@@ -1,6 +1,6 @@
 -- Which commands a list of entries refuses, and which lists are legal. A word that ends in `_in` reads the
 -- entries newest first.
-use Rattle.std.specs.Prelude.{◌≡◌, ℕ, ◌+◌, ◌==◌, Bool, true, ◌&&◌, not, List, [], ◌∷◌, map, filter, find, reverse, Option, Some, None, is_none, nat_lt, if◌then◌else◌}
+use Rattle.std.specs.Prelude.{◌≡◌, ℕ, ◌+◌, ◌==◌, Bool, true, ◌&&◌, not, List, [], ◌∷◌, map, filter, find, reverse, Option, Some, is_none, nat_lt, if◌then◌else◌}
 use Rattle.std.specs.List.{list_all}
 use Rattle.std.specs.Option.{option_map, option_map_or, option_or}
 use Rattle.blot_types.specs.declared.allocation.Instruction.{Instruction}

@@ -1,5 +1,5 @@
 -- Which entry is the first that needs another: what an entry uses of an earlier one, and a list without one, and with it put back.
-use Rattle.std.specs.Prelude.{◌≡◌, ℕ, ◌==◌, Bool, false, ◌&&◌, ◌||◌, not, List, [], ◌∷◌, ◌++◌, map, filter, find, reverse, Option, Some, None, is_none, nat_lt, if◌then◌else◌}
+use Rattle.std.specs.Prelude.{◌≡◌, ℕ, ◌==◌, Bool, false, ◌&&◌, ◌||◌, not, List, [], ◌∷◌, ◌++◌, filter, reverse, Option, Some, None, is_none, nat_lt, if◌then◌else◌}
 use Rattle.std.specs.List.{list_any}
 use Rattle.std.specs.Option.{option_map_or, option_or, option_and_then}
 use Rattle.blot_types.specs.declared.command.Bust.{Bust}
@@ -13,8 +13,7 @@ use Rattle.blot_types.specs.Allocations.{allocation_of, instructions_in}
 use Rattle.blot_types.specs.Chains.{root_in, current_in}
 use Rattle.blot_types.specs.Instructions.{is_allocation_of, names, is_reference}
 use Rattle.blot_types.specs.Keys.{same_text, is_among}
-pub use Rattle.blot_types.specs.Legal.{without, up_to, fails_at, least_needing}
-use Rattle.blot_types.specs.Legal.{is_book}
+use Rattle.blot_types.specs.Legal.{is_book, without, least_needing}
 use Rattle.blot_types.specs.Refusals.{alloc_reference, exec_references, listed_by, current_fill, same_sign}
 use Rattle.blot_types.specs.Survivors.{is_number, links_in, version_of}
 

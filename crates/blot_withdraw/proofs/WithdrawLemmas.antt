@@ -5,8 +5,7 @@ use Rattle.std.specs.Option.{option_map, option_map_or}
 use Rattle.blot_types.specs.declared.command.Command.TheVariants.{Withdraw as WithdrawCommand}
 use Rattle.blot_types.specs.declared.command.Entry.{Entry}
 use Rattle.blot_types.specs.declared.TheConstants.{EVENTS_MAX}
-use Rattle.blot_types.specs.Legal.{is_book, withdrawal_refusal}
-use Rattle.blot_types.specs.Withdrawal.{without}
+use Rattle.blot_types.specs.Legal.{is_book, withdrawal_refusal, without}
 use Rattle.blot_command.specs.declared.fault.ApplyFault.TheVariants.{Refused}
 use Rattle.blot_command.specs.declared.inverse.Inverse.TheVariants.{Number, Taken}
 use Rattle.blot_command.specs.Book.{Shown, has_number, numbers_of, taken_of}

@@ -4,8 +4,8 @@ use Rattle.std.specs.Option.{option_map, option_map_or}
 use Rattle.std.proofs.Common.{ap}
 use Rattle.blot_types.specs.declared.command.Command.TheVariants.{Withdraw as WithdrawCommand}
 use Rattle.blot_types.specs.declared.command.Entry.{Entry}
-use Rattle.blot_types.specs.Legal.{is_book, refusal_of, withdrawal_refusal}
-use Rattle.blot_types.specs.Withdrawal.{without, put_back}
+use Rattle.blot_types.specs.Legal.{is_book, refusal_of, withdrawal_refusal, without}
+use Rattle.blot_types.specs.Withdrawal.{put_back}
 use Rattle.blot_types.proofs.AcceptLemmas.{unmapped}
 use Rattle.blot_command.specs.declared.fault.ApplyFault.TheVariants.{Refused, NoMemory}
 use Rattle.blot_command.specs.Book.{has_number, numbers_of}

@@ -1,7 +1,7 @@
 use Rattle.std.proofs.Common.{◌≡◌, ℕ, List, drop, map}
 use Rattle.std.specs.Prelude.{find}
 use Rattle.blot_types.specs.declared.command.Entry.{Entry}
-use Rattle.blot_types.specs.Withdrawal.{fails_at}
+use Rattle.blot_types.specs.Legal.{fails_at}
 use Rattle.blot_model.proofs.withdrawal.first_failing.Given as goal
 
 abbrev pub invariant-loop-entry : goal.invariant-loop-entry

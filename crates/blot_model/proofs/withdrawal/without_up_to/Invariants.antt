@@ -1,5 +1,5 @@
 use Rattle.std.proofs.Common.{◌≡◌, take}
-use Rattle.blot_types.specs.Withdrawal.{without, up_to}
+use Rattle.blot_types.specs.Legal.{without, up_to}
 use Rattle.blot_model.proofs.withdrawal.without_up_to.Given as goal
 
 abbrev pub invariant-loop-entry : goal.invariant-loop-entry

@@ -6,8 +6,7 @@ use Rattle.std.proofs.lemmas.List.Elements.{All-append, All-weaker, All-contains
 use Rattle.blot_types.specs.declared.command.Command.{Command}
 use Rattle.blot_types.specs.declared.command.Entry.{Entry}
 use Rattle.blot_types.specs.declared.refused.Refused.{Refused as Reason}
-use Rattle.blot_types.specs.Legal.{is_book, refusal_of}
-use Rattle.blot_types.specs.Withdrawal.{without}
+use Rattle.blot_types.specs.Legal.{is_book, refusal_of, without}
 use Rattle.blot_types.proofs.AcceptLemmas.{enters}
 use Rattle.blot_command.specs.declared.fault.ApplyFault.{ApplyFault}
 use Rattle.blot_command.specs.declared.fault.ApplyFault.TheVariants.{Refused}
