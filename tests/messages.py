@@ -5,11 +5,15 @@
   spelled(text, mark, byte)  the bytes of a text in which a mark stands for a byte
   lines_of(text)             the lines that one line of a case stands for
 """
+import pathlib
 import re
 
 OWN, PEER, DAY = 'MO', 'BRKA', '20240105'
 SOH = b'\x01'
 HEADER = ['49', '56', '34', '43', '52']  # behind MsgType(35), in this order
+TYPES = pathlib.Path(__file__).resolve().parent.parent / 'crates' / 'blot_types' / 'src' / 'lib.rt'
+EVENTS_MAX = int(re.search(r'EVENTS_MAX: u64 = ([\d_]+);', TYPES.read_text())[1])
+LIMIT = re.compile(r'EVENTS_MAX([+-]\d+)?')
 TIMES = re.compile(r'\{(\d+) times ([^}]*)\}')
 TIMES_LINE = re.compile(r'( *)(\d+) times (.*)')
 SIDES = {'buys': '1', 'sells': '2'}
@@ -26,7 +30,8 @@ def numbered(text, count):
 
 
 def lines_of(text):
-    """The lines that one line of a case stands for: `3 times E#` is E1, E2 and E3."""
+    """The lines that one line of a case stands for: `3 times E#` is E1, E2 and E3, and `EVENTS_MAX-1 times` all but one of a day."""
+    text = LIMIT.sub(lambda it: str(EVENTS_MAX + int(it[1] or 0)), text)
     times = TIMES_LINE.fullmatch(text)
     return [times[1] + numbered(times[3], count + 1) for count in range(int(times[2]))] if times else [text]
 

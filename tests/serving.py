@@ -25,7 +25,7 @@ WAIT = 10  # seconds for one thing that is awaited
 MOMENT = re.compile(rb'\x0152=(\d{8}-\d\d:\d\d:\d\d\.\d{3})\x01')
 DEED = re.compile(r'(\S+) (connects|hangs up|breaks off|is closed)')
 NOBODY = re.compile(r'nobody listens at (\S+)')
-ROOM = re.compile(r'the program has (\d+) MB')
+ROOM = re.compile(r'the program has (\d+) (MB|open files)')
 GETS = re.compile(r'(\S+) gets (35=.*)')
 
 
@@ -55,10 +55,11 @@ def put_lines(stream, lines):
     lines.put(None)
 
 
-def begin(command, megabytes):
-    """The program, begun. Where a number of megabytes is given, the system refuses it more."""
-    if megabytes:
-        command = ['sh', '-c', 'ulimit -v "$0" && exec "$@"', str(1024 * megabytes), *command]
+def begin(command, room):
+    """The program, begun. Where its room is said, in megabytes or in open files, the system refuses it more."""
+    if room:
+        limit = f'-v {1024 * int(room[1])}' if room[2] == 'MB' else f'-n {room[1]}'
+        command = ['sh', '-c', f'ulimit {limit} && exec "$@"', 'sh', *command]
     process = subprocess.Popen(command, stdin=subprocess.PIPE, stdout=subprocess.PIPE, stderr=subprocess.PIPE)
     lines, errors = queue.Queue(), []
     threads = [threading.Thread(target=put_lines, args=(process.stdout, lines)),
@@ -259,7 +260,7 @@ def played(command, port, body, seconds):
     first = body[0][1] if body else ''
     is_taken, room = first == 'the port is taken', ROOM.fullmatch(first)
     taken = take(port) if is_taken else None
-    talk = begin(command, int(room[1]) if room else None)
+    talk = begin(command, room)
     alarm = threading.Timer(seconds, talk['process'].kill)
     alarm.start()
     try:

@@ -20,11 +20,11 @@ use Rattle.blot_types.specs.Allocations.{instructions_in, instructions_of}
 use Rattle.blot_types.specs.Chains.{current_in, first_needing_link, is_chained, link_refusal, root_in, version_after_in}
 use Rattle.blot_types.specs.Instructions.{first_instruction}
 use Rattle.blot_types.specs.Keys.{is_among}
-use Rattle.blot_types.specs.Legal.{is_above_entries, is_book, legal_in, rises_in}
+use Rattle.blot_types.specs.Legal.{is_above_entries, is_book, legal_in, rises_in, least_needing}
 use Rattle.blot_types.specs.Numbers.{lesser}
 use Rattle.blot_types.specs.Refusals.{listed_by, version_in}
 use Rattle.blot_types.specs.Survivors.{links_in, links_of}
-use Rattle.blot_types.specs.Withdrawal.{alike, least_needing, needed_in}
+use Rattle.blot_types.specs.Withdrawal.{alike, needed_in}
 use Rattle.blot_types.proofs.BustLemmas.{reverse-middle}
 use Rattle.blot_types.proofs.ChainLemmas.{accepted_key, accepted_root, clash, none_is}
 use Rattle.blot_types.proofs.CorrectLemmas.{as_entry, front-legal}

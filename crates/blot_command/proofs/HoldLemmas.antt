@@ -22,10 +22,10 @@ use Rattle.blot_types.specs.Allocations.{instruction_by, instructions_in, instru
 use Rattle.blot_types.specs.Chains.{falls as links_fall, is_above_links, is_chained, link_refusal, taker_in, takes_up}
 use Rattle.blot_types.specs.Instructions.{is_above_instructions, is_instructed}
 use Rattle.blot_types.specs.Keys.{same_exec}
-use Rattle.blot_types.specs.Legal.{is_above_entries, is_book, legal_in, rises_in}
+use Rattle.blot_types.specs.Legal.{is_above_entries, is_book, legal_in, rises_in, without}
 use Rattle.blot_types.specs.Refusals.{exec_key, withdrawn_by}
 use Rattle.blot_types.specs.Survivors.{link_of, links_in, links_of}
-use Rattle.blot_types.specs.Withdrawal.{put_back, without}
+use Rattle.blot_types.specs.Withdrawal.{put_back}
 use Rattle.blot_types.proofs.AcceptLemmas.{instructed, instructions_of-push, unmapped}
 use Rattle.blot_types.proofs.AcceptOutLemmas.{accepts}
 use Rattle.blot_types.proofs.ApartLemmas.{LinkApart, link-apart}

@@ -90,14 +90,6 @@ Light-weaker whole count count' qty qty' fewer smaller light = record {
   values = λ a s. (let small = light.values a s in omega (arith, small, smaller));
 }
 
-pub reach-weaker :
-    (changes : List Change) (cells : Cells) (count count' qty qty' : ℕ) (whole : Whole) → count ≤ count' → qty ≤ qty' → Reaches changes cells count qty whole → Reaches changes cells count' qty' whole
-reach-weaker changes cells count count' qty qty' whole fewer smaller reached = record {
-  can = reached.can;
-  carried = reached.carried;
-  light = Light-weaker whole count count' qty qty' fewer smaller reached.light;
-}
-
 -- what a list carries beside the parts of its survivors
 abbrev pub beside : List Entry → (ExecKey → Bool) → Whole → Whole
 beside list named others f = total f (parts_under named (links_of list) (survivors list)) +ℤ others f

@@ -6,8 +6,7 @@ use Rattle.std.proofs.lemmas.Option.{same_Some}
 use Rattle.std.proofs.lemmas.List.{map-append}
 use Rattle.std.proofs.lemmas.List.Elements.{All-weaker, All-contains, All-contains_itself, Contains-append_left, Contains-append_right, Contains-append_cases, Contains-push, Contains-push_cases}
 use Rattle.blot_types.specs.declared.command.Entry.{Entry}
-use Rattle.blot_types.specs.Legal.{is_book}
-use Rattle.blot_types.specs.Withdrawal.{without}
+use Rattle.blot_types.specs.Legal.{is_book, without}
 use Rattle.blot_types.proofs.LawLemmas.{book_parts}
 use Rattle.blot_places.specs.Shown.{item_at, with_item, without as without_item}
 use Rattle.blot_command.specs.declared.inverse.Inverse.{Inverse}

@@ -10,11 +10,11 @@ use Rattle.blot_types.specs.declared.command.Entry.{Entry}
 use Rattle.blot_types.specs.declared.keys.ExecKey.{ExecKey}
 use Rattle.blot_types.specs.declared.lines.Version.{Version}
 use Rattle.blot_types.specs.declared.link.Link.{Link}
-use Rattle.blot_types.specs.Legal.{rises_in, numbers_rise, is_legal, entry_refusal, is_book}
+use Rattle.blot_types.specs.Legal.{rises_in, numbers_rise, is_legal, entry_refusal, is_book, without}
 use Rattle.blot_types.specs.Refusals.{withdrawn_by}
 use Rattle.blot_types.specs.Standing.{standing, chain_by, chain_of, stood}
 use Rattle.blot_types.specs.Survivors.{link_of, links_of, version_of}
-use Rattle.blot_types.specs.Withdrawal.{without, put_back_in, put_back}
+use Rattle.blot_types.specs.Withdrawal.{put_back_in, put_back}
 use Rattle.blot_types.proofs.AcceptLemmas.{enters}
 use Rattle.blot_types.proofs.BringLemmas.{found-All}
 use Rattle.blot_types.proofs.BustLemmas.{reverse-middle}

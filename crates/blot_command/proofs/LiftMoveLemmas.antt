@@ -13,13 +13,12 @@ use Rattle.blot_types.specs.declared.lines.Version.{Version}
 use Rattle.blot_types.specs.declared.link.Link.{Link}
 use Rattle.blot_types.specs.declared.part.Part.{Part}
 use Rattle.blot_types.specs.Allocations.{live_allocations}
-use Rattle.blot_types.specs.Legal.{is_book}
+use Rattle.blot_types.specs.Legal.{is_book, without as without_number}
 use Rattle.blot_types.specs.Order.{total}
 use Rattle.blot_types.specs.Position.{part_of_fill, part_of, is_named}
 use Rattle.blot_types.specs.Refusals.{alloc_reference}
 use Rattle.blot_types.specs.Standing.{standing, chain_of, stood}
 use Rattle.blot_types.specs.Survivors.{link_of, links_of, versions_of, stands_in, survivors}
-use Rattle.blot_types.specs.Withdrawal.{without as without_number}
 use Rattle.blot_types.proofs.BringLemmas.{lines_of, found-All}
 use Rattle.blot_types.proofs.ChangeLemmas.{amount, total-parts}
 use Rattle.blot_types.proofs.SumLemmas.{total-cons, total-map, total-agree}

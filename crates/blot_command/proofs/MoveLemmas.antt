@@ -16,15 +16,16 @@ use Rattle.blot_types.specs.Allocations.{Allocation}
 use Rattle.blot_types.specs.Bounds.{BOOK_PARTS, BOOK_QTY}
 use Rattle.blot_types.specs.Keys.{is_among}
 use Rattle.blot_types.specs.Order.{total}
-use Rattle.blot_types.specs.Position.{house, moves_of, moves_of_line, part_of_line, from_house, FillFits}
+use Rattle.blot_types.specs.Position.{house, moves_of, moves_of_line, part_of_line, from_house, FillFits, IsSmall}
 use Rattle.blot_types.specs.Survivors.{links_of, survivors}
 use Rattle.blot_types.proofs.BringLemmas.{lines_of, BringsIf, each-root, among-root, found-All}
 use Rattle.blot_types.proofs.ChangeLemmas.{allocations_in}
 use Rattle.blot_types.proofs.LiveLemmas.{has_alloc_key}
 use Rattle.blot_types.proofs.PartLemmas.{parts_under}
 use Rattle.blot_types.proofs.StandLemmas.{and-true}
+use Rattle.blot_types.proofs.SumLemmas.{total-cons}
 use Rattle.blot_position.specs.Positions.{Cells, has_cell}
-use Rattle.blot_command.specs.Booking.{Change, changed_all, lines_put, lines_taken, chains_to_house, chains_from_house, allocated, allocated_by, released, released_by}
+use Rattle.blot_command.specs.Booking.{Change, changed_all, moved_in, lines_put, lines_taken, chains_to_house, chains_from_house, allocated, allocated_by, released, released_by}
 use Rattle.blot_position.specs.Carried.{Carries}
 use Rattle.blot_command.specs.Carried.{HasTermsCells}
 use Rattle.blot_position.proofs.CarryLemmas.{Whole, SameWhole, IsCount, Carries-same, Light-same, IsLightEnough}
@@ -68,6 +69,40 @@ made-moves terms (line ∷ lines) cells made housed =
     let one : P part = All-head (λ (l : Line). has_cell cells l.account terms.symbol ≡ true) line lines made in
     let later : All P rest = made-moves terms lines cells (All-tail (λ (l : Line). has_cell cells l.account terms.symbol ≡ true) line lines made) housed in
     All-cons P part (from_house part ∷ rest) one (All-cons P (from_house part) rest housed later)
+
+-- ---- the moves of lines, as they are put
+
+abbrev moved : Terms → List Line → List Part
+moved terms lines = flat_map (moved_in terms) lines
+
+moved-All : (P : Part → Type 0) (terms : Terms) (lines : List Line) → All P (flat_map (moves_of_line terms) lines) → All P (moved terms lines)
+moved-All P terms [] all = All-nil P
+moved-All P terms (line ∷ lines) all =
+    let part = part_of_line terms line in
+    let rest = flat_map (moves_of_line terms) lines in
+    let behind : All P (from_house part ∷ rest) = All-tail P part (from_house part ∷ rest) all in
+    All-cons P (from_house part) (part ∷ moved terms lines) (All-head P (from_house part) rest behind)
+    (All-cons P part (moved terms lines) (All-head P part (from_house part ∷ rest) all) (moved-All P terms lines (All-tail P (from_house part) rest behind)))
+
+moved-total : (f : Part → ℤ) (terms : Terms) (lines : List Line) → total f (moved terms lines) ≡ total f (flat_map (moves_of_line terms) lines)
+moved-total f terms [] = refl
+moved-total f terms (line ∷ lines) =
+    let part = part_of_line terms line in
+    let rest = flat_map (moves_of_line terms) lines in
+    let put = total-cons f (from_house part) (part ∷ moved terms lines) in
+    let put_rest = total-cons f part (moved terms lines) in
+    let told = total-cons f part (from_house part ∷ rest) in
+    let told_rest = total-cons f (from_house part) rest in
+    let same = moved-total f terms lines in
+    omega (arith, ints, put, put_rest, told, told_rest, same)
+
+moved-length : (terms : Terms) (lines : List Line) → length (moved terms lines) ≡ length (flat_map (moves_of_line terms) lines)
+moved-length terms [] = refl
+moved-length terms (line ∷ lines) = let same = moved-length terms lines in omega (arith, same)
+
+moved-sizes : (terms : Terms) (lines : List Line) → sizes (moved terms lines) ≡ sizes (flat_map (moves_of_line terms) lines)
+moved-sizes terms [] = refl
+moved-sizes terms (line ∷ lines) = let same = moved-sizes terms lines in omega (arith, same)
 
 -- ---- what a book's entries have made and are known by
 
@@ -190,15 +225,19 @@ comes list cells (Some key) fewer more few many stocked brings little large carr
     (named-same list (with_roots roots fewer) more (moves_whole few) more_named) first in
     let between = changed_all (chains_to_house list roots) cells in
     let there = terms-stay (chains_to_house list roots) cells terms cells_own in
-    let enough : IsLightEnough (BOOK_PARTS + length (moves_of terms)) (BOOK_QTY + sizes (moves_of terms)) = light_enough (length (moves_of terms)) (sizes (moves_of terms)) (omega (arith, own.few)) (omega (arith, own.qty)) in
-    let second =
-    reach-put (moves_of terms) between BOOK_PARTS BOOK_QTY (beside list more (moves_whole few)) named.carried (light_few more) own.small (made-moves terms terms.lines between there.lines there.housed) enough in
-    let same : SameWhole (λ f. total f (moves_of terms) +ℤ beside list more (moves_whole few) f) (beside list more (moves_whole many)) = λ f. sym (lines-same list more few many terms brings.lines f) in
+    let put = moved terms terms.lines in
+    let small = moved-All IsSmall terms terms.lines own.small in
+    let made : AreMade put between = moved-All (λ part. has_cell between part.account part.symbol ≡ true) terms terms.lines (made-moves terms terms.lines between there.lines there.housed) in
+    let enough : IsLightEnough (BOOK_PARTS + length put) (BOOK_QTY + sizes put) =
+    light_enough (length put) (sizes put) (omega (arith, own.few, moved-length terms terms.lines)) (omega (arith, own.qty, moved-sizes terms terms.lines)) in
+    let second = reach-put put between BOOK_PARTS BOOK_QTY (beside list more (moves_whole few)) named.carried (light_few more) small made enough in
+    let same : SameWhole (λ f. total f put +ℤ beside list more (moves_whole few) f) (beside list more (moves_whole many)) =
+    λ f. ap (λ sum. sum +ℤ beside list more (moves_whole few) f) (moved-total f terms terms.lines) ∙ sym (lines-same list more few many terms brings.lines f) in
     let whole =
-    reach-append (chains_to_house list roots) (lines_put terms terms.lines) cells BOOK_PARTS BOOK_QTY (BOOK_PARTS + length (moves_of terms)) (BOOK_QTY + sizes (moves_of terms)) (beside list more (moves_whole few))
-    (λ f. total f (moves_of terms) +ℤ beside list more (moves_whole few) f) named second in
+    reach-append (chains_to_house list roots) (lines_put terms terms.lines) cells BOOK_PARTS BOOK_QTY (BOOK_PARTS + length put) (BOOK_QTY + sizes put) (beside list more (moves_whole few))
+    (λ f. total f put +ℤ beside list more (moves_whole few) f) named second in
     subst (λ all. ReachesBeside all list cells more many) (sym changes)
-    (relight (chains_to_house list roots ++ lines_put terms terms.lines) cells (BOOK_PARTS + length (moves_of terms)) (BOOK_QTY + sizes (moves_of terms)) BOOK_PARTS BOOK_QTY (beside list more (moves_whole many))
-    (reach-same (chains_to_house list roots ++ lines_put terms terms.lines) cells (BOOK_PARTS + length (moves_of terms)) (BOOK_QTY + sizes (moves_of terms))
-    (λ f. total f (moves_of terms) +ℤ beside list more (moves_whole few) f) (beside list more (moves_whole many)) same whole)
+    (relight (chains_to_house list roots ++ lines_put terms terms.lines) cells (BOOK_PARTS + length put) (BOOK_QTY + sizes put) BOOK_PARTS BOOK_QTY (beside list more (moves_whole many))
+    (reach-same (chains_to_house list roots ++ lines_put terms terms.lines) cells (BOOK_PARTS + length put) (BOOK_QTY + sizes put)
+    (λ f. total f put +ℤ beside list more (moves_whole few) f) (beside list more (moves_whole many)) same whole)
     (always-light list many stocked.fits large more))

@@ -8,8 +8,7 @@ use Rattle.std.proofs.lemmas.List.{same_from_push}
 use Rattle.blot_types.specs.declared.command.Command.{Command}
 use Rattle.blot_types.specs.declared.command.Entry.{Entry}
 use Rattle.blot_types.specs.declared.TheConstants.{EVENTS_MAX}
-use Rattle.blot_types.specs.Legal.{is_above_entries, is_book, entry_refusal}
-use Rattle.blot_types.specs.Withdrawal.{without}
+use Rattle.blot_types.specs.Legal.{is_above_entries, is_book, entry_refusal, without}
 use Rattle.blot_command.specs.declared.fault.ApplyFault.TheVariants.{Refused as RefusedBy}
 use Rattle.blot_command.specs.Book.{Shown, entry_number, numbers_of, command_at}
 use Rattle.blot_command.specs.Law.{lawful_by}

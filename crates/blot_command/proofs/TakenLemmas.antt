@@ -14,10 +14,10 @@ use Rattle.blot_types.specs.declared.link.Link.{Link}
 use Rattle.blot_types.specs.declared.TheConstants.{EVENTS_MAX}
 use Rattle.blot_types.specs.Chains.{taker_in, is_chained}
 use Rattle.blot_types.specs.Keys.{same_exec}
-use Rattle.blot_types.specs.Legal.{is_book, legal_in, entry_refusal, withdrawal_refusal}
+use Rattle.blot_types.specs.Legal.{is_book, legal_in, entry_refusal, withdrawal_refusal, without}
 use Rattle.blot_types.specs.Refusals.{exec_key, withdrawn_by}
 use Rattle.blot_types.specs.Survivors.{link_by, link_of, links_in}
-use Rattle.blot_types.specs.Withdrawal.{without, put_back}
+use Rattle.blot_types.specs.Withdrawal.{put_back}
 use Rattle.blot_types.proofs.BustLemmas.{reverse-middle}
 use Rattle.blot_types.proofs.ChainLemmas.{fresh-parts}
 use Rattle.blot_types.proofs.ChainOutLemmas.{key-out}

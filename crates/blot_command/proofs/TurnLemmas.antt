@@ -10,8 +10,8 @@ use Rattle.blot_places.specs.Slots.{items, is_above, live, lifted, marked, numbe
 use Rattle.blot_places.proofs.MarkLemmas.{at-apart, falling-side, marked-into, marked-out, reverse-marked}
 use Rattle.blot_places.proofs.ShownLemmas.{at-here, at-on, falling-parts}
 use Rattle.blot_types.specs.declared.command.Entry.{Entry}
-use Rattle.blot_types.specs.Legal.{is_above_entries, numbers_rise, rises_in}
-use Rattle.blot_types.specs.Withdrawal.{put_back, put_back_in, without}
+use Rattle.blot_types.specs.Legal.{is_above_entries, numbers_rise, rises_in, without}
+use Rattle.blot_types.specs.Withdrawal.{put_back, put_back_in}
 use Rattle.blot_types.proofs.StayLemmas.{filter-reverse}
 use Rattle.blot_command.specs.Book.{entry_number, has_number}
 use Rattle.blot_command.specs.Slots.{AreNumbered, entries_in, left_in}

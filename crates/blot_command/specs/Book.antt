@@ -5,7 +5,8 @@ use Rattle.blot_types.specs.declared.command.Command.{Command}
 use Rattle.blot_types.specs.declared.command.Command.TheVariants.{Withdraw}
 use Rattle.blot_types.specs.declared.command.Entry.{Entry}
 use Rattle.blot_types.specs.Refusals.{withdrawn_by}
-use Rattle.blot_types.specs.Withdrawal.{without, put_back}
+use Rattle.blot_types.specs.Legal.{without}
+use Rattle.blot_types.specs.Withdrawal.{put_back}
 use Rattle.blot_command.specs.declared.inverse.Inverse.{Inverse}
 use Rattle.blot_command.specs.declared.inverse.Inverse.TheVariants.{Number, Taken}
 

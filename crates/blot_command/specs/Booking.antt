@@ -9,7 +9,7 @@ use Rattle.blot_types.specs.declared.keys.AllocKey.{AllocKey}
 use Rattle.blot_types.specs.declared.keys.ExecKey.{ExecKey}
 use Rattle.blot_types.specs.declared.part.Part.{Part}
 use Rattle.blot_types.specs.declared.lines.Version.{Version}
-use Rattle.blot_types.specs.Position.{part_of_fill, moves_of_line}
+use Rattle.blot_types.specs.Position.{part_of_fill, part_of_line, from_house as leaving_house, moves_of_line}
 use Rattle.blot_types.specs.Standing.{standing}
 use Rattle.blot_position.specs.Positions.{Cells, sums_at, has_cell, with_part, without_part}
 use Rattle.blot_position.specs.Sums.{HasRoom, HasPart}
@@ -54,9 +54,13 @@ abbrev pub CanChangeAll : List Change → Cells → Type 0
 CanChangeAll [] cells = ⊤
 CanChangeAll (change ∷ later) cells = CanChange change cells × CanChangeAll later (changed change cells)
 
--- the moves of lines, put and taken
+-- a line's move as it is put: it leaves the house account, and then it comes to its own
+abbrev pub moved_in : Terms → Line → List Part
+moved_in terms line = leaving_house (part_of_line terms line) ∷ part_of_line terms line ∷ []
+
+-- the moves of lines, put and taken; taken, each leaves its own account first
 abbrev pub lines_put : Terms → List Line → List Change
-lines_put terms lines = map put_in (flat_map (moves_of_line terms) lines)
+lines_put terms lines = map put_in (flat_map (moved_in terms) lines)
 
 abbrev pub lines_taken : Terms → List Line → List Change
 lines_taken terms lines = map taken_out (flat_map (moves_of_line terms) lines)

@@ -3,9 +3,8 @@ use Rattle.std.specs.Prelude.{ℕ, true, List, Option, Some, is_none}
 use Rattle.std.specs.Option.{option_map, option_and_then}
 use Rattle.blot_types.specs.declared.command.Command.{Command}
 use Rattle.blot_types.specs.declared.command.Entry.{Entry}
-use Rattle.blot_types.specs.Legal.{is_book, entry_refusal, refusal_of}
+use Rattle.blot_types.specs.Legal.{is_book, entry_refusal, refusal_of, without}
 use Rattle.blot_types.specs.Refusals.{withdrawn_by}
-use Rattle.blot_types.specs.Withdrawal.{without}
 use Rattle.blot_command.specs.declared.fault.ApplyFault.{ApplyFault}
 use Rattle.blot_command.specs.declared.fault.ApplyFault.TheVariants.{Refused, NoMemory}
 use Rattle.blot_command.specs.declared.inverse.Inverse.{Inverse}

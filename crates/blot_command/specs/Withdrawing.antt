@@ -6,9 +6,9 @@ use Rattle.blot_places.specs.Shown.{item_at, with_item, without as without_item}
 use Rattle.blot_types.specs.declared.command.Entry.{Entry}
 use Rattle.blot_types.specs.declared.keys.ExecKey.{ExecKey}
 use Rattle.blot_types.specs.Keys.{same_exec}
-use Rattle.blot_types.specs.Legal.{is_above_entries, is_book}
+use Rattle.blot_types.specs.Legal.{is_above_entries, is_book, without}
 use Rattle.blot_types.specs.Refusals.{exec_key}
-use Rattle.blot_types.specs.Withdrawal.{without, put_back}
+use Rattle.blot_types.specs.Withdrawal.{put_back}
 use Rattle.blot_command.specs.Book.{Shown, entry_number, numbers_of}
 
 -- the list with one more entry at its end

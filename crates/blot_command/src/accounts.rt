@@ -2,8 +2,7 @@
 ghost use Rattle.std.specs.Prelude.{◌≡◌, [], ◌∷◌, ◌++◌, find, Some, IsSome, IsTrue, OnOk, OnErr, IfErr};
 ghost use Rattle.std.specs.Option.{option_map};
 ghost use Rattle.blot_types.specs.Laws.{HasBoundedTotals};
-ghost use Rattle.blot_types.specs.Legal.{is_above_entries, is_book};
-ghost use Rattle.blot_types.specs.Withdrawal.{without};
+ghost use Rattle.blot_types.specs.Legal.{is_above_entries, is_book, without};
 ghost use Rattle.blot_types.specs.Position.{part_of, position_of};
 ghost use Rattle.blot_command.specs.Book.{has_number};
 ghost use Rattle.blot_command.specs.Shown.{version_replaced};
@@ -18,7 +17,8 @@ use blot_types::{AllocKey, Entry, ExecKey, Part, PositionLine, Text64, Version};
 use std::alloc::Global;
 use std::marker::Model;
 
-/// The live list, with the positions of its executions and its allocations. A contract sees it as the live list.
+/// The live list, with the positions of its executions and its allocations. A contract sees it as the live list, and
+/// the entries that are withdrawn and kept.
 #[derive(Drop)]
 pub(crate) struct Accounts {
     live: LiveList,

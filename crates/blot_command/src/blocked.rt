@@ -2,8 +2,7 @@
 ghost use Rattle.std.specs.Prelude.{◌≡◌, find, IsSome, IsTrue};
 ghost use Rattle.blot_types.specs.Instructions.{first_instruction};
 ghost use Rattle.blot_types.specs.Keys.{is_among};
-ghost use Rattle.blot_types.specs.Legal.{is_book};
-ghost use Rattle.blot_types.specs.Withdrawal.{least_needing};
+ghost use Rattle.blot_types.specs.Legal.{is_book, least_needing};
 ghost use Rattle.blot_command.specs.Blocking.{blocked_by, blocked_correct, changes_version, lists_at, needed_until, needs_correct};
 ghost use Rattle.blot_command.specs.Book.{has_number};
 ghost use Rattle.blot_command.specs.Refusing.{HoldsBoth};

@@ -24,19 +24,19 @@ pub(crate) fn take_part(positions: &mut Positions, part: &Part)
     positions.sub(&part.account, &part.symbol, part.qty, part.value);
 }
 
-/// Puts the moves of the lines of terms: each from the house account to its own.
+/// Puts the moves of the lines of terms: each leaves the house account, and then comes to its own.
 pub(crate) fn put_lines(positions: &mut Positions, terms: &Terms)
     requires { CanChangeAll (lines_put terms.now terms.now.lines) positions.old }
     ensures { positions.new ≡ changed_all (lines_put terms.now terms.now.lines) positions.old }
 {
     for line in terms.lines.as_slice() {
         let part = Part::of_line(terms, line);
-        put_part(positions, &part);
         put_part(positions, &part.from_house());
+        put_part(positions, &part);
     }
 }
 
-/// Takes the moves of the lines of terms.
+/// Takes the moves of the lines of terms: each leaves its own account, and then comes back to the house account.
 pub(crate) fn take_lines(positions: &mut Positions, terms: &Terms)
     requires { CanChangeAll (lines_taken terms.now terms.now.lines) positions.old }
     ensures { positions.new ≡ changed_all (lines_taken terms.now terms.now.lines) positions.old }

@@ -3,8 +3,7 @@ ghost use Rattle.std.specs.Prelude.{◌≡◌, ◌<◌, [], ◌∷◌, ◌++◌,
 ghost use Rattle.std.specs.List.{last_or};
 ghost use Rattle.std.specs.Option.{option_and_then, option_copied, option_map};
 ghost use Rattle.blot_types.specs.Laws.{HasBoundedTotals, IsConserving};
-ghost use Rattle.blot_types.specs.Legal.{is_above_entries, is_book, entry_refusal, least_needing};
-ghost use Rattle.blot_types.specs.Withdrawal.{without};
+ghost use Rattle.blot_types.specs.Legal.{is_above_entries, is_book, entry_refusal, least_needing, without};
 ghost use Rattle.blot_types.specs.Order.{order_of};
 ghost use Rattle.blot_types.specs.Position.{position_of};
 ghost use Rattle.blot_types.specs.Standing.{chain_of};

@@ -30,7 +30,7 @@ pub use refused::Refused;
 pub use text::{TEXT_MAX, Text64};
 
 /// The most events that a day's record holds, and so the greatest number that a command can have.
-pub const EVENTS_MAX: u64 = 100_000;
+pub const EVENTS_MAX: u64 = 250_000;
 
 /// The most items of a list within a command or a message: executions or lines of an allocation. This
 /// project's rule.

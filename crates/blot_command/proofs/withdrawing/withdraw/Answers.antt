@@ -2,8 +2,7 @@ use Rattle.std.proofs.Common.{◌≡◌, ℕ, true, refl, List, None, sym, ◌�
 use Rattle.std.proofs.lemmas.Grind.{common_steps}
 use Rattle.std.specs.Prelude.{find, IsSome}
 use Rattle.blot_types.specs.declared.command.Entry.{Entry}
-use Rattle.blot_types.specs.Legal.{is_book, least_needing}
-use Rattle.blot_types.specs.Withdrawal.{without}
+use Rattle.blot_types.specs.Legal.{is_book, least_needing, without}
 use Rattle.blot_command.specs.Book.{has_number}
 use Rattle.blot_command.specs.Law.{takes}
 use Rattle.blot_command.proofs.withdrawing.withdraw.Goals as goal
