@@ -18,6 +18,7 @@ mod long;
 mod many;
 mod model;
 mod pairs;
+mod refused;
 mod reports;
 mod seats;
 mod shown;
