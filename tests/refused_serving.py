@@ -184,15 +184,21 @@ def guarded(task, faults):
     return run
 
 
-def served(command, port, environment, seconds):
-    """Plays a day to its end: what the program printed, its status, its standard error, the acknowledgements, and what went wrong."""
+def heard(stream, lines):
+    for line in stream:
+        lines.append(line)
+
+
+def served(command, port, environment, seconds, errors):
+    """Plays a day to its end: what the program printed, its status, its standard error, the acknowledgements, and what went wrong. The lines of
+    standard error are put to `errors` as they come."""
     process = subprocess.Popen(command, stdin=subprocess.PIPE, stdout=subprocess.PIPE, stderr=subprocess.PIPE, env=environment)
     alarm = threading.Timer(seconds, process.kill)
     alarm.start()
-    printed, errors, faults, is_in = [], [], [], Progress(process)
+    printed, faults, is_in = [], [], Progress(process)
     engines = [Engine(peer, port, is_in) for peer in DAYS]
     tasks = [*(it.run for it in engines), lambda: operate(process, is_in), lambda: printed.append(process.stdout.read()),
-             lambda: errors.append(process.stderr.read())]
+             lambda: heard(process.stderr, errors)]
     threads = [threading.Thread(target=guarded(it, faults)) for it in tasks]
     for thread in threads:
         thread.start()
@@ -204,7 +210,7 @@ def served(command, port, environment, seconds):
         faults.append('it had not ended')
     for stream in (process.stdout, process.stderr):
         stream.close()
-    return printed[0], status, errors[0], {it.peer: it.acknowledged for it in engines}, faults
+    return printed[0], status, b''.join(errors), {it.peer: it.acknowledged for it in engines}, faults
 
 
 def right_answers(printed):

@@ -54,7 +54,7 @@ const STEPS: [Step; 3] = [
 ];
 
 // What the events are answered.
-const REPLIES: [Reply; 8] = [
+const REPLIES: [Reply; 10] = [
     Reply::Accepted(1),
     Reply::Accepted(2),
     Reply::Accepted(3),
@@ -62,6 +62,8 @@ const REPLIES: [Reply; 8] = [
     Reply::Redone(3),
     Reply::Order(None),
     Reply::Accepted(4),
+    Reply::Undone(4),
+    Reply::Redone(4),
     Reply::Undone(4),
 ];
 
@@ -73,7 +75,7 @@ position\tA\tXYZ\t30\t330\n\
 position\tB\tXYZ\t20\t220\n\
 end\t3\n";
 
-// The events: the three commands, the bust undone, redone and asked about, withdrawn and put back.
+// The events: the three commands, the bust undone, redone and asked about, withdrawn and put back, and that done again and undone.
 fn events(alloc: Global) -> Result<Vec<Event>, Fail> {
     let mut events = Vec::new(alloc);
     for step in &STEPS {
@@ -83,6 +85,8 @@ fn events(alloc: Global) -> Result<Vec<Event>, Fail> {
     events.push(Event::Redo)?;
     events.push(Event::AskOrder(order(b"BRKA", b"O1")?))?;
     events.push(Event::Submit(command(alloc, b"BRKA", &Withdraws(3))?))?;
+    events.push(Event::Undo { newest: 4 })?;
+    events.push(Event::Redo)?;
     events.push(Event::Undo { newest: 4 })?;
     Ok(events)
 }
