@@ -160,11 +160,12 @@ serves-more does ticks takes a b c unread rest left count read one two =
 
 -- the end of the reads
 pub serves-end : {W C S : Type 0} (does : W → Did → W → Type 0) (ticks : C → ℤ → C → Type 0) (takes : S → Answered → S → Type 0)
-    (most : ℕ) (end : Ended) (a b c : Parties W C S) (unread rest : List ℕ) (count : ℕ) (read : Read) → end ≢ ended.TooLong → Serves does ticks takes a unread count b rest
+    (most : ℕ) (end : Ended) (a b c : Parties W C S) (unread rest : List ℕ) (count : ℕ) (read : Read) → count < most → end ≢ ended.TooLong → Serves does ticks takes a unread count b rest
     → ((more : List Read) → Ends does ticks takes end b (due_behind rest (read ∷ more)) (read ∷ []) c) → EndsWithin does ticks takes most end a (due_behind unread) c
-serves-end does ticks takes most end a b c unread rest count read short one two =
+serves-end does ticks takes most end a b c unread rest count read within short one two =
     record {
       reads = one.reads ++ read ∷ [];
+      few = omega (arith, within, one.many, length-append one.reads (read ∷ []));
       long = λ is. absurd (short is);
       ends = ends-behind does ticks takes end a b c (due_behind unread (one.reads ++ read ∷ [])) (due_behind rest (read ∷ [])) one.reads (read ∷ [])
           (one.runs (read ∷ [])) (two []);
@@ -176,6 +177,7 @@ pub serves-long : {W C S : Type 0} (does : W → Did → W → Type 0) (ticks : 
 serves-long does ticks takes most a b unread rest one =
     record {
       reads = one.reads;
+      few = omega (arith, one.many);
       long = λ is. one.many;
       ends = ends-by-wire does ticks takes ended.TooLong a b (due_behind unread one.reads) one.reads (too_long one.reads)
           (subst (λ reads. Runs does ticks takes a (due_behind unread reads) one.reads [] b) (append-nil one.reads) (one.runs []));
@@ -184,7 +186,7 @@ serves-long does ticks takes most a b unread rest one =
 pub ends-no-memory : {W C S : Type 0} (does : W → Did → W → Type 0) (ticks : C → ℤ → C → Type 0) (takes : S → Answered → S → Type 0)
     (most : ℕ) (a : Parties W C S) (unread : List ℕ) → EndsWithin does ticks takes most ended.NoMemory a (due_behind unread) a
 ends-no-memory does ticks takes most a unread =
-    record { reads = []; long = λ is. absurd cc; ends = ends-there does ticks takes a a [] [] [] (runs-nowhere does ticks takes a []) }
+    record { reads = []; few = omega arith; long = λ is. absurd cc; ends = ends-there does ticks takes a a [] [] [] (runs-nowhere does ticks takes a []) }
 
 -- ---- the whole session
 
@@ -196,6 +198,7 @@ served-reads does ticks takes most end a b c unread rest left one two =
     let due = due_behind (rest_of unread) two.reads in
     record {
       reads = two.reads;
+      few = two.few;
       long = two.long;
       ends = ends-behind does ticks takes end a b c (due_of unread two.reads) due [] two.reads (one due)
           (subst (λ text. Ends does ticks takes end b (due_behind text two.reads) two.reads c) left two.ends);
@@ -208,6 +211,7 @@ pub ends-unread : {W C S : Type 0} (does : W → Did → W → Type 0) (ticks : 
 ends-unread does ticks takes most stop end a b unread is ends =
     record {
       reads = [];
+      few = omega arith;
       long = λ long. absurd (ended-short stop (sym is ∙ long));
       ends = subst (λ ended. Ends does ticks takes ended a (due_of unread []) [] b) (sym is) ends;
     }

@@ -282,10 +282,11 @@ abbrev pub left_by : Ended → State → State
 left_by (ended.Closed reason) state = state
 left_by end state = closed state
 
--- the wire gave some reads, which led to calls that end so; where it was read too often, they are this many
+-- the wire gave some reads, no more than this many, which led to calls that end so; where it was read too often, they are just this many
 pub record EndsWithin {W C S : Type 0} (does : W → Did → W → Type 0) (ticks : C → ℤ → C → Type 0) (takes : S → Answered → S → Type 0)
     (most : ℕ) (end : Ended) (before : Parties W C S) (due : List Read → List Due) (after : Parties W C S) : Type 0 where
   pub reads : List Read
+  pub few : length reads ≤ most
   pub long : end ≡ ended.TooLong → length reads ≡ most
   pub ends : Ends does ticks takes end before (due reads) reads after
 

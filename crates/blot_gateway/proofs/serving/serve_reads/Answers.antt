@@ -23,7 +23,7 @@ returns-in-Err-clause-ends g c =
     let b = parties c.loop.wire c.loop.clock c.loop.sink c.loop.session in
     let d = parties c.serve_read.new.wire c.serve_read.new.clock c.serve_read.new.sink c.serve_read.new.session in
     let ends = c.in-Err.ensures.err in
-    serves-end g.W.Wire.does g.C.Clock.ticks g.S.Sink.takes c.args.reads c.in-Err.ended a b d c.args.reader.now.unread c.loop.reader.unread c.loop.counter ends.0 c.in-Err.ensures.not_long
+    serves-end g.W.Wire.does g.C.Clock.ticks g.S.Sink.takes c.args.reads c.in-Err.ended a b d c.args.reader.now.unread c.loop.reader.unread c.loop.counter ends.0 (omega (arith, c.loop-test.true)) c.in-Err.ensures.not_long
     c.loop.invariant.0 ends.1
 
 pub loop-preserved : goal.loop-preserved
