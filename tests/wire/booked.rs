@@ -222,32 +222,30 @@ fn fails<L: Ledger>(
     Ok(true)
 }
 
-// Each read fails in turn: how many there are.
-fn fail_reads(rt: &impl Wait, alloc: Global, manner: Manner) -> Result<usize, Fail> {
-    for read in 0..CALLS {
-        let failing = Manner {
-            failing_read: Some(read),
-            ..manner
+// Each read fails in turn, or each write: how many there are.
+fn fail_in_turn(
+    rt: &impl Wait,
+    alloc: Global,
+    manner: Manner,
+    is_read: bool,
+) -> Result<usize, Fail> {
+    for call in 0..CALLS {
+        let failing = if is_read {
+            Manner {
+                failing_read: Some(call),
+                ..manner
+            }
+        } else {
+            Manner {
+                failing_write: Some(call),
+                ..manner
+            }
         };
         if !fails::<Brand>(rt, alloc, Blank::new(1), failing)? {
-            return Ok(read);
+            return Ok(call);
         }
     }
-    Err(Fail::new("too many reads"))
-}
-
-// Each write fails in turn: how many there are.
-fn fail_writes(rt: &impl Wait, alloc: Global, manner: Manner) -> Result<usize, Fail> {
-    for write in 0..CALLS {
-        let failing = Manner {
-            failing_write: Some(write),
-            ..manner
-        };
-        if !fails::<Brand>(rt, alloc, Blank::new(1), failing)? {
-            return Ok(write);
-        }
-    }
-    Err(Fail::new("too many writes"))
+    Err(Fail::new("too many calls"))
 }
 
 // The calls of this size that take so many bytes.
@@ -262,7 +260,7 @@ fn fail_each(rt: &impl Wait, alloc: Global, manner: Manner) -> Result<(), Fail> 
     for message in booked().written {
         writes += calls_of(message.len(), manner.room);
     }
-    let reads = fail_reads(rt, alloc, manner)?;
+    let reads = fail_in_turn(rt, alloc, manner, true)?;
     expect_number(
         "reads",
         reads as u64,
@@ -270,7 +268,7 @@ fn fail_each(rt: &impl Wait, alloc: Global, manner: Manner) -> Result<(), Fail> 
     )?;
     expect_number(
         "writes",
-        fail_writes(rt, alloc, manner)? as u64,
+        fail_in_turn(rt, alloc, manner, false)? as u64,
         writes as u64,
     )
 }
