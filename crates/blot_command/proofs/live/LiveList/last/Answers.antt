@@ -6,7 +6,7 @@ use Rattle.std.proofs.lemmas.Bool.{ltb-true}
 use Rattle.blot_types.specs.Legal.{is_above_entries}
 use Rattle.blot_types.proofs.OrderLemmas.{last_or-push}
 use Rattle.blot_command.specs.Book.{Shown}
-use Rattle.blot_command.proofs.HoldLemmas.{EndsIn, IsLast, ends_in, last-slot}
+use Rattle.blot_command.proofs.LastSlotLemmas.{EndsIn, IsLast, ends_in, last-slot}
 use Rattle.blot_command.proofs.live.LiveList.last.Goals as goal
 use Rattle.blot_command.proofs.live.LiveList.last.Goals.{In-Some}
 

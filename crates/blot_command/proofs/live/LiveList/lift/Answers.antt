@@ -11,7 +11,7 @@ use Rattle.blot_command.specs.Book.{Shown, entry_number, has_number}
 use Rattle.blot_command.specs.Linking.{CanLift, is_instruction, is_link}
 use Rattle.blot_command.specs.Slots.{entries_in}
 use Rattle.blot_command.specs.Withdrawing.{lifted}
-use Rattle.blot_command.proofs.HoldLemmas.{TakesOut, takes-out}
+use Rattle.blot_command.proofs.LiveLiftLemmas.{TakesOut, takes-out}
 use Rattle.blot_command.proofs.live.LiveList.lift.Goals as goal
 use Rattle.blot_command.proofs.live.LiveList.lift.Goals.{After-take_out-entry}
 

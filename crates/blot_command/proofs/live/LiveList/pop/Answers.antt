@@ -4,7 +4,7 @@ use Rattle.blot_types.specs.declared.command.Entry.{Entry}
 use Rattle.blot_types.specs.Legal.{is_above_entries}
 use Rattle.blot_command.specs.Book.{Shown}
 use Rattle.blot_command.specs.Slots.{entries_in, left_in}
-use Rattle.blot_command.proofs.HoldLemmas.{IsLast, above-kept-instructions, above-kept-links, holds-popped, last-slot}
+use Rattle.blot_command.proofs.LastSlotLemmas.{IsLast, above-kept-instructions, above-kept-links, holds-popped, last-slot}
 use Rattle.blot_command.proofs.LiveLemmas.{holds-more, linked-last}
 use Rattle.blot_command.proofs.TurnLemmas.{kept-push, list-push}
 use Rattle.blot_command.proofs.live.LiveList.pop.Goals as goal

@@ -8,7 +8,7 @@ use Rattle.blot_command.specs.Book.{Shown}
 use Rattle.blot_command.specs.Linking.{CanLink, HoldsLive}
 use Rattle.blot_command.specs.Slots.{entries_in, left_in}
 use Rattle.blot_command.specs.Withdrawing.{with_entry}
-use Rattle.blot_command.proofs.HoldLemmas.{above-kept-instructions, above-kept-links, can-push, holds-pushed}
+use Rattle.blot_command.proofs.LastSlotLemmas.{above-kept-instructions, above-kept-links, can-push, holds-pushed}
 use Rattle.blot_command.proofs.TurnLemmas.{kept-push, list-push}
 use Rattle.blot_command.proofs.live.LiveList.push.Goals as goal
 use Rattle.blot_command.proofs.live.LiveList.push.Goals.{After-as_entry, After-push_reserved}

@@ -9,7 +9,7 @@ use Rattle.blot_chain.specs.Steps.{put_back as put_back_link}
 use Rattle.blot_command.specs.Book.{entry_number}
 use Rattle.blot_command.specs.Linking.{CanUnLift, is_instruction, is_link}
 use Rattle.blot_command.specs.Withdrawing.{CanReturn, returned}
-use Rattle.blot_command.proofs.HoldLemmas.{PutsBack, puts-back}
+use Rattle.blot_command.proofs.LiveLiftLemmas.{PutsBack, puts-back}
 use Rattle.blot_command.proofs.live.LiveList.un_lift.Goals as goal
 use Rattle.blot_command.proofs.live.LiveList.un_lift.Goals.{After-as_entry, After-put_in}
 
