@@ -1,5 +1,5 @@
 //! What a desk holds.
-ghost use Rattle.std.specs.Prelude.{◌≡◌, ◌≢◌, ◌↔◌, ◌∷◌, ◌++◌, [], Err, All, IfOk, IfSome, OnErr, IsOk, IsTrue, ◌<◌, ◌≤◌, length, vec_capacity};
+ghost use Rattle.std.specs.Prelude.{◌≡◌, ◌≢◌, ◌↔◌, ◌∷◌, ◌++◌, [], Err, All, IfOk, IfSome, OnErr, IsTrue, ◌<◌, ◌≤◌, length, vec_capacity};
 ghost use Rattle.blot_types.specs.Legal.{is_book};
 ghost use Rattle.blot_types.specs.Order.{order_of};
 ghost use Rattle.blot_types.specs.Position.{position_of};
@@ -77,7 +77,7 @@ impl Held {
             Ok(reply) => reply,
             Err(_) => return Err(DeskFault::NoMemory),
         };
-        let _ = record(&mut self.history, copy, &reply);
+        record(&mut self.history, copy, &reply);
         Ok(reply)
     }
 
@@ -126,14 +126,10 @@ impl Held {
 }
 
 // Puts an event and the reply to it at the end of a history that has room.
-fn record(history: &mut Vec<Recorded>, event: Event, reply: &Reply) -> Result<(), Recorded>
+fn record(history: &mut Vec<Recorded>, event: Event, reply: &Reply)
     requires { length history.old.items < vec_capacity history.old }
-    ensures items { history.new.items ≡ history.old.items ++ record { event = event; reply = reply.now } ∷ [] }
-    ensures ok { IsOk result }
+    ensures { history.new.items ≡ history.old.items ++ record { event = event; reply = reply.now } ∷ [] }
 {
     let reply = *reply;
-    match history.push(Recorded { event, reply }) {
-        Ok(()) => Ok(()),
-        Err(failed) => Err(failed.value),
-    }
+    history.push_reserved(Recorded { event, reply });
 }

@@ -13,9 +13,9 @@ mod held;
 mod receipt;
 mod seat;
 mod settling;
-mod snapshot;
 mod taking;
 
+pub use blot_command::Snapshot;
 pub use closed::{Closed, Settled};
 pub use desk::Desk;
 pub use event::{Event, Recorded, Reply};
@@ -23,4 +23,3 @@ pub use fault::DeskFault;
 pub use held::Held;
 pub use receipt::Receipt;
 pub use seat::Seat;
-pub use snapshot::Snapshot;

@@ -1,11 +1,10 @@
 //! Short texts, where they stand in their frame.
 ghost use Rattle.std.specs.Prelude.{◌≡◌, ◌↔◌, IsTrue, IsSome, IfSome, nat_eq, Some};
-ghost use Rattle.std.specs.List.{list_all};
 ghost use Rattle.std.specs.Cmp.{partial_equiv_from_equiv};
 ghost use Rattle.std.specs.Cmp.Lexicographic.{pointwise, nat_list_eq_equiv};
-ghost use Rattle.blot_types.specs.Text.{is_text, printable};
+ghost use Rattle.blot_types.specs.Text.{is_text};
 
-use blot_types::{TEXT_MAX, Text64};
+use blot_types::{Text64, is_text};
 use std::fmt;
 use std::marker::Model;
 
@@ -53,28 +52,8 @@ impl<'a> Text<'a> {
     pub fn owned(&self) -> Text64
         ensures { result ≡ self.now }
     {
-        match Text64::read(self.bytes) {
-            Some(text) => text,
-            None => unreachable!(),
-        }
+        Text64::of(self.bytes)
     }
-}
-
-// Whether these bytes are a text.
-fn is_text(bytes: &[u8]) -> bool
-    ensures { result ≡ is_text bytes.now }
-{
-    if bytes.is_empty() || bytes.len() > TEXT_MAX {
-        return false;
-    }
-    is_printable(bytes)
-}
-
-// Whether each of these bytes is printable.
-fn is_printable(bytes: &[u8]) -> bool
-    ensures { result ≡ list_all printable bytes.now }
-{
-    bytes.iter().all(|byte| 0x20 <= *byte && *byte <= 0x7E)
 }
 
 impl<'a> PartialEq for Text<'a> {

@@ -9,7 +9,7 @@ use crate::orders::order_rows_in_pieces;
 use crate::parts::parts_on;
 use crate::positions::position_rows_in_pieces;
 use crate::{DayLines, Rows};
-use blot_desk::Snapshot;
+use blot_command::Snapshot;
 use blot_time::Day;
 use std::alloc::{AllocError as NoMemory, Global};
 use std::thread::Threads;

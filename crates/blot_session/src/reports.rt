@@ -106,7 +106,7 @@ fn delivery(alloc: Global, message: &Message, peer: Text64) -> Result<Vec<Action
 {
     let mut actions = Vec::with_capacity(alloc, 1)?;
     if let Some(command) = command_of(alloc, message, peer)? {
-        actions.push(Action::Deliver(command))?;
+        actions.push_reserved(Action::Deliver(command));
     }
     Ok(actions)
 }

@@ -27,7 +27,7 @@ pub use making::Making;
 pub use numbered::{Numbered, lesser};
 pub use part::{Part, house_account};
 pub use refused::Refused;
-pub use text::{TEXT_MAX, Text64};
+pub use text::{TEXT_MAX, Text64, is_text};
 
 /// The most events that a day's record holds, and so the greatest number that a command can have.
 pub const EVENTS_MAX: u64 = 250_000;

@@ -51,13 +51,22 @@ impl Text64 {
         ensures text { IsSome result ↔ IsTrue (is_text bytes.now) }
         ensures value { IfSome result (λ text. text ≡ bytes.now) }
     {
-        if !is_well_formed(bytes) {
-            return None;
+        if is_text(bytes) {
+            Some(Text64::of(bytes))
+        } else {
+            None
         }
-        Some(Text64 {
+    }
+
+    /// The text of these bytes, which are one.
+    pub fn of(bytes: &[u8]) -> Text64
+        requires { IsTrue (is_text bytes.now) }
+        ensures { result ≡ bytes.now }
+    {
+        Text64 {
             buffer: filled_up(bytes),
             len: bytes.len() as u8,
-        })
+        }
     }
 
     /// The bytes of the text.
@@ -69,8 +78,8 @@ impl Text64 {
     }
 }
 
-// Whether these bytes are a text.
-fn is_well_formed(bytes: &[u8]) -> bool
+/// Whether these bytes are a text: 1 to 64 bytes from space to tilde.
+pub fn is_text(bytes: &[u8]) -> bool
     ensures { result ≡ is_text bytes.now }
 {
     if bytes.is_empty() || bytes.len() > TEXT_MAX {
@@ -92,9 +101,7 @@ fn filled_up(text: &[u8]) -> [u8; TEXT_MAX]
     ensures { result ≡ with_zeros text.now }
 {
     let mut buffer = [0; TEXT_MAX];
-    for (index, byte) in text.iter().enumerate() {
-        buffer[index] = *byte;
-    }
+    buffer[..text.len()].copy_from_slice(text);
     buffer
 }
 

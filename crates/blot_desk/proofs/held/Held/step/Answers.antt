@@ -6,4 +6,4 @@ pub invariant_of-self-2 : goal.invariant_of-self-2
 invariant_of-self-2 c =
     journal_more _ _ c.self.inside.history.items _ c.args.event c.in-Ok-try_copy.copy c.in-Ok-take.reply c.self.invariant
     (omega (arith, c.self.invariant.few)) c.in-Ok-take.ensures.ok c.in-Ok-try_copy.ensures
-    (c.record.ensures.items ∙ ap (λ items. items ++ record { event = c.in-Ok-try_copy.copy; reply = c.in-Ok-take.reply } ∷ []) c.reserve.ensures.items)
+    (c.record.ensures ∙ ap (λ items. items ++ record { event = c.in-Ok-try_copy.copy; reply = c.in-Ok-take.reply } ∷ []) c.reserve.ensures.items)

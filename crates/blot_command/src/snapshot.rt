@@ -1,11 +1,11 @@
-//! The live list of a desk, copied.
+//! The live list of a book, copied.
 ghost use Rattle.std.specs.Prelude.{◌≡◌, IsTrue};
 ghost use Rattle.blot_types.specs.Legal.{is_book};
 
 use blot_types::Entry;
 use std::marker::Model;
 
-/// The live list of a desk as it was when the snapshot was taken. A contract sees it as that list, which is always
+/// The live list of a book as it was when the snapshot was taken. A contract sees it as that list, which is always
 /// legal.
 #[derive(Drop)]
 pub struct Snapshot {
@@ -25,8 +25,8 @@ impl Model for Snapshot {
 }
 
 impl Snapshot {
-    /// The snapshot of a list.
-    pub(crate) fn of(entries: Vec<Entry>) -> Snapshot
+    /// The snapshot of a list, which is a book.
+    pub fn of(entries: Vec<Entry>) -> Snapshot
         requires { IsTrue (is_book entries.items) }
         ensures { result ≡ entries.items }
     {
