@@ -1,4 +1,5 @@
--- What a call does to an index of slots. The slots stand newest first; it takes the index's own word for the slots whose places it names.
+-- What a call does to an index that names the places of slots. The slots stand newest first. `IsIndexed` is the index's own word for the
+-- slots that it names.
 use Rattle.std.specs.Prelude.{◌≡◌, ℕ, List, ◌∷◌, length}
 use Rattle.blot_places.specs.declared.slots.Slot.{Slot}
 

@@ -42,7 +42,7 @@ module _ {K : Type 0} (same : K → K → Bool) where
   TakesPlace test old new =
       (other : K) → places_in same new other ≡ (if test other then drop 1 (places_in same old other) else places_in same old other)
 
-  -- each key that had room for a place has it; and each but this one
+  -- each key that had room for one more place has it; so has each but this one
   abbrev pub KeepsRoom : Stacks K → Stacks K → Type 0
   KeepsRoom old new = (other : K) → HasRoom same old other → HasRoom same new other
 

@@ -1,5 +1,5 @@
 -- What stands on a day, as the chains and the instructions of a list tell it.
-use Rattle.std.specs.Prelude.{ℕ, ℤ, Bool, false, ◌&&◌, List, map, Option, Some, None, is_none, if◌then◌else◌}
+use Rattle.std.specs.Prelude.{◌≡◌, ℕ, ℤ, Bool, false, ◌&&◌, List, map, Option, Some, None, is_none, if◌then◌else◌}
 use Rattle.std.specs.List.{filter_map, flat_map}
 use Rattle.std.specs.Option.{option_map_or}
 use Rattle.std.specs.Ordering.{int_eq}
@@ -87,6 +87,10 @@ standing_from linked day entry = standing_by linked.chains.list linked.allocs.li
 
 abbrev pub standings_from : Linked → ℤ → List Entry → List Standing
 standings_from linked day entries = filter_map (standing_from linked day) entries
+
+-- survivors are those that entries bring which are of a day and stand, in list order
+abbrev pub AreBrought : Linked → ℤ → List Entry → List Survivor → Type 0
+AreBrought linked day entries survivors = standings_in survivors ≡ standings_from linked day entries
 
 -- ---- allocations
 

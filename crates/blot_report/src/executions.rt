@@ -2,7 +2,7 @@
 ghost use Rattle.std.specs.Prelude.{◌≡◌, IfOk};
 ghost use Rattle.std.specs.Option.{option_map};
 ghost use Rattle.blot_report.specs.Day.{survivor_parts_on, fills_on};
-ghost use Rattle.blot_report.specs.Linked.{IsLinkedOf, fills_in, parts_in, standing_fill, standing_from, standing_in, standings_from, standings_in};
+ghost use Rattle.blot_report.specs.Linked.{AreBrought, IsLinkedOf, fills_in, parts_in, standing_fill, standing_from, standing_in};
 
 use crate::linked::Linked;
 use crate::pieces::{PIECE, joined};
@@ -56,13 +56,13 @@ fn survivors_by_worker<'a, R: Threads + Sync>(
     linked: &Linked,
     day: Day,
 ) -> Result<Vec<Survivor<'a>>, NoMemory>
-    ensures { IfOk result (λ survivors. standings_in survivors.items ≡ standings_from linked.now day entries.now) }
+    ensures { IfOk result (λ survivors. AreBrought linked.now day entries.now survivors.items) }
 {
     let pieces = entries
         .par_chunks(PIECE)
         .map(
             |piece: &[Entry]| -> Result<Vec<Survivor<'_>>, NoMemory>
-                ensures { IfOk result (λ survivors. standings_in survivors.items ≡ standings_from linked.entry.now day piece.now) }
+                ensures { IfOk result (λ survivors. AreBrought linked.entry.now day piece.now survivors.items) }
             { survivors_among(alloc, piece, linked, day) },
         )
         .collect::<Result<Vec<Vec<Survivor<'a>>>, NoMemory>>(rt, alloc)??;
@@ -76,7 +76,7 @@ fn survivors_among<'a>(
     linked: &Linked,
     day: Day,
 ) -> Result<Vec<Survivor<'a>>, NoMemory>
-    ensures { IfOk result (λ survivors. standings_in survivors.items ≡ standings_from linked.now day entries.now) }
+    ensures { IfOk result (λ survivors. AreBrought linked.now day entries.now survivors.items) }
 {
     let mut survivors = Vec::new(alloc);
     for entry in entries {
