@@ -19,7 +19,7 @@ use Rattle.blot_types.specs.Instructions.{are_apart, ends, holds_in, is_above_in
 use Rattle.blot_types.specs.Keys.{same_alloc, same_exec}
 use Rattle.blot_types.proofs.InstructionLemmas.{follows}
 use Rattle.blot_alloc.specs.declared.index.Index.{Index}
-use Rattle.blot_alloc.specs.Allocs.{Adds, IsNewest, instruction_at, lifted_out, number_of, put_back}
+use Rattle.blot_alloc.specs.Allocs.{AddsOne, IsNewest, instruction_at, lifted_out, number_of, put_back}
 use Rattle.blot_alloc.specs.Holds.{HoldsAllocs}
 use Rattle.blot_alloc.specs.Index.{IsIndexed}
 use Rattle.blot_alloc.proofs.HolderLemmas.{holder-newest, if_passes}
@@ -75,7 +75,7 @@ held-push index new slots written i holds is indexed accepted above above_kept =
 
 pub record PopsInstruction (key : AllocKey) (role : AllocRole) (slot : Slot Instruction) (earlier : List (Slot Instruction)) (shown : Shown Instruction) : Type 0 where
   pub lives : slot.is_live ≡ true
-  pub adds : Adds key role (shown_of earlier).list shown.list
+  pub adds : AddsOne key role (shown_of earlier) shown
   pub kept : (shown_of earlier).kept ≡ shown.kept
 
 first_one : (a b : Instruction) (xs ys : List Instruction) → a ∷ xs ≡ b ∷ ys → a ≡ b

@@ -1,7 +1,6 @@
 -- The first instruction that needs another, and the first that lists a root.
 use Rattle.std.proofs.Common.{◌≡◌, ℕ, ◌+◌, ◌<◌, Bool, true, false, cond, ◌&&◌, ◌||◌, List, [], ◌∷◌, get_or, length, reverse, take, Option, Some, None, refl, sym, ap, subst, ◌∙◌, inl, inr, arith}
 use Rattle.std.specs.Prelude.{All, find, nat_eq, nat_lt}
-use Rattle.std.specs.List.Sorted.{IsPartitionedBy}
 use Rattle.std.specs.Option.{option_and_then, option_map, option_map_or, option_or}
 use Rattle.std.proofs.lemmas.Bool.{and_parts, cases_Bool, eqb-true, ltb-true}
 use Rattle.std.proofs.lemmas.List.{reverse-reverse}
@@ -20,7 +19,7 @@ use Rattle.blot_types.proofs.InstructionLemmas.{follows, unended}
 use Rattle.blot_places.specs.declared.slots.Slot.{Slot}
 use Rattle.blot_places.specs.Places.{places_in}
 use Rattle.blot_places.specs.Shown.{Shown, item_at, shown_of}
-use Rattle.blot_places.specs.Slots.{is_above, is_up_to, live, newest_live, numbers_fall, places_by}
+use Rattle.blot_places.specs.Slots.{is_above, live, numbers_fall, places_by}
 use Rattle.blot_places.proofs.AroundLemmas.{oldest-above, parted-above}
 use Rattle.blot_places.proofs.FirstLemmas.{first-either, first-more, first-none, first_by}
 use Rattle.blot_places.proofs.MarkLemmas.{falling-side}
@@ -28,7 +27,7 @@ use Rattle.blot_places.proofs.ShownLemmas.{at-here, at-number, at-on, falling-pa
 use Rattle.blot_alloc.specs.declared.index.Index.{Index}
 use Rattle.blot_alloc.specs.Allocs.{number_of, roots_in}
 use Rattle.blot_alloc.specs.Holds.{HoldsAllocs}
-use Rattle.blot_alloc.specs.Index.{places_after, stack_under}
+use Rattle.blot_alloc.specs.Index.{UpToFirst, oldest_above, stack_under}
 
 -- ---- the stack of a root
 
@@ -36,10 +35,10 @@ module _ (index : Index) (slots : List (Slot Instruction)) (holds : HoldsAllocs 
   named : reverse (stack_under index.holders root) ≡ places_by (names root) (reverse slots)
   named = reverse-reverse (places_in same_exec index.holders root) ∙ holds.indexed.holders root
 
-  pub parted-names : IsPartitionedBy (is_up_to number_of n slots) (stack_under index.holders root)
+  pub parted-names : UpToFirst n slots index.holders root
   parted-names = parted-above number_of n (names root) slots (stack_under index.holders root) named holds.fall
 
-  pub naming-held : option_map number_of (newest_live slots (places_after n slots (stack_under index.holders root))) ≡ first_naming (live (reverse slots)) n root
+  pub naming-held : option_map number_of (oldest_above n slots index.holders root) ≡ first_naming (live (reverse slots)) n root
   naming-held = ap (option_map number_of) (oldest-above number_of n (names root) slots (stack_under index.holders root) named)
 
 -- what a contract sees falls

@@ -1,10 +1,10 @@
 //! The instructions on allocations: added, taken back, asked.
-ghost use Rattle.std.specs.Prelude.{◌≡◌, ◌≤◌, [], ◌∷◌, length, filter, find, IsSome, IsTrue, OnOk, OnErr};
+ghost use Rattle.std.specs.Prelude.{◌≡◌, ◌≤◌, [], length, filter, find, IsSome, IsTrue, OnOk, OnErr};
 ghost use Rattle.std.specs.Option.{option_copied, option_map};
 ghost use Rattle.blot_types.specs.declared.allocation.AllocRole.TheVariants.{Allocates, Replaces, Cancels};
-ghost use Rattle.blot_types.specs.Instructions.{alloc_taker_in, is_keyed, is_allocation_in, ends, ended_in, is_live_in, holds_in, holder_in, other_holder_in, may_follow, is_above_instructions, is_instructed, first_instruction, first_naming, first_needing_instruction, ended_roots, names_any};
+ghost use Rattle.blot_types.specs.Instructions.{alloc_taker_in, is_keyed, is_allocation_in, ended_in, is_live_in, holds_in, holder_in, other_holder_in, may_follow, is_above_instructions, is_instructed, first_instruction, first_naming, first_needing_instruction, names_any};
 ghost use Rattle.blot_places.specs.Slots.{numbers_fall};
-ghost use Rattle.blot_alloc.specs.Allocs.{roots_in, Adds, IsNewest, instruction_at, lifted_out, number_of, put_back};
+ghost use Rattle.blot_alloc.specs.Allocs.{roots_in, is_ending, first_after_end, Adds, AddsOne, IsNewest, instruction_at, lifted_out, number_of, put_back};
 
 use crate::index::{Index, naming_above};
 use crate::roles::{brings_allocation, is_reference, reference_of};
@@ -61,7 +61,7 @@ impl Allocs {
         requires accepted { IsTrue (may_follow self.old.list key.now Allocates roots) }
         requires above { IsTrue (is_above_instructions number self.old.list) }
         requires above_kept { IsTrue (is_above_instructions number self.old.kept) }
-        ensures ok { OnOk result (self.new.list ≡ record { number = number; key = key.now; role = Allocates; roots = roots } ∷ self.old.list) }
+        ensures ok { OnOk result (Adds number key.now Allocates roots self.old self.new) }
         ensures kept { self.new.kept ≡ self.old.kept }
         ensures err { OnErr result (self.new ≡ self.old) }
     {
@@ -82,7 +82,7 @@ impl Allocs {
         requires accepted { IsTrue (may_follow self.old.list key.now (Replaces reference.now) roots) }
         requires above { IsTrue (is_above_instructions number self.old.list) }
         requires above_kept { IsTrue (is_above_instructions number self.old.kept) }
-        ensures ok { OnOk result (self.new.list ≡ record { number = number; key = key.now; role = Replaces reference.now; roots = roots } ∷ self.old.list) }
+        ensures ok { OnOk result (Adds number key.now (Replaces reference.now) roots self.old self.new) }
         ensures kept { self.new.kept ≡ self.old.kept }
         ensures err { OnErr result (self.new ≡ self.old) }
     {
@@ -101,7 +101,7 @@ impl Allocs {
         requires accepted { IsTrue (may_follow self.old.list key.now (Cancels reference.now) []) }
         requires above { IsTrue (is_above_instructions number self.old.list) }
         requires above_kept { IsTrue (is_above_instructions number self.old.kept) }
-        ensures ok { OnOk result (self.new.list ≡ record { number = number; key = key.now; role = Cancels reference.now; roots = [] } ∷ self.old.list) }
+        ensures ok { OnOk result (Adds number key.now (Cancels reference.now) [] self.old self.new) }
         ensures kept { self.new.kept ≡ self.old.kept }
         ensures err { OnErr result (self.new ≡ self.old) }
     {
@@ -112,7 +112,7 @@ impl Allocs {
     /// Takes back an AllocNew of this key, the newest instruction. No memory is taken. This project's rule.
     pub fn un_admit(&mut self, key: &AllocKey)
         requires newest { IsNewest key.now Allocates self.old }
-        ensures adds { Adds key.now Allocates self.new.list self.old.list }
+        ensures adds { AddsOne key.now Allocates self.new self.old }
         ensures kept { self.new.kept ≡ self.old.kept }
     {
         self.pop(key, AllocRole::Allocates);
@@ -122,7 +122,7 @@ impl Allocs {
     /// project's rule.
     pub fn un_replace(&mut self, key: &AllocKey, reference: &AllocKey)
         requires newest { IsNewest key.now (Replaces reference.now) self.old }
-        ensures adds { Adds key.now (Replaces reference.now) self.new.list self.old.list }
+        ensures adds { AddsOne key.now (Replaces reference.now) self.new self.old }
         ensures kept { self.new.kept ≡ self.old.kept }
     {
         self.pop(key, AllocRole::Replaces(*reference));
@@ -132,7 +132,7 @@ impl Allocs {
     /// project's rule.
     pub fn un_cancel(&mut self, key: &AllocKey, reference: &AllocKey)
         requires newest { IsNewest key.now (Cancels reference.now) self.old }
-        ensures adds { Adds key.now (Cancels reference.now) self.new.list self.old.list }
+        ensures adds { AddsOne key.now (Cancels reference.now) self.new self.old }
         ensures kept { self.new.kept ≡ self.old.kept }
     {
         self.pop(key, AllocRole::Cancels(*reference));
@@ -238,7 +238,7 @@ impl Allocs {
     // The number of the first instruction above a number that lists an execution of a chain that the allocation names which an
     // instruction of this role ended.
     fn first_after_end(&self, role: &AllocRole, number: u64) -> Option<u64>
-        ensures { result ≡ first_instruction (names_any (ended_roots self.now.list role.now)) number self.now.list }
+        ensures { result ≡ first_after_end self.now.list role.now number }
     {
         let reference = reference_of(role)?;
         let roots = self.roots_of(&reference)?;
@@ -266,7 +266,7 @@ impl Allocs {
 
     // The instruction that ended the allocation of a key.
     fn ending(&self, key: &AllocKey) -> Option<&Instruction>
-        ensures { option_copied result ≡ find (λ instruction. ends key.now instruction.role) self.now.list }
+        ensures { option_copied result ≡ find (is_ending key.now) self.now.list }
     {
         newest_live(&self.slots, self.index.endings.under(key))
     }
@@ -302,7 +302,7 @@ impl Allocs {
         requires accepted { IsTrue (may_follow self.old.list key.now role roots) }
         requires above { IsTrue (is_above_instructions number self.old.list) }
         requires above_kept { IsTrue (is_above_instructions number self.old.kept) }
-        ensures ok { OnOk result (self.new.list ≡ record { number = number; key = key.now; role = role; roots = roots } ∷ self.old.list) }
+        ensures ok { OnOk result (Adds number key.now role roots self.old self.new) }
         ensures kept { self.new.kept ≡ self.old.kept }
         ensures err { OnErr result (self.new ≡ self.old) }
     {
@@ -328,7 +328,7 @@ impl Allocs {
     // Takes the newest instruction out. It has this key and role, so nothing is compared.
     fn pop(&mut self, key: &AllocKey, role: AllocRole)
         requires newest { IsNewest key.now role self.old }
-        ensures adds { Adds key.now role self.new.list self.old.list }
+        ensures adds { AddsOne key.now role self.new self.old }
         ensures kept { self.new.kept ≡ self.old.kept }
     {
         match self.slots.pop() {

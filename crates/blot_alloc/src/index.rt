@@ -1,17 +1,13 @@
 //! Where the instructions that take up a key, that end the allocation of a key, and that name the chain of a
 //! root are.
-ghost use Rattle.std.specs.Prelude.{◌≡◌, ◌∷◌, [], List, drop, length, IfSome, IsTrue, OnOk, if◌then◌else◌};
-ghost use Rattle.std.specs.List.Sorted.{IsPartitionedBy};
+ghost use Rattle.std.specs.Prelude.{◌≡◌, [], IfSome, IsTrue, OnOk};
 ghost use Rattle.std.specs.Option.{option_map};
-ghost use Rattle.blot_places.specs.declared.slots.Slot.{Slot};
-ghost use Rattle.blot_places.specs.Places.{HasRoom, places_in};
-ghost use Rattle.blot_places.specs.Slots.{is_up_to, newest_live};
-ghost use Rattle.blot_types.specs.declared.allocation.Instruction.{Instruction};
-ghost use Rattle.blot_types.specs.declared.keys.AllocKey.{AllocKey};
+ghost use Rattle.blot_places.specs.Indexed.{NamesOneLess, NamesOneMore, NamesSame};
+ghost use Rattle.blot_places.specs.Places.{HasRoom, PutsPlace, SamePlaces, TakesPlace};
 ghost use Rattle.blot_types.specs.Instructions.{are_apart, ends, reference_of};
 ghost use Rattle.blot_types.specs.Keys.{same_alloc};
 ghost use Rattle.blot_alloc.specs.Allocs.{number_of};
-ghost use Rattle.blot_alloc.specs.Index.{HasRoomFor, IsIndexed, places_after, stack_under};
+ghost use Rattle.blot_alloc.specs.Index.{HasRoomFor, HasRoomForSlot, IsIndexed, UpToFirst, oldest_above};
 
 use crate::roots;
 use blot_places::{Places, Slot, oldest_live, places_above};
@@ -47,7 +43,7 @@ impl Index {
         role: &AllocRole,
         roots: &[ExecKey],
     ) -> Result<(), NoMemory>
-        ensures same { (slots : List (Slot Instruction)) → IsIndexed self.old slots → IsIndexed self.new slots }
+        ensures same { NamesSame IsIndexed self.old self.new }
         ensures room { OnOk result (HasRoomFor self.new key.now role.now roots.now) }
     {
         self.takers.make_room(alloc, key)?;
@@ -57,9 +53,9 @@ impl Index {
 
     /// Puts in the place of one more slot, after the others.
     pub(crate) fn push(&mut self, slot: &Slot<Instruction>, place: usize)
-        requires room { HasRoomFor self.old slot.now.item.key slot.now.item.role slot.now.item.roots }
+        requires room { HasRoomForSlot self.old slot.now }
         requires apart { IsTrue (are_apart slot.now.item.roots) }
-        ensures { (slots : List (Slot Instruction)) → IsIndexed self.old slots → place ≡ length slots → IsIndexed self.new (slot.now ∷ slots) }
+        ensures { NamesOneMore IsIndexed slot.now place self.old self.new }
     {
         self.takers.push(&slot.item.key, place);
         push_ending(&mut self.endings, &slot.item.role, place);
@@ -69,7 +65,7 @@ impl Index {
     /// Takes out the place of the newest slot.
     pub(crate) fn pop(&mut self, slot: &Slot<Instruction>)
         requires apart { IsTrue (are_apart slot.now.item.roots) }
-        ensures { (slots : List (Slot Instruction)) → IsIndexed self.old (slot.now ∷ slots) → IsIndexed self.new slots }
+        ensures { NamesOneLess IsIndexed slot.now self.old self.new }
     {
         self.takers.pop(&slot.item.key);
         pop_ending(&mut self.endings, &slot.item.role);
@@ -84,8 +80,8 @@ pub(crate) fn naming_above(
     root: &ExecKey,
     number: u64,
 ) -> Option<u64>
-    requires { IsPartitionedBy (is_up_to number_of number slots.now) (stack_under holders.now root.now) }
-    ensures { result ≡ option_map number_of (newest_live slots.now (places_after number slots.now (stack_under holders.now root.now))) }
+    requires { UpToFirst number slots.now holders.now root.now }
+    ensures { result ≡ option_map number_of (oldest_above number slots.now holders.now root.now) }
 {
     let stack = places_above(slots, holders.under(root), number);
     oldest_live(slots, stack).map(|instruction| instruction.number)
@@ -98,7 +94,7 @@ fn make_ending_room(
     alloc: Global,
     role: &AllocRole,
 ) -> Result<(), NoMemory>
-    ensures same { (other : AllocKey) → places_in same_alloc endings.new other ≡ places_in same_alloc endings.old other }
+    ensures same { SamePlaces same_alloc endings.old endings.new }
     ensures room { OnOk result (IfSome (reference_of role.now) (HasRoom same_alloc endings.new)) }
 {
     match role {
@@ -112,9 +108,7 @@ fn make_ending_room(
 // Puts a place under the key of the allocation that an instruction of this role ends.
 fn push_ending(endings: &mut Places<AllocKey>, role: &AllocRole, place: usize)
     requires { IfSome (reference_of role.now) (HasRoom same_alloc endings.old) }
-    ensures { (other : AllocKey)
-        → places_in same_alloc endings.new other
-        ≡ (if ends other role.now then place ∷ places_in same_alloc endings.old other else places_in same_alloc endings.old other) }
+    ensures { PutsPlace same_alloc (λ key. ends key role.now) place endings.old endings.new }
 {
     match role {
         AllocRole::Allocates => {}
@@ -126,11 +120,7 @@ fn push_ending(endings: &mut Places<AllocKey>, role: &AllocRole, place: usize)
 
 // Takes the newest place off the stack of the allocation that an instruction of this role ends.
 fn pop_ending(endings: &mut Places<AllocKey>, role: &AllocRole)
-    ensures { (other : AllocKey)
-        → places_in same_alloc endings.new other
-        ≡ (if ends other role.now
-        then drop 1 (places_in same_alloc endings.old other)
-        else places_in same_alloc endings.old other) }
+    ensures { TakesPlace same_alloc (λ key. ends key role.now) endings.old endings.new }
 {
     match role {
         AllocRole::Allocates => {}

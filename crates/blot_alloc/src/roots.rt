@@ -1,8 +1,7 @@
 //! One place under each of some roots.
-ghost use Rattle.std.specs.Prelude.{◌≡◌, ◌∷◌, drop, IsTrue, OnOk, if◌then◌else◌};
+ghost use Rattle.std.specs.Prelude.{IsTrue, OnOk};
 ghost use Rattle.std.specs.List.{All};
-ghost use Rattle.blot_places.specs.Places.{HasRoom, places_in};
-ghost use Rattle.blot_types.specs.declared.keys.ExecKey.{ExecKey};
+ghost use Rattle.blot_places.specs.Places.{HasRoom, PutsPlace, SamePlaces, TakesPlace};
 ghost use Rattle.blot_types.specs.Instructions.{are_apart};
 ghost use Rattle.blot_types.specs.Keys.{is_among, same_exec};
 
@@ -16,7 +15,7 @@ pub(crate) fn make_room(
     alloc: Global,
     roots: &[ExecKey],
 ) -> Result<(), NoMemory>
-    ensures same { (other : ExecKey) → places_in same_exec places.new other ≡ places_in same_exec places.old other }
+    ensures same { SamePlaces same_exec places.old places.new }
     ensures room { OnOk result (All (HasRoom same_exec places.new) roots.now) }
 {
     for root in roots {
@@ -29,9 +28,7 @@ pub(crate) fn make_room(
 pub(crate) fn push(places: &mut Places<ExecKey>, roots: &[ExecKey], place: usize)
     requires room { All (HasRoom same_exec places.old) roots.now }
     requires apart { IsTrue (are_apart roots.now) }
-    ensures { (other : ExecKey)
-        → places_in same_exec places.new other
-        ≡ (if is_among roots.now other then place ∷ places_in same_exec places.old other else places_in same_exec places.old other) }
+    ensures { PutsPlace same_exec (is_among roots.now) place places.old places.new }
 {
     for root in roots {
         places.push(root, place);
@@ -41,11 +38,7 @@ pub(crate) fn push(places: &mut Places<ExecKey>, roots: &[ExecKey], place: usize
 /// Takes the newest place off the stack of each of these roots, which are all different.
 pub(crate) fn pop(places: &mut Places<ExecKey>, roots: &[ExecKey])
     requires apart { IsTrue (are_apart roots.now) }
-    ensures { (other : ExecKey)
-        → places_in same_exec places.new other
-        ≡ (if is_among roots.now other
-        then drop 1 (places_in same_exec places.old other)
-        else places_in same_exec places.old other) }
+    ensures { TakesPlace same_exec (is_among roots.now) places.old places.new }
 {
     for root in roots {
         places.pop(root);

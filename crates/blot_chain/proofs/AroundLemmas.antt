@@ -2,7 +2,6 @@
 use Rattle.std.proofs.Common.{◌≡◌, ℕ, ◌<◌, ◌≤◌, Bool, true, false, cond, ◌&&◌, ◌||◌, List, [], ◌∷◌, reverse, Option, Some, None, refl, sym, ap, subst, ◌∙◌, inl, inr, arith}
 use Rattle.std.specs.Prelude.{All, filter, find, nat_eq, nat_lt}
 use Rattle.std.specs.List.{cons_option}
-use Rattle.std.specs.List.Sorted.{IsPartitionedBy}
 use Rattle.std.specs.Option.{option_and_then, option_map, option_or}
 use Rattle.std.proofs.lemmas.Bool.{and_parts, cases_Bool, eqb-true, lt-ltb, ltb-true}
 use Rattle.std.proofs.lemmas.List.{reverse-reverse}
@@ -20,7 +19,7 @@ use Rattle.blot_types.proofs.ChainLemmas.{accepted_key, clash}
 use Rattle.blot_types.proofs.KeyLemmas.{same_exec-refl, same_exec-sym, same_exec-true}
 use Rattle.blot_places.specs.declared.slots.Slot.{Slot}
 use Rattle.blot_places.specs.Shown.{item_at}
-use Rattle.blot_places.specs.Slots.{is_above, is_below, is_up_to, live, live_item, live_items, newest_live, numbers_fall, places_by}
+use Rattle.blot_places.specs.Slots.{is_above, live, live_item, live_items, numbers_fall, places_by}
 use Rattle.blot_places.proofs.AroundLemmas.{find-above, newest-below, oldest-above, parted-above, parted-below}
 use Rattle.blot_places.proofs.FirstLemmas.{first-agree, first-either, first-more, first-through, first_by}
 use Rattle.blot_places.proofs.MarkLemmas.{falling-side}
@@ -28,7 +27,7 @@ use Rattle.blot_places.proofs.ShownLemmas.{at-here, at-on, at-through, falling-p
 use Rattle.blot_chain.specs.declared.index.Index.{Index}
 use Rattle.blot_chain.specs.declared.rooted.Rooted.{Rooted}
 use Rattle.blot_chain.specs.Holds.{HoldsChains}
-use Rattle.blot_chain.specs.Index.{number_if_referring, places_after, stack_under}
+use Rattle.blot_chain.specs.Index.{BelowFirst, UpToFirst, newest_below, number_if_referring, oldest_above, places_after, referring_at, stack_under}
 use Rattle.blot_chain.specs.Rooted.{AreRooted, chain_root, has_key, is_bust, is_bust_of, is_version, is_version_of, kept_root, link_number, links_in, refers}
 use Rattle.blot_chain.specs.Steps.{number_of}
 use Rattle.blot_chain.proofs.ChainLemmas.{chained-parts, find-current, kept_root-own, version-is_root}
@@ -55,13 +54,13 @@ module _ (index : Index) (slots : List (Slot Rooted)) (root : ExecKey) (n : ℕ)
   busts_are : reverse busts ≡ places_by (is_bust_of root) (reverse slots)
   busts_are = stack_is _ _ (holds.indexed.busts root)
 
-  pub parted-versions : IsPartitionedBy (is_up_to link_number n slots) versions
+  pub parted-versions : UpToFirst n slots index.versions root
   parted-versions = parted-above link_number n (is_version_of root) slots versions versions_are holds.fall
 
-  pub parted-busts : IsPartitionedBy (is_up_to link_number n slots) busts
+  pub parted-busts : UpToFirst n slots index.busts root
   parted-busts = parted-above link_number n (is_bust_of root) slots busts busts_are holds.fall
 
-  pub parted-earlier : IsPartitionedBy (is_below link_number n slots) versions
+  pub parted-earlier : BelowFirst n slots index.versions root
   parted-earlier = parted-below link_number n (is_version_of root) slots versions versions_are holds.fall
 
 -- ---- the last version below a number
@@ -103,8 +102,7 @@ module _ (n : ℕ) where
 
 pub before-held :
     (index : Index) (slots : List (Slot Rooted)) (root : ExecKey) (n : ℕ) → HoldsChains index (reverse slots)
-    → option_map link_number (newest_live slots (reverse (filter (is_below link_number n slots) (stack_under index.versions root))))
-    ≡ version_before_in (links_in (live (reverse slots))) n root
+    → option_map link_number (newest_below n slots index.versions root) ≡ version_before_in (links_in (live (reverse slots))) n root
 before-held index slots root n holds =
     let all = live (reverse slots) in
     ap (option_map link_number) (newest-below link_number n (is_version_of root) slots (stack_under index.versions root) (versions_are index slots root n holds))
@@ -125,7 +123,7 @@ after-rooted n root (item ∷ earlier) are =
 
 pub after-held :
     (index : Index) (slots : List (Slot Rooted)) (root : ExecKey) (n : ℕ) → HoldsChains index (reverse slots)
-    → option_map link_number (newest_live slots (places_after n slots (stack_under index.versions root))) ≡ version_after_in (links_in (live (reverse slots))) n root
+    → option_map link_number (oldest_above n slots index.versions root) ≡ version_after_in (links_in (live (reverse slots))) n root
 after-held index slots root n holds =
     ap (option_map link_number) (oldest-above link_number n (is_version_of root) slots (stack_under index.versions root) (versions_are index slots root n holds))
     ∙ after-rooted n root (live (reverse slots)) (rooted-live index (reverse slots) holds)
@@ -310,10 +308,7 @@ module _ (index : Index) (slots : List (Slot Rooted)) (n : ℕ) (k : Rooted) (ho
       (λ i. lesser (on-versions i) (on-busts i)) ∙ sym referring-all
       ∙ sym (ap (λ link. option_and_then (λ (link : Link). first_referring (links_in all) n link.key) link) (at-through link_of number_of n all ∙ ap (option_map link_of) found))
 
-  pub needing-held :
-      lesser (first_of (number_if_referring slots k.link.key) (places_after k.link.number slots (stack_under index.versions k.root)))
-      (first_of (number_if_referring slots k.link.key) (places_after k.link.number slots (stack_under index.busts k.root)))
-      ≡ first_needing_link (links_in all) n
+  pub needing-held : lesser (referring_at slots index.versions k) (referring_at slots index.busts k) ≡ first_needing_link (links_in all) n
   needing-held =
       ap (λ m. lesser (first_of (number_if_referring slots k.link.key) (places_after m slots (stack_under index.versions k.root)))
       (first_of (number_if_referring slots k.link.key) (places_after m slots (stack_under index.busts k.root)))) (item-number n all k found)

@@ -21,7 +21,7 @@ use Rattle.blot_chain.specs.declared.index.Index.{Index}
 use Rattle.blot_chain.specs.declared.rooted.Rooted.{Rooted}
 use Rattle.blot_chain.specs.Holds.{HoldsChains, shown_of}
 use Rattle.blot_chain.specs.Index.{IsIndexed}
-use Rattle.blot_chain.specs.Steps.{Adds, IsNewest, number_of}
+use Rattle.blot_chain.specs.Steps.{AddsOne, IsNewest, number_of}
 use Rattle.blot_chain.specs.Rooted.{has_key, is_version_of, is_bust_of, kept_root, chain_root, link_number, links_in, AreRooted}
 use Rattle.blot_chain.proofs.ChainLemmas.{chained-parts, find-root, find-current, find-bust, find-taker}
 use Rattle.blot_chain.proofs.RootedLemmas.{chain-told, live-rooted}
@@ -103,7 +103,7 @@ held-push index new slots written link root holds is indexed accepted above abov
 
 pub record PopsLink (key : ExecKey) (role : Role) (slot : Slot Rooted) (earlier : List (Slot Rooted)) (shown : Shown Link) : Type 0 where
   pub lives : slot.is_live ≡ true
-  pub adds : Adds key role (shown_of earlier).list shown.list
+  pub adds : AddsOne key role (shown_of earlier) shown
   pub kept : (shown_of earlier).kept ≡ shown.kept
 
 first_link : (a b : Link) (xs ys : List Link) → a ∷ xs ≡ b ∷ ys → a ≡ b

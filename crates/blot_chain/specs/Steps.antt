@@ -5,12 +5,21 @@ use Rattle.blot_places.specs.Shown.{Shown, item_at, lifted_out as item_lifted_ou
 use Rattle.blot_types.specs.declared.keys.ExecKey.{ExecKey}
 use Rattle.blot_types.specs.declared.link.Link.{Link}
 use Rattle.blot_types.specs.declared.link.Role.{Role}
-use Rattle.blot_types.specs.Chains.{is_above_links}
+use Rattle.blot_types.specs.declared.refused.Refused.{Refused}
+use Rattle.blot_types.specs.Chains.{chain_refusal, is_above_links, root_in}
 use Rattle.blot_types.specs.Keys.{same_exec}
 
--- the later links are the earlier ones with one more, of this key and role
-abbrev pub Adds : ExecKey → Role → List Link → List Link → Type 0
-Adds key role earlier later = (number : ℕ) × (later ≡ record { number = number; key = key; role = role } ∷ earlier)
+-- why a reference is refused: it has no root, or its chain is busted
+abbrev pub exec_refusal : List Link → ExecKey → Option Refused
+exec_refusal links reference = chain_refusal links reference (root_in links reference)
+
+-- the later list is the earlier one with one link more, of this number, key and role
+abbrev pub Adds : ℕ → ExecKey → Role → Shown Link → Shown Link → Type 0
+Adds number key role earlier later = later.list ≡ record { number = number; key = key; role = role } ∷ earlier.list
+
+-- the same, whatever the number
+abbrev pub AddsOne : ExecKey → Role → Shown Link → Shown Link → Type 0
+AddsOne key role earlier later = (number : ℕ) × Adds number key role earlier later
 
 -- the newest link has this key and role, and came after each one that is kept
 abbrev pub IsNewest : ExecKey → Role → Shown Link → Type 0

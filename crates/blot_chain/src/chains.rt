@@ -1,10 +1,10 @@
 //! The links of executions: added, taken back, lifted out, asked.
-ghost use Rattle.std.specs.Prelude.{◌≡◌, [], ◌∷◌, Some, None, IfSome, IsSome, IsTrue, OnOk, OnErr};
+ghost use Rattle.std.specs.Prelude.{◌≡◌, [], Some, None, IfSome, IsSome, IsTrue, OnOk, OnErr};
 ghost use Rattle.blot_types.specs.declared.link.Role.TheVariants.{Begins, Corrects, Busts};
-ghost use Rattle.blot_types.specs.Chains.{root_in, current_in, bust_in, taker_in, chain_refusal, link_refusal, is_above_links, is_chained, first_needing_link, version_after_in, version_before_in};
+ghost use Rattle.blot_types.specs.Chains.{root_in, current_in, bust_in, taker_in, link_refusal, is_above_links, is_chained, first_needing_link, version_after_in, version_before_in};
 ghost use Rattle.blot_types.specs.Laws.{IsOneTrade};
 ghost use Rattle.blot_chain.specs.Rooted.{chain_root};
-ghost use Rattle.blot_chain.specs.Steps.{Adds, CanReturn, IsNewest, lifted_out, link_at, put_back};
+ghost use Rattle.blot_chain.specs.Steps.{Adds, AddsOne, CanReturn, IsNewest, exec_refusal, lifted_out, link_at, put_back};
 
 use crate::index::{Index, number_above, number_at, number_below, referring_at, root_at};
 use crate::rooted::Rooted;
@@ -54,7 +54,7 @@ impl Chains {
         requires accepted { link_refusal self.old.list key.now Begins ≡ None }
         requires above { IsTrue (is_above_links number self.old.list) }
         requires above_kept { IsTrue (is_above_links number self.old.kept) }
-        ensures ok { OnOk result (self.new.list ≡ record { number = number; key = key.now; role = Begins } ∷ self.old.list) }
+        ensures ok { OnOk result (Adds number key.now Begins self.old self.new) }
         ensures kept { self.new.kept ≡ self.old.kept }
         ensures err { OnErr result (self.new ≡ self.old) }
     {
@@ -73,7 +73,7 @@ impl Chains {
         requires accepted { link_refusal self.old.list key.now (Corrects reference.now) ≡ None }
         requires above { IsTrue (is_above_links number self.old.list) }
         requires above_kept { IsTrue (is_above_links number self.old.kept) }
-        ensures ok { OnOk result (self.new.list ≡ record { number = number; key = key.now; role = Corrects reference.now } ∷ self.old.list) }
+        ensures ok { OnOk result (Adds number key.now (Corrects reference.now) self.old self.new) }
         ensures kept { self.new.kept ≡ self.old.kept }
         ensures err { OnErr result (self.new ≡ self.old) }
     {
@@ -88,7 +88,7 @@ impl Chains {
         requires accepted { link_refusal self.old.list key.now (Busts reference.now) ≡ None }
         requires above { IsTrue (is_above_links number self.old.list) }
         requires above_kept { IsTrue (is_above_links number self.old.kept) }
-        ensures ok { OnOk result (self.new.list ≡ record { number = number; key = key.now; role = Busts reference.now } ∷ self.old.list) }
+        ensures ok { OnOk result (Adds number key.now (Busts reference.now) self.old self.new) }
         ensures kept { self.new.kept ≡ self.old.kept }
         ensures err { OnErr result (self.new ≡ self.old) }
     {
@@ -99,7 +99,7 @@ impl Chains {
     /// Takes back a Trade of this key, the newest link. No memory is taken. This project's rule.
     pub fn un_add(&mut self, key: &ExecKey)
         requires newest { IsNewest key.now Begins self.old }
-        ensures adds { Adds key.now Begins self.new.list self.old.list }
+        ensures adds { AddsOne key.now Begins self.new self.old }
         ensures kept { self.new.kept ≡ self.old.kept }
     {
         self.pop_link(key, Role::Begins);
@@ -108,7 +108,7 @@ impl Chains {
     /// Takes back a Correct of this key and reference, the newest link. No memory is taken. This project's rule.
     pub fn un_correct(&mut self, key: &ExecKey, reference: &ExecKey)
         requires newest { IsNewest key.now (Corrects reference.now) self.old }
-        ensures adds { Adds key.now (Corrects reference.now) self.new.list self.old.list }
+        ensures adds { AddsOne key.now (Corrects reference.now) self.new self.old }
         ensures kept { self.new.kept ≡ self.old.kept }
     {
         self.pop_link(key, Role::Corrects(*reference));
@@ -117,7 +117,7 @@ impl Chains {
     /// Takes back a Bust of this key and reference, the newest link. No memory is taken. This project's rule.
     pub fn un_bust(&mut self, key: &ExecKey, reference: &ExecKey)
         requires newest { IsNewest key.now (Busts reference.now) self.old }
-        ensures adds { Adds key.now (Busts reference.now) self.new.list self.old.list }
+        ensures adds { AddsOne key.now (Busts reference.now) self.new self.old }
         ensures kept { self.new.kept ≡ self.old.kept }
     {
         self.pop_link(key, Role::Busts(*reference));
@@ -206,7 +206,7 @@ impl Chains {
 
     // The root of a reference that isn't refused.
     fn chain_of(&self, reference: &ExecKey) -> ExecKey
-        requires accepted { chain_refusal self.now.list reference.now (root_in self.now.list reference.now) ≡ None }
+        requires accepted { exec_refusal self.now.list reference.now ≡ None }
         ensures { root_in self.now.list reference.now ≡ Some result }
     {
         match self.root_of(reference) {
@@ -227,7 +227,7 @@ impl Chains {
         requires above { IsTrue (is_above_links number self.old.list) }
         requires above_kept { IsTrue (is_above_links number self.old.kept) }
         requires rooted { chain_root self.old.list key.now role ≡ Some root }
-        ensures ok { OnOk result (self.new.list ≡ record { number = number; key = key.now; role = role } ∷ self.old.list) }
+        ensures ok { OnOk result (Adds number key.now role self.old self.new) }
         ensures kept { self.new.kept ≡ self.old.kept }
         ensures err { OnErr result (self.new ≡ self.old) }
     {
@@ -251,7 +251,7 @@ impl Chains {
     // Takes the newest link out. It has this key and role, so nothing is compared.
     fn pop_link(&mut self, key: &ExecKey, role: Role)
         requires newest { IsNewest key.now role self.old }
-        ensures adds { Adds key.now role self.new.list self.old.list }
+        ensures adds { AddsOne key.now role self.new self.old }
         ensures kept { self.new.kept ≡ self.old.kept }
     {
         match self.slots.pop() {

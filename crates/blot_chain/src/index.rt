@@ -1,16 +1,12 @@
 //! Where the slots of a key, and of the chain of a root, are.
-ghost use Rattle.std.specs.Prelude.{◌≡◌, ◌∷◌, ◌&&◌, [], List, drop, filter, length, reverse, IsTrue, OnOk, if◌then◌else◌};
-ghost use Rattle.std.specs.List.Sorted.{IsPartitionedBy};
+ghost use Rattle.std.specs.Prelude.{◌≡◌, [], IsTrue, OnOk};
 ghost use Rattle.std.specs.Option.{option_and_then, option_copied, option_map};
-ghost use Rattle.blot_places.specs.declared.slots.Slot.{Slot};
-ghost use Rattle.blot_places.specs.Places.{HasRoom, places_in};
-ghost use Rattle.blot_places.specs.Slots.{is_below, is_up_to, newest_live};
-ghost use Rattle.blot_types.specs.declared.keys.ExecKey.{ExecKey};
+ghost use Rattle.blot_places.specs.Indexed.{NamesOneLess, NamesOneMore, NamesSame};
+ghost use Rattle.blot_places.specs.Places.{HasRoom, PutsPlace, SamePlaces, TakesPlace};
 ghost use Rattle.blot_types.specs.Keys.{same_exec};
 ghost use Rattle.blot_types.specs.Refusals.{first_of};
-ghost use Rattle.blot_chain.specs.declared.rooted.Rooted.{Rooted};
 ghost use Rattle.blot_chain.specs.Rooted.{kept_root, link_number};
-ghost use Rattle.blot_chain.specs.Index.{HasRoomFor, IsIndexed, number_if_referring, places_after, stack_under};
+ghost use Rattle.blot_chain.specs.Index.{BelowFirst, HasRoomFor, HasRoomForSlot, IsIndexed, UpToFirst, is_wanted, newest_below, newest_under, number_if_referring, oldest_above, referring_at};
 
 use crate::rooted::{Rooted, is_bust, is_version, refers_to};
 use blot_places::{Places, Slot, live_at, newest_live, oldest_live, places_above, places_below};
@@ -46,7 +42,7 @@ impl Index {
         role: &Role,
         root: &ExecKey,
     ) -> Result<(), NoMemory>
-        ensures same { (slots : List (Slot Rooted)) → IsIndexed self.old slots → IsIndexed self.new slots }
+        ensures same { NamesSame IsIndexed self.old self.new }
         ensures room { OnOk result (HasRoomFor self.new key.now role.now root.now) }
     {
         self.takers.make_room(alloc, key)?;
@@ -56,8 +52,8 @@ impl Index {
 
     /// Puts in the place of one more slot, after the others.
     pub(crate) fn push(&mut self, slot: &Slot<Rooted>, place: usize)
-        requires { HasRoomFor self.old slot.now.item.link.key slot.now.item.link.role slot.now.item.root }
-        ensures { (slots : List (Slot Rooted)) → IsIndexed self.old slots → place ≡ length slots → IsIndexed self.new (slot.now ∷ slots) }
+        requires { HasRoomForSlot self.old slot.now }
+        ensures { NamesOneMore IsIndexed slot.now place self.old self.new }
     {
         let item = &slot.item;
         self.takers.push(&item.link.key, place);
@@ -72,7 +68,7 @@ impl Index {
 
     /// Takes out the place of the newest slot.
     pub(crate) fn pop(&mut self, slot: &Slot<Rooted>)
-        ensures { (slots : List (Slot Rooted)) → IsIndexed self.old (slot.now ∷ slots) → IsIndexed self.new slots }
+        ensures { NamesOneLess IsIndexed slot.now self.old self.new }
     {
         let item = &slot.item;
         self.takers.pop(&item.link.key);
@@ -87,7 +83,7 @@ pub(crate) fn number_at(
     places: &Places<ExecKey>,
     key: &ExecKey,
 ) -> Option<u64>
-    ensures { result ≡ option_map (λ item. item.link.number) (newest_live slots.now (places_in same_exec places.now key.now)) }
+    ensures { result ≡ option_map link_number (newest_under slots.now places.now key.now) }
 {
     look_up(slots, places, key).map(|item| item.link.number)
 }
@@ -99,8 +95,8 @@ pub(crate) fn number_below(
     key: &ExecKey,
     number: u64,
 ) -> Option<u64>
-    requires { IsPartitionedBy (is_below link_number number slots.now) (stack_under places.now key.now) }
-    ensures { result ≡ option_map link_number (newest_live slots.now (reverse (filter (is_below link_number number slots.now) (stack_under places.now key.now)))) }
+    requires { BelowFirst number slots.now places.now key.now }
+    ensures { result ≡ option_map link_number (newest_below number slots.now places.now key.now) }
 {
     let stack = places_below(slots, places.under(key), number);
     newest_live(slots, stack).map(|item| item.link.number)
@@ -113,8 +109,8 @@ pub(crate) fn number_above(
     key: &ExecKey,
     number: u64,
 ) -> Option<u64>
-    requires { IsPartitionedBy (is_up_to link_number number slots.now) (stack_under places.now key.now) }
-    ensures { result ≡ option_map link_number (newest_live slots.now (places_after number slots.now (stack_under places.now key.now))) }
+    requires { UpToFirst number slots.now places.now key.now }
+    ensures { result ≡ option_map link_number (oldest_above number slots.now places.now key.now) }
 {
     let stack = places_above(slots, places.under(key), number);
     oldest_live(slots, stack).map(|item| item.link.number)
@@ -127,8 +123,8 @@ pub(crate) fn referring_at(
     places: &Places<ExecKey>,
     item: &Rooted,
 ) -> Option<u64>
-    requires { IsPartitionedBy (is_up_to link_number item.now.link.number slots.now) (stack_under places.now item.now.root) }
-    ensures { result ≡ first_of (number_if_referring slots.now item.now.link.key) (places_after item.now.link.number slots.now (stack_under places.now item.now.root)) }
+    requires { UpToFirst item.now.link.number slots.now places.now item.now.root }
+    ensures { result ≡ referring_at slots.now places.now item.now }
 {
     let stack = places_above(slots, places.under(&item.root), item.link.number);
     first_referring(slots, stack, &item.link.key)
@@ -164,7 +160,7 @@ pub(crate) fn root_at(
     places: &Places<ExecKey>,
     key: &ExecKey,
 ) -> Option<ExecKey>
-    ensures { result ≡ option_and_then kept_root (newest_live slots.now (places_in same_exec places.now key.now)) }
+    ensures { result ≡ option_and_then kept_root (newest_under slots.now places.now key.now) }
 {
     let item = look_up(slots, places, key)?;
     item.own_root()
@@ -176,7 +172,7 @@ fn look_up<'a>(
     places: &Places<ExecKey>,
     key: &ExecKey,
 ) -> Option<&'a Rooted>
-    ensures { option_copied result ≡ newest_live slots.now (places_in same_exec places.now key.now) }
+    ensures { option_copied result ≡ newest_under slots.now places.now key.now }
 {
     newest_live(slots, places.under(key))
 }
@@ -188,7 +184,7 @@ fn make_room(
     wanted: bool,
     key: &ExecKey,
 ) -> Result<(), NoMemory>
-    ensures same { (other : ExecKey) → places_in same_exec places.new other ≡ places_in same_exec places.old other }
+    ensures same { SamePlaces same_exec places.old places.new }
     ensures room { OnOk result (IsTrue wanted → HasRoom same_exec places.new key.now) }
 {
     if !wanted {
@@ -200,11 +196,7 @@ fn make_room(
 // Puts a place on the stack of a key, where it is wanted.
 fn push_place(places: &mut Places<ExecKey>, wanted: bool, key: &ExecKey, place: usize)
     requires { IsTrue wanted → HasRoom same_exec places.old key.now }
-    ensures { (other : ExecKey)
-        → places_in same_exec places.new other
-        ≡ (if wanted && same_exec key.now other
-        then place ∷ places_in same_exec places.old other
-        else places_in same_exec places.old other) }
+    ensures { PutsPlace same_exec (is_wanted wanted key.now) place places.old places.new }
 {
     if wanted {
         places.push(key, place);
@@ -213,11 +205,7 @@ fn push_place(places: &mut Places<ExecKey>, wanted: bool, key: &ExecKey, place: 
 
 // Takes the newest place off the stack of a key, where it is wanted.
 fn pop_place(places: &mut Places<ExecKey>, wanted: bool, key: &ExecKey)
-    ensures { (other : ExecKey)
-        → places_in same_exec places.new other
-        ≡ (if wanted && same_exec key.now other
-        then drop 1 (places_in same_exec places.old other)
-        else places_in same_exec places.old other) }
+    ensures { TakesPlace same_exec (is_wanted wanted key.now) places.old places.new }
 {
     if wanted {
         places.pop(key);

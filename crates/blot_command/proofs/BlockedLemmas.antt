@@ -18,7 +18,6 @@ use Rattle.blot_types.specs.declared.link.Role.TheVariants.{Corrects}
 use Rattle.blot_types.specs.declared.TheConstants.{EVENTS_MAX}
 use Rattle.blot_types.specs.Allocations.{instructions_in, instructions_of}
 use Rattle.blot_types.specs.Chains.{current_in, first_needing_link, is_chained, link_refusal, root_in, version_after_in}
-use Rattle.blot_types.specs.Instructions.{first_instruction}
 use Rattle.blot_types.specs.Keys.{is_among}
 use Rattle.blot_types.specs.Legal.{is_above_entries, is_book, legal_in, rises_in, least_needing}
 use Rattle.blot_types.specs.Numbers.{lesser}
@@ -32,7 +31,7 @@ use Rattle.blot_types.proofs.EntryLemmas.{chained-links}
 use Rattle.blot_types.proofs.LiveLemmas.{find-none}
 use Rattle.blot_types.proofs.NeededLemmas.{needed_first, no_withdraw}
 use Rattle.blot_places.proofs.FirstLemmas.{all-reversed, none-and}
-use Rattle.blot_command.specs.Blocking.{blocked_by, blocked_correct, changes_version, lists_at, needed_until, needs_correct}
+use Rattle.blot_command.specs.Blocking.{blocked_by, blocked_correct, changes_version, first_listing, lists_at, needed_until}
 use Rattle.blot_command.specs.Book.{has_number}
 use Rattle.blot_command.specs.Shown.{version_numbered}
 use Rattle.blot_command.proofs.AllocNeedLemmas.{cancel-needed, new-needed, replace-needed}
@@ -151,11 +150,11 @@ module _ (list : List Entry) (number : ℕ) (correct : CorrectCommand) (later fr
       first-listing number correct front r rooted later legal rise
       ∙ ap (lesser (first_needing_link (links_in all) number))
       (first-listed k correct.key r (is_changed number correct front r rooted) (lists_at list correct.key) next all rise is-until lists-each
-      ∙ ap (λ b. first_instruction (needs_correct list correct.key r (cond b next 0)) number (instructions_in all)) changed-is)
+      ∙ ap (λ b. first_listing list correct.key r (cond b next 0) number (instructions_in all)) changed-is)
       ∙ sym (ap (λ root. option_and_then
       (λ root.
       lesser (first_needing_link (links_in all) number)
-      (first_instruction (needs_correct list correct.key root (needed_until list (links_in all) number root correct.fill)) number (instructions_in all))) root) (key-root number correct front r rooted later legal))
+      (first_listing list correct.key root (needed_until list (links_in all) number root correct.fill) number (instructions_in all))) root) (key-root number correct front r rooted later legal))
 
 -- the root of what an accepted Correct refers to
 correct-rooted : (number : ℕ) (correct : CorrectCommand) (later front : List Entry) → legal_in (later ++ as_entry number correct ∷ front) ≡ true → (r : ExecKey) × (root_in (links_in front) correct.reference ≡ Some r)

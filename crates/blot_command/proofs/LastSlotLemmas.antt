@@ -1,7 +1,6 @@
 -- What the live list keeps, with one slot more at its end, and with one less.
 use Rattle.std.proofs.Common.{◌≡◌, ℕ, ◌+◌, ◌-◌, ◌<◌, true, false, List, [], ◌∷◌, ◌++◌, get_or, length, reverse, Option, Some, None, refl, sym, ap, subst, ◌∙◌, arith, inl, inr}
 use Rattle.std.specs.Prelude.{not, IfSome}
-use Rattle.std.specs.List.{cons_option}
 use Rattle.std.specs.Option.{option_and_then}
 use Rattle.std.proofs.lemmas.Bool.{cases_Bool, and_parts, and_from, ltb-true}
 use Rattle.std.proofs.lemmas.List.{reverse-append}
@@ -15,17 +14,17 @@ use Rattle.blot_types.specs.declared.command.Entry.{Entry}
 use Rattle.blot_types.specs.declared.keys.ExecKey.{ExecKey}
 use Rattle.blot_types.specs.declared.link.Link.{Link}
 use Rattle.blot_types.specs.declared.refused.Refused.TheVariants.{DuplicateExec}
-use Rattle.blot_types.specs.Allocations.{instruction_by, instructions_of}
+use Rattle.blot_types.specs.Allocations.{instructions_of}
 use Rattle.blot_types.specs.Chains.{is_above_links, taker_in}
 use Rattle.blot_types.specs.Instructions.{is_above_instructions}
 use Rattle.blot_types.specs.Legal.{is_above_entries, is_book}
 use Rattle.blot_types.specs.Refusals.{exec_key}
-use Rattle.blot_types.specs.Survivors.{link_of, links_in, links_of}
+use Rattle.blot_types.specs.Survivors.{links_in, links_of}
 use Rattle.blot_types.proofs.AcceptLemmas.{instructions_of-push, unmapped}
 use Rattle.blot_types.proofs.AcceptOutLemmas.{accepts}
 use Rattle.blot_types.proofs.EntryLemmas.{links_of-push, is_above_links-links}
 use Rattle.blot_command.specs.Book.{entry_number}
-use Rattle.blot_command.specs.Linking.{CanLink, HoldsLive, without_instruction, without_link}
+use Rattle.blot_command.specs.Linking.{CanLink, HoldsLive, with_instruction, with_link, without_instruction, without_link}
 use Rattle.blot_command.specs.Slots.{AreNumbered, NewestThere, entries_in, left_in, left_instructions}
 use Rattle.blot_command.proofs.LeftLemmas.{above-left}
 use Rattle.blot_command.proofs.LiveLemmas.{can-link, holds-less, next-entry}
@@ -35,8 +34,8 @@ use Rattle.blot_command.proofs.TurnLemmas.{kept-push, list-push, live-turned, tu
 
 pub holds-pushed :
     (slots : List (Slot Entry)) (entry : Entry) (chains chains' : Shown Link) (allocs allocs' : Shown Instruction) → HoldsLive slots chains allocs → is_book (entries_in slots ++ entry ∷ []) ≡ true
-    → is_above_entries entry.number (left_in slots) ≡ true → chains'.list ≡ cons_option (link_of entry) chains.list → chains'.kept ≡ chains.kept
-    → allocs'.list ≡ cons_option (instruction_by chains.list entry.number entry.command) allocs.list → allocs'.kept ≡ allocs.kept
+    → is_above_entries entry.number (left_in slots) ≡ true → chains'.list ≡ with_link entry chains.list → chains'.kept ≡ chains.kept
+    → allocs'.list ≡ with_instruction entry chains.list allocs.list → allocs'.kept ≡ allocs.kept
     → HoldsLive (slots ++ record { item = entry; is_live = true } ∷ []) chains' allocs'
 holds-pushed slots entry chains chains' allocs allocs' holds book above links links_kept instructions instructions_kept =
     let list = entries_in slots in
@@ -47,8 +46,8 @@ holds-pushed slots entry chains chains' allocs allocs' holds book above links li
       numbered = ap (λ s. numbers_fall entry_number (items s)) (turned-push slots last) ∙ and_from _ _ below holds.numbered;
       holds = record {
         book = ap is_book (list-push slots entry) ∙ book;
-        links_are = links ∙ ap (cons_option (link_of entry)) holds.holds.links_are ∙ sym (links_of-push list entry) ∙ ap links_of (sym (list-push slots entry));
-        instructions_are = instructions ∙ (λ i. cons_option (instruction_by (holds.holds.links_are i) entry.number entry.command) (holds.holds.instructions_are i)) ∙ sym (instructions_of-push list entry)
+        links_are = links ∙ ap (with_link entry) holds.holds.links_are ∙ sym (links_of-push list entry) ∙ ap links_of (sym (list-push slots entry));
+        instructions_are = instructions ∙ (λ i. with_instruction entry (holds.holds.links_are i) (holds.holds.instructions_are i)) ∙ sym (instructions_of-push list entry)
             ∙ ap instructions_of (sym (list-push slots entry));
       };
       kept_links = links_kept ∙ holds.kept_links ∙ ap links_in (sym (kept-push slots entry));

@@ -6,11 +6,11 @@ use Rattle.std.proofs.lemmas.List.Elements.{All-cons, All-nil}
 use Rattle.blot_types.specs.declared.allocation.Instruction.{Instruction}
 use Rattle.blot_types.specs.declared.command.Entry.{Entry}
 use Rattle.blot_types.specs.declared.keys.ExecKey.{ExecKey}
-use Rattle.blot_types.specs.Instructions.{first_instruction, first_naming, names}
+use Rattle.blot_types.specs.Instructions.{first_naming, names}
 use Rattle.blot_places.specs.Slots.{numbers_fall}
 use Rattle.blot_places.proofs.FirstLemmas.{first-next, first-passes, first-stronger, none-and, nothing-stronger}
 use Rattle.blot_alloc.specs.Allocs.{number_of}
-use Rattle.blot_command.specs.Blocking.{lists_at, needs_correct}
+use Rattle.blot_command.specs.Blocking.{first_listing, lists_at, needs_correct}
 
 module _ (entries : List Entry) (key root : ExecKey) (until : ℕ) (instructions : List Instruction) where
   -- whether that of a number counts, where it names the chain
@@ -26,7 +26,7 @@ module _ (entries : List Entry) (key root : ExecKey) (until : ℕ) (instructions
       and_from _ _ parts.0 (weaker i parts.1)
 
   -- the next that names the chain needs it, where that counts
-  pub listing-here : (above n : ℕ) → first_naming instructions above root ≡ Some n → counts n ≡ true → first_instruction (needs_correct entries key root until) above instructions ≡ Some n
+  pub listing-here : (above n : ℕ) → first_naming instructions above root ≡ Some n → counts n ≡ true → first_listing entries key root until above instructions ≡ Some n
   listing-here above n is counts_it =
       first-stronger number_of (λ i. nat_lt above i.number && names root i) (λ i. nat_lt above i.number && needs_correct entries key root until i) instructions n (weaker-above above) is
       (λ i named its.
@@ -42,11 +42,11 @@ module _ (entries : List Entry) (key root : ExecKey) (until : ℕ) (instructions
   -- else what needs it comes after that
   pub listing-next :
       (above n : ℕ) → numbers_fall number_of instructions ≡ true → first_naming instructions above root ≡ Some n → counts n ≡ false
-      → first_instruction (needs_correct entries key root until) n instructions ≡ first_instruction (needs_correct entries key root until) above instructions
+      → first_listing entries key root until n instructions ≡ first_listing entries key root until above instructions
   listing-next above n fall is other =
       sym (first-next number_of above n (names root) (needs_correct entries key root until) instructions fall weaker is (uncounted n other instructions))
 
-  pub listing-none : (above : ℕ) → first_naming instructions above root ≡ None → first_instruction (needs_correct entries key root until) above instructions ≡ None
+  pub listing-none : (above : ℕ) → first_naming instructions above root ≡ None → first_listing entries key root until above instructions ≡ None
   listing-none above none =
       nothing-stronger number_of (λ i. nat_lt above i.number && names root i) (λ i. nat_lt above i.number && needs_correct entries key root until i) instructions (weaker-above above) none
 

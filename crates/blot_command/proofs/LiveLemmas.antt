@@ -24,7 +24,7 @@ use Rattle.blot_types.proofs.ChainLemmas.{none_is}
 use Rattle.blot_types.proofs.ChangeLemmas.{named-held}
 use Rattle.blot_types.proofs.LegalLemmas.{is_legal-push, numbers_rise-push, is_book-front}
 use Rattle.blot_types.proofs.EntryLemmas.{link-number, refusal-link, links_of-push, is_above_links-links}
-use Rattle.blot_command.specs.Linking.{CanLinkNext, CanInstructNext, CanLink, IsLinkedLast, without_link, without_instruction}
+use Rattle.blot_command.specs.Linking.{CanLinkNext, CanInstructNext, CanLink, IsLinkedLast, with_instruction, with_link, without_link, without_instruction}
 
 -- ---- one entry more, and one less
 
@@ -150,8 +150,8 @@ uninstructed links number (Withdraw withdrawn) instructions = refl
 
 -- what a list holds with an entry after it
 pub record HoldsMore (list : List Entry) (entry : Entry) (links : List Link) (instructions : List Instruction) : Type 0 where
-  pub links_are : links ≡ cons_option (link_of entry) (links_of list)
-  pub instructions_are : instructions ≡ cons_option (instruction_by (links_of list) entry.number entry.command) (instructions_of list)
+  pub links_are : links ≡ with_link entry (links_of list)
+  pub instructions_are : instructions ≡ with_instruction entry (links_of list) (instructions_of list)
 
 pub linked-last : (list : List Entry) (entry : Entry) (links : List Link) (instructions : List Instruction) → HoldsMore list entry links instructions
     → IsLinkedLast entry links instructions

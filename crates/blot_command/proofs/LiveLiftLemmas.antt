@@ -1,6 +1,6 @@
 -- What the live list keeps as the code takes an entry out, and puts it back.
 use Rattle.std.proofs.Common.{◌≡◌, ℕ, ◌<◌, Bool, true, false, ◌&&◌, List, [], ◌∷◌, reverse, Option, Some, None, refl, sym, ap, subst, ◌∙◌, arith, inl, inr}
-use Rattle.std.specs.Prelude.{find, nat_eq, nat_lt, not, IfSome, if◌then◌else◌}
+use Rattle.std.specs.Prelude.{find, nat_eq, nat_lt, not, IfSome}
 use Rattle.std.specs.List.{list_all}
 use Rattle.std.specs.Option.{option_and_then, option_map_or}
 use Rattle.std.proofs.lemmas.Bool.{cases_Bool, and_parts, and_from, eqb-true, eq-eqb, le-ltb, ltb-true}
@@ -25,10 +25,9 @@ use Rattle.blot_types.proofs.KeyLemmas.{same_exec-sym}
 use Rattle.blot_types.proofs.LawLemmas.{book_parts}
 use Rattle.blot_types.proofs.StandLemmas.{and-false}
 use Rattle.blot_types.proofs.WithdrawLemmas.{put-back}
-use Rattle.blot_alloc.specs.Allocs.{lifted_out as lifted_instruction, put_back as put_back_instruction}
-use Rattle.blot_chain.specs.Steps.{link_at, lifted_out as lifted_link, number_of as link_number, put_back as put_back_link}
+use Rattle.blot_chain.specs.Steps.{link_at, number_of as link_number}
 use Rattle.blot_command.specs.Book.{Shown as SeenBook, entry_number, has_number}
-use Rattle.blot_command.specs.Linking.{CanLift, CanUnLift, HoldsLive, is_instruction, is_link}
+use Rattle.blot_command.specs.Linking.{CanLift, CanUnLift, HoldsLive, lifted_allocs, lifted_chains, returned_allocs, returned_chains}
 use Rattle.blot_command.specs.Law.{has_entry}
 use Rattle.blot_command.specs.Withdrawing.{CanReturn, lifted as lifted_book, returned as returned_book, shares_exec, takes_exec}
 use Rattle.blot_command.specs.Slots.{AreNumbered, NewestThere, entries_in, left_in}
@@ -118,8 +117,8 @@ untaken-kept (slot ∷ earlier) entry fall newest there =
 pub record TakesOut (slots : List (Slot Entry)) (number : ℕ) (entry : Entry) (chains : Shown Link) (allocs : Shown Instruction) : Type 0 where
   pub can : CanLift entry chains allocs
   pub holds : (after : List (Slot Entry)) (chains' : Shown Link) (allocs' : Shown Instruction) → after ≡ marked entry_number number false slots
-      → chains' ≡ (if is_link entry.command then lifted_link entry.number chains else chains)
-      → allocs' ≡ (if is_instruction entry.command then lifted_instruction entry.number allocs else allocs) → HoldsLive after chains' allocs'
+      → chains' ≡ lifted_chains entry chains
+      → allocs' ≡ lifted_allocs entry allocs → HoldsLive after chains' allocs'
   pub seen : (after : List (Slot Entry)) → after ≡ marked entry_number number false slots → seen_of after ≡ lifted_book entry (seen_of slots)
   pub returns : (after : List (Slot Entry)) → after ≡ marked entry_number number false slots → CanReturn entry (seen_of after)
 
@@ -149,8 +148,8 @@ takes-out slots number entry chains allocs holds found rest_book =
           (subst AreNumbered (sym marks) (ap (λ s. numbers_fall entry_number (items s)) (reverse-marked entry_number entry.number false slots)
           ∙ ap (numbers_fall entry_number) (items-marked entry_number entry.number false (reverse slots)) ∙ holds.numbered))
           (ap (λ s. is_book (entries_in s)) marks ∙ ap is_book (list-taken slots entry.number) ∙ rest_own)
-          (one ∙ ap (λ c. if is_link entry.command then lifted_link entry.number c else c) chains_are ∙ sym it.chains ∙ ap chains_of (sym marks))
-          (two ∙ ap (λ a. if is_instruction entry.command then lifted_instruction entry.number a else a) allocs_are ∙ sym it.allocs ∙ ap allocs_of (sym marks))
+          (one ∙ ap (lifted_chains entry) chains_are ∙ sym it.chains ∙ ap chains_of (sym marks))
+          (two ∙ ap (lifted_allocs entry) allocs_are ∙ sym it.allocs ∙ ap allocs_of (sym marks))
           (subst (λ s. NewestThere (reverse s)) (sym marks) (subst NewestThere (sym (reverse-marked entry_number entry.number false slots)) (newest-taken (reverse slots) entry.number holds.newest))));
       seen = seen;
       returns = λ after is. subst (CanReturn entry) (sym (seen after is)) (record {
@@ -181,8 +180,8 @@ takes-out slots number entry chains allocs holds found rest_book =
 pub record PutsBack (slots : List (Slot Entry)) (entry : Entry) (chains : Shown Link) (allocs : Shown Instruction) : Type 0 where
   pub can : CanUnLift entry chains allocs
   pub holds : (after : List (Slot Entry)) (chains' : Shown Link) (allocs' : Shown Instruction) → after ≡ marked entry_number entry.number true slots
-      → chains' ≡ (if is_link entry.command then put_back_link entry.number chains else chains)
-      → allocs' ≡ (if is_instruction entry.command then put_back_instruction entry.number allocs else allocs) → HoldsLive after chains' allocs'
+      → chains' ≡ returned_chains entry chains
+      → allocs' ≡ returned_allocs entry allocs → HoldsLive after chains' allocs'
   pub seen : (after : List (Slot Entry)) → after ≡ marked entry_number entry.number true slots → seen_of after ≡ returned_book entry (seen_of slots)
 
 pub puts-back :
@@ -196,8 +195,8 @@ puts-back slots entry chains allocs holds can =
       holds = λ after chains' allocs' is one two.
           held-by after chains' allocs' (subst AreNumbered (sym is) it.numbered)
           (ap (λ s. is_book (entries_in s)) is ∙ ap is_book (list-put slots entry holds.numbered can.kept) ∙ can.book)
-          (one ∙ ap (λ c. if is_link entry.command then put_back_link entry.number c else c) chains_are ∙ it.chains ∙ ap chains_of (sym is))
-          (two ∙ ap (λ a. if is_instruction entry.command then put_back_instruction entry.number a else a) allocs_are ∙ it.allocs ∙ ap allocs_of (sym is))
+          (one ∙ ap (returned_chains entry) chains_are ∙ it.chains ∙ ap chains_of (sym is))
+          (two ∙ ap (returned_allocs entry) allocs_are ∙ it.allocs ∙ ap allocs_of (sym is))
           (subst (λ s. NewestThere (reverse s)) (sym is) it.newest);
       seen = λ after is. ap seen_of is ∙ (λ i. record { list = list-put slots entry holds.numbered can.kept i; kept = kept-put slots entry.number i });
     }

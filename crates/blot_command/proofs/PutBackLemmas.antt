@@ -27,7 +27,7 @@ use Rattle.blot_types.proofs.LawLemmas.{book_parts}
 use Rattle.blot_alloc.specs.Allocs.{instruction_at, lifted_out as lifted_instruction, number_of as instruction_of_number, put_back as put_back_instruction}
 use Rattle.blot_chain.specs.Steps.{is_untaken_above, lifted_out as lifted_link, number_of as link_number, put_back as put_back_link}
 use Rattle.blot_command.specs.Book.{entry_number, has_number}
-use Rattle.blot_command.specs.Linking.{CanUnLift, is_instruction, is_link}
+use Rattle.blot_command.specs.Linking.{CanUnLift, is_instruction, is_link, lifted_allocs, lifted_chains, returned_allocs, returned_chains}
 use Rattle.blot_command.specs.Withdrawing.{shares_exec}
 use Rattle.blot_command.specs.Slots.{AreNumbered, NewestThere, entries_in, left_in}
 use Rattle.blot_command.proofs.LeftLemmas.{exec-key}
@@ -95,8 +95,8 @@ find-passed p (first ∷ xs) x none within =
 -- the slots with an entry put back: what the chains and the allocations are, and that it may be put back there
 pub record IsPut (slots : List (Slot Entry)) (entry : Entry) : Type 0 where
   pub can : CanUnLift entry (chains_of slots) (allocs_of slots)
-  pub chains : (if is_link entry.command then put_back_link entry.number (chains_of slots) else chains_of slots) ≡ chains_of (marked entry_number entry.number true slots)
-  pub allocs : (if is_instruction entry.command then put_back_instruction entry.number (allocs_of slots) else allocs_of slots) ≡ allocs_of (marked entry_number entry.number true slots)
+  pub chains : returned_chains entry (chains_of slots) ≡ chains_of (marked entry_number entry.number true slots)
+  pub allocs : returned_allocs entry (allocs_of slots) ≡ allocs_of (marked entry_number entry.number true slots)
   pub numbered : AreNumbered (marked entry_number entry.number true slots)
   pub newest : NewestThere (reverse (marked entry_number entry.number true slots))
 
@@ -158,10 +158,10 @@ module _ (slots : List (Slot Entry)) (entry : Entry) (numbered : AreNumbered slo
   took : IsTaken with_it entry
   took = taken with_it entry numbered_with found_with book_with rest_with newest_with
 
-  chains_without : chains_of slots ≡ (if is_link entry.command then lifted_link entry.number (chains_of with_it) else chains_of with_it)
+  chains_without : chains_of slots ≡ lifted_chains entry (chains_of with_it)
   chains_without = ap chains_of (sym back) ∙ took.chains
 
-  allocs_without : allocs_of slots ≡ (if is_instruction entry.command then lifted_instruction entry.number (allocs_of with_it) else allocs_of with_it)
+  allocs_without : allocs_of slots ≡ lifted_allocs entry (allocs_of with_it)
   allocs_without = ap allocs_of (sym back) ∙ took.allocs
 
   falls-with : numbers_fall link_number (links_of (entries_in with_it)) ≡ true

@@ -26,7 +26,7 @@ use Rattle.blot_types.specs.Survivors.{links_of}
 use Rattle.blot_types.proofs.SumLemmas.{total-append}
 use Rattle.blot_types.proofs.SurvivorLemmas.{version_in-rising}
 use Rattle.blot_command.specs.Refusing.{terms_refusal, reference_refusal}
-use Rattle.blot_command.specs.Shown.{version_numbered}
+use Rattle.blot_command.specs.Shown.{current_version, version_numbered}
 
 pub same_version : (entries : List Entry) (number : ℕ) → numbers_rise entries ≡ true → version_in (reverse entries) number ≡ version_numbered entries number
 same_version entries number rise = version_in-rising (reverse entries) number rise ∙ ap (λ l. version_numbered l number) (reverse-reverse entries)
@@ -34,10 +34,6 @@ same_version entries number rise = version_in-rising (reverse entries) number ri
 same_found : (entries : List Entry) (number : Option ℕ) → numbers_rise entries ≡ true → option_and_then (version_in (reverse entries)) number ≡ option_and_then (version_numbered entries) number
 same_found entries None rise = refl
 same_found entries (Some n) rise = same_version entries n rise
-
--- the last version of the chain of a key
-abbrev pub current_version : List Entry → ExecKey → Option Version
-current_version entries key = option_and_then (version_numbered entries) (option_and_then (current_in (links_of entries)) (root_in (links_of entries) key))
 
 pub fill_found : (entries : List Entry) (key : ExecKey) → numbers_rise entries ≡ true → current_fill (reverse entries) key ≡ option_map (λ version. version.fill) (current_version entries key)
 fill_found entries key rise =

@@ -27,7 +27,7 @@ use Rattle.blot_types.proofs.StayLemmas.{filter-reverse}
 use Rattle.blot_alloc.specs.Allocs.{instruction_at, lifted_out as lifted_instruction, number_of as instruction_of_number}
 use Rattle.blot_chain.specs.Steps.{link_at, lifted_out as lifted_link, number_of as link_number}
 use Rattle.blot_command.specs.Book.{entry_number, has_number}
-use Rattle.blot_command.specs.Linking.{CanLift, is_instruction, is_link}
+use Rattle.blot_command.specs.Linking.{CanLift, is_instruction, is_link, lifted_allocs, lifted_chains}
 use Rattle.blot_command.specs.Law.{has_entry, without-split, withdrawn-none}
 use Rattle.blot_command.specs.Slots.{AreNumbered, NewestThere, entries_in, left_in, left_instructions}
 use Rattle.blot_command.proofs.LeftLemmas.{left-apart, left-taken}
@@ -64,8 +64,8 @@ instruction-kind entry unlinked stays = by entry.command unlinked stays
 
 -- the chains and the allocations with and without an entry, and that they may lose it
 pub record IsTaken (slots : List (Slot Entry)) (entry : Entry) : Type 0 where
-  pub chains : chains_of (marked entry_number entry.number false slots) ≡ (if is_link entry.command then lifted_link entry.number (chains_of slots) else chains_of slots)
-  pub allocs : allocs_of (marked entry_number entry.number false slots) ≡ (if is_instruction entry.command then lifted_instruction entry.number (allocs_of slots) else allocs_of slots)
+  pub chains : chains_of (marked entry_number entry.number false slots) ≡ lifted_chains entry (chains_of slots)
+  pub allocs : allocs_of (marked entry_number entry.number false slots) ≡ lifted_allocs entry (allocs_of slots)
   pub can : CanLift entry (chains_of slots) (allocs_of slots)
   -- what is found of it there, and not among those that are kept
   pub link : is_link entry.command ≡ true → (link : Link) × (link_of entry ≡ Some link) × (link_at entry.number (chains_of slots).list ≡ Some link) × (link_at entry.number (chains_of slots).kept ≡ None)

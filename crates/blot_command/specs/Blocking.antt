@@ -29,6 +29,10 @@ abbrev pub needs_correct : List Entry → ExecKey → ExecKey → ℕ → Instru
 needs_correct entries key root until instruction =
     names root instruction && (nat_lt instruction.number until || lists_at entries key instruction.number)
 
+-- the number of the first instruction above a number that needs the Correct
+abbrev pub first_listing : List Entry → ExecKey → ExecKey → ℕ → ℕ → List Instruction → Option ℕ
+first_listing entries key root until number instructions = first_instruction (needs_correct entries key root until) number instructions
+
 -- whether a fill isn't like that of the last version of the chain of a root below a number
 abbrev pub changes_version : List Entry → List Link → ℕ → ExecKey → Fill → Bool
 changes_version entries links number root fill =
@@ -46,7 +50,7 @@ blocked_correct entries links instructions number correct =
     option_and_then
     (λ root.
     lesser (first_needing_link links number)
-    (first_instruction (needs_correct entries correct.key root (needed_until entries links number root correct.fill)) number instructions))
+    (first_listing entries correct.key root (needed_until entries links number root correct.fill) number instructions))
     (root_in links correct.key)
 
 -- the number of the first entry that needs the command of a number

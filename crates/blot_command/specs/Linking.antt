@@ -1,5 +1,5 @@
 -- An entry as the chains and the allocations see it.
-use Rattle.std.specs.Prelude.{◌≡◌, Bool, true, false, List, [], ◌∷◌, reverse, None, IfSome, IsSome}
+use Rattle.std.specs.Prelude.{◌≡◌, Bool, true, false, List, [], ◌∷◌, reverse, None, IfSome, IsSome, if◌then◌else◌}
 use Rattle.std.specs.List.{cons_option}
 use Rattle.blot_places.specs.declared.slots.Slot.{Slot}
 use Rattle.blot_places.specs.Shown.{Shown}
@@ -16,6 +16,13 @@ use Rattle.blot_types.specs.Survivors.{link_of, links_in}
 use Rattle.blot_alloc.specs.Allocs.{instruction_at, lifted_out as lifted_instruction, put_back as put_back_instruction}
 use Rattle.blot_chain.specs.Steps.{CanReturn as CanReturnLink, link_at, lifted_out as lifted_link, put_back as put_back_link}
 use Rattle.blot_command.specs.Slots.{AreNumbered, NewestThere, entries_in, left_in, left_instructions}
+
+-- the links, and the instructions, with one more entry, newest first; only one of the two changes
+abbrev pub with_link : Entry → List Link → List Link
+with_link entry links = cons_option (link_of entry) links
+
+abbrev pub with_instruction : Entry → List Link → List Instruction → List Instruction
+with_instruction entry links instructions = cons_option (instruction_by links entry.number entry.command) instructions
 
 -- a link may come next: it is accepted, and its number is above the others
 pub record CanLinkNext (links : List Link) (link : Link) : Type 0 where
@@ -35,8 +42,7 @@ pub record CanLink (entry : Entry) (links : List Link) (instructions : List Inst
 -- an entry came last: the newest link or instruction is its own
 abbrev pub IsLinkedLast : Entry → List Link → List Instruction → Type 0
 IsLinkedLast entry links instructions =
-    (earlier : List Link) × (before : List Instruction) × (links ≡ cons_option (link_of entry) earlier)
-    × (instructions ≡ cons_option (instruction_by earlier entry.number entry.command) before)
+    (earlier : List Link) × (before : List Instruction) × (links ≡ with_link entry earlier) × (instructions ≡ with_instruction entry earlier before)
 
 -- a list without its first item; an empty one as it is
 abbrev pub rest_of : {A : Type 0} → List A → List A
@@ -81,6 +87,19 @@ is_instruction (AllocNew new) = true
 is_instruction (AllocReplace replace) = true
 is_instruction (AllocCancel cancel) = true
 is_instruction (Withdraw withdrawn) = false
+
+-- the chains and the allocations once an entry is lifted out of them, whatever came later; and once it is put back
+abbrev pub lifted_chains : Entry → Shown Link → Shown Link
+lifted_chains entry chains = if is_link entry.command then lifted_link entry.number chains else chains
+
+abbrev pub lifted_allocs : Entry → Shown Instruction → Shown Instruction
+lifted_allocs entry allocs = if is_instruction entry.command then lifted_instruction entry.number allocs else allocs
+
+abbrev pub returned_chains : Entry → Shown Link → Shown Link
+returned_chains entry chains = if is_link entry.command then put_back_link entry.number chains else chains
+
+abbrev pub returned_allocs : Entry → Shown Instruction → Shown Instruction
+returned_allocs entry allocs = if is_instruction entry.command then put_back_instruction entry.number allocs else allocs
 
 -- an entry can be lifted out of the chains and the allocations: it is listed there, and what is left is chained, and instructed
 pub record CanLift (entry : Entry) (chains : Shown Link) (allocs : Shown Instruction) : Type 0 where

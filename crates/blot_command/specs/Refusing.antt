@@ -1,11 +1,12 @@
 -- The rules as the code asks them: over the chains and the allocations that the live list keeps.
-use Rattle.std.specs.Prelude.{◌≡◌, false, List, [], reverse, Option, pos, find, is_none, if◌then◌else◌, Some, None}
+use Rattle.std.specs.Prelude.{◌≡◌, false, ℤ, List, [], reverse, Option, pos, find, is_none, if◌then◌else◌, Some, None}
 use Rattle.std.specs.List.{filter_map}
 use Rattle.std.specs.Option.{option_map, option_map_or, option_or}
 use Rattle.blot_types.specs.declared.allocation.Instruction.{Instruction}
 use Rattle.blot_types.specs.declared.allocation.Terms.{Terms}
 use Rattle.blot_types.specs.declared.command.Entry.{Entry}
 use Rattle.blot_types.specs.declared.keys.AllocKey.{AllocKey}
+use Rattle.blot_types.specs.declared.keys.ExecKey.{ExecKey}
 use Rattle.blot_types.specs.declared.link.Link.{Link}
 use Rattle.blot_types.specs.declared.refused.Refused.{Refused}
 use Rattle.blot_types.specs.declared.refused.Refused.TheVariants.{UnknownAlloc, DeadAlloc, UnknownExec, BustedExec, RepeatedExec, ExecTaken, Instrument}
@@ -33,6 +34,14 @@ abbrev pub reference_refusal : List Instruction → AllocKey → Option Refused
 reference_refusal instructions reference =
     option_or (if is_allocation_in instructions reference then None else Some UnknownAlloc) (option_map DeadAlloc (ended_in instructions reference))
 
+-- the first of some executions whose last version is of another instrument or side than the terms
+abbrev pub other_instrument : List Entry → Terms → List ExecKey → Option ExecKey
+other_instrument entries terms execs = find (λ key. option_map_or (differs terms) (current_fill (reverse entries) key) false) execs
+
+-- the quantity of the last versions of some executions
+abbrev pub wanted : List Entry → List ExecKey → ℤ
+wanted entries execs = cum_of (filter_map (current_fill (reverse entries)) execs)
+
 -- why terms are refused
 abbrev pub terms_refusal : List Entry → Option AllocKey → Terms → Option Refused
 terms_refusal entries reference terms =
@@ -40,5 +49,5 @@ terms_refusal entries reference terms =
     (option_or (option_map BustedExec (first_of (bust_of_key (links_of entries)) terms.execs))
     (option_or (option_map RepeatedExec (repeated_in (links_of entries) [] terms.execs))
     (option_or (option_map ExecTaken (first_of (other_holder (links_of entries) (instructions_of entries) reference) terms.execs))
-    (option_or (option_map Instrument (find (λ key. option_map_or (differs terms) (current_fill (reverse entries) key) false) terms.execs))
-    (mismatch (cum_of (filter_map (current_fill (reverse entries)) terms.execs)) (pos terms.block) (booked terms.lines))))))
+    (option_or (option_map Instrument (other_instrument entries terms terms.execs))
+    (mismatch (wanted entries terms.execs) (pos terms.block) (booked terms.lines))))))

@@ -8,24 +8,38 @@ use Rattle.blot_types.specs.declared.command.Entry.{Entry}
 use Rattle.blot_types.specs.declared.fill.Fill.{Fill}
 use Rattle.blot_types.specs.declared.keys.AllocKey.{AllocKey}
 use Rattle.blot_types.specs.declared.keys.ExecKey.{ExecKey}
+use Rattle.blot_types.specs.declared.link.Link.{Link}
 use Rattle.blot_types.specs.declared.lines.Version.{Version}
 use Rattle.blot_types.specs.Allocations.{allocation_of, instructions_of}
-use Rattle.blot_types.specs.Chains.{replaced_by}
+use Rattle.blot_types.specs.Chains.{current_in, replaced_by, root_in}
 use Rattle.blot_types.specs.Instructions.{is_keyed}
 use Rattle.blot_types.specs.Keys.{same_alloc}
 use Rattle.blot_types.specs.Legal.{is_book}
+use Rattle.blot_types.specs.Standing.{chain_of}
 use Rattle.blot_types.specs.Survivors.{link_of, links_of, versions_of, survivors}
 use Rattle.blot_types.specs.declared.TheConstants.{EVENTS_MAX}
-use Rattle.blot_command.specs.Book.{Shown}
+use Rattle.blot_command.specs.Book.{Shown, has_number}
 use Rattle.blot_order.specs.Fills.{Fills, put_at, kept_at, held_at, with_put as with_put_at, with_kept as with_kept_at}
 
 -- the version of a number, of those that a list's entries bring
 abbrev pub version_numbered : List Entry → ℕ → Option Version
 version_numbered list number = find (λ version. version.number == number) (versions_of list)
 
--- the version whose place an entry takes after a list, or which it busts
+-- the last version of the chain of a key
+abbrev pub current_version : List Entry → ExecKey → Option Version
+current_version list key = option_and_then (version_numbered list) (option_and_then (current_in (links_of list)) (root_in (links_of list) key))
+
+-- the version whose place a link takes after a list, or which it busts
+abbrev pub version_replaced_by : List Entry → Option Link → Option Version
+version_replaced_by list link = option_and_then (version_numbered list) (replaced_by (links_of list) link)
+
+-- the same of the link of an entry
 abbrev pub version_replaced : List Entry → Entry → Option Version
-version_replaced list entry = option_and_then (version_numbered list) (replaced_by (links_of list) (link_of entry))
+version_replaced list entry = version_replaced_by list (link_of entry)
+
+-- the root of the chain of the entry of a number
+abbrev pub chain_numbered : List Entry → ℕ → Option ExecKey
+chain_numbered list number = option_and_then (chain_of list) (find (has_number number) list)
 
 -- the fill of the version of a number
 abbrev pub fill_numbered : ℕ → List Version → Option Fill

@@ -56,6 +56,10 @@ pub record IsStep {S L C I R : Type 0} (m : Meaning S L C I R) (list : L) (comma
   pub inverse_is : inverse ≡ m.inverse_of list command number
   pub list_is : next ≡ m.after list command number
 
+-- a state took a step: its list did, which led to that of the next state and handed out this inverse
+abbrev pub TakesStep : {S L C I R : Type 0} → Meaning S L C I R → S → C → ℕ → S → I → Type 0
+TakesStep m state command number next inverse = IsStep m (m.list_of state) command number inverse (m.list_of next)
+
 -- the law, on a valid list: what stands before what stands after is the list itself, and the command comes back; after a
 -- number up to EVENTS_MAX a valid list stands
 pub record IsLawful {S L C I R : Type 0} (m : Meaning S L C I R) : Type 0 where
@@ -88,6 +92,10 @@ pub record IsRefusal {S L C I R : Type 0} (m : Meaning S L C I R) (state : S) (c
   pub reason_is :
       m.refused (m.list_of state) command ≡ Some reason
       ⊎ ((m.refused (m.list_of state) command ≡ None) × (m.takes_memory command ≡ true) × (reason ≡ m.no_memory))
+
+-- a state refused a command, which comes back with this reason
+abbrev pub Refuses : {S L C I R : Type 0} → Meaning S L C I R → S → C → S → C × R → Type 0
+Refuses m state command next refusal = IsRefusal m state command refusal.0 refusal.1 next
 
 -- an inverse undoes the step of a command under a number: the step led from a list to the state's list and handed out
 -- this inverse, the state keeps what taking it back needs, and no number in the state came later

@@ -3,6 +3,7 @@ use Rattle.std.specs.Prelude.{◌≡◌, ℕ, ◌+◌, ◌<◌, ◌≤◌, ◌�
 use Rattle.std.specs.List.{list_all}
 use Rattle.std.specs.Option.{option_map_or}
 use Rattle.blot_places.specs.Shown.{item_at, with_item, without as without_item}
+use Rattle.blot_types.specs.declared.command.Command.{Command}
 use Rattle.blot_types.specs.declared.command.Entry.{Entry}
 use Rattle.blot_types.specs.declared.keys.ExecKey.{ExecKey}
 use Rattle.blot_types.specs.Keys.{same_exec}
@@ -14,6 +15,10 @@ use Rattle.blot_command.specs.Book.{Shown, entry_number, numbers_of}
 -- the list with one more entry at its end
 abbrev pub with_entry : Entry → Shown → Shown
 with_entry entry shown = record { list = shown.list ++ entry ∷ []; kept = shown.kept }
+
+-- the same, of a command and the number that it is taken under
+abbrev pub with_command : Command → ℕ → Shown → Shown
+with_command command number shown = with_entry (record { number = number; command = command }) shown
 
 -- the list has a last entry, and none that is kept came later
 pub record HasLast (shown : Shown) : Type 0 where

@@ -1,9 +1,8 @@
 //! Which entry is the first that needs another: one function a kind, by look-ups alone.
 ghost use Rattle.std.specs.Prelude.{◌≡◌, find, IsSome, IsTrue};
-ghost use Rattle.blot_types.specs.Instructions.{first_instruction};
 ghost use Rattle.blot_types.specs.Keys.{is_among};
 ghost use Rattle.blot_types.specs.Legal.{is_book, least_needing};
-ghost use Rattle.blot_command.specs.Blocking.{blocked_by, blocked_correct, changes_version, lists_at, needed_until, needs_correct};
+ghost use Rattle.blot_command.specs.Blocking.{blocked_by, blocked_correct, changes_version, first_listing, lists_at, needed_until};
 ghost use Rattle.blot_command.specs.Book.{has_number};
 ghost use Rattle.blot_command.specs.Refusing.{HoldsBoth};
 ghost use Rattle.blot_command.specs.Slots.{AreNumbered, entries_in};
@@ -122,7 +121,7 @@ fn first_listing(
     until: u64,
 ) -> Option<u64>
     requires { AreNumbered slots.now }
-    ensures { result ≡ first_instruction (needs_correct (entries_in slots.now) key.now root.now until) number allocs.now.list }
+    ensures { result ≡ first_listing (entries_in slots.now) key.now root.now until number allocs.now.list }
 {
     let mut above = number;
     while let Some(next) = allocs.first_naming(root, above) {

@@ -2,8 +2,8 @@
 ghost use Rattle.std.specs.Prelude.{◌≡◌, ◌≤◌, IfOk, IfErr};
 ghost use Rattle.blot_types.specs.declared.TheConstants.{EVENTS_MAX};
 ghost use Rattle.blot_command.specs.Meanings.{entry_meaning};
-ghost use Rattle.blot_command.specs.Undoable.{IsAboveNumbers, IsStep, IsRefusal, Adds, Undoes, TakesOut};
-ghost use Rattle.blot_command.specs.Withdrawing.{with_entry};
+ghost use Rattle.blot_command.specs.Undoable.{IsAboveNumbers, TakesStep, Refuses, Adds, Undoes, TakesOut};
+ghost use Rattle.blot_command.specs.Withdrawing.{with_command};
 
 use crate::{ApplyFault, Tables};
 use blot_types::{Command, Entry};
@@ -17,10 +17,10 @@ pub(crate) fn enter(
 ) -> Result<u64, (Command, ApplyFault)>
     requires above { IsAboveNumbers entry_meaning number tables.old }
     requires within { number ≤ EVENTS_MAX }
-    ensures accepted { IfOk result (λ inverse. IsStep entry_meaning tables.old.list command number inverse tables.new.list) }
+    ensures accepted { IfOk result (TakesStep entry_meaning tables.old command number tables.new) }
     ensures kept { IfOk result (λ inverse. Adds entry_meaning number inverse tables.old tables.new) }
-    ensures entered { IfOk result (λ inverse. tables.new ≡ with_entry (record { number = number; command = command }) tables.old) }
-    ensures refused { IfErr result (λ refusal. IsRefusal entry_meaning tables.old command refusal.0 refusal.1 tables.new) }
+    ensures entered { IfOk result (λ inverse. tables.new ≡ with_command command number tables.old) }
+    ensures refused { IfErr result (Refuses entry_meaning tables.old command tables.new) }
 {
     if let Some(refused) = tables.refusal(&command) {
         return Err((command, ApplyFault::Refused(refused)));

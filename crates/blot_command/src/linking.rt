@@ -1,13 +1,9 @@
 //! An entry as the chains and the allocations see it: added to them, and taken back.
-ghost use Rattle.std.specs.Prelude.{◌≡◌, [], IsTrue, IfOk, OnOk, OnErr, if◌then◌else◌};
-ghost use Rattle.std.specs.List.{cons_option, filter_map};
-ghost use Rattle.blot_types.specs.Allocations.{instruction_by};
+ghost use Rattle.std.specs.Prelude.{◌≡◌, IsTrue, IfOk, OnOk, OnErr};
+ghost use Rattle.std.specs.List.{filter_map};
 ghost use Rattle.blot_types.specs.Chains.{root_in, is_above_links};
 ghost use Rattle.blot_types.specs.Instructions.{is_above_instructions};
-ghost use Rattle.blot_types.specs.Survivors.{link_of};
-ghost use Rattle.blot_alloc.specs.Allocs.{lifted_out as lifted_instruction, put_back as put_back_instruction};
-ghost use Rattle.blot_chain.specs.Steps.{lifted_out as lifted_link, put_back as put_back_link};
-ghost use Rattle.blot_command.specs.Linking.{CanLift, CanLink, CanUnLift, IsLinkedLast, is_instruction, is_link, without_link, without_instruction};
+ghost use Rattle.blot_command.specs.Linking.{CanLift, CanLink, CanUnLift, IsLinkedLast, lifted_allocs, lifted_chains, returned_allocs, returned_chains, with_instruction, with_link, without_link, without_instruction};
 
 use blot_alloc::Allocs;
 use blot_chain::Chains;
@@ -25,8 +21,8 @@ pub fn link_entry(
     requires next { CanLink entry.now chains.old.list allocs.old.list }
     requires above { IsTrue (is_above_links entry.now.number chains.old.kept) }
     requires above_instructions { IsTrue (is_above_instructions entry.now.number allocs.old.kept) }
-    ensures chains { OnOk result (chains.new.list ≡ cons_option (link_of entry.now) chains.old.list) }
-    ensures allocs { OnOk result (allocs.new.list ≡ cons_option (instruction_by chains.old.list entry.now.number entry.now.command) allocs.old.list) }
+    ensures chains { OnOk result (chains.new.list ≡ with_link entry.now chains.old.list) }
+    ensures allocs { OnOk result (allocs.new.list ≡ with_instruction entry.now chains.old.list allocs.old.list) }
     ensures kept { chains.new.kept ≡ chains.old.kept }
     ensures kept_instructions { allocs.new.kept ≡ allocs.old.kept }
     ensures same_chains { OnErr result (chains.new ≡ chains.old) }
@@ -91,8 +87,8 @@ pub(crate) fn unlink_entry(chains: &mut Chains, allocs: &mut Allocs, entry: &Ent
 /// Lifts an entry out of the chains and the allocations, whatever came later. No memory is taken.
 pub(crate) fn lift_entry(chains: &mut Chains, allocs: &mut Allocs, entry: &Entry)
     requires { CanLift entry.now chains.old allocs.old }
-    ensures chains { chains.new ≡ (if is_link entry.now.command then lifted_link entry.now.number chains.old else chains.old) }
-    ensures allocs { allocs.new ≡ (if is_instruction entry.now.command then lifted_instruction entry.now.number allocs.old else allocs.old) }
+    ensures chains { chains.new ≡ lifted_chains entry.now chains.old }
+    ensures allocs { allocs.new ≡ lifted_allocs entry.now allocs.old }
 {
     match &entry.command {
         Command::Trade(_) | Command::Correct(_) | Command::Bust(_) => chains.lift(entry.number),
@@ -106,8 +102,8 @@ pub(crate) fn lift_entry(chains: &mut Chains, allocs: &mut Allocs, entry: &Entry
 /// Puts an entry that was lifted out back at its place. No memory is taken.
 pub(crate) fn un_lift_entry(chains: &mut Chains, allocs: &mut Allocs, entry: &Entry)
     requires { CanUnLift entry.now chains.old allocs.old }
-    ensures chains { chains.new ≡ (if is_link entry.now.command then put_back_link entry.now.number chains.old else chains.old) }
-    ensures allocs { allocs.new ≡ (if is_instruction entry.now.command then put_back_instruction entry.now.number allocs.old else allocs.old) }
+    ensures chains { chains.new ≡ returned_chains entry.now chains.old }
+    ensures allocs { allocs.new ≡ returned_allocs entry.now allocs.old }
 {
     match &entry.command {
         Command::Trade(_) | Command::Correct(_) | Command::Bust(_) => chains.un_lift(entry.number),

@@ -3,14 +3,13 @@ ghost use Rattle.std.specs.Prelude.{◌≡◌, ◌<◌, [], ◌∷◌, ◌++◌,
 ghost use Rattle.std.specs.List.{last_or};
 ghost use Rattle.std.specs.Option.{option_map, option_and_then, option_copied};
 ghost use Rattle.blot_types.specs.Allocations.{instructions_of};
-ghost use Rattle.blot_types.specs.Chains.{replaced_by};
 ghost use Rattle.blot_types.specs.Instructions.{is_keyed};
 ghost use Rattle.blot_types.specs.Legal.{is_above_entries, is_book, entry_refusal, least_needing, without};
 ghost use Rattle.blot_types.specs.Position.{is_named};
 ghost use Rattle.blot_types.specs.Standing.{chain_by, standing};
 ghost use Rattle.blot_types.specs.Survivors.{links_of};
 ghost use Rattle.blot_command.specs.Book.{has_number};
-ghost use Rattle.blot_command.specs.Shown.{version_numbered, terms_of_key, terms_keyed, roots_keyed};
+ghost use Rattle.blot_command.specs.Shown.{version_replaced_by, terms_of_key, terms_keyed, roots_keyed};
 ghost use Rattle.blot_command.specs.Slots.{entries_in};
 ghost use Rattle.blot_command.specs.Withdrawing.{with_entry, HasLast, lifted, returned, CanReturn};
 
@@ -129,7 +128,7 @@ impl LiveList {
 
     /// The version whose place an entry's link takes, or which it busts.
     pub(crate) fn replaced(&self, link: &Option<Link>) -> Option<Version>
-        ensures { result ≡ option_and_then (version_numbered self.now.list) (replaced_by (links_of self.now.list) link.now) }
+        ensures { result ≡ version_replaced_by self.now.list link.now }
     {
         match link {
             None => None,

@@ -1,17 +1,15 @@
 //! Why the live list refuses a command: one function a rule, in the order of the rules.
-ghost use Rattle.std.specs.Prelude.{◌≡◌, [], pos, reverse, find, is_none, false};
-ghost use Rattle.std.specs.List.{list_any, filter_map};
-ghost use Rattle.std.specs.Option.{option_map, option_map_or, option_and_then, option_or};
-ghost use Rattle.blot_types.specs.declared.refused.Refused.TheVariants.{DuplicateExec, DuplicateAlloc, UnknownAlloc, DeadAlloc, UnknownExec, BustedExec, RepeatedExec, ExecTaken, Instrument};
-ghost use Rattle.blot_types.specs.Allocations.{instructions_of};
-ghost use Rattle.blot_types.specs.Chains.{taker_in, root_in, is_root, current_in, bust_in, chain_refusal, link_refusal};
-ghost use Rattle.blot_types.specs.Instructions.{alloc_taker_in, is_allocation_in, ended_in};
+ghost use Rattle.std.specs.Prelude.{◌≡◌, [], reverse, find, is_none};
+ghost use Rattle.std.specs.List.{list_any};
+ghost use Rattle.std.specs.Option.{option_map};
+ghost use Rattle.blot_types.specs.declared.refused.Refused.TheVariants.{DuplicateAlloc};
+ghost use Rattle.blot_types.specs.Chains.{root_in, is_root, link_refusal};
+ghost use Rattle.blot_types.specs.Instructions.{alloc_taker_in};
 ghost use Rattle.blot_types.specs.Legal.{entry_refusal};
-ghost use Rattle.blot_types.specs.Order.{cum_of};
-ghost use Rattle.blot_types.specs.Refusals.{first_of, bust_of_key, same_chain, repeated_in, other_holder, current_fill, differs};
-ghost use Rattle.blot_types.specs.Survivors.{links_of};
-ghost use Rattle.blot_command.specs.Refusing.{HoldsBoth, HoldsChainsOf, terms_refusal, reference_refusal};
-ghost use Rattle.blot_command.specs.Shown.{version_numbered};
+ghost use Rattle.blot_types.specs.Refusals.{first_of, bust_of_key, same_chain, repeated_in, other_holder, current_fill};
+ghost use Rattle.blot_chain.specs.Steps.{exec_refusal};
+ghost use Rattle.blot_command.specs.Refusing.{HoldsBoth, HoldsChainsOf, other_instrument, reference_refusal, terms_refusal, wanted};
+ghost use Rattle.blot_command.specs.Shown.{current_version};
 ghost use Rattle.blot_command.specs.Slots.{entries_in};
 
 use crate::slots::{EntrySlot, version_numbered};
@@ -76,7 +74,7 @@ fn execution_refusal(chains: &Chains, key: &ExecKey, role: Role) -> Option<Refus
 
 // Why a reference to an execution is refused: it has no root, or its chain is busted.
 fn chain_refusal(chains: &Chains, reference: &ExecKey) -> Option<Refused>
-    ensures { result ≡ chain_refusal chains.now.list reference.now (root_in chains.now.list reference.now) }
+    ensures { result ≡ exec_refusal chains.now.list reference.now }
 {
     match chains.root_of(reference) {
         None => Some(Refused::UnknownExec(*reference)),
@@ -233,7 +231,7 @@ fn other_instrument(
     execs: &[ExecKey],
 ) -> Option<ExecKey>
     requires { HoldsChainsOf slots.now chains.now.list }
-    ensures { result ≡ find (λ key. option_map_or (differs terms.now) (current_fill (reverse (entries_in slots.now)) key) false) execs.now }
+    ensures { result ≡ other_instrument (entries_in slots.now) terms.now execs.now }
 {
     for key in execs {
         if let Some(fill) = current_fill(slots, chains, key) {
@@ -263,7 +261,7 @@ pub(crate) fn current_version(
     key: &ExecKey,
 ) -> Option<Version>
     requires { HoldsChainsOf slots.now chains.now.list }
-    ensures { result ≡ option_and_then (version_numbered (entries_in slots.now)) (option_and_then (current_in (links_of (entries_in slots.now))) (root_in (links_of (entries_in slots.now)) key.now)) }
+    ensures { result ≡ current_version (entries_in slots.now) key.now }
 {
     let root = chains.root_of(key)?;
     let number = chains.current(&root)?;
@@ -273,7 +271,7 @@ pub(crate) fn current_version(
 // The quantity of the last versions of the listed executions, in units of 10^-6.
 fn wanted(slots: &[EntrySlot], chains: &Chains, execs: &[ExecKey]) -> i128
     requires { HoldsChainsOf slots.now chains.now.list }
-    ensures { result ≡ cum_of (filter_map (current_fill (reverse (entries_in slots.now))) execs.now) }
+    ensures { result ≡ wanted (entries_in slots.now) execs.now }
 {
     let mut sum = 0;
     for key in execs {

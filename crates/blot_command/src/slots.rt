@@ -1,12 +1,10 @@
 //! The slots of the live list. The numbers rise.
-ghost use Rattle.std.specs.Prelude.{◌≡◌, ℕ, ◌<◌, ◌≤◌, find, length, reverse, slice_index_or, IsTrue, IsSome, Some, None, true, false, if◌then◌else◌};
+ghost use Rattle.std.specs.Prelude.{◌≡◌, ◌≤◌, find, length, reverse, IsTrue, IsSome, Some, None, true, false, if◌then◌else◌};
 ghost use Rattle.std.specs.List.{last_or};
 ghost use Rattle.std.specs.Option.{option_copied, option_map};
-ghost use Rattle.blot_places.specs.declared.slots.Slot.{Slot};
-ghost use Rattle.blot_places.specs.Slots.{marked};
+ghost use Rattle.blot_places.specs.Slots.{AreBelow, NoneBelow, marked};
 ghost use Rattle.blot_command.specs.Book.{has_number, entry_number};
 ghost use Rattle.blot_command.specs.Shown.{version_numbered};
-ghost use Rattle.blot_types.specs.declared.command.Entry.{Entry};
 ghost use Rattle.blot_command.specs.Slots.{AreNumbered, IsLeft, entries_in};
 
 use crate::BoxedEntry;
@@ -161,8 +159,8 @@ pub(crate) fn put_in(slots: &mut [EntrySlot], entry: BoxedEntry)
 fn place_of(slots: &[EntrySlot], number: u64) -> usize
     requires { AreNumbered slots.now }
     ensures within { result ≤ length slots.now }
-    ensures below { (k : ℕ) (d : Slot Entry) → k < result → (slice_index_or slots.now k d).item.number < number }
-    ensures above { (k : ℕ) (d : Slot Entry) → result ≤ k → k < length slots.now → number ≤ (slice_index_or slots.now k d).item.number }
+    ensures below { AreBelow entry_number number result slots.now }
+    ensures above { NoneBelow entry_number number result slots.now }
 {
     slots.partition_point(|slot| slot.number() < number)
 }

@@ -1,16 +1,15 @@
 //! The book.
 ghost use Rattle.std.specs.Prelude.{◌≡◌, ◌<◌, [], ◌∷◌, ◌++◌, None, Some, IsSome, length, find, IsTrue, OnOk, OnErr, IfOk, IfErr, IfSome};
 ghost use Rattle.std.specs.List.{last_or};
-ghost use Rattle.std.specs.Option.{option_and_then, option_copied, option_map};
+ghost use Rattle.std.specs.Option.{option_copied, option_map};
 ghost use Rattle.blot_types.specs.Laws.{HasBoundedTotals, IsConserving};
 ghost use Rattle.blot_types.specs.Legal.{is_above_entries, is_book, entry_refusal, least_needing, without};
 ghost use Rattle.blot_types.specs.Order.{order_of};
 ghost use Rattle.blot_types.specs.Position.{position_of};
-ghost use Rattle.blot_types.specs.Standing.{chain_of};
 ghost use Rattle.blot_types.specs.declared.TheConstants.{EVENTS_MAX};
 ghost use Rattle.blot_order.specs.Fills.{put_at, kept_at};
 ghost use Rattle.blot_command.specs.Book.{has_number};
-ghost use Rattle.blot_command.specs.Shown.{with_put, with_kept, IsPut, IsKept, CanPut};
+ghost use Rattle.blot_command.specs.Shown.{chain_numbered, with_put, with_kept, IsPut, IsKept, CanPut};
 ghost use Rattle.blot_command.specs.Withdrawing.{with_entry, HasLast, lifted, returned, CanReturn};
 
 use crate::BoxedEntry;
@@ -200,7 +199,7 @@ impl Tables {
 
     // The root of the chain of the entry of a number, which is live.
     fn chain_of(&self, number: u64) -> Option<ExecKey>
-        ensures { result ≡ option_and_then (chain_of self.now.list) (find (has_number number) self.now.list) }
+        ensures { result ≡ chain_numbered self.now.list number }
     {
         match self.entry(number) {
             None => None,

@@ -1,7 +1,7 @@
 //! What a command of any kind promises.
 ghost use Rattle.std.specs.Prelude.{◌≡◌, ◌≤◌, Some, IfOk, IfErr};
 ghost use Rattle.blot_types.specs.declared.TheConstants.{EVENTS_MAX};
-ghost use Rattle.blot_command.specs.Undoable.{Meaning, IsLawful, IsAboveNumbers, IsStep, IsRefusal, Adds, Undoes, TakesOut};
+ghost use Rattle.blot_command.specs.Undoable.{Meaning, IsLawful, IsAboveNumbers, TakesStep, Refuses, Adds, Undoes, TakesOut};
 
 use blot_types::EVENTS_MAX;
 
@@ -32,9 +32,9 @@ pub trait Undoable: Sized + Drop {
     ) -> Result<Self::Inverse, (Self, Self::Refusal)>
         requires above { IsAboveNumbers meaning number state.old }
         requires within { number ≤ EVENTS_MAX }
-        ensures accepted { IfOk result (λ inverse. IsStep meaning (meaning.list_of state.old) self number inverse (meaning.list_of state.new)) }
+        ensures accepted { IfOk result (TakesStep meaning state.old self number state.new) }
         ensures kept { IfOk result (λ inverse. Adds meaning number inverse state.old state.new) }
-        ensures refused { IfErr result (λ refusal. IsRefusal meaning state.old self refusal.0 refusal.1 state.new) };
+        ensures refused { IfErr result (Refuses meaning state.old self state.new) };
 
     /// Takes a command back, by the inverse that it handed out, from a state with the list that it left,
     /// which keeps what the inverse needs, and in which no number came later.

@@ -6,7 +6,7 @@ use Rattle.std.proofs.lemmas.Bool.{cases_Bool, eqb-true, eq-eqb}
 use Rattle.std.proofs.lemmas.List.{at_drop_more, get_or-set_same, get_or-set_other, length-set}
 use Rattle.blot_desk.specs.declared.event.Recorded.{Recorded}
 use Rattle.blot_desk.specs.declared.receipt.Receipt.{Receipt}
-use Rattle.blot_desk.specs.Marks.{AllMarked, AreMarked, HasTwo, mark_at}
+use Rattle.blot_desk.specs.Marks.{AllDisagree, AllMarked, AreMarked, Disagree, EachMarked, HasTwo, mark_at}
 use Rattle.blot_desk.specs.Receipts.{AllStand, EachRises, IsSettled, RiseFrom, Stands, all_receipts, count_at}
 
 -- what is left of a list, one element on
@@ -173,8 +173,8 @@ seated_all history before marks seats so = record {
 -- a seat whose receipts don't agree with the history
 pub seat_other :
     (history : List Recorded) (before marks : List Bool) (seats rest : List (List Receipt)) (receipts : List Receipt)
-    → IsSeating history before marks seats (receipts ∷ rest) → (AllStand history receipts → RiseFrom 0 receipts → HasTwo history marks receipts)
-    → AllStand history (all_receipts seats) → EachRises seats → HasTwo history before (all_receipts seats)
+    → IsSeating history before marks seats (receipts ∷ rest) → Disagree history marks receipts
+    → AllDisagree history before seats
 seat_other history before marks seats rest receipts so other all rise =
     let two = other (stand_first history receipts (all_receipts rest) (so.stood all)) (so.rose rise).0 in
     record {
@@ -196,7 +196,7 @@ no_mark (suc count) (suc place) = no_mark count place
 
 pub settled_by :
     (history : List Recorded) (count : ℕ) (marks : List Bool) (seats : List (List Receipt)) (test : Bool) → AllMarked history (replicate count false) marks seats
-    → length marks ≡ length history → Decides test ((place : ℕ) → place < length marks → mark_at marks place ≡ 1) → Decides test (IsSettled history seats)
+    → length marks ≡ length history → Decides test (EachMarked marks) → Decides test (IsSettled history seats)
 settled_by history count marks seats test marked long decides = (
   (λ yes. record {
     stand = marked.stand;
@@ -216,7 +216,7 @@ settled_by history count marks seats test marked long decides = (
 
 pub unsettled_by :
     (history : List Recorded) (count : ℕ) (seats : List (List Receipt))
-    → (AllStand history (all_receipts seats) → EachRises seats → HasTwo history (replicate count false) (all_receipts seats)) → IsSettled history seats → ⊥
+    → AllDisagree history (replicate count false) seats → IsSettled history seats → ⊥
 unsettled_by history count seats other settled =
     let two = other settled.stand settled.rise in
     let at = two.two in

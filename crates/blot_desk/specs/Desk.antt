@@ -11,8 +11,9 @@ use Rattle.blot_types.specs.Legal.{refusal_of}
 use Rattle.blot_types.specs.Order.{order_of}
 use Rattle.blot_types.specs.Position.{position_of}
 use Rattle.blot_command.specs.declared.inverse.Inverse.{Inverse}
+use Rattle.blot_command.specs.Book.{Shown}
 use Rattle.blot_command.specs.Meanings.{command_meaning}
-use Rattle.blot_undo.specs.Book.{Book, apply_of, undo_of as undone_book, redo_of as redone_book, newest_done, newest_undone}
+use Rattle.blot_undo.specs.Book.{Book, Stack, book_of, apply_of, undo_of as undone_book, redo_of as redone_book, newest_done, newest_undone}
 use Rattle.blot_desk.specs.declared.event.Event.{Event}
 use Rattle.blot_desk.specs.declared.event.Event.TheVariants.{Submit, Undo, Redo, AskOrder, AskPosition}
 use Rattle.blot_desk.specs.declared.event.Recorded.{Recorded}
@@ -22,6 +23,10 @@ use Rattle.blot_desk.specs.declared.event.Reply.TheVariants.{Accepted, Refused, 
 -- the book of a desk: the live list, the done and the undone steps, newest first, and the next number
 abbrev pub DeskBook : Type 0
 DeskBook = Book (List Entry) Command Inverse
+
+-- that of a desk's steps
+abbrev pub desk_book : Stack Shown Command Inverse → DeskBook
+desk_book steps = book_of command_meaning steps
 
 -- the number of the newest entry of a live list: its last, which has the greatest number
 abbrev pub newest_entry_of : List Entry → Option ℕ
@@ -35,6 +40,10 @@ empty_book = record { list = []; done = []; undone = []; next = 1 }
 pub record Outcome : Type 0 where
   pub book : DeskBook
   pub reply : Reply
+
+-- the book of a desk's steps, with a reply
+abbrev pub outcome_in : Stack Shown Command Inverse → Reply → Outcome
+outcome_in steps reply = record { book = desk_book steps; reply = reply }
 
 -- a refused event leaves the book as it is
 abbrev pub refused_by : DeskBook → Reason → Outcome
@@ -103,16 +112,24 @@ pub record Journal : Type 0 where
 abbrev pub empty_journal : Journal
 empty_journal = record { book = empty_book; history = [] }
 
--- what a desk holds after an event: its book, and the event with the reply to it at the end of the history
+-- a history with an event and the reply to it at its end
+abbrev pub with_recorded : Event → Reply → List Recorded → List Recorded
+with_recorded event reply history = history ++ record { event = event; reply = reply } ∷ []
+
+-- what a desk holds after an event: its book, and the history with the event and the reply to it
 abbrev pub recorded_of : Journal → Event → Journal
 recorded_of journal event = record {
   book = (step_of journal.book event).book;
-  history = journal.history ++ record { event = event; reply = (step_of journal.book event).reply } ∷ [];
+  history = with_recorded event (step_of journal.book event).reply journal.history;
 }
 
 -- the recorded events
 abbrev pub events_of : List Recorded → List Event
 events_of history = map (λ recorded. recorded.event) history
+
+-- the live list that their run leads to
+abbrev pub list_after : List Recorded → List Entry
+list_after history = (run_of (events_of history)).book.list
 
 -- the replies to them
 abbrev pub replies_of : List Recorded → List Reply

@@ -20,8 +20,20 @@ pub record HasTwo (history : List Recorded) (before : List Bool) (receipts : Lis
   pub within : place < length history
   pub two : 2 ≤ mark_at before place + count_at place receipts
 
+-- the receipts of a seat don't agree with the history: where each stands in it and their places rise, two are of one place
+abbrev pub Disagree : List Recorded → List Bool → List Receipt → Type 0
+Disagree history before receipts = AllStand history receipts → RiseFrom 0 receipts → HasTwo history before receipts
+
 -- the receipts of all seats are marked
 pub record AllMarked (history : List Recorded) (before after : List Bool) (seats : List (List Receipt)) : Type 0 where
   pub stand : AllStand history (all_receipts seats)
   pub rise : EachRises seats
   pub counted : (place : ℕ) → mark_at after place ≡ mark_at before place + count_at place (all_receipts seats)
+
+-- they don't agree with the history
+abbrev pub AllDisagree : List Recorded → List Bool → List (List Receipt) → Type 0
+AllDisagree history before seats = AllStand history (all_receipts seats) → EachRises seats → HasTwo history before (all_receipts seats)
+
+-- each place has a mark
+abbrev pub EachMarked : List Bool → Type 0
+EachMarked marks = (place : ℕ) → place < length marks → mark_at marks place ≡ 1

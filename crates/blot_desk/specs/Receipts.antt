@@ -10,10 +10,14 @@ use Rattle.blot_desk.specs.declared.event.Reply.{Reply}
 use Rattle.blot_desk.specs.declared.event.Reply.TheVariants.{Accepted, Undone, Redone}
 use Rattle.blot_desk.specs.declared.receipt.Receipt.{Receipt}
 
--- the receipts after are those before with one more at their end: of this event and this reply, at some place
+-- some receipts with one more at their end: of an event and the reply to it, at a place of the history
+abbrev pub with_receipt : ℕ → Event → Reply → List Receipt → List Receipt
+with_receipt place event reply receipts = receipts ++ record { place = place; event = event; reply = reply } ∷ []
+
+-- the receipts after are those before with one more: of this event and this reply, at some place
 pub record IsOneMore (before after : List Receipt) (event : Event) (reply : Reply) : Type 0 where
   pub place : ℕ
-  pub more : after ≡ before ++ record { place = place; event = event; reply = reply } ∷ []
+  pub more : after ≡ with_receipt place event reply before
 
 -- ---- the newest number of a seat
 

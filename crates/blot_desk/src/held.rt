@@ -1,9 +1,9 @@
 //! What a desk holds.
-ghost use Rattle.std.specs.Prelude.{◌≡◌, ◌≢◌, ◌↔◌, ◌∷◌, ◌++◌, [], Err, All, IfOk, IfSome, OnErr, IsTrue, ◌<◌, ◌≤◌, length, vec_capacity};
+ghost use Rattle.std.specs.Prelude.{◌≡◌, ◌≢◌, ◌↔◌, Err, All, IfOk, IfSome, OnErr, IsTrue, ◌<◌, ◌≤◌, length, vec_capacity};
 ghost use Rattle.blot_types.specs.Legal.{is_book};
 ghost use Rattle.blot_types.specs.Order.{order_of};
 ghost use Rattle.blot_types.specs.Position.{position_of};
-ghost use Rattle.blot_desk.specs.Desk.{empty_journal, newest_entry_of, step_of, recorded_of, events_of, run_of, IsRun};
+ghost use Rattle.blot_desk.specs.Desk.{empty_journal, list_after, newest_entry_of, step_of, recorded_of, with_recorded, IsRun};
 
 use crate::taking::take;
 use crate::{DeskFault, Event, Recorded, Reply, Snapshot};
@@ -23,15 +23,13 @@ pub struct Held {
 }
 
 impl Model for Held {
-    ghost use Rattle.blot_command.specs.Meanings.{command_meaning};
-    ghost use Rattle.blot_undo.specs.Book.{book_of};
-    ghost use Rattle.blot_desk.specs.Desk.{Journal, IsJournal};
+    ghost use Rattle.blot_desk.specs.Desk.{Journal, IsJournal, desk_book};
 
     ghost Value = { Journal };
 
-    ghost view = { λ held. record { book = book_of command_meaning held.steps; history = held.history.items } };
+    ghost view = { λ held. record { book = desk_book held.steps; history = held.history.items } };
 
-    ghost invariant = { λ held. IsJournal (book_of command_meaning held.steps) held.history.items };
+    ghost invariant = { λ held. IsJournal (desk_book held.steps) held.history.items };
 }
 
 impl Held {
@@ -54,11 +52,11 @@ impl Held {
 
         // The line of an order, after any events, is that of the run of these events.
         ensures order { (order : OrderKey) → event ≡ Event.AskOrder order
-            → IfOk result (λ reply. reply ≡ Reply.Order (order_of (run_of (events_of self.old.history)).book.list order)) }
+            → IfOk result (λ reply. reply ≡ Reply.Order (order_of (list_after self.old.history) order)) }
 
         // So is a position.
         ensures position { (account symbol : Text64) → event ≡ Event.AskPosition account symbol
-            → IfOk result (λ reply. reply ≡ Reply.Position (position_of (run_of (events_of self.old.history)).book.list account symbol)) }
+            → IfOk result (λ reply. reply ≡ Reply.Position (position_of (list_after self.old.history) account symbol)) }
 
         ensures full { (result ≡ Err DeskFault.Full) ↔ (length self.old.history ≡ EVENTS_MAX) }
         ensures faults { result ≢ Err DeskFault.Unsettled }
@@ -85,7 +83,7 @@ impl Held {
     pub fn newest_entry(&self) -> Option<u64>
         ensures newest { result ≡ newest_entry_of self.now.book.list }
         ensures greatest { IfSome result (λ newest. All (λ entry. entry.number ≤ newest) self.now.book.list) }
-        ensures run { result ≡ newest_entry_of (run_of (events_of self.now.history)).book.list }
+        ensures run { result ≡ newest_entry_of (list_after self.now.history) }
     {
         self.steps.state().newest()
     }
@@ -93,7 +91,7 @@ impl Held {
     /// The live list as it is now.
     pub fn snapshot(&self) -> Result<Snapshot, NoMemory>
         ensures list { IfOk result (λ snapshot. snapshot ≡ self.now.book.list) }
-        ensures run { IfOk result (λ snapshot. snapshot ≡ (run_of (events_of self.now.history)).book.list) }
+        ensures run { IfOk result (λ snapshot. snapshot ≡ list_after self.now.history) }
         ensures book { IfOk result (λ snapshot. IsTrue (is_book snapshot)) }
 
         // No more events are recorded than a day has.
@@ -108,7 +106,7 @@ impl Held {
     /// The live list as it is at last, not copied; the history and the steps go. An error is out of memory.
     pub fn into_snapshot(self) -> Result<Snapshot, NoMemory>
         ensures list { IfOk result (λ snapshot. snapshot ≡ self.book.list) }
-        ensures run { IfOk result (λ snapshot. snapshot ≡ (run_of (events_of self.history)).book.list) }
+        ensures run { IfOk result (λ snapshot. snapshot ≡ list_after self.history) }
         ensures book { IfOk result (λ snapshot. IsTrue (is_book snapshot)) }
         ensures few { length self.history ≤ EVENTS_MAX }
     {
@@ -128,7 +126,7 @@ impl Held {
 // Puts an event and the reply to it at the end of a history that has room.
 fn record(history: &mut Vec<Recorded>, event: Event, reply: &Reply)
     requires { length history.old.items < vec_capacity history.old }
-    ensures { history.new.items ≡ history.old.items ++ record { event = event; reply = reply.now } ∷ [] }
+    ensures { history.new.items ≡ with_recorded event reply.now history.old.items }
 {
     let reply = *reply;
     history.push_reserved(Recorded { event, reply });

@@ -1,9 +1,9 @@
 //! A seat at a desk, which keeps its receipts.
-ghost use Rattle.std.specs.Prelude.{◌≡◌, ◌≢◌, ◌↔◌, ◌<◌, ◌++◌, ◌∷◌, [], false, length, vec_capacity, Err, IfOk, OnErr};
+ghost use Rattle.std.specs.Prelude.{◌≡◌, ◌≢◌, ◌↔◌, ◌<◌, [], false, length, vec_capacity, Err, IfOk, OnErr};
 ghost use Rattle.std.specs.List.{list_any};
 ghost use Rattle.blot_types.specs.declared.TheConstants.{EVENTS_MAX};
 ghost use Rattle.blot_desk.specs.Desk.{IsReply, recorded_of, step_of};
-ghost use Rattle.blot_desk.specs.Receipts.{entered, greater, is_gone, is_withdrawal, newest_of, seen_by, seen_in, standing, withdraws};
+ghost use Rattle.blot_desk.specs.Receipts.{entered, greater, is_gone, is_withdrawal, newest_of, seen_by, seen_in, standing, with_receipt, withdraws};
 
 use crate::counted::Counted;
 use crate::{DeskFault, Event, Receipt, Reply};
@@ -55,7 +55,7 @@ impl<L: Ledger> Seat<L> {
         ensures reply { IfOk result (λ reply. reply ≡ (step_of counted.old.book event).reply) }
         ensures behind_a_run { IfOk result (λ reply. IsReply event reply) }
         ensures taken { IfOk result (λ reply. counted.new ≡ recorded_of counted.old event) }
-        ensures receipt { IfOk result (λ reply. self.new ≡ self.old ++ record { place = length counted.old.history; event = event; reply = reply } ∷ []) }
+        ensures receipt { IfOk result (λ reply. self.new ≡ with_receipt (length counted.old.history) event reply self.old) }
         ensures full { (result ≡ Err DeskFault.Full) ↔ (length counted.old.history ≡ EVENTS_MAX) }
         ensures err { OnErr result ((counted.new ≡ counted.old) × (self.new ≡ self.old)) }
         ensures faults { result ≢ Err DeskFault.Unsettled }
@@ -100,7 +100,7 @@ impl<L: Ledger> Seat<L> {
 // Keeps a receipt among some that have room.
 fn keep(receipts: &mut Vec<Receipt>, place: u64, event: Event, reply: &Reply)
     requires { length receipts.old.items < vec_capacity receipts.old }
-    ensures { receipts.new.items ≡ receipts.old.items ++ record { place = place; event = event; reply = reply.now } ∷ [] }
+    ensures { receipts.new.items ≡ with_receipt place event reply.now receipts.old.items }
 {
     let reply = *reply;
     receipts.push_reserved(Receipt {

@@ -1,7 +1,7 @@
 //! Receipts laid beside the history.
-ghost use Rattle.std.specs.Prelude.{◌≡◌, ◌↔◌, ◌+◌, ◌<◌, ℕ, true, false, IfOk, length};
-ghost use Rattle.blot_desk.specs.Marks.{AreMarked, AllMarked, HasTwo, mark_at};
-ghost use Rattle.blot_desk.specs.Receipts.{AllStand, EachRises, IsSettled, RiseFrom, Stands, all_receipts};
+ghost use Rattle.std.specs.Prelude.{◌≡◌, ◌↔◌, ◌<◌, true, false, IfOk, length};
+ghost use Rattle.blot_desk.specs.Marks.{AllDisagree, AllMarked, AreMarked, Disagree, EachMarked};
+ghost use Rattle.blot_desk.specs.Receipts.{IsSettled, Stands};
 
 use crate::{Receipt, Recorded, Seat};
 use std::alloc::{AllocError as NoMemory, Global};
@@ -24,7 +24,7 @@ fn mark_seats<L: Ledger>(history: &[Recorded], marks: &mut [bool], seats: &[Seat
     requires { length marks.old ≡ length history.now }
     ensures length { length marks.new ≡ length marks.old }
     ensures marked { result ≡ true → AllMarked history.now marks.old marks.new seats.now }
-    ensures other { result ≡ false → AllStand history.now (all_receipts seats.now) → EachRises seats.now → HasTwo history.now marks.old (all_receipts seats.now) }
+    ensures other { result ≡ false → AllDisagree history.now marks.old seats.now }
 {
     for seat in seats {
         if !mark_receipts(history, marks, seat.receipts()) {
@@ -39,7 +39,7 @@ fn mark_receipts(history: &[Recorded], marks: &mut [bool], receipts: &[Receipt])
     requires { length marks.old ≡ length history.now }
     ensures length { length marks.new ≡ length marks.old }
     ensures marked { result ≡ true → AreMarked history.now marks.old marks.new receipts.now }
-    ensures other { result ≡ false → AllStand history.now receipts.now → RiseFrom 0 receipts.now → HasTwo history.now marks.old receipts.now }
+    ensures other { result ≡ false → Disagree history.now marks.old receipts.now }
 {
     let mut from = 0;
     for receipt in receipts {
@@ -65,7 +65,7 @@ fn stands(history: &[Recorded], receipt: &Receipt) -> bool
 
 // Whether all places are marked.
 fn are_all_marked(marks: &[bool]) -> bool
-    ensures { (result ≡ true) ↔ ((place : ℕ) → place < length marks.now → mark_at marks.now place ≡ 1) }
+    ensures { (result ≡ true) ↔ EachMarked marks.now }
 {
     marks.iter().all(|mark| *mark)
 }

@@ -1,8 +1,6 @@
 //! Each kind of event on the book.
 ghost use Rattle.std.specs.Prelude.{◌≡◌, ◌≤◌, IfOk, OnErr};
-ghost use Rattle.blot_command.specs.Meanings.{command_meaning};
-ghost use Rattle.blot_undo.specs.Book.{book_of};
-ghost use Rattle.blot_desk.specs.Desk.{step_of, submit_of, undo_of, redo_of};
+ghost use Rattle.blot_desk.specs.Desk.{desk_book, outcome_in, step_of, submit_of, undo_of, redo_of};
 
 use crate::{Event, Reply};
 use blot_command::ApplyFault;
@@ -13,8 +11,8 @@ use std::alloc::AllocError as NoMemory;
 /// Takes an event, and gives the reply to it.
 pub(crate) fn take(steps: &mut Steps<Command>, event: Event) -> Result<Reply, NoMemory>
     requires { steps.old.next ≤ EVENTS_MAX }
-    ensures ok { IfOk result (λ reply. record { book = book_of command_meaning steps.new; reply = reply } ≡ step_of (book_of command_meaning steps.old) event) }
-    ensures err { OnErr result (book_of command_meaning steps.new ≡ book_of command_meaning steps.old) }
+    ensures ok { IfOk result (λ reply. outcome_in steps.new reply ≡ step_of (desk_book steps.old) event) }
+    ensures err { OnErr result (desk_book steps.new ≡ desk_book steps.old) }
 {
     match event {
         Event::Submit(command) => submit(steps, command),
@@ -30,8 +28,8 @@ pub(crate) fn take(steps: &mut Steps<Command>, event: Event) -> Result<Reply, No
 // Takes a command, or refuses it.
 fn submit(steps: &mut Steps<Command>, command: Command) -> Result<Reply, NoMemory>
     requires { steps.old.next ≤ EVENTS_MAX }
-    ensures ok { IfOk result (λ reply. record { book = book_of command_meaning steps.new; reply = reply } ≡ submit_of (book_of command_meaning steps.old) command) }
-    ensures err { OnErr result (book_of command_meaning steps.new ≡ book_of command_meaning steps.old) }
+    ensures ok { IfOk result (λ reply. outcome_in steps.new reply ≡ submit_of (desk_book steps.old) command) }
+    ensures err { OnErr result (desk_book steps.new ≡ desk_book steps.old) }
 {
     let outcome = steps.apply(command);
     match &outcome {
@@ -43,7 +41,7 @@ fn submit(steps: &mut Steps<Command>, command: Command) -> Result<Reply, NoMemor
 
 // Undoes the newest step, where it has this number.
 fn undo(steps: &mut Steps<Command>, newest: u64) -> Reply
-    ensures { record { book = book_of command_meaning steps.new; reply = result } ≡ undo_of (book_of command_meaning steps.old) newest }
+    ensures { outcome_in steps.new result ≡ undo_of (desk_book steps.old) newest }
 {
     match steps.newest() {
         None => Reply::Refused(Refused::NothingToUndo),
@@ -57,8 +55,8 @@ fn undo(steps: &mut Steps<Command>, newest: u64) -> Reply
 
 // Does the step that was undone last again.
 fn redo(steps: &mut Steps<Command>) -> Result<Reply, NoMemory>
-    ensures ok { IfOk result (λ reply. record { book = book_of command_meaning steps.new; reply = reply } ≡ redo_of (book_of command_meaning steps.old)) }
-    ensures err { OnErr result (book_of command_meaning steps.new ≡ book_of command_meaning steps.old) }
+    ensures ok { IfOk result (λ reply. outcome_in steps.new reply ≡ redo_of (desk_book steps.old)) }
+    ensures err { OnErr result (desk_book steps.new ≡ desk_book steps.old) }
 {
     match steps.redo() {
         Ok(Some(number)) => Ok(Reply::Redone(number)),

@@ -18,7 +18,7 @@ use Rattle.blot_types.specs.Position.{IsSmall, from_house, part_of_line, moves_o
 use Rattle.blot_types.specs.Refusals.{booked}
 use Rattle.blot_types.proofs.PartLemmas.{neg-size, signed-size}
 use Rattle.blot_types.proofs.SumLemmas.{total-append, total-cons}
-use Rattle.blot_model.specs.Sums.{sums_at, joined, live_moves, units_of, IsUpTo, AreUpTo}
+use Rattle.blot_model.specs.Sums.{sums_at, joined, live_moves, moves_by, units_of, IsUpTo, AreUpTo}
 use Rattle.blot_model.proofs.ListLemmas.{flat-append}
 
 -- ---- sums
@@ -87,8 +87,7 @@ sums-line account symbol terms line part taken first second is_part is_taken one
 -- the moves of the live ones of two lists of allocations
 pub live_moves-append :
     (instructions : List Instruction) (xs ys : List Entry)
-    → live_moves instructions (filter_map (λ entry. allocation_of entry.command) (xs ++ ys))
-    ≡ live_moves instructions (filter_map (λ entry. allocation_of entry.command) xs) ++ live_moves instructions (filter_map (λ entry. allocation_of entry.command) ys)
+    → moves_by instructions (xs ++ ys) ≡ moves_by instructions xs ++ moves_by instructions ys
 live_moves-append instructions xs ys =
     let brought = λ (entry : Entry). allocation_of entry.command in
     let live = λ (allocation : Allocation). is_none (ended_in instructions allocation.key) in

@@ -1,16 +1,19 @@
 -- The sums of the parts of a position, joined piece by piece, and how large they are.
-use Rattle.std.specs.Prelude.{◌≡◌, ℕ, ◌*◌, ◌^◌, ◌≤◌, ℤ, pos, ◌+ℤ◌, List, filter, Option, Some, None, unsigned_abs, is_none}
-use Rattle.std.specs.List.{flat_map, sum_by}
+use Rattle.std.specs.Prelude.{◌≡◌, ℕ, ◌*◌, ◌^◌, ◌≤◌, ℤ, pos, ◌+ℤ◌, List, [], ◌∷◌, filter, map, Option, Some, None, unsigned_abs, is_none}
+use Rattle.std.specs.List.{filter_map, flat_map, sum_by}
 use Rattle.std.specs.Option.{option_map_or}
 use Rattle.blot_types.specs.declared.allocation.Instruction.{Instruction}
 use Rattle.blot_types.specs.declared.allocation.Line.{Line}
 use Rattle.blot_types.specs.declared.allocation.Terms.{Terms}
+use Rattle.blot_types.specs.declared.command.Entry.{Entry}
+use Rattle.blot_types.specs.declared.keys.AllocKey.{AllocKey}
 use Rattle.blot_types.specs.declared.part.Part.{Part}
 use Rattle.blot_types.specs.declared.lines.PositionLine.{PositionLine}
-use Rattle.blot_types.specs.Allocations.{Allocation}
+use Rattle.blot_types.specs.Allocations.{Allocation, allocation_of}
 use Rattle.blot_types.specs.Instructions.{ended_in}
-use Rattle.blot_types.specs.Position.{is_at, moves_of, position_by}
+use Rattle.blot_types.specs.Position.{is_at, moves_of, part_of, position_by}
 use Rattle.blot_types.specs.Refusals.{booked}
+use Rattle.blot_types.specs.Survivors.{survivors}
 
 -- the sums of those parts that are of the position of an account in a symbol
 abbrev pub sums_at : List ℕ → List ℕ → List Part → Option PositionLine
@@ -22,10 +25,21 @@ joined None second = second
 joined (Some first) None = Some first
 joined (Some first) (Some second) = Some (record { qty = first.qty +ℤ second.qty; value = first.value +ℤ second.value })
 
+-- what the survivors of a list add to the positions
+abbrev pub survivor_parts : List Entry → List Part
+survivor_parts list = map (part_of list) (survivors list)
+
 -- the moves of the lines of those allocations that no instruction ended
 abbrev pub live_moves : List Instruction → List Allocation → List Part
 live_moves instructions allocations =
     flat_map (λ allocation. moves_of allocation.terms) (filter (λ allocation. is_none (ended_in instructions allocation.key)) allocations)
+
+-- those of the allocations that entries bring; and those of one allocation
+abbrev pub moves_by : List Instruction → List Entry → List Part
+moves_by instructions entries = live_moves instructions (filter_map (λ entry. allocation_of entry.command) entries)
+
+abbrev pub moves_if_live : List Instruction → AllocKey → Terms → List Part
+moves_if_live instructions key terms = live_moves instructions (record { key = key; terms = terms } ∷ [])
 
 -- what lines book, in units
 abbrev pub units_of : List Line → ℕ

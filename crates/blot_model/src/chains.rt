@@ -1,8 +1,8 @@
 //! The chains of executions.
 ghost use Rattle.std.specs.Prelude.{◌≡◌};
-ghost use Rattle.blot_types.specs.Chains.{taker_in, own_root as own_root_by, root_in, is_root, busts, bust_in, current_in};
+ghost use Rattle.blot_types.specs.Chains.{taker_in, is_root, busts, bust_in, current_in};
 ghost use Rattle.blot_types.specs.Survivors.{link_of, links_of, root_of};
-ghost use Rattle.blot_model.specs.Keyed.{link_keyed};
+ghost use Rattle.blot_model.specs.Keyed.{is_version, link_keyed};
 
 use blot_types::{Entry, ExecKey, Link, Role};
 
@@ -96,7 +96,7 @@ fn is_bust(earlier: &[Entry], link: &Link, root: &ExecKey) -> bool
 
 // Whether a link after these entries brings a version to the chain of a root.
 fn is_version(earlier: &[Entry], link: &Link, root: &ExecKey) -> bool
-    ensures { result ≡ is_root root.now (own_root_by (root_in (links_of earlier.now)) link.now.key link.now.role) }
+    ensures { result ≡ is_version earlier.now root.now link.now }
 {
     match link.role {
         Role::Begins => link.key == *root,

@@ -1,8 +1,8 @@
 //! The instructions on allocations.
-ghost use Rattle.std.specs.Prelude.{◌≡◌, ◌++◌, IfOk, OnOk};
-ghost use Rattle.std.specs.List.{cons_option};
-ghost use Rattle.blot_types.specs.Allocations.{roots_of_terms, instruction_by, instructions_of};
+ghost use Rattle.std.specs.Prelude.{◌≡◌, IfOk};
+ghost use Rattle.blot_types.specs.Allocations.{roots_of_terms, instructions_of};
 ghost use Rattle.blot_types.specs.Survivors.{links_of};
+ghost use Rattle.blot_model.specs.Keyed.{instruction_after};
 
 use crate::chains::root_of;
 use blot_types::{AllocRole, Command, Entry, ExecKey, Instruction, Items, Terms};
@@ -29,7 +29,7 @@ fn instruction(
     earlier: &[Entry],
     entry: &Entry,
 ) -> Result<Option<Instruction>, NoMemory>
-    ensures { IfOk result (λ found. found ≡ instruction_by (links_of earlier.now) entry.now.number entry.now.command) }
+    ensures { IfOk result (λ found. found ≡ instruction_after earlier.now entry.now) }
 {
     let (key, role, roots) = match &entry.command {
         Command::AllocNew(new) => {

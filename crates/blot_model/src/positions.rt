@@ -1,15 +1,14 @@
 //! The positions of accounts.
-ghost use Rattle.std.specs.Prelude.{◌≡◌, ◌*◌, ◌^◌, [], ◌∷◌, map, false, IfOk, IfSome, IsTrue};
-ghost use Rattle.std.specs.List.{cons_option, filter_map};
+ghost use Rattle.std.specs.Prelude.{◌≡◌, ◌*◌, ◌^◌, [], ◌∷◌, false, IfOk, IfSome, IsTrue};
 ghost use Rattle.std.specs.Option.{option_map_or};
 ghost use Rattle.blot_types.specs.Bounds.{BOOK_FILLED, BOOK_MOVED};
 ghost use Rattle.blot_types.specs.Allocations.{allocation_of};
 ghost use Rattle.blot_types.specs.Keys.{is_among};
 ghost use Rattle.blot_types.specs.Laws.{IsConserving};
 ghost use Rattle.blot_types.specs.Legal.{is_book};
-ghost use Rattle.blot_types.specs.Position.{part_of, moves_of, position_of};
-ghost use Rattle.blot_types.specs.Survivors.{root_of, survivors};
-ghost use Rattle.blot_model.specs.Sums.{sums_at, live_moves, units_of, IsBalanced, AreUpTo};
+ghost use Rattle.blot_types.specs.Position.{moves_of, position_of};
+ghost use Rattle.blot_types.specs.Survivors.{root_of};
+ghost use Rattle.blot_model.specs.Sums.{sums_at, survivor_parts, moves_by, moves_if_live, units_of, IsBalanced, AreUpTo};
 
 use crate::allocations::{ended_by, named_roots};
 use crate::chains::root_of;
@@ -48,7 +47,7 @@ fn survivors_at(
     symbol: &Text64,
 ) -> Result<Option<PositionLine>, NoMemory>
     requires { IsTrue (is_book list.now) }
-    ensures sums { IfOk result (λ sums. sums ≡ sums_at account.now symbol.now (map (part_of list.now) (survivors list.now))) }
+    ensures sums { IfOk result (λ sums. sums ≡ sums_at account.now symbol.now (survivor_parts list.now)) }
     ensures few { IfOk result (AreUpTo BOOK_FILLED) }
 {
     let named = named_roots(alloc, list)?;
@@ -85,7 +84,7 @@ fn moves_at(
     symbol: &Text64,
 ) -> Option<PositionLine>
     requires { IsTrue (is_book list.now) }
-    ensures sums { result ≡ sums_at account.now symbol.now (live_moves instructions.now (filter_map (λ entry. allocation_of entry.command) list.now)) }
+    ensures sums { result ≡ sums_at account.now symbol.now (moves_by instructions.now list.now) }
     ensures few { AreUpTo BOOK_MOVED result }
 {
     let mut sums = None;
@@ -103,7 +102,7 @@ fn moves_of_entry(
     symbol: &Text64,
 ) -> Option<PositionLine>
     requires { IfSome (allocation_of entry.now.command) (λ allocation. IsBalanced allocation.terms) }
-    ensures sums { result ≡ sums_at account.now symbol.now (live_moves instructions.now (cons_option (allocation_of entry.now.command) [])) }
+    ensures sums { result ≡ sums_at account.now symbol.now (moves_by instructions.now (entry.now ∷ [])) }
     ensures few { AreUpTo (2 * 10 ^ 16) result }
 {
     match &entry.command {
@@ -130,7 +129,7 @@ fn live_moves(
     symbol: &Text64,
 ) -> Option<PositionLine>
     requires { IsBalanced terms.now }
-    ensures sums { result ≡ sums_at account.now symbol.now (live_moves instructions.now (record { key = key.now; terms = terms.now } ∷ [])) }
+    ensures sums { result ≡ sums_at account.now symbol.now (moves_if_live instructions.now key.now terms.now) }
     ensures few { AreUpTo (2 * 10 ^ 16) result }
 {
     if ended_by(instructions, key).is_some() {

@@ -1,11 +1,12 @@
 //! Why a list refuses a command: one function a rule, in the order of the rules.
-ghost use Rattle.std.specs.Prelude.{◌≡◌, ◌==◌, [], pos, find, is_none, reverse, false};
+ghost use Rattle.std.specs.Prelude.{◌≡◌, ◌==◌, [], pos, find, is_none, reverse};
 ghost use Rattle.std.specs.List.{list_any};
-ghost use Rattle.std.specs.Option.{option_copied, option_map_or};
+ghost use Rattle.std.specs.Option.{option_copied};
 ghost use Rattle.blot_types.specs.Allocations.{instructions_of};
 ghost use Rattle.blot_types.specs.Chains.{root_in};
-ghost use Rattle.blot_types.specs.Refusals.{is_live, never_entry, duplicate_exec, duplicate_alloc, unknown_alloc, dead_alloc, unknown_exec, busted_exec, repeated_exec, exec_taken, instrument, quantity, first_of, bust_of_key, same_chain, repeated_in, other_holder, current_fill, differs};
+ghost use Rattle.blot_types.specs.Refusals.{is_live, never_entry, duplicate_exec, duplicate_alloc, unknown_alloc, dead_alloc, unknown_exec, busted_exec, repeated_exec, exec_taken, instrument, quantity, first_of, bust_of_key, same_chain, repeated_in, other_holder};
 ghost use Rattle.blot_types.specs.Survivors.{links_of};
+ghost use Rattle.blot_model.specs.Rules.{is_other};
 
 use crate::allocations::{ended_by, is_allocation, other_holder_of, taker_of};
 use crate::amounts::{current_fill, wanted};
@@ -218,7 +219,7 @@ pub(crate) fn instrument(list: &[Entry], command: &Command) -> Option<Refused>
 
 // The first listed execution whose last version is of another instrument or side than the terms.
 fn first_other(list: &[Entry], terms: &Terms) -> Option<ExecKey>
-    ensures { result ≡ find (λ key. option_map_or (differs terms.now) (current_fill (reverse list.now) key) false) terms.now.execs }
+    ensures { result ≡ find (is_other list.now terms.now) terms.now.execs }
 {
     for key in terms.execs.as_slice() {
         if is_other(list, terms, key) {
@@ -230,7 +231,7 @@ fn first_other(list: &[Entry], terms: &Terms) -> Option<ExecKey>
 
 // Whether the last version of an execution is of another instrument or side than the terms.
 fn is_other(list: &[Entry], terms: &Terms, key: &ExecKey) -> bool
-    ensures { result ≡ option_map_or (differs terms.now) (current_fill (reverse list.now) key.now) false }
+    ensures { result ≡ is_other list.now terms.now key.now }
 {
     match current_fill(list, key) {
         None => false,

@@ -5,6 +5,13 @@ use Rattle.std.specs.Prelude.{ℕ, ◌≤◌, ◌<◌, List, [], ◌∷◌, leng
 abbrev pub Rise : List ℕ → Type 0
 Rise numbers = (i j : ℕ) (d : ℕ) → i ≤ j → j < length numbers → slice_index_or numbers i d ≤ slice_index_or numbers j d
 
+-- the numbers before a place are below this one, and none from it on is
+abbrev pub AreBelow : ℕ → ℕ → List ℕ → Type 0
+AreBelow number place numbers = (k : ℕ) (d : ℕ) → k < place → slice_index_or numbers k d < number
+
+abbrev pub NoneBelow : ℕ → ℕ → List ℕ → Type 0
+NoneBelow number place numbers = (k : ℕ) (d : ℕ) → place ≤ k → k < length numbers → number ≤ slice_index_or numbers k d
+
 -- rising numbers with one more, after those below it
 abbrev pub with_number : ℕ → List ℕ → List ℕ
 with_number number [] = number ∷ []

@@ -1,6 +1,6 @@
 //! Numbers that rise.
-ghost use Rattle.std.specs.Prelude.{◌≡◌, ℕ, ◌+◌, ◌<◌, ◌≤◌, length, vec_capacity, slice_index_or, Contains};
-ghost use Rattle.blot_order.specs.Numbers.{Rise, with_number, without_number};
+ghost use Rattle.std.specs.Prelude.{◌≡◌, ◌+◌, ◌<◌, ◌≤◌, length, vec_capacity, Contains};
+ghost use Rattle.blot_order.specs.Numbers.{AreBelow, NoneBelow, Rise, with_number, without_number};
 
 /// Puts a number in its place among others, where there is room for it.
 pub(crate) fn insert_number(numbers: &mut Vec<u64>, number: u64)
@@ -32,8 +32,8 @@ pub(crate) fn remove_number(numbers: &mut Vec<u64>, number: u64)
 fn place_of(numbers: &[u64], number: u64) -> usize
     requires { Rise numbers.now }
     ensures within { result ≤ length numbers.now }
-    ensures below { (k : ℕ) (d : ℕ) → k < result → slice_index_or numbers.now k d < number }
-    ensures above { (k : ℕ) (d : ℕ) → result ≤ k → k < length numbers.now → number ≤ slice_index_or numbers.now k d }
+    ensures below { AreBelow number result numbers.now }
+    ensures above { NoneBelow number result numbers.now }
 {
     numbers.partition_point(|other| *other < number)
 }

@@ -1,3 +1,4 @@
+pub mod Indexed
 pub mod Places
 pub mod Shown
 pub mod Slots

@@ -1,5 +1,5 @@
 -- Slots, newest first: after a slot stand the earlier ones. A slot is live, or lifted out of what the list shows.
-use Rattle.std.specs.Prelude.{ℕ, Bool, true, false, ◌&&◌, not, nat_eq, nat_le, nat_lt, List, [], ◌∷◌, map, find, length, slice_get, Option, Some, None, if◌then◌else◌}
+use Rattle.std.specs.Prelude.{ℕ, ◌<◌, ◌≤◌, Bool, true, false, ◌&&◌, not, nat_eq, nat_le, nat_lt, List, [], ◌∷◌, map, find, length, slice_get, slice_index_or, Option, Some, None, if◌then◌else◌}
 use Rattle.std.specs.List.{filter, filter_map, list_all}
 use Rattle.std.specs.Option.{option_and_then, option_map, option_map_or}
 use Rattle.blot_places.specs.declared.slots.Slot.{Slot}
@@ -59,3 +59,17 @@ module _ {T : Type 0} (number_of : T → ℕ) where
 
   abbrev pub is_below : ℕ → List (Slot T) → ℕ → Bool
   is_below number slots place = option_map_or (λ slot. nat_lt (number_of slot.item) number) (slice_get slots place) false
+
+  -- those of some places at which no item is numbered up to this number; and those at which an item is numbered below it
+  abbrev pub places_above : ℕ → List (Slot T) → List ℕ → List ℕ
+  places_above number slots places = filter (λ place. not (is_up_to number slots place)) places
+
+  abbrev pub places_below : ℕ → List (Slot T) → List ℕ → List ℕ
+  places_below number slots places = filter (is_below number slots) places
+
+  -- the slots before a place have numbers below this one, and no slot from it on has
+  abbrev pub AreBelow : ℕ → ℕ → List (Slot T) → Type 0
+  AreBelow number place slots = (k : ℕ) (d : Slot T) → k < place → number_of (slice_index_or slots k d).item < number
+
+  abbrev pub NoneBelow : ℕ → ℕ → List (Slot T) → Type 0
+  NoneBelow number place slots = (k : ℕ) (d : Slot T) → place ≤ k → k < length slots → number ≤ number_of (slice_index_or slots k d).item

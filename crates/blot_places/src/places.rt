@@ -1,6 +1,6 @@
 //! Stacks of places by key.
-ghost use Rattle.std.specs.Prelude.{◌≡◌, ◌∷◌, [], drop, false, reverse, OnOk, if◌then◌else◌};
-ghost use Rattle.blot_places.specs.Places.{HasRoom, places_in};
+ghost use Rattle.std.specs.Prelude.{◌≡◌, [], reverse, OnOk};
+ghost use Rattle.blot_places.specs.Places.{HasRoom, KeepsOtherRoom, KeepsRoom, PutsPlace, SamePlaces, TakesPlace, places_in};
 
 use indexmap::IndexMap;
 use std::alloc::{AllocError as NoMemory, Global};
@@ -35,9 +35,9 @@ impl<K: Eq + Hash + Copy> Places<K> {
 
     /// Makes room for one more place under a key. No place comes or goes, and an error is out of memory.
     pub fn make_room(&mut self, alloc: Global, key: &K) -> Result<(), NoMemory>
-        ensures same { (other : K) → places_in K.eq self.new other ≡ places_in K.eq self.old other }
+        ensures same { SamePlaces K.eq self.old self.new }
         ensures room { OnOk result (HasRoom K.eq self.new key.now) }
-        ensures kept { OnOk result ((other : K) → HasRoom K.eq self.old other → HasRoom K.eq self.new other) }
+        ensures kept { OnOk result (KeepsRoom K.eq self.old self.new) }
     {
         if let Some(cell) = self.cells.get_mut(key) {
             return cell.reserve(1);
@@ -51,10 +51,8 @@ impl<K: Eq + Hash + Copy> Places<K> {
     /// Puts a place on the stack of a key. No memory is taken.
     pub fn push(&mut self, key: &K, place: usize)
         requires room { HasRoom K.eq self.old key.now }
-        ensures places { (other : K)
-            → places_in K.eq self.new other
-            ≡ (if K.eq key.now other then place ∷ places_in K.eq self.old other else places_in K.eq self.old other) }
-        ensures kept { (other : K) → K.eq key.now other ≡ false → HasRoom K.eq self.old other → HasRoom K.eq self.new other }
+        ensures places { PutsPlace K.eq (K.eq key.now) place self.old self.new }
+        ensures kept { KeepsOtherRoom K.eq key.now self.old self.new }
     {
         let Some(cell) = self.cells.get_mut(key) else {
             unreachable!()
@@ -64,9 +62,7 @@ impl<K: Eq + Hash + Copy> Places<K> {
 
     /// Takes the newest place off the stack of a key, if there is one. No memory is taken.
     pub fn pop(&mut self, key: &K)
-        ensures { (other : K)
-            → places_in K.eq self.new other
-            ≡ (if K.eq key.now other then drop 1 (places_in K.eq self.old other) else places_in K.eq self.old other) }
+        ensures { TakesPlace K.eq (K.eq key.now) self.old self.new }
     {
         let Some(cell) = self.cells.get_mut(key) else {
             return;

@@ -1,9 +1,8 @@
 //! Slots, each with one item.
-ghost use Rattle.std.specs.Prelude.{◌≡◌, ℕ, ◌<◌, ◌≤◌, find, length, reverse, slice_index_or, IsTrue};
+ghost use Rattle.std.specs.Prelude.{◌≡◌, ◌≤◌, find, length, reverse, IsTrue};
 ghost use Rattle.std.specs.Option.{option_copied};
-ghost use Rattle.blot_places.specs.declared.slots.Slot.{Slot};
 ghost use Rattle.blot_places.specs.Shown.{item_at};
-ghost use Rattle.blot_places.specs.Slots.{is_live_at, items, live, live_item, mark, marked, newest_live, numbers_fall};
+ghost use Rattle.blot_places.specs.Slots.{AreBelow, NoneBelow, is_live_at, items, live, live_item, mark, marked, newest_live, numbers_fall};
 
 use blot_types::Numbered;
 
@@ -100,9 +99,8 @@ pub fn mark<T: Numbered>(slots: &mut [Slot<T>], number: u64, is_live: bool)
 fn place_of<T: Numbered>(slots: &[Slot<T>], number: u64) -> usize
     requires { IsTrue (numbers_fall T.number_of (items (reverse slots.now))) }
     ensures within { result ≤ length slots.now }
-    ensures below { (k : ℕ) (d : Slot T) → k < result → T.number_of (slice_index_or slots.now k d).item < number }
-    ensures above { (k : ℕ) (d : Slot T)
-        → result ≤ k → k < length slots.now → number ≤ T.number_of (slice_index_or slots.now k d).item }
+    ensures below { AreBelow T.number_of number result slots.now }
+    ensures above { NoneBelow T.number_of number result slots.now }
 {
     slots.partition_point(|slot| slot.item.number() < number)
 }

@@ -9,7 +9,7 @@ use Rattle.blot_types.specs.declared.keys.PositionKey.{PositionKey}
 use Rattle.blot_types.specs.Keys.{position_at, position_cmp}
 use Rattle.blot_types.proofs.KeyLemmas.{position_cmp-total}
 use Rattle.blot_position.specs.declared.sums.Sums.{Sums}
-use Rattle.blot_position.specs.Cells.{cells_in}
+use Rattle.blot_position.specs.Cells.{cells_in, sums_in}
 use Rattle.blot_position.specs.Positions.{same_position, sums_at, has_cell, with_cell}
 use Rattle.blot_position.specs.Sums.{no_parts}
 use Rattle.blot_position.proofs.PositionLemmas.{same_position-true, tied-same_position, get-insert, same_cells}
@@ -54,6 +54,14 @@ cells-written old new key sums written =
     get-cells_in new other ∙ written other
     ∙ ap (cond (same_key key other) (Some sums)) (sym (get-cells_in old other))
     ∙ sym (get-insert (cells_in old) key.account key.symbol a s sums))
+
+-- the sums of an entry that is there changed
+pub cells-changed :
+    (old new : List (PositionKey × Sums)) (key : PositionKey) (was now : Sums) (change : Sums → Sums) → lookup (same_key key) old ≡ Some was → now ≡ change was
+    → ((other : PositionKey) → lookup (same_key other) new ≡ cond (same_key key other) (Some now) (lookup (same_key other) old))
+    → cells_in new ≡ finite.insert (cells_in old) key (change (sums_in old key))
+cells-changed old new key was now change found is written =
+    cells-written old new key now written ∙ ap (finite.insert (cells_in old) key) (is ∙ ap change (sym (sums_at-found old key (Some was) found)))
 
 held : (found : Option Sums) → is_none found ≡ false → found ≡ Some (unwrap_or found no_parts)
 held None there = cc

@@ -1,8 +1,6 @@
 //! The cells in which the sums are stored, by position.
 ghost use Rattle.std.specs.Prelude.{◌≡◌, IsTrue, OnOk, OnErr};
-ghost use Rattle.std.specs.FinMap as map;
-ghost use Rattle.blot_position.specs.Cells.{cells_in};
-ghost use Rattle.blot_position.specs.Positions.{has_cell, with_cell, with_part, without_part, sums_at};
+ghost use Rattle.blot_position.specs.Cells.{added_in, cells_in, has_cell_in, opened_in, sums_in, taken_in};
 ghost use Rattle.blot_position.specs.Sums.{HasRoom, HasPart};
 
 use crate::Sums;
@@ -16,7 +14,7 @@ pub(crate) type Cells = IndexMap<PositionKey, Sums>;
 
 /// The sums of a position; without a cell those of no parts.
 pub(crate) fn sums_of(cells: &Cells, position: &PositionKey) -> Sums
-    ensures { result ≡ sums_at (cells_in cells.now.entries) position.now.account position.now.symbol }
+    ensures { result ≡ sums_in cells.now.entries position.now }
 {
     match cells.get(position) {
         Some(sums) => *sums,
@@ -26,7 +24,7 @@ pub(crate) fn sums_of(cells: &Cells, position: &PositionKey) -> Sums
 
 /// Makes a cell for a position that has none. An error leaves the cells as they were.
 pub(crate) fn make_cell(cells: &mut Cells, position: &PositionKey) -> Result<(), NoMemory>
-    ensures ok { OnOk result (cells_in cells.new.entries ≡ with_cell position.now.account position.now.symbol (cells_in cells.old.entries)) }
+    ensures ok { OnOk result (cells_in cells.new.entries ≡ opened_in position.now cells.old.entries) }
     ensures err { OnErr result (cells_in cells.new.entries ≡ cells_in cells.old.entries) }
 {
     if cells.get(position).is_none() {
@@ -37,30 +35,23 @@ pub(crate) fn make_cell(cells: &mut Cells, position: &PositionKey) -> Result<(),
 
 /// Adds a part to a position for which a cell was made.
 pub(crate) fn add_part(cells: &mut Cells, position: &PositionKey, qty: QtySum, value: Value)
-    requires made { IsTrue (has_cell (cells_in cells.old.entries) position.now.account position.now.symbol) }
-    requires room { HasRoom (sums_at (cells_in cells.old.entries) position.now.account position.now.symbol) qty value }
-    ensures { cells_in cells.new.entries ≡ with_part position.now.account position.now.symbol qty value (cells_in cells.old.entries) }
+    requires made { IsTrue (has_cell_in cells.old.entries position.now) }
+    requires room { HasRoom (sums_in cells.old.entries position.now) qty value }
+    ensures { cells_in cells.new.entries ≡ added_in position.now qty value cells.old.entries }
 {
-    let sums = sums_of(cells, position).with_part(qty, value);
-    set_sums(cells, position, sums);
+    match cells.get_mut(position) {
+        Some(sums) => *sums = sums.with_part(qty, value),
+        None => unreachable!(),
+    }
 }
 
 /// Takes a part of a position away. Its cell stays.
 pub(crate) fn sub_part(cells: &mut Cells, position: &PositionKey, qty: QtySum, value: Value)
-    requires { HasPart (sums_at (cells_in cells.old.entries) position.now.account position.now.symbol) qty value }
-    ensures { cells_in cells.new.entries ≡ without_part position.now.account position.now.symbol qty value (cells_in cells.old.entries) }
-{
-    let sums = sums_of(cells, position).without_part(qty, value);
-    set_sums(cells, position, sums);
-}
-
-// Gives a position for which a cell was made other sums.
-fn set_sums(cells: &mut Cells, position: &PositionKey, sums: Sums)
-    requires { IsTrue (has_cell (cells_in cells.old.entries) position.now.account position.now.symbol) }
-    ensures { cells_in cells.new.entries ≡ map.insert (cells_in cells.old.entries) position.now sums }
+    requires { HasPart (sums_in cells.old.entries position.now) qty value }
+    ensures { cells_in cells.new.entries ≡ taken_in position.now qty value cells.old.entries }
 {
     match cells.get_mut(position) {
-        Some(cell) => *cell = sums,
+        Some(sums) => *sums = sums.without_part(qty, value),
         None => unreachable!(),
     }
 }

@@ -18,10 +18,10 @@ use Rattle.blot_types.proofs.EntryLemmas.{links_of-push}
 use Rattle.blot_types.proofs.LegalLemmas.{is_book-front}
 use Rattle.blot_command.specs.Linking.{CanLink}
 use Rattle.blot_command.proofs.LiveLemmas.{can-link}
-use Rattle.blot_types.specs.Position.{part_of, part_of_fill}
+use Rattle.blot_types.specs.Position.{part_of_fill}
 use Rattle.blot_report.specs.declared.executions.Survivor.{Survivor}
-use Rattle.blot_report.specs.Day.{is_on, is_allocated_on, survivors_on, fills_on}
-use Rattle.blot_report.specs.Linked.{Standing, fill_in, part_in, standing_at, standing_by, standing_in, terms_by}
+use Rattle.blot_report.specs.Day.{is_on, is_allocated_on, survivors_on, survivor_parts_on, fills_on}
+use Rattle.blot_report.specs.Linked.{Standing, fill_in, fills_in, parts_in, standing_at, standing_by, standing_in, standings_by, standings_in, terms_among, terms_by}
 use Rattle.blot_report.proofs.WeightLemmas.{few-on}
 
 -- ---- the fronts of a book
@@ -84,7 +84,7 @@ standing-kept links instructions day (Some version) rest =
 
 standings-found :
     (links : List Link) (instructions : List Instruction) (day : ℤ) (list : List Entry)
-    → filter_map (λ entry. standing_by links instructions day (version_of entry)) list
+    → standings_by links instructions day list
     ≡ map (standing_at links instructions) (filter (is_on day) (filter (stands_in links) (filter_map version_of list)))
 standings-found links instructions day [] = refl
 standings-found links instructions day (entry ∷ list) =
@@ -94,7 +94,7 @@ standings-found links instructions day (entry ∷ list) =
 -- what is told of them, where the links and the instructions are those of the list
 told :
     (list : List Entry) (day : ℤ) (links : List Link) (instructions : List Instruction) → HoldsList list links instructions
-    → filter_map (λ entry. standing_by links instructions day (version_of entry)) list ≡ map (standing_at (links_of list) (instructions_of list)) (survivors_on list day)
+    → standings_by links instructions day list ≡ map (standing_at (links_of list) (instructions_of list)) (survivors_on list day)
 told list day links instructions holds =
     standings-found links instructions day list
     ∙ (λ i. map (standing_at (holds.links_are i) (holds.instructions_are i)) (filter (is_on day) (filter (stands_in (holds.links_are i)) (filter_map version_of list))))
@@ -106,13 +106,13 @@ mapped-twice f g (x ∷ xs) = ap (λ rest. f (g x) ∷ rest) (mapped-twice f g x
 -- the fills of survivors, and what they add to the positions
 pub fills-told :
     (list : List Entry) (day : ℤ) (links : List Link) (instructions : List Instruction) (survivors : List Survivor) → HoldsList list links instructions
-    → map standing_in survivors ≡ filter_map (λ entry. standing_by links instructions day (version_of entry)) list → map fill_in survivors ≡ fills_on list day
+    → standings_in survivors ≡ standings_by links instructions day list → fills_in survivors ≡ fills_on list day
 fills-told list day links instructions survivors holds is =
     sym (mapped-twice (λ (s : Standing). s.fill) standing_in survivors) ∙ ap (map (λ (s : Standing). s.fill)) (is ∙ told list day links instructions holds)
     ∙ mapped-twice (λ (s : Standing). s.fill) (standing_at (links_of list) (instructions_of list)) (survivors_on list day)
 
 -- they are few
-pub few-told : (list : List Entry) (day : ℤ) (survivors : List Survivor) → is_book list ≡ true → map fill_in survivors ≡ fills_on list day → length survivors ≤ EVENTS_MAX + 1
+pub few-told : (list : List Entry) (day : ℤ) (survivors : List Survivor) → is_book list ≡ true → fills_in survivors ≡ fills_on list day → length survivors ≤ EVENTS_MAX + 1
 few-told list day survivors book is =
     let filled = length-map survivors fill_in in
     let same = ap length is in
@@ -122,8 +122,8 @@ few-told list day survivors book is =
 
 pub parts-told :
     (list : List Entry) (day : ℤ) (links : List Link) (instructions : List Instruction) (survivors : List Survivor) → HoldsList list links instructions
-    → map standing_in survivors ≡ filter_map (λ entry. standing_by links instructions day (version_of entry)) list
-    → map part_in survivors ≡ map (part_of list) (survivors_on list day)
+    → standings_in survivors ≡ standings_by links instructions day list
+    → parts_in survivors ≡ survivor_parts_on list day
 parts-told list day links instructions survivors holds is =
     sym (mapped-twice (λ (s : Standing). part_of_fill s.is_named s.fill) standing_in survivors)
     ∙ ap (map (λ (s : Standing). part_of_fill s.is_named s.fill)) (is ∙ told list day links instructions holds)
@@ -154,7 +154,7 @@ terms-kept instructions day (Some a) rest =
 
 pub terms-found :
     (instructions : List Instruction) (day : ℤ) (list : List Entry)
-    → filter_map (λ entry. terms_by instructions day (allocation_of entry.command)) list
+    → terms_among instructions day list
     ≡ map (λ a. a.terms) (live_on instructions day (filter_map (λ entry. allocation_of entry.command) list))
 terms-found instructions day [] = refl
 terms-found instructions day (entry ∷ list) =

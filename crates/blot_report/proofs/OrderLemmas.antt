@@ -1,5 +1,5 @@
 -- The lines of orders as they grow, and the rows that they give.
-use Rattle.std.proofs.Common.{◌≡◌, ℕ, ◌+◌, ◌<◌, arith, true, List, [], ◌∷◌, ◌++◌, length, map, take, get_or, Some, refl, sym, ap, subst, ◌∙◌, inl, inr}
+use Rattle.std.proofs.Common.{◌≡◌, ℕ, ◌+◌, ◌<◌, arith, true, List, [], ◌∷◌, ◌++◌, length, take, get_or, Some, refl, sym, ap, subst, ◌∙◌, inl, inr}
 use Rattle.std.specs.Prelude.{if◌then◌else◌}
 use Rattle.std.specs.Cmp.Lexicographic.{same_text as text_told}
 use Rattle.std.specs.List.{cons_option, filter_map}
@@ -16,8 +16,8 @@ use Rattle.blot_types.specs.Order.{line_of, fills_of, with_fill, IsWithin}
 use Rattle.blot_types.proofs.OrderLemmas.{line_of-push, IsWithin-weaker}
 use Rattle.blot_report.specs.declared.executions.Survivor.{Survivor}
 use Rattle.blot_report.specs.Lines.{order_row}
-use Rattle.blot_report.specs.Linked.{fill_in}
-use Rattle.blot_report.specs.Orders.{line_at, with_line, AreLinesOf, line_row}
+use Rattle.blot_report.specs.Linked.{fill_in, fills_in}
+use Rattle.blot_report.specs.Orders.{line_at, with_line, AddsFill, AreLinesOf, GrowsByOne, line_rows}
 
 -- orders that the test calls one are equal
 same_order-true : (a b : OrderKey) → same_order a b ≡ true → a ≡ b
@@ -26,10 +26,6 @@ same_order-true a b same =
     let peers : a.peer ≡ b.peer = text_told a.peer b.peer (sym parts.0) in
     let ids : a.id ≡ b.id = text_told a.id b.id (sym parts.1) in
     λ i. record { peer = peers i; id = ids i }
-
--- the fills of survivors
-abbrev pub fills_in : List Survivor → List Fill
-fills_in survivors = map fill_in survivors
 
 one-fill : (fill : Fill) (order : OrderKey) → fills_of (fill ∷ []) order ≡ (if same_order fill.order order then fill ∷ [] else [])
 one-fill fill order =
@@ -67,7 +63,7 @@ pub record HoldsFirst (lines : List (OrderKey × OrderLine)) (survivors : List S
 -- one fill more, for every order
 few-more :
     (old : List (OrderKey × OrderLine)) (fill : Fill) (index : ℕ) (order : OrderKey) → ((order : OrderKey) → IsWithin index (line_at old order))
-    → ((n : ℕ) → IsWithin n (line_at old fill.order) → IsWithin (n + 1) (with_line fill old fill.order))
+    → GrowsByOne fill old
     → IsWithin (index + 1) (with_line fill old order)
 few-more old fill index order few grows =
     elim (cases_Bool (same_order fill.order order)) [
@@ -80,8 +76,7 @@ few-more old fill index order few grows =
 pub holds-more :
     (old new : List (OrderKey × OrderLine)) (survivors : List Survivor) (index : ℕ) (survivor : Survivor)
     → HoldsFirst old survivors index → index < length survivors → survivor ≡ get_or survivors index survivor
-    → ((order : OrderKey) → line_at new order ≡ with_line survivor.fill.now old order)
-    → ((n : ℕ) → IsWithin n (line_at old survivor.fill.now.order) → IsWithin (n + 1) (with_line survivor.fill.now old survivor.fill.now.order))
+    → AddsFill survivor.fill.now old new → GrowsByOne survivor.fill.now old
     → HoldsFirst new survivors (index + 1)
 holds-more old new survivors index survivor holds within is written grows =
     let next : take (index + 1) survivors ≡ take index survivors ++ survivor ∷ [] = rw is (take_more survivors index survivor within) in
@@ -105,8 +100,8 @@ pub holds-all : (lines : List (OrderKey × OrderLine)) (survivors : List Survivo
 holds-all lines survivors index holds all order = holds.are order ∙ ap (λ vs. line_of (fills_of (fills_in vs) order)) all
 
 -- the rows of lines are those of the fills
-pub rows-same : (lines : List (OrderKey × OrderLine)) (fills : List Fill) (keys : List OrderKey) → AreLinesOf lines fills → filter_map (line_row lines) keys ≡ filter_map (order_row fills) keys
+pub rows-same : (lines : List (OrderKey × OrderLine)) (fills : List Fill) (keys : List OrderKey) → AreLinesOf lines fills → line_rows lines keys ≡ filter_map (order_row fills) keys
 rows-same lines fills [] are = refl
 rows-same lines fills (key ∷ keys) are =
-    ap (λ o. cons_option (option_map (λ line. record { order = key; line = line }) o) (filter_map (line_row lines) keys)) (are key)
+    ap (λ o. cons_option (option_map (λ line. record { order = key; line = line }) o) (line_rows lines keys)) (are key)
     ∙ ap (cons_option (order_row fills key)) (rows-same lines fills keys are)

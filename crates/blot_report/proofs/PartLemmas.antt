@@ -11,10 +11,10 @@ use Rattle.blot_types.specs.declared.command.Entry.{Entry}
 use Rattle.blot_types.specs.declared.part.Part.{Part}
 use Rattle.blot_types.specs.declared.link.Link.{Link}
 use Rattle.blot_types.specs.Allocations.{Allocation, allocation_of}
-use Rattle.blot_types.specs.Position.{part_of_line, from_house, moves_of_line, moves_of, part_of, IsSmall, TermsFit}
+use Rattle.blot_types.specs.Position.{part_of_line, from_house, moves_of_line, moves_of, IsSmall, TermsFit}
 use Rattle.blot_types.specs.Legal.{HoldsList}
-use Rattle.blot_report.specs.Day.{survivors_on, allocations_on, day_parts_of}
-use Rattle.blot_report.specs.Linked.{terms_by}
+use Rattle.blot_report.specs.Day.{survivor_parts_on, allocations_on, day_parts_of}
+use Rattle.blot_report.specs.Linked.{moves_among, terms_among}
 use Rattle.blot_report.specs.Sums.{IsLight}
 use Rattle.blot_report.proofs.LinkedLemmas.{live_on, terms-found, flat-mapped}
 use Rattle.blot_report.proofs.ListLemmas.{behind, flat-more, found-more, flat_found-more}
@@ -79,24 +79,24 @@ all-unmapped P f (x ∷ xs) all =
 
 -- the instructions of a list tell which allocations are live
 terms-told : (list : List Entry) (day : ℤ) (links : List Link) (instructions : List Instruction) → HoldsList list links instructions
-    → filter_map (λ entry. terms_by instructions day (allocation_of entry.command)) list ≡ map (λ a. a.terms) (allocations_on list day)
+    → terms_among instructions day list ≡ map (λ a. a.terms) (allocations_on list day)
 terms-told list day links instructions holds =
     terms-found instructions day list ∙ ap (λ i. map (λ (a : Allocation). a.terms) (live_on i day (filter_map (λ (e : Entry). allocation_of e.command) list))) holds.instructions_are
 
 -- the parts of a day are put: those of its fills, and then the moves
 pub record ArePut (list : List Entry) (day : ℤ) (links : List Link) (instructions : List Instruction) (fills parts : List Part) : Type 0 where
   pub holds : HoldsList list links instructions
-  pub own : fills ≡ map (part_of list) (survivors_on list day)
-  pub put : parts ≡ fills ++ flat_map moves_of (filter_map (λ entry. terms_by instructions day (allocation_of entry.command)) list)
+  pub own : fills ≡ survivor_parts_on list day
+  pub put : parts ≡ fills ++ moves_among instructions day list
 
 pub parts-put : (list : List Entry) (day : ℤ) (links : List Link) (instructions : List Instruction) (fills parts : List Part) → ArePut list day links instructions fills parts
     → parts ≡ day_parts_of list day
 parts-put list day links instructions fills parts put =
     put.put ∙ (λ i. put.own i ++ flat_map moves_of (terms-told list day links instructions put.holds i))
-    ∙ ap (λ moves. map (part_of list) (survivors_on list day) ++ moves) (flat-mapped moves_of (λ (a : Allocation). a.terms) (allocations_on list day))
+    ∙ ap (λ moves. survivor_parts_on list day ++ moves) (flat-mapped moves_of (λ (a : Allocation). a.terms) (allocations_on list day))
 
 pub light-put : (list : List Entry) (day : ℤ) (links : List Link) (instructions : List Instruction) (fills parts : List Part) → ArePut list day links instructions fills parts
-    → All IsSmall fills → All TermsFit (filter_map (λ entry. terms_by instructions day (allocation_of entry.command)) list) → IsLight parts
+    → All IsSmall fills → All TermsFit (terms_among instructions day list) → IsLight parts
 light-put list day links instructions fills parts put small fit =
     subst IsLight (sym (parts-put list day links instructions fills parts put))
     (light-on list day put.holds.book (subst (All IsSmall) put.own small)

@@ -21,7 +21,7 @@ use Rattle.blot_command.proofs.ReachLemmas.{sizes}
 use Rattle.blot_command.proofs.WeightLemmas.{Light-list}
 use Rattle.blot_types.specs.declared.keys.PositionKey.{PositionKey}
 use Rattle.blot_report.specs.Lines.{position_row}
-use Rattle.blot_report.specs.Sums.{IsLight, cell_row}
+use Rattle.blot_report.specs.Sums.{IsLight, cell_row, cell_rows}
 use Rattle.blot_report.proofs.WeightLemmas.{weight-sizes}
 
 -- ---- parts added
@@ -82,7 +82,7 @@ mapped-same : {A B : Type 0} (f g : A → Option B) (xs : List A) → ((x : A) �
 mapped-same f g [] same = refl
 mapped-same f g (x ∷ xs) same = λ i. cons_option (same x i) (mapped-same f g xs same i)
 
-pub rows-carried : (parts : List Part) (cells : Cells) (keys : List PositionKey) → Carries (λ f. total f parts) cells → filter_map (cell_row cells) keys ≡ filter_map (position_row parts) keys
+pub rows-carried : (parts : List Part) (cells : Cells) (keys : List PositionKey) → Carries (λ f. total f parts) cells → cell_rows cells keys ≡ filter_map (position_row parts) keys
 rows-carried parts cells keys carried =
     mapped-same (cell_row cells) (position_row parts) keys
     (λ key. ap (option_map (λ line. record { position = key; line = line })) (line-carried parts cells key.account key.symbol carried))

@@ -1,5 +1,5 @@
 -- The parts of a day are light.
-use Rattle.std.proofs.Common.{◌≡◌, ◌+◌, ◌*◌, ◌^◌, ◌≤◌, arith, true, ℤ, List, [], ◌∷◌, ◌++◌, length, map, refl, ap, ◌∙◌}
+use Rattle.std.proofs.Common.{◌≡◌, ◌+◌, ◌*◌, ◌^◌, ◌≤◌, arith, true, ℤ, List, [], ◌∷◌, ◌++◌, length, refl, ap, ◌∙◌}
 use Rattle.std.specs.Prelude.{unsigned_abs, is_none, All}
 use Rattle.std.specs.List.{flat_map}
 use Rattle.std.proofs.lemmas.Bool.{and_parts}
@@ -19,7 +19,7 @@ use Rattle.blot_types.proofs.ChangeLemmas.{allocations_in}
 use Rattle.blot_command.proofs.ReadyLemmas.{few-live, few-survivors, length-filtered}
 use Rattle.blot_command.proofs.ReachLemmas.{sizes}
 use Rattle.blot_command.proofs.WeightLemmas.{AreBooked, AllBooked, all_booked}
-use Rattle.blot_report.specs.Day.{is_on, survivors_on, is_allocated_on, allocations_on, day_parts_of}
+use Rattle.blot_report.specs.Day.{is_on, survivors_on, survivor_parts_on, is_allocated_on, allocations_on, day_parts_of}
 use Rattle.blot_report.specs.Sums.{weight, IsLight}
 
 pub weight-sizes : (parts : List Part) → weight parts ≡ sizes parts
@@ -72,10 +72,10 @@ booked-on list day book fit =
     (All-filter (λ a. is_none (ended_in (instructions_of list) a.key)) BooksBlock (allocations_in list) (books_blocks list (and_parts _ _ book).1)))
 
 pub light-on :
-    (list : List Entry) (day : ℤ) → is_book list ≡ true → All IsSmall (map (part_of list) (survivors_on list day)) → All (λ a. TermsFit a.terms) (allocations_on list day)
+    (list : List Entry) (day : ℤ) → is_book list ≡ true → All IsSmall (survivor_parts_on list day) → All (λ a. TermsFit a.terms) (allocations_on list day)
     → IsLight (day_parts_of list day)
 light-on list day book small fit =
-    let fills = map (part_of list) (survivors_on list day) in
+    let fills = survivor_parts_on list day in
     let moves = moved (allocations_on list day) (booked-on list day book fit) in
     let lines = moves_all (allocations_on list day) in
     let versions = length-filtered (is_on day) (survivors list) in

@@ -35,15 +35,18 @@ allocations_on list day = filter (is_allocated_on day) (live_allocations list)
 abbrev pub fills_on : List Entry → ℤ → List Fill
 fills_on list day = map (λ version. version.fill) (survivors_on list day)
 
+-- what they add to the positions, each in the house account where any live allocation of the list names its chain
+abbrev pub survivor_parts_on : List Entry → ℤ → List Part
+survivor_parts_on list day = map (part_of list) (survivors_on list day)
+
 -- the line of an order on a day: that of the fills of the day's survivors; none without one
 abbrev pub day_order_of : List Entry → ℤ → OrderKey → Option OrderLine
 day_order_of list day order = line_of (fills_of (fills_on list day) order)
 
--- the parts of a day: those of its survivors, each in the house account where any live allocation of the list names its
--- chain, and those of the lines of its live allocations
+-- the parts of a day: those of its survivors, and those of the lines of its live allocations
 abbrev pub day_parts_of : List Entry → ℤ → List Part
 day_parts_of list day =
-    map (part_of list) (survivors_on list day) ++ flat_map (λ allocation. moves_of allocation.terms) (allocations_on list day)
+    survivor_parts_on list day ++ flat_map (λ allocation. moves_of allocation.terms) (allocations_on list day)
 
 -- the position of an account in a symbol on a day; none without a part
 abbrev pub day_position_of : List Entry → ℤ → List ℕ → List ℕ → Option PositionLine

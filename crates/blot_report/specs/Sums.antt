@@ -1,6 +1,6 @@
 -- How the parts of a day are summed, and how much they come to.
 use Rattle.std.specs.Prelude.{◌≡◌, ℕ, ◌≤◌, Bool, ◌&&◌, List, length, map, All, Option, unsigned_abs}
-use Rattle.std.specs.List.{list_any, sum_by}
+use Rattle.std.specs.List.{filter_map, list_any, sum_by}
 use Rattle.std.specs.Option.{option_map}
 use Rattle.blot_types.specs.declared.part.Part.{Part}
 use Rattle.blot_position.specs.Positions.{Cells, sums_at}
@@ -29,6 +29,10 @@ same_key a b = same_text a.account b.account && same_text a.symbol b.symbol
 -- the row of a position whose sums stand in a cell; none without a part
 abbrev pub cell_row : Cells → PositionKey → Option PositionRow
 cell_row cells position = option_map (λ line. record { position = position; line = line }) (line_by (sums_at cells position.account position.symbol))
+
+-- the rows of some positions, of those that have a part
+abbrev pub cell_rows : Cells → List PositionKey → List PositionRow
+cell_rows cells positions = filter_map (cell_row cells) positions
 
 -- keys are those of the positions that parts are of, in whatever order
 abbrev pub HasKeys : List PositionKey → List Part → Type 0

@@ -47,6 +47,10 @@ first_text day = word (codes "report") ++ day_text day ++ 10 ∷ []
 abbrev pub end_text : ℕ → List ℕ
 end_text count = word (codes "end") ++ decimal count ++ 10 ∷ []
 
+-- that of the lines of a day
+abbrev pub last_text : DayLines → List ℕ
+last_text lines = end_text (length lines.orders + length lines.positions)
+
 -- the lines of orders
 abbrev pub order_lines_text : List OrderRow → List ℕ
 order_lines_text rows = flat_map (λ row. order_text row.order row.line) rows
@@ -58,5 +62,4 @@ position_lines_text rows = flat_map (λ row. position_text row.position.account 
 -- the report of a day
 abbrev pub report_text : DayLines → List ℕ
 report_text lines =
-    first_text lines.day ++ order_lines_text lines.orders ++ position_lines_text lines.positions
-    ++ end_text (length lines.orders + length lines.positions)
+    first_text lines.day ++ order_lines_text lines.orders ++ position_lines_text lines.positions ++ last_text lines

@@ -1,11 +1,8 @@
 //! The executions that stand on a day.
-ghost use Rattle.std.specs.Prelude.{◌≡◌, map, Some, IfOk};
+ghost use Rattle.std.specs.Prelude.{◌≡◌, IfOk};
 ghost use Rattle.std.specs.Option.{option_map};
-ghost use Rattle.blot_types.specs.Position.{part_of};
-ghost use Rattle.blot_types.specs.Survivors.{version_of};
-ghost use Rattle.blot_types.specs.Legal.{HoldsList};
-ghost use Rattle.blot_report.specs.Day.{survivors_on, fills_on};
-ghost use Rattle.blot_report.specs.Linked.{fill_in, part_in, standing_in, standing_of, standing_by, standings_by};
+ghost use Rattle.blot_report.specs.Day.{survivor_parts_on, fills_on};
+ghost use Rattle.blot_report.specs.Linked.{AreBrought, IsLinkedOf, fills_in, parts_in, standing_fill, standing_from, standing_in};
 
 use crate::linked::Linked;
 use crate::pieces::{PIECE, joined};
@@ -29,9 +26,9 @@ pub(crate) fn survivors_on<'a>(
     linked: &Linked,
     day: Day,
 ) -> Result<Vec<Survivor<'a>>, NoMemory>
-    requires { HoldsList entries.now linked.now.chains.list linked.now.allocs.list }
-    ensures fills { IfOk result (λ survivors. map fill_in survivors.items ≡ fills_on entries.now day) }
-    ensures parts { IfOk result (λ survivors. map part_in survivors.items ≡ map (part_of entries.now) (survivors_on entries.now day)) }
+    requires { IsLinkedOf entries.now linked.now }
+    ensures fills { IfOk result (λ survivors. fills_in survivors.items ≡ fills_on entries.now day) }
+    ensures parts { IfOk result (λ survivors. parts_in survivors.items ≡ survivor_parts_on entries.now day) }
 {
     survivors_among(alloc, entries, linked, day)
 }
@@ -44,9 +41,9 @@ pub(crate) fn survivors_in_pieces<'a, R: Threads + Sync>(
     linked: &Linked,
     day: Day,
 ) -> Result<Vec<Survivor<'a>>, NoMemory>
-    requires { HoldsList entries.now linked.now.chains.list linked.now.allocs.list }
-    ensures fills { IfOk result (λ survivors. map fill_in survivors.items ≡ fills_on entries.now day) }
-    ensures parts { IfOk result (λ survivors. map part_in survivors.items ≡ map (part_of entries.now) (survivors_on entries.now day)) }
+    requires { IsLinkedOf entries.now linked.now }
+    ensures fills { IfOk result (λ survivors. fills_in survivors.items ≡ fills_on entries.now day) }
+    ensures parts { IfOk result (λ survivors. parts_in survivors.items ≡ survivor_parts_on entries.now day) }
 {
     survivors_by_worker(rt, alloc, entries, linked, day)
 }
@@ -59,15 +56,13 @@ fn survivors_by_worker<'a, R: Threads + Sync>(
     linked: &Linked,
     day: Day,
 ) -> Result<Vec<Survivor<'a>>, NoMemory>
-    ensures { IfOk result (λ survivors. map standing_in survivors.items
-        ≡ standings_by linked.now.chains.list linked.now.allocs.list day entries.now) }
+    ensures { IfOk result (λ survivors. AreBrought linked.now day entries.now survivors.items) }
 {
     let pieces = entries
         .par_chunks(PIECE)
         .map(
             |piece: &[Entry]| -> Result<Vec<Survivor<'_>>, NoMemory>
-                ensures { IfOk result (λ survivors. map standing_in survivors.items
-                    ≡ standings_by linked.entry.now.chains.list linked.entry.now.allocs.list day piece.now) }
+                ensures { IfOk result (λ survivors. AreBrought linked.entry.now day piece.now survivors.items) }
             { survivors_among(alloc, piece, linked, day) },
         )
         .collect::<Result<Vec<Vec<Survivor<'a>>>, NoMemory>>(rt, alloc)??;
@@ -81,8 +76,7 @@ fn survivors_among<'a>(
     linked: &Linked,
     day: Day,
 ) -> Result<Vec<Survivor<'a>>, NoMemory>
-    ensures { IfOk result (λ survivors. map standing_in survivors.items
-        ≡ standings_by linked.now.chains.list linked.now.allocs.list day entries.now) }
+    ensures { IfOk result (λ survivors. AreBrought linked.now day entries.now survivors.items) }
 {
     let mut survivors = Vec::new(alloc);
     for entry in entries {
@@ -95,7 +89,7 @@ fn survivors_among<'a>(
 
 // The one that an entry brings, where it is of the day and stands.
 fn survivor_by<'a>(linked: &Linked, entry: &'a Entry, day: Day) -> Option<Survivor<'a>>
-    ensures { option_map standing_in result ≡ standing_by linked.now.chains.list linked.now.allocs.list day (version_of entry.now) }
+    ensures { option_map standing_in result ≡ standing_from linked.now day entry.now }
 {
     match &entry.command {
         Command::Trade(trade) => standing_fill(linked, entry.number, &trade.key, &trade.fill, day),
@@ -119,8 +113,7 @@ fn standing_fill<'a>(
     fill: &'a Fill,
     day: Day,
 ) -> Option<Survivor<'a>>
-    ensures { option_map standing_in result
-        ≡ standing_of linked.now.chains.list linked.now.allocs.list day (record { number = number; key = key.now; fill = fill.now }) }
+    ensures { option_map standing_in result ≡ standing_fill linked.now day number key.now fill.now }
 {
     if fill.day != day {
         return None;

@@ -3,8 +3,9 @@ ghost use Rattle.std.specs.Prelude.{◌≡◌, Some, IsTrue, IfOk, is_none};
 ghost use Rattle.blot_types.specs.Chains.{root_in};
 ghost use Rattle.blot_types.specs.Instructions.{ended_in, named_in};
 ghost use Rattle.blot_types.specs.Keys.{is_among};
-ghost use Rattle.blot_types.specs.Legal.{is_book, HoldsList};
+ghost use Rattle.blot_types.specs.Legal.{is_book};
 ghost use Rattle.blot_types.specs.Survivors.{stands_under};
+ghost use Rattle.blot_report.specs.Linked.{IsLinkedOf};
 
 use blot_alloc::Allocs;
 use blot_chain::Chains;
@@ -23,7 +24,7 @@ impl Linked {
     /// The chains and the allocations of these entries. An error is out of memory.
     pub(crate) fn of(alloc: Global, entries: &[Entry]) -> Result<Linked, NoMemory>
         requires { IsTrue (is_book entries.now) }
-        ensures { IfOk result (λ linked. HoldsList entries.now linked.chains.list linked.allocs.list) }
+        ensures { IfOk result (λ linked. IsLinkedOf entries.now linked) }
     {
         let mut chains = Chains::new(alloc);
         let mut allocs = Allocs::new(alloc);

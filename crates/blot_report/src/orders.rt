@@ -1,14 +1,12 @@
 //! The rows of orders.
-ghost use Rattle.std.specs.Prelude.{◌≡◌, ℕ, ◌+◌, ◌≤◌, List, length, map, IfOk, OnOk};
-ghost use Rattle.std.specs.List.{filter_map, IsDistinct};
+ghost use Rattle.std.specs.Prelude.{◌≡◌, ◌+◌, ◌≤◌, length, IfOk, OnOk};
+ghost use Rattle.std.specs.List.{IsDistinct};
 ghost use Rattle.std.specs.Map.{keys_of};
-ghost use Rattle.blot_types.specs.declared.fill.Fill.{Fill};
-ghost use Rattle.blot_types.specs.declared.keys.OrderKey.{OrderKey};
 ghost use Rattle.blot_types.specs.Keys.{same_order};
 ghost use Rattle.blot_types.specs.Order.{IsWithin};
-ghost use Rattle.blot_report.specs.Lines.{orders_among, order_rows};
-ghost use Rattle.blot_report.specs.Linked.{fill_in};
-ghost use Rattle.blot_report.specs.Orders.{line_at, line_row, with_line, AreLinesOf};
+ghost use Rattle.blot_report.specs.Lines.{order_rows};
+ghost use Rattle.blot_report.specs.Linked.{fills_in};
+ghost use Rattle.blot_report.specs.Orders.{line_at, line_row, line_rows, AddsFill, AreLinesOf, AreOrdersOf, GrowsByOne};
 
 use crate::OrderRow;
 use crate::executions::Survivor;
@@ -27,7 +25,7 @@ pub(crate) fn order_rows(
     survivors: &[Survivor<'_>],
 ) -> Result<Vec<OrderRow>, NoMemory>
     requires { length survivors.now ≤ EVENTS_MAX + 1 }
-    ensures { IfOk result (λ rows. rows.items ≡ order_rows (map fill_in survivors.now)) }
+    ensures { IfOk result (λ rows. rows.items ≡ order_rows (fills_in survivors.now)) }
 {
     let lines = lines_of(alloc, survivors)?;
     let keys = sorted_orders(alloc, &lines)?;
@@ -41,7 +39,7 @@ pub(crate) fn order_rows_in_pieces<R: Threads + Sync>(
     survivors: &[Survivor<'_>],
 ) -> Result<Vec<OrderRow>, NoMemory>
     requires { length survivors.now ≤ EVENTS_MAX + 1 }
-    ensures { IfOk result (λ rows. rows.items ≡ order_rows (map fill_in survivors.now)) }
+    ensures { IfOk result (λ rows. rows.items ≡ order_rows (fills_in survivors.now)) }
 {
     let lines = lines_of(alloc, survivors)?;
     let keys = sorted_orders(alloc, &lines)?;
@@ -55,14 +53,14 @@ fn rows_in_pieces<R: Threads + Sync>(
     lines: &Lines,
     keys: &[OrderKey],
 ) -> Result<Vec<OrderRow>, NoMemory>
-    ensures { IfOk result (λ rows. rows.items ≡ filter_map (line_row lines.now.entries) keys.now) }
+    ensures { IfOk result (λ rows. rows.items ≡ line_rows lines.now.entries keys.now) }
 {
     in_pieces(
         rt,
         alloc,
         keys,
         |piece: &[OrderKey]| -> Result<Vec<OrderRow>, NoMemory>
-            ensures { IfOk result (λ rows. rows.items ≡ filter_map (line_row lines.entry.now.entries) piece.now) }
+            ensures { IfOk result (λ rows. rows.items ≡ line_rows lines.entry.now.entries piece.now) }
         { rows_of(alloc, lines, piece) },
     )
 }
@@ -70,7 +68,7 @@ fn rows_in_pieces<R: Threads + Sync>(
 // The lines of the orders that survivors fill.
 fn lines_of(alloc: Global, survivors: &[Survivor<'_>]) -> Result<Lines, NoMemory>
     requires { length survivors.now ≤ EVENTS_MAX + 1 }
-    ensures { IfOk result (λ lines. AreLinesOf lines.entries (map fill_in survivors.now)) }
+    ensures { IfOk result (λ lines. AreLinesOf lines.entries (fills_in survivors.now)) }
 {
     let mut lines = IndexMap::new(alloc);
     for survivor in survivors {
@@ -82,8 +80,8 @@ fn lines_of(alloc: Global, survivors: &[Survivor<'_>]) -> Result<Lines, NoMemory
 // Adds a fill to the line of its order.
 fn add_fill(lines: &mut Lines, fill: &Fill) -> Result<(), NoMemory>
     requires { IsWithin EVENTS_MAX (line_at lines.old.entries fill.now.order) }
-    ensures lines { OnOk result ((order : OrderKey) → line_at lines.new.entries order ≡ with_line fill.now lines.old.entries order) }
-    ensures grows { (n : ℕ) → IsWithin n (line_at lines.old.entries fill.now.order) → IsWithin (n + 1) (with_line fill.now lines.old.entries fill.now.order) }
+    ensures lines { OnOk result (AddsFill fill.now lines.old.entries lines.new.entries) }
+    ensures grows { GrowsByOne fill.now lines.old.entries }
 {
     let line = OrderLine::with_fill(line_of(lines, &fill.order), fill);
     lines.insert(fill.order, line)?;
@@ -99,7 +97,7 @@ fn line_of(lines: &Lines, order: &OrderKey) -> Option<OrderLine>
 
 // The orders that have a line, sorted.
 fn sorted_orders(alloc: Global, lines: &Lines) -> Result<Vec<OrderKey>, NoMemory>
-    ensures { IfOk result (λ keys. (fills : List Fill) → AreLinesOf lines.now.entries fills → keys.items ≡ orders_among fills) }
+    ensures { IfOk result (λ keys. AreOrdersOf lines.now.entries keys.items) }
 {
     let mut keys = orders_of(alloc, lines)?;
     keys.sort_unstable();
@@ -116,7 +114,7 @@ fn orders_of(alloc: Global, lines: &Lines) -> Result<Vec<OrderKey>, NoMemory>
 
 // The rows of some orders: one for each that has a line.
 fn rows_of(alloc: Global, lines: &Lines, keys: &[OrderKey]) -> Result<Vec<OrderRow>, NoMemory>
-    ensures { IfOk result (λ rows. rows.items ≡ filter_map (line_row lines.now.entries) keys.now) }
+    ensures { IfOk result (λ rows. rows.items ≡ line_rows lines.now.entries keys.now) }
 {
     let mut rows = Vec::new(alloc);
     for order in keys {

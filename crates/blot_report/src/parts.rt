@@ -1,12 +1,9 @@
 //! What the executions and the allocations of a day add to the positions.
-ghost use Rattle.std.specs.Prelude.{◌≡◌, ◌++◌, map, All, IfOk, OnOk};
-ghost use Rattle.std.specs.List.{filter_map, flat_map};
+ghost use Rattle.std.specs.Prelude.{◌≡◌, ◌++◌, All, IfOk, OnOk};
 ghost use Rattle.std.specs.Option.{option_copied};
-ghost use Rattle.blot_types.specs.Allocations.{allocation_of};
-ghost use Rattle.blot_types.specs.Position.{moves_of, part_of, IsSmall, TermsFit};
-ghost use Rattle.blot_types.specs.Legal.{HoldsList};
-ghost use Rattle.blot_report.specs.Day.{survivors_on, day_parts_of};
-ghost use Rattle.blot_report.specs.Linked.{part_in, is_live_on, terms_by};
+ghost use Rattle.blot_types.specs.Position.{moves_of, IsSmall, TermsFit};
+ghost use Rattle.blot_report.specs.Day.{survivor_parts_on, day_parts_of};
+ghost use Rattle.blot_report.specs.Linked.{IsLinkedOf, is_live_on, moves_among, parts_in, terms_among, terms_on};
 ghost use Rattle.blot_report.specs.Sums.{IsLight};
 
 use crate::executions::Survivor;
@@ -24,8 +21,8 @@ pub(crate) fn parts_on(
     survivors: &[Survivor<'_>],
     day: Day,
 ) -> Result<Vec<Part>, NoMemory>
-    requires book { HoldsList entries.now linked.now.chains.list linked.now.allocs.list }
-    requires survivors { map part_in survivors.now ≡ map (part_of entries.now) (survivors_on entries.now day) }
+    requires book { IsLinkedOf entries.now linked.now }
+    requires survivors { parts_in survivors.now ≡ survivor_parts_on entries.now day }
     ensures parts { IfOk result (λ parts. parts.items ≡ day_parts_of entries.now day) }
     ensures light { IfOk result (λ parts. IsLight parts.items) }
 {
@@ -37,8 +34,8 @@ pub(crate) fn parts_on(
 
 // Puts what survivors add after other parts.
 fn put_fills(parts: &mut Vec<Part>, survivors: &[Survivor<'_>]) -> Result<(), NoMemory>
-    ensures parts { OnOk result (parts.new.items ≡ parts.old.items ++ map part_in survivors.now) }
-    ensures small { OnOk result (All IsSmall (map part_in survivors.now)) }
+    ensures parts { OnOk result (parts.new.items ≡ parts.old.items ++ parts_in survivors.now) }
+    ensures small { OnOk result (All IsSmall (parts_in survivors.now)) }
 {
     for survivor in survivors {
         parts.push(Part::of_fill(survivor.is_named, survivor.fill))?;
@@ -53,9 +50,8 @@ fn put_allocations(
     entries: &[Entry],
     day: Day,
 ) -> Result<(), NoMemory>
-    ensures parts { OnOk result (parts.new.items ≡ parts.old.items
-        ++ flat_map moves_of (filter_map (λ entry. terms_by linked.now.allocs.list day (allocation_of entry.command)) entries.now)) }
-    ensures fit { OnOk result (All TermsFit (filter_map (λ entry. terms_by linked.now.allocs.list day (allocation_of entry.command)) entries.now)) }
+    ensures parts { OnOk result (parts.new.items ≡ parts.old.items ++ moves_among linked.now.allocs.list day entries.now) }
+    ensures fit { OnOk result (All TermsFit (terms_among linked.now.allocs.list day entries.now)) }
 {
     for entry in entries {
         if let Some(terms) = terms_on(linked, entry, day) {
@@ -67,7 +63,7 @@ fn put_allocations(
 
 // The terms of the allocation that an entry brings, where it is of the day and live.
 fn terms_on<'a>(linked: &Linked, entry: &'a Entry, day: Day) -> Option<&'a Terms>
-    ensures { option_copied result ≡ terms_by linked.now.allocs.list day (allocation_of entry.now.command) }
+    ensures { option_copied result ≡ terms_on linked.now.allocs.list day entry.now }
 {
     match &entry.command {
         Command::AllocNew(new) if is_live_on(linked, &new.key, &new.terms, day) => Some(&new.terms),

@@ -1,10 +1,10 @@
 //! The rows of positions.
 ghost use Rattle.std.specs.Prelude.{◌≡◌, IfOk};
-ghost use Rattle.std.specs.List.{filter_map, IsDistinct};
+ghost use Rattle.std.specs.List.{IsDistinct};
 ghost use Rattle.blot_types.specs.Order.{total};
 ghost use Rattle.blot_position.specs.Carried.{Carries};
 ghost use Rattle.blot_report.specs.Lines.{position_key, positions_among, position_rows};
-ghost use Rattle.blot_report.specs.Sums.{IsLight, HasKeys, cell_row, same_key};
+ghost use Rattle.blot_report.specs.Sums.{IsLight, HasKeys, cell_row, cell_rows, same_key};
 
 use crate::PositionRow;
 use crate::pieces::in_pieces;
@@ -45,14 +45,14 @@ fn rows_in_pieces<R: Threads + Sync>(
     positions: &Positions,
     keys: &[PositionKey],
 ) -> Result<Vec<PositionRow>, NoMemory>
-    ensures { IfOk result (λ rows. rows.items ≡ filter_map (cell_row positions.now) keys.now) }
+    ensures { IfOk result (λ rows. rows.items ≡ cell_rows positions.now keys.now) }
 {
     in_pieces(
         rt,
         alloc,
         keys,
         |piece: &[PositionKey]| -> Result<Vec<PositionRow>, NoMemory>
-            ensures { IfOk result (λ rows. rows.items ≡ filter_map (cell_row positions.entry.now) piece.now) }
+            ensures { IfOk result (λ rows. rows.items ≡ cell_rows positions.entry.now piece.now) }
         { rows_of(alloc, positions, piece) },
     )
 }
@@ -114,7 +114,7 @@ fn rows_of(
     positions: &Positions,
     keys: &[PositionKey],
 ) -> Result<Vec<PositionRow>, NoMemory>
-    ensures { IfOk result (λ rows. rows.items ≡ filter_map (cell_row positions.now) keys.now) }
+    ensures { IfOk result (λ rows. rows.items ≡ cell_rows positions.now keys.now) }
 {
     let mut rows = Vec::new(alloc);
     for position in keys {

@@ -1,6 +1,6 @@
 //! The text of a report.
-ghost use Rattle.std.specs.Prelude.{◌≡◌, ◌+◌, ◌++◌, length, IfOk, OnOk};
-ghost use Rattle.blot_report.specs.Text.{word, sign_text, order_amounts, order_text, position_amounts, position_text, first_text, end_text, order_lines_text, position_lines_text, report_text};
+ghost use Rattle.std.specs.Prelude.{◌≡◌, ◌++◌, IfOk, OnOk};
+ghost use Rattle.blot_report.specs.Text.{word, sign_text, order_amounts, order_text, position_amounts, position_text, first_text, last_text, order_lines_text, position_lines_text, report_text};
 
 use crate::{DayLines, OrderRow, PositionRow};
 use blot_time::Day;
@@ -120,7 +120,7 @@ fn put_first_line(text: &mut Vec<u8>, day: Day) -> Result<(), NoMemory>
 
 // Puts the last line of a report after a text.
 fn put_end_line(numbers: &mut String, text: &mut Vec<u8>, lines: &DayLines) -> Result<(), NoMemory>
-    ensures { OnOk result (text.new.items ≡ text.old.items ++ end_text (length lines.now.orders + length lines.now.positions)) }
+    ensures { OnOk result (text.new.items ≡ text.old.items ++ last_text lines.now) }
 {
     let count = lines.orders.as_slice().len() + lines.positions.as_slice().len();
     put_word(text, b"end")?;

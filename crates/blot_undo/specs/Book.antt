@@ -1,5 +1,5 @@
 -- What taking, undoing and redoing steps means, for any type of command. Steps stand newest first.
-use Rattle.std.specs.Prelude.{ℕ, zero, suc, ◌+◌, List, [], ◌∷◌, Option, Some, None}
+use Rattle.std.specs.Prelude.{◌≡◌, ℕ, zero, suc, ◌+◌, List, [], ◌∷◌, Option, Some, None}
 use Rattle.std.specs.List.{cons_option}
 use Rattle.std.specs.Option.{option_map}
 use Rattle.blot_command.specs.Undoable.{Meaning}
@@ -24,6 +24,13 @@ pub record Book (L C I : Type 0) : Type 0 where
 -- the book of a stack: the list that its state shows
 abbrev pub book_of : {S L C I R : Type 0} → Meaning S L C I R → Stack S C I → Book L C I
 book_of m stack = record { list = m.list_of stack.state; done = stack.done; undone = stack.undone; next = stack.next }
+
+-- the list that a stack's state shows, and whether it accepts a command
+abbrev pub list_in : {S L C I R : Type 0} → Meaning S L C I R → Stack S C I → L
+list_in m stack = m.list_of stack.state
+
+abbrev pub Accepts : {S L C I R : Type 0} → Meaning S L C I R → Stack S C I → C → Type 0
+Accepts m stack command = m.refused (list_in m stack) command ≡ None
 
 -- the book after a command that its list accepts: the command is done under the next number, and no step is undone
 abbrev pub apply_of : {S L C I R : Type 0} → Meaning S L C I R → Book L C I → C → Book L C I
@@ -82,6 +89,23 @@ abbrev pub past : {S L C I R : Type 0} → Meaning S L C I R → L → List (Don
 past m list done zero = list
 past m list [] (suc count) = list
 past m list (step ∷ earlier) (suc count) = past m (m.before list step.inverse) earlier count
+
+-- the same of a stack: its book with a command done, with its newest step undone, with the step that was undone last done again, and
+-- with a count of steps undone; and the list that stood a count of done steps before its own
+abbrev pub book_with : {S L C I R : Type 0} → Meaning S L C I R → Stack S C I → C → Book L C I
+book_with m stack command = apply_of m (book_of m stack) command
+
+abbrev pub book_undone : {S L C I R : Type 0} → Meaning S L C I R → Stack S C I → Book L C I
+book_undone m stack = undo_of m (book_of m stack)
+
+abbrev pub book_redone : {S L C I R : Type 0} → Meaning S L C I R → Stack S C I → Book L C I
+book_redone m stack = redo_of m (book_of m stack)
+
+abbrev pub book_rewound : {S L C I R : Type 0} → Meaning S L C I R → ℕ → Stack S C I → Book L C I
+book_rewound m count stack = rewound m count (book_of m stack)
+
+abbrev pub list_before : {S L C I R : Type 0} → Meaning S L C I R → ℕ → Stack S C I → L
+list_before m count stack = past m (list_in m stack) stack.done count
 
 -- the number of a done step
 abbrev pub done_number : {I : Type 0} → Done I → ℕ

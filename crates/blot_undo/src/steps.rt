@@ -1,7 +1,7 @@
 //! The stack of steps.
-ghost use Rattle.std.specs.Prelude.{◌≡◌, ℕ, ◌≤◌, ◌+◌, [], None, IsTrue, ◌↔◌, IfOk, IfErr, OnOk, OnErr, length, vec_capacity};
+ghost use Rattle.std.specs.Prelude.{◌≡◌, ◌≤◌, ◌+◌, [], IsTrue, ◌↔◌, IfOk, IfErr, OnOk, OnErr, length, vec_capacity};
 ghost use Rattle.blot_command.specs.Undoable.{numbers_in};
-ghost use Rattle.blot_undo.specs.Book.{book_of, apply_of, undo_of, redo_of, rewound, past, newest_done, newest_undone};
+ghost use Rattle.blot_undo.specs.Book.{Accepts, book_of, book_redone, book_rewound, book_undone, book_with, list_before, list_in, newest_done, newest_undone};
 ghost use Rattle.blot_undo.specs.Laws.{LeadTo, GoesBack, RoundTrips};
 ghost use Rattle.blot_undo.specs.Faults.{IsFault};
 
@@ -66,7 +66,7 @@ impl<C: Undoable> Steps<C> {
         ensures count { result ≡ length self.now.done }
 
         // Each done step led from the list before it to the list after it.
-        ensures lead { LeadTo C.meaning self.now.done (C.meaning.list_of self.now.state) }
+        ensures lead { LeadTo C.meaning self.now.done (list_in C.meaning self.now) }
 
         // Any count of them undone, and as many redone, give the book as it is.
         ensures round_trip { RoundTrips C.meaning (book_of C.meaning self.now) }
@@ -103,10 +103,10 @@ impl<C: Undoable> Steps<C> {
     pub fn apply(&mut self, command: C) -> Result<u64, StepFault<C>>
         requires { self.old.next ≤ EVENTS_MAX }
         ensures number { IfOk result (λ number. number ≡ self.old.next) }
-        ensures accepted { OnOk result (C.meaning.refused (C.meaning.list_of self.old.state) command ≡ None) }
-        ensures taken { OnOk result (book_of C.meaning self.new ≡ apply_of C.meaning (book_of C.meaning self.old) command) }
-        ensures before { OnOk result (past C.meaning (C.meaning.list_of self.new.state) self.new.done 1 ≡ C.meaning.list_of self.old.state) }
-        ensures fault { IfErr result (IsFault C.meaning (C.meaning.list_of self.old.state) command) }
+        ensures accepted { OnOk result (Accepts C.meaning self.old command) }
+        ensures taken { OnOk result (book_of C.meaning self.new ≡ book_with C.meaning self.old command) }
+        ensures before { OnOk result (list_before C.meaning 1 self.new ≡ list_in C.meaning self.old) }
+        ensures fault { IfErr result (IsFault C.meaning (list_in C.meaning self.old) command) }
         ensures err { OnErr result (book_of C.meaning self.new ≡ book_of C.meaning self.old) }
     {
         let number = self.next;
@@ -126,7 +126,7 @@ impl<C: Undoable> Steps<C> {
     /// Takes the newest done step back and answers its number, or none where no step is done. No memory is
     /// taken.
     pub fn undo(&mut self) -> Option<u64>
-        ensures book { book_of C.meaning self.new ≡ undo_of C.meaning (book_of C.meaning self.old) }
+        ensures book { book_of C.meaning self.new ≡ book_undone C.meaning self.old }
         ensures number { result ≡ newest_done self.old.done }
     {
         let Some(step) = self.done.pop() else {
@@ -141,7 +141,7 @@ impl<C: Undoable> Steps<C> {
     /// Takes the step that was undone last again, under its old number, which it answers, or none where no
     /// step is undone. Where memory runs out the step stays undone.
     pub fn redo(&mut self) -> Result<Option<u64>, NoMemory>
-        ensures book { OnOk result (book_of C.meaning self.new ≡ redo_of C.meaning (book_of C.meaning self.old)) }
+        ensures book { OnOk result (book_of C.meaning self.new ≡ book_redone C.meaning self.old) }
         ensures number { IfOk result (λ number. number ≡ newest_undone self.old.undone) }
         ensures err { OnErr result (book_of C.meaning self.new ≡ book_of C.meaning self.old) }
     {
@@ -167,7 +167,7 @@ impl<C: Undoable> Steps<C> {
     /// Undoes a number of steps, newest first. No memory is taken.
     pub fn rewind(&mut self, count: usize)
         requires { count ≤ length self.old.done }
-        ensures book { book_of C.meaning self.new ≡ rewound C.meaning count (book_of C.meaning self.old) }
+        ensures book { book_of C.meaning self.new ≡ book_rewound C.meaning count self.old }
         ensures back { GoesBack C.meaning count (book_of C.meaning self.old) (book_of C.meaning self.new) }
     {
         // What the stack keeps is known once a field is looked at.
@@ -182,8 +182,10 @@ impl<C: Undoable> Steps<C> {
 fn make_room<I, C>(done: &mut Vec<Done<I>>, undone: &mut Vec<Undone<C>>) -> Result<(), NoMemory>
     ensures done { done.new.items ≡ done.old.items }
     ensures undone { undone.new.items ≡ undone.old.items }
-    ensures kept { (vec_capacity done.old ≤ vec_capacity done.new) × (vec_capacity undone.old ≤ vec_capacity undone.new) }
-    ensures ok { OnOk result ((length done.new.items + 1 ≤ vec_capacity done.new) × (length done.new.items + 1 ≤ vec_capacity undone.new)) }
+    ensures done_kept { vec_capacity done.old ≤ vec_capacity done.new }
+    ensures undone_kept { vec_capacity undone.old ≤ vec_capacity undone.new }
+    ensures done_room { OnOk result (length done.new.items + 1 ≤ vec_capacity done.new) }
+    ensures undone_room { OnOk result (length done.new.items + 1 ≤ vec_capacity undone.new) }
 {
     done.reserve(1)?;
     undone.reserve(done.capacity())

@@ -6,7 +6,10 @@ use Rattle.blot_types.specs.declared.command.Command.{Command}
 use Rattle.blot_types.specs.declared.command.Command.TheVariants.{Trade, Correct, Bust, AllocNew, AllocReplace, AllocCancel, Withdraw}
 use Rattle.blot_types.specs.declared.command.Entry.{Entry}
 use Rattle.blot_types.specs.declared.keys.ExecKey.{ExecKey}
+use Rattle.blot_types.specs.declared.keys.OrderKey.{OrderKey}
 use Rattle.blot_types.specs.Chains.{is_root, bust_in}
+use Rattle.blot_types.specs.Order.{order_of}
+use Rattle.blot_types.specs.Position.{position_of}
 use Rattle.blot_types.specs.Refusals.{listed_by}
 use Rattle.blot_types.specs.Survivors.{links_of, root_of}
 use Rattle.blot_command.specs.Book.{Shown, numbers_of}
@@ -62,3 +65,10 @@ IsEraseFault list key fault = erase_fault list key ≡ Some fault ⊎ ((erase_fa
 -- what a book keeps beside its list has no number but those of its list
 abbrev pub HasOnlyListed : Shown → Type 0
 HasOnlyListed book = (number : ℕ) → Contains (numbers_of book.kept) number → Contains (numbers_of book.list) number
+
+-- each order has the line by one list that it has by another; so has each position
+abbrev pub SameOrders : List Entry → List Entry → Type 0
+SameOrders list other = (order : OrderKey) → order_of other order ≡ order_of list order
+
+abbrev pub SamePositions : List Entry → List Entry → Type 0
+SamePositions list other = (account symbol : List ℕ) → position_of other account symbol ≡ position_of list account symbol

@@ -1,15 +1,13 @@
 //! A list without a busted chain of executions.
-ghost use Rattle.std.specs.Prelude.{◌≡◌, ℕ, List, [], ◌∷◌, ◌++◌, None, IsTrue, IfOk, IfErr, OnOk};
+ghost use Rattle.std.specs.Prelude.{◌≡◌, [], ◌∷◌, ◌++◌, None, IsTrue, IfOk, IfErr, OnOk};
 ghost use Rattle.blot_types.specs.Legal.{is_book};
-ghost use Rattle.blot_types.specs.Order.{order_of};
-ghost use Rattle.blot_types.specs.Position.{position_of};
-ghost use Rattle.blot_withdraw.specs.Erasure.{without_chain, without_chain_of, erase_fault, IsEraseFault, HasOnlyListed};
+ghost use Rattle.blot_withdraw.specs.Erasure.{without_chain, without_chain_of, erase_fault, IsEraseFault, HasOnlyListed, SameOrders, SamePositions};
 
 use crate::EraseFault;
 use crate::chain::{first_listing, is_of_chain};
 use blot_command::{ApplyFault, Tables, Undoable};
 use blot_model::{bust_of, root_of};
-use blot_types::{Entry, ExecKey, OrderKey};
+use blot_types::{Entry, ExecKey};
 use std::alloc::{AllocError as NoMemory, Global};
 
 /// The book of a list without the chain of an execution: without its Trade, its Corrects and its Bust, each other
@@ -24,8 +22,8 @@ pub fn erase_check(alloc: Global, list: &[Entry], key: ExecKey) -> Result<Tables
     ensures fault { IfErr result (λ fault. IsEraseFault list.now key fault) }
 
     // As if the chain had never come: the lines of all orders and positions are those of the whole list.
-    ensures orders { IfOk result (λ tables. (order : OrderKey) → order_of tables.list order ≡ order_of list.now order) }
-    ensures positions { IfOk result (λ tables. (account symbol : List ℕ) → position_of tables.list account symbol ≡ position_of list.now account symbol) }
+    ensures orders { IfOk result (λ tables. SameOrders list.now tables.list) }
+    ensures positions { IfOk result (λ tables. SamePositions list.now tables.list) }
 {
     let Some(root) = root_of(list, &key) else {
         return Err(EraseFault::UnknownExec);

@@ -1,16 +1,16 @@
 use mir.Syntax.{w128}
-use Rattle.std.proofs.Common.{refl, ◌≡◌, arith, to_z, of_z, [], reverse, false, pos, sym, ◌∙◌, ap, Some, None}
+use Rattle.std.proofs.Common.{refl, ◌≡◌, arith, to_z, of_z, [], reverse, pos, sym, ◌∙◌, ap, Some, None}
 use Rattle.std.specs.Prelude.{find, is_none}
 use Rattle.std.specs.List.{filter_map}
-use Rattle.std.specs.Option.{option_map_or}
 use Rattle.std.proofs.lemmas.Int.{ints}
 use Rattle.blot_types.specs.declared.refused.Refused.TheVariants.{UnknownExec, BustedExec, RepeatedExec, ExecTaken, Instrument}
 use Rattle.blot_types.specs.Allocations.{instructions_of}
 use Rattle.blot_types.specs.Chains.{root_in}
 use Rattle.blot_types.specs.Order.{cum_of}
-use Rattle.blot_types.specs.Refusals.{first_of, bust_of_key, repeated_in, other_holder, current_fill, differs, booked, mismatch}
+use Rattle.blot_types.specs.Refusals.{first_of, bust_of_key, repeated_in, other_holder, current_fill, booked, mismatch}
 use Rattle.blot_types.specs.Survivors.{links_of}
 use Rattle.blot_command.proofs.RefusalLemmas.{rule_passed, rule_applies, same_mismatch}
+use Rattle.blot_command.specs.Refusing.{other_instrument}
 use Rattle.blot_command.specs.Slots.{entries_in}
 use Rattle.blot_command.proofs.refusal.terms_refusal.Goals as goal
 
@@ -38,8 +38,8 @@ returns-in-Some-other_instrument c =
     ap (λ links. first_of (other_holder links (instructions_of (entries_in c.args.slots.now)) c.args.reference.now) keys) (sym links)
     ∙ ap (λ instructions. first_of (other_holder c.args.chains.now.list instructions c.args.reference.now) keys) (sym c.requires.instructions_are)
     ∙ ap (first_of (other_holder c.args.chains.now.list c.args.allocs.now.list c.args.reference.now)) (sym execs) ∙ sym c.exec_taken.ensures ∙ c.in_default-exec_taken.is in
-    let other : find (λ key. option_map_or (differs c.args.terms.now) (current_fill (reverse (entries_in c.args.slots.now)) key) false) keys ≡ Some c.in-Some-other_instrument.key =
-    ap (find (λ key. option_map_or (differs c.args.terms.now) (current_fill (reverse (entries_in c.args.slots.now)) key) false)) (sym execs) ∙ sym c.other_instrument.ensures ∙ c.in-Some-other_instrument.is in
+    let other : other_instrument (entries_in c.args.slots.now) c.args.terms.now keys ≡ Some c.in-Some-other_instrument.key =
+    ap (other_instrument (entries_in c.args.slots.now) c.args.terms.now) (sym execs) ∙ sym c.other_instrument.ensures ∙ c.in-Some-other_instrument.is in
     sym (rule_passed UnknownExec _ _ unknown ∙ rule_passed BustedExec _ _ busted ∙ rule_passed RepeatedExec _ _ repeated ∙ rule_passed ExecTaken _ _ taken ∙ rule_applies Instrument _ _ _ other)
 
 pub returns : goal.returns
@@ -58,8 +58,8 @@ returns c =
     ap (λ links. first_of (other_holder links (instructions_of (entries_in c.args.slots.now)) c.args.reference.now) keys) (sym links)
     ∙ ap (λ instructions. first_of (other_holder c.args.chains.now.list instructions c.args.reference.now) keys) (sym c.requires.instructions_are)
     ∙ ap (first_of (other_holder c.args.chains.now.list c.args.allocs.now.list c.args.reference.now)) (sym execs) ∙ sym c.exec_taken.ensures ∙ c.in_default-exec_taken.is in
-    let other : find (λ key. option_map_or (differs c.args.terms.now) (fill key) false) keys ≡ None =
-    ap (find (λ key. option_map_or (differs c.args.terms.now) (fill key) false)) (sym execs) ∙ sym c.other_instrument.ensures ∙ c.in_default-other_instrument.is in
+    let other : other_instrument (entries_in c.args.slots.now) c.args.terms.now keys ≡ None =
+    ap (other_instrument (entries_in c.args.slots.now) c.args.terms.now) (sym execs) ∙ sym c.other_instrument.ensures ∙ c.in_default-other_instrument.is in
     let wanted : c.wanted.result ≡ cum_of (filter_map fill keys) = c.wanted.ensures ∙ ap (λ listed. cum_of (filter_map fill listed)) execs in
     let lines = booked c.args.terms.now.lines in
     let quantity : c.mismatch.result ≡ mismatch (cum_of (filter_map fill keys)) (pos c.args.terms.now.block) lines =

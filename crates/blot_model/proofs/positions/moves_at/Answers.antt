@@ -1,9 +1,6 @@
 use Rattle.std.proofs.Common.{◌+◌, ◌*◌, ◌^◌, arith, ◌∙◌}
-use Rattle.std.specs.List.{filter_map}
-use Rattle.blot_types.specs.declared.command.Entry.{Entry}
 use Rattle.blot_types.specs.Bounds.{BOOK_MOVED, BOOK_QTY}
-use Rattle.blot_types.specs.Allocations.{allocation_of}
-use Rattle.blot_model.specs.Sums.{live_moves}
+use Rattle.blot_model.specs.Sums.{moves_by}
 use Rattle.blot_model.proofs.BookLemmas.{few_entries, entry_books}
 use Rattle.blot_model.proofs.PositionLemmas.{sums-more, live_moves-append, up_to-weaker, up_to-joined}
 use Rattle.blot_model.proofs.positions.moves_at.Goals as goal
@@ -20,7 +17,7 @@ loop-entry-preserved c =
     let instructions = c.args.instructions.now in
     let index = c.loop-entry.entry-index in
     record {
-      sums = c.joined-sums.ensures ∙ sums-more (λ entries. live_moves instructions (filter_map (λ (entry : Entry). allocation_of entry.command) entries)) (live_moves-append instructions)
+      sums = c.joined-sums.ensures ∙ sums-more (moves_by instructions) (live_moves-append instructions)
           c.args.account.now c.args.symbol.now c.args.list.now index c.entry-item.result c.loop-entry.sums c.moves_of_entry.result
           c.loop-entry-test.true c.entry-item.is c.loop-entry.invariant.sums c.moves_of_entry.ensures.sums;
       few = up_to-joined (2 * 10 ^ 16 * index) (2 * 10 ^ 16) (2 * 10 ^ 16 * (index + 1)) c.loop-entry.sums c.moves_of_entry.result c.joined-sums.result

@@ -1,10 +1,7 @@
-use Rattle.std.proofs.Common.{◌≡◌, ◌++◌, drop, map}
-use Rattle.std.specs.List.{filter_map}
-use Rattle.blot_types.specs.Survivors.{version_of}
-use Rattle.blot_report.specs.Linked.{standing_by, standing_in}
+use Rattle.std.proofs.Common.{◌≡◌, ◌++◌, drop}
+use Rattle.blot_report.specs.Linked.{standings_from, standings_in}
 use Rattle.blot_report.proofs.executions.survivors_among.Given as goal
 
 abbrev pub invariant-loop-entry : goal.invariant-loop-entry
 invariant-loop-entry l =
-    map standing_in l.survivors.items ++ filter_map (λ entry. standing_by l.linked.chains.list l.linked.allocs.list l.day (version_of entry)) (drop l.entry-index l.entries)
-    ≡ filter_map (λ entry. standing_by l.linked.chains.list l.linked.allocs.list l.day (version_of entry)) l.entries
+    standings_in l.survivors.items ++ standings_from l.linked l.day (drop l.entry-index l.entries) ≡ standings_from l.linked l.day l.entries

@@ -2,7 +2,8 @@ use Rattle.std.proofs.Common.{ap, ◌∙◌}
 use Rattle.std.specs.List.{filter_map}
 use Rattle.blot_report.specs.Lines.{order_row}
 use Rattle.blot_report.proofs.ListLemmas.{if_ok}
-use Rattle.blot_report.proofs.OrderLemmas.{fills_in, rows-same}
+use Rattle.blot_report.specs.Linked.{fills_in}
+use Rattle.blot_report.proofs.OrderLemmas.{rows-same}
 use Rattle.blot_report.proofs.orders.order_rows_in_pieces.Goals as goal
 
 pub returns : goal.returns

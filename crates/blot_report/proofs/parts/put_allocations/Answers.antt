@@ -2,16 +2,15 @@ use Rattle.std.proofs.Common.{Option, sym, ap, ◌∙◌}
 use Rattle.std.specs.Option.{option_copied}
 use Rattle.blot_types.specs.declared.allocation.Terms.{Terms}
 use Rattle.blot_types.specs.declared.command.Entry.{Entry}
-use Rattle.blot_types.specs.Allocations.{allocation_of}
 use Rattle.blot_types.specs.Position.{TermsFit}
-use Rattle.blot_report.specs.Linked.{terms_by}
+use Rattle.blot_report.specs.Linked.{terms_on}
 use Rattle.blot_report.proofs.PartLemmas.{allocated-some, allocated-none, all-found, all-passed, all-done}
 use Rattle.blot_report.proofs.parts.put_allocations.Goals as goal
 use Rattle.blot_report.proofs.parts.put_allocations.Goals.{in-Some+in_ok-put_moves, in_default}
 
 pub loop-entry-preserved : goal.loop-entry-preserved
 loop-entry-preserved c =
-    let f : Entry → Option Terms = λ entry. terms_by c.args.linked.now.allocs.list c.args.day (allocation_of entry.command) in
+    let f : Entry → Option Terms = terms_on c.args.linked.now.allocs.list c.args.day in
     let initial = c.args.parts.now.items in
     let list = c.args.entries.now in
     let index = c.loop-entry.entry-index in
@@ -37,5 +36,5 @@ loop-entry-preserved c =
 
 pub returns-clause-fit : goal.returns-clause-fit
 returns-clause-fit c =
-    let f : Entry → Option Terms = λ entry. terms_by c.args.linked.now.allocs.list c.args.day (allocation_of entry.command) in
+    let f : Entry → Option Terms = terms_on c.args.linked.now.allocs.list c.args.day in
     all-done TermsFit f c.args.entries.now c.loop-entry.entry-index c.loop-entry-test.false c.loop-entry.invariant.fit

@@ -1,6 +1,6 @@
 use Rattle.std.proofs.Common.{ap, ◌∙◌}
 use Rattle.std.specs.Prelude.{find}
-use Rattle.blot_types.specs.Instructions.{ends}
+use Rattle.blot_alloc.specs.Allocs.{is_ending}
 use Rattle.blot_alloc.proofs.HoldsLemmas.{ending-held}
 use Rattle.blot_alloc.proofs.allocs.Allocs.ending.Goals as goal
 
@@ -8,4 +8,4 @@ pub returns : goal.returns
 returns c =
     let found = rw c.deref.ensures.value at c.newest_live.ensures in
     let held = ending-held c.self.inside.index c.self.inside.slots.items c.self.invariant c.under.result.now c.args.key.now c.under.ensures in
-    found ∙ held ∙ ap (λ shown. find (λ i. ends c.args.key.now i.role) shown.list) c.self.view_is
+    found ∙ held ∙ ap (λ shown. find (is_ending c.args.key.now) shown.list) c.self.view_is

@@ -1,11 +1,10 @@
 use Rattle.std.proofs.Common.{◌≡◌, Some, reverse, sym, ap, subst, ◌∙◌}
-use Rattle.std.specs.List.Sorted.{IsPartitionedBy}
 use Rattle.std.specs.Option.{option_copied}
 use Rattle.blot_places.specs.Shown.{item_at}
-use Rattle.blot_places.specs.Slots.{is_up_to, live}
+use Rattle.blot_places.specs.Slots.{live}
 use Rattle.blot_types.specs.Chains.{first_needing_link}
 use Rattle.blot_types.specs.Numbers.{lesser}
-use Rattle.blot_chain.specs.Index.{stack_under}
+use Rattle.blot_chain.specs.Index.{UpToFirst}
 use Rattle.blot_chain.specs.Rooted.{link_number}
 use Rattle.blot_chain.proofs.AroundLemmas.{needing-held, needing-none, parted-busts, parted-versions}
 use Rattle.blot_chain.proofs.chains.Chains.first_needing.Goals as goal
@@ -19,13 +18,13 @@ returns-in_err-item c =
 pub referring_at-requires : goal.referring_at-requires
 referring_at-requires c =
     let k = c.in_ok-item.item.now in
-    subst (λ slots. IsPartitionedBy (is_up_to link_number k.link.number slots) (stack_under c.self.inside.index.versions k.root)) (sym c.deref-2.ensures.value)
+    subst (λ slots. UpToFirst k.link.number slots c.self.inside.index.versions k.root) (sym c.deref-2.ensures.value)
     (parted-versions c.self.inside.index c.self.inside.slots.items k.root k.link.number c.self.invariant)
 
 pub referring_at-requires-2 : goal.referring_at-requires-2
 referring_at-requires-2 c =
     let k = c.in_ok-item.item.now in
-    subst (λ slots. IsPartitionedBy (is_up_to link_number k.link.number slots) (stack_under c.self.inside.index.busts k.root)) (sym c.deref-3.ensures.value)
+    subst (λ slots. UpToFirst k.link.number slots c.self.inside.index.busts k.root) (sym c.deref-3.ensures.value)
     (parted-busts c.self.inside.index c.self.inside.slots.items k.root k.link.number c.self.invariant)
 
 pub returns : goal.returns

@@ -1,15 +1,12 @@
 use Rattle.std.proofs.Common.{sym, ap, subst, ◌∙◌}
-use Rattle.std.specs.List.Sorted.{IsPartitionedBy}
-use Rattle.blot_places.specs.Slots.{is_up_to}
 use Rattle.blot_types.specs.Chains.{version_after_in}
-use Rattle.blot_chain.specs.Index.{stack_under}
-use Rattle.blot_chain.specs.Rooted.{link_number}
+use Rattle.blot_chain.specs.Index.{UpToFirst}
 use Rattle.blot_chain.proofs.AroundLemmas.{after-held, parted-versions}
 use Rattle.blot_chain.proofs.chains.Chains.version_after.Goals as goal
 
 pub number_above-requires : goal.number_above-requires
 number_above-requires c =
-    subst (λ slots. IsPartitionedBy (is_up_to link_number c.args.number slots) (stack_under c.self.inside.index.versions c.args.root.now)) (sym c.deref.ensures.value)
+    subst (λ slots. UpToFirst c.args.number slots c.self.inside.index.versions c.args.root.now) (sym c.deref.ensures.value)
     (parted-versions c.self.inside.index c.self.inside.slots.items c.args.root.now c.args.number c.self.invariant)
 
 pub returns : goal.returns

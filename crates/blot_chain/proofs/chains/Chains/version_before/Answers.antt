@@ -1,15 +1,12 @@
 use Rattle.std.proofs.Common.{sym, ap, subst, ◌∙◌}
-use Rattle.std.specs.List.Sorted.{IsPartitionedBy}
-use Rattle.blot_places.specs.Slots.{is_below}
 use Rattle.blot_types.specs.Chains.{version_before_in}
-use Rattle.blot_chain.specs.Index.{stack_under}
-use Rattle.blot_chain.specs.Rooted.{link_number}
+use Rattle.blot_chain.specs.Index.{BelowFirst}
 use Rattle.blot_chain.proofs.AroundLemmas.{before-held, parted-earlier}
 use Rattle.blot_chain.proofs.chains.Chains.version_before.Goals as goal
 
 pub number_below-requires : goal.number_below-requires
 number_below-requires c =
-    subst (λ slots. IsPartitionedBy (is_below link_number c.args.number slots) (stack_under c.self.inside.index.versions c.args.root.now)) (sym c.deref.ensures.value)
+    subst (λ slots. BelowFirst c.args.number slots c.self.inside.index.versions c.args.root.now) (sym c.deref.ensures.value)
     (parted-earlier c.self.inside.index c.self.inside.slots.items c.args.root.now c.args.number c.self.invariant)
 
 pub returns : goal.returns

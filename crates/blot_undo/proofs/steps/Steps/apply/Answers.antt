@@ -23,13 +23,13 @@ pub invariant_of-self-in_default : goal.invariant_of-self-in_default
 invariant_of-self-in_default g c =
     rw (c.make_room.ensures.done, c.make_room.ensures.undone)
     (turned_back g.C.Undoable.meaning g.met.C.Undoable.lawful c.self.inside.state _ _ _ _ _ _ _ _ _ _ _
-    c.self.invariant c.in-Ok.ensures.accepted c.in-Ok.ensures.kept c.revert.ensures.list c.revert.ensures.kept c.make_room.ensures.kept.0 c.make_room.ensures.kept.1).1
+    c.self.invariant c.in-Ok.ensures.accepted c.in-Ok.ensures.kept c.revert.ensures.list c.revert.ensures.kept c.make_room.ensures.done_kept c.make_room.ensures.undone_kept).1
 
 pub invariant_of-self-2 : goal.invariant_of-self-2
 invariant_of-self-2 g c =
     let within : c.self.inside.next ≤ EVENTS_MAX = rw (ap (λ (stack : Stack _ _ _). stack.next) c.self.view_is) c.requires in
-    let done_fits : length c.self.inside.done.items + 1 ≤ vec_capacity c.push_reserved.new.self = rw (← c.make_room.ensures.done) (omega (arith, c.in-Ok-make_room.ensures.ok)) in
-    let undone_fits : length c.self.inside.done.items + 1 ≤ vec_capacity c.clear.new.self = rw (← c.make_room.ensures.done) (omega (arith, c.in-Ok-make_room.ensures.ok)) in
+    let done_fits : length c.self.inside.done.items + 1 ≤ vec_capacity c.push_reserved.new.self = rw (← c.make_room.ensures.done) (omega (arith, c.in-Ok-make_room.ensures.done_room)) in
+    let undone_fits : length c.self.inside.done.items + 1 ≤ vec_capacity c.clear.new.self = rw (← c.make_room.ensures.done) (omega (arith, c.in-Ok-make_room.ensures.undone_room)) in
     apply_keeps g.C.Undoable.meaning g.met.C.Undoable.lawful c.self.inside.state _ c.self.inside.done.items c.push_reserved.new.self.items c.self.inside.undone.items c.clear.new.self.items
     c.self.inside.next _ _ _ _ _ c.in-Ok.inverse
     c.self.invariant within c.in-Ok.ensures.accepted c.in-Ok.ensures.kept
