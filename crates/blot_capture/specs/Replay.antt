@@ -72,7 +72,8 @@ CameOn from unread now left = (more : List ℕ) → Came from (frames_of (unread
 
 -- or a fault came among their commands
 abbrev pub StoppedOn : Taking → List ℕ → Journal → ReplayFault → Type 0
-StoppedOn from unread after fault = (more : List ℕ) → Stopped from.journal after (commands_over from.sessions (frames_of (unread ++ more))) fault
+StoppedOn from unread after fault =
+    (more : List ℕ) → Stopped from.journal after (commands_over from.sessions (frames_of (unread ++ more))) fault
 
 -- the same for an input's bytes, where they are known: some were read, and some of those are unread
 abbrev pub CameOf : Option (List ℕ) → Taking → Option (List ℕ) → List ℕ → Taking → Type 0
@@ -86,7 +87,8 @@ TakenOf known from after = IfSome known (λ bytes. after ≡ submitted from.jour
 
 -- or a fault came among them
 abbrev pub StoppedOf : Option (List ℕ) → Taking → Journal → ReplayFault → Type 0
-StoppedOf known from after fault = IfSome known (λ bytes. Stopped from.journal after (commands_over from.sessions (frames_of bytes)) fault)
+StoppedOf known from after fault =
+    IfSome known (λ bytes. Stopped from.journal after (commands_over from.sessions (frames_of bytes)) fault)
 
 -- ---- a capture from an empty desk on
 

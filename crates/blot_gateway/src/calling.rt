@@ -72,9 +72,11 @@ fn give_frame<W: Wire, C: Clock>(
     frame: &Frame,
 ) -> Result<Option<Command>, Stop>
     requires { IsIdle session.old }
-    ensures ok { IfOk result (λ command. Called W.does C.ticks command (FrameCall (text_of frame.now)) wire.old clock.old session.old wire.new clock.new session.new) }
+    ensures ok { IfOk result (λ command. Called W.does C.ticks command (FrameCall (text_of frame.now)) wire.old clock.old session.old
+        wire.new clock.new session.new) }
     ensures awaits { IfOk result (λ command. is_some command ≡ is_some (awaited_of session.new)) }
-    ensures err { IfErr result (Halted W.does C.ticks (FrameCall (text_of frame.now)) wire.old clock.old session.old wire.new clock.new session.new) }
+    ensures err { IfErr result (Halted W.does C.ticks (FrameCall (text_of frame.now)) wire.old clock.old session.old
+        wire.new clock.new session.new) }
     ensures idle { OnErr result (IsIdle session.new) }
     ensures failures { W.failures wire.old ≤ W.failures wire.new }
     ensures failed { IfErr result (CountsStop (W.failures wire.old) (W.failures wire.new)) }

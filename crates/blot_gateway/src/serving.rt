@@ -131,10 +131,10 @@ fn serve_read<W: Wire, C: Clock, S: Sink>(
 ) -> Result<(), Ended>
     requires idle { IsIdle session.old }
     requires room { 0 < length buffer.old }
-    ensures ok { OnOk result (ServesRead W.does C.ticks S.takes (parties wire.old clock.old sink.old session.old) reader.old.unread
-        (parties wire.new clock.new sink.new session.new) reader.new.unread) }
-    ensures err { IfErr result (ServesReadLast W.does C.ticks S.takes (parties wire.old clock.old sink.old session.old) reader.old.unread
-        (parties wire.new clock.new sink.new session.new)) }
+    ensures ok { OnOk result (ServesRead W.does C.ticks S.takes (parties wire.old clock.old sink.old session.old)
+        reader.old.unread (parties wire.new clock.new sink.new session.new) reader.new.unread) }
+    ensures err { IfErr result (ServesReadLast W.does C.ticks S.takes (parties wire.old clock.old sink.old session.old)
+        reader.old.unread (parties wire.new clock.new sink.new session.new)) }
     ensures not_long { IfErr result (λ end. end ≢ Ended.TooLong) }
     ensures idle { IsIdle session.new }
     ensures failures { W.failures wire.old ≤ W.failures wire.new }
@@ -173,10 +173,10 @@ fn take_piece<W: Wire, C: Clock, S: Sink>(
     piece: &[u8],
 ) -> Result<(), Stop>
     requires { IsIdle session.old }
-    ensures ok { OnOk result (TakesFed W.does C.ticks S.takes (parties wire.old clock.old sink.old session.old) (reader.old.unread ++ piece.now)
-        (parties wire.new clock.new sink.new session.new) reader.new.unread) }
-    ensures err { IfErr result (TakesFedLast W.does C.ticks S.takes (parties wire.old clock.old sink.old session.old) (reader.old.unread ++ piece.now)
-        (parties wire.new clock.new sink.new session.new)) }
+    ensures ok { OnOk result (TakesFed W.does C.ticks S.takes (parties wire.old clock.old sink.old session.old)
+        (reader.old.unread ++ piece.now) (parties wire.new clock.new sink.new session.new) reader.new.unread) }
+    ensures err { IfErr result (TakesFedLast W.does C.ticks S.takes (parties wire.old clock.old sink.old session.old)
+        (reader.old.unread ++ piece.now) (parties wire.new clock.new sink.new session.new)) }
     ensures idle { IsIdle session.new }
     ensures failures { W.failures wire.old ≤ W.failures wire.new }
     ensures failed { IfErr result (CountsStop (W.failures wire.old) (W.failures wire.new)) }
@@ -197,10 +197,10 @@ fn take_fed<W: Wire, C: Clock, S: Sink>(
     session: &mut Session,
 ) -> Result<(), Stop>
     requires { IsIdle session.old }
-    ensures ok { OnOk result (TakesFed W.does C.ticks S.takes (parties wire.old clock.old sink.old session.old) reader.old.unread
-        (parties wire.new clock.new sink.new session.new) reader.new.unread) }
-    ensures err { IfErr result (TakesFedLast W.does C.ticks S.takes (parties wire.old clock.old sink.old session.old) reader.old.unread
-        (parties wire.new clock.new sink.new session.new)) }
+    ensures ok { OnOk result (TakesFed W.does C.ticks S.takes (parties wire.old clock.old sink.old session.old)
+        reader.old.unread (parties wire.new clock.new sink.new session.new) reader.new.unread) }
+    ensures err { IfErr result (TakesFedLast W.does C.ticks S.takes (parties wire.old clock.old sink.old session.old)
+        reader.old.unread (parties wire.new clock.new sink.new session.new)) }
     ensures idle { IsIdle session.new }
     ensures failures { W.failures wire.old ≤ W.failures wire.new }
     ensures failed { IfErr result (CountsStop (W.failures wire.old) (W.failures wire.new)) }

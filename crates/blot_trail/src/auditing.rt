@@ -31,7 +31,8 @@ pub fn audit<R: Read, W: Write>(
     peers: &[Text64],
 ) -> Result<(), ReplayFault>
     requires { IsDistinct same_text peers.now }
-    ensures wrote { OnOk result (AppendsOf (trail_of own peers.now) (R.remaining input.old) (W.contents output.old) (W.contents output.new)) }
+    ensures wrote { OnOk result (AppendsOf (trail_of own peers.now) (R.remaining input.old)
+        (W.contents output.old) (W.contents output.new)) }
     ensures read_to_the_end { OnOk result (IsAtEnd (R.remaining input.new)) }
 
     // The commands that a trail shows are those that `replay` submits, their replies those of its run, and the accepted ones are the
@@ -79,7 +80,8 @@ fn tell_all<R: Read>(
     sessions: &mut Sessions,
     held: &mut Held,
 ) -> Result<Vec<u8>, ReplayFault>
-    ensures text { IfOk result (λ text. IsTextOf (trail_from none_yet (taking_of sessions.old held.old)) (R.remaining input.old) text.items) }
+    ensures text { IfOk result (λ text. IsTextOf (trail_from none_yet (taking_of sessions.old held.old))
+        (R.remaining input.old) text.items) }
     ensures taken { OnOk result (TakenOf (R.remaining input.old) (taking_of sessions.old held.old) held.new) }
     ensures read_to_the_end { OnOk result (IsAtEnd (R.remaining input.new)) }
     ensures stopped { IfErr result (StoppedOf (R.remaining input.old) (taking_of sessions.old held.old) held.new) }
