@@ -18,18 +18,18 @@ submitted-append journal (command ∷ commands) more = submitted-append (recorde
 -- ---- a fault
 
 -- none of the commands was submitted yet
-pub stopped-first : (journal : Journal) (commands : List Command) → Stopped NoMemory journal journal commands
+pub stopped-first : (journal : Journal) (commands : List Command) → Stopped journal journal commands NoMemory
 stopped-first journal commands = record { front = []; back = commands; joined = refl; taken = refl; full = λ is. absurd cc }
 
 -- all were
-pub stopped-last : (before after : Journal) (commands : List Command) → after ≡ submitted before commands → Stopped NoMemory before after commands
+pub stopped-last : (before after : Journal) (commands : List Command) → after ≡ submitted before commands → Stopped before after commands NoMemory
 stopped-last before after commands is = record { front = commands; back = []; joined = append-nil commands; taken = is; full = λ full. absurd cc }
 
-pub stopped-submitted : (before after : Journal) (command : Command) → after ≡ recorded_of before (Submit command) → Stopped NoMemory before after (command ∷ [])
+pub stopped-submitted : (before after : Journal) (command : Command) → after ≡ recorded_of before (Submit command) → Stopped before after (command ∷ []) NoMemory
 stopped-submitted before after command is = stopped-last before after (command ∷ []) is
 
 -- the desk was full
-pub stopped-full : (journal after : Journal) (command : Command) → after ≡ journal → length journal.history ≡ EVENTS_MAX → Stopped Full journal after (command ∷ [])
+pub stopped-full : (journal after : Journal) (command : Command) → after ≡ journal → length journal.history ≡ EVENTS_MAX → Stopped journal after (command ∷ []) Full
 stopped-full journal after command is full =
     record {
       front = [];
@@ -39,11 +39,11 @@ stopped-full journal after command is full =
       full = λ f. (ap (λ (held : Journal). length held.history) is ∙ full, omega arith);
     }
 
-pub stopped-memory : (journal after : Journal) (commands : List Command) → after ≡ journal → Stopped NoMemory journal after commands
+pub stopped-memory : (journal after : Journal) (commands : List Command) → after ≡ journal → Stopped journal after commands NoMemory
 stopped-memory journal after commands is = record { front = []; back = commands; joined = refl; taken = is; full = λ f. absurd cc }
 
 -- more commands were to come
-pub stopped-before : (fault : ReplayFault) (before after : Journal) (commands more : List Command) → Stopped fault before after commands → Stopped fault before after (commands ++ more)
+pub stopped-before : (fault : ReplayFault) (before after : Journal) (commands more : List Command) → Stopped before after commands fault → Stopped before after (commands ++ more) fault
 stopped-before fault before after commands more stopped =
     record {
       front = stopped.front;
@@ -59,7 +59,7 @@ stopped-before fault before after commands more stopped =
 
 -- some commands were submitted before
 pub stopped-behind : (fault : ReplayFault) (from : Taking) (texts : List (List ℕ)) (now : Taking) (left : List (List ℕ)) (after : Journal)
-    → Came from texts now left → Stopped fault now.journal after (commands_over now.sessions left) → Stopped fault from.journal after (commands_over from.sessions texts)
+    → Came from texts now left → Stopped now.journal after (commands_over now.sessions left) fault → Stopped from.journal after (commands_over from.sessions texts) fault
 stopped-behind fault from texts now left after came stopped =
     record {
       front = came.front ++ stopped.front;
@@ -93,7 +93,7 @@ submitted-count journal held commands empty taken =
     omega (arith, ap (λ (held : Journal). length held.history) taken, length-submitted journal commands, ap (λ (journal : Journal). length journal.history) empty)
 
 -- a full desk that was empty took as many commands as a day has events, and there was one more
-pub stopped-over : (journal held : Journal) (commands : List Command) → journal ≡ empty_journal → Stopped Full journal held commands → EVENTS_MAX < length commands
+pub stopped-over : (journal held : Journal) (commands : List Command) → journal ≡ empty_journal → Stopped journal held commands Full → EVENTS_MAX < length commands
 stopped-over journal held commands empty stopped =
     omega (
       arith,

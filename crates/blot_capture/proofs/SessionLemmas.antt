@@ -33,8 +33,8 @@ use Rattle.blot_session.proofs.ActionLemmas.{delivered-none}
 use Rattle.blot_session.proofs.OneLemmas.{AtMostOne, one-frame}
 use Rattle.blot_capture.specs.Capture.{frame_call, reply_calls, waiting_calls, behind_frame, behind_reply, calls_of, taken_by, moment_at, is_closed_phase}
 use Rattle.blot_capture.specs.declared.handled.Handled.{Handled}
-use Rattle.blot_capture.specs.Handling.{IsHandled, delivered_in, met_at}
-use Rattle.blot_capture.specs.Trace.{actions_after, actions_at, became_at, became_of}
+use Rattle.blot_capture.specs.Handling.{IsHandled, IsHandledBy, delivered_in}
+use Rattle.blot_capture.specs.Trace.{actions_after, became_of}
 
 -- ---- what is delivered
 
@@ -113,7 +113,7 @@ frame-takes state next text actions now at is awaits =
 pub handled-frame : (state next : State) (journal : Journal) (text : List ℕ) (actions : List Action) (now : ℤ) (handled : Handled)
     → now ≡ moment_at text → record { state = next; actions = actions } ≡ on_frame state (said_by text) now → Awaits next actions
     → ((met : Met) → IsHandled (became_of met journal (delivered_in actions)) (actions_after next journal now actions (delivered_in actions)) (Some met) handled)
-    → IsHandled (became_at state journal text) (actions_at state journal text) (met_at (Some state) text) handled
+    → IsHandledBy (Some state) journal text handled
 handled-frame state next journal text actions now handled at is awaits given =
     let gave : record { state = next; actions = actions } ≡ outcome state (frame_call text) = is ∙ ap (on_frame state (said_by text)) at in
     let met = met_of state (said_by text) (moment_at text) in

@@ -1,6 +1,5 @@
 -- The frames of a stream, taken one by one, and its pieces, one after the other.
 use Rattle.std.proofs.Common.{◌≡◌, ℕ, List, [], ◌∷◌, ◌++◌, Option, Some, None, refl, sym, ap, ◌∙◌, subst}
-use Rattle.std.specs.Prelude.{IfSome}
 use Rattle.std.specs.Io.KnownBytes.{Consumes, Keeps, IsAtEnd}
 use Rattle.std.proofs.lemmas.List.{append_assoc, append-nil}
 use Rattle.blot_tag.specs.Reading.{Reading, TakesFirst, FindsNone}
@@ -11,7 +10,7 @@ use Rattle.blot_desk.specs.Desk.{Journal}
 use Rattle.blot_stream.specs.declared.outcome.ReplayFault.{ReplayFault}
 use Rattle.blot_stream.specs.declared.outcome.ReplayFault.TheVariants.{Full}
 use Rattle.blot_capture.specs.Capture.{Sessions, sessions_behind, commands_in, commands_over}
-use Rattle.blot_capture.specs.Replay.{Taking, Came, CameOf, Stopped, submitted}
+use Rattle.blot_capture.specs.Replay.{Taking, Came, CameOf, CameOn, Stopped, StoppedOf, StoppedOn, TakenOf, submitted}
 use Rattle.blot_capture.proofs.DeskLemmas.{submitted-append, stopped-behind, stopped-before}
 
 -- ---- frames
@@ -82,7 +81,7 @@ taken-none from now start old new more none came = subst (λ left. Came from (fr
 -- a fault came with a frame
 pub stopped-frame : (fault : ReplayFault) (from before : Taking) (start : List ℕ) (old new : Reading) (frame more : List ℕ) (after : Journal)
     → TakesFirst old frame new → Came from (frames_of (start ++ more)) before (frames_of (old.unread ++ more))
-    → Stopped fault before.journal after (commands_in before.sessions frame) → Stopped fault from.journal after (commands_over from.sessions (frames_of (start ++ more)))
+    → Stopped before.journal after (commands_in before.sessions frame) fault → Stopped from.journal after (commands_over from.sessions (frames_of (start ++ more))) fault
 stopped-frame fault from before start old new frame more after takes came stopped =
     stopped-behind fault from (frames_of (start ++ more)) before (frame ∷ frames_of (new.unread ++ more)) after
     (subst (λ left. Came from (frames_of (start ++ more)) before left) (frames-taken old new frame more takes) came)
@@ -90,7 +89,7 @@ stopped-frame fault from before start old new frame more after takes came stoppe
 
 -- or between two frames
 pub stopped-here : (fault : ReplayFault) (from now : Taking) (texts left : List (List ℕ)) → (fault ≡ Full → ⊥) → Came from texts now left
-    → Stopped fault from.journal now.journal (commands_over from.sessions texts)
+    → Stopped from.journal now.journal (commands_over from.sessions texts) fault
 stopped-here fault from now texts left other came =
     record { front = came.front; back = commands_over now.sessions left; joined = came.joined; taken = came.taken; full = λ is. absurd (other is) }
 
@@ -106,7 +105,7 @@ CameOf-first (Some bytes) from now unread none same =
 -- a piece is read and taken
 pub CameOf-piece : (known before after : Option (List ℕ)) (from mid now : Taking) (unread left piece : List ℕ)
     → CameOf known from before unread mid → Consumes before after piece
-    → ((more : List ℕ) → Came mid (frames_of ((unread ++ piece) ++ more)) now (frames_of (left ++ more))) → CameOf known from after left now
+    → CameOn mid (unread ++ piece) now left → CameOf known from after left now
 CameOf-piece None before after from mid now unread left piece so consumes came = tt
 CameOf-piece (Some bytes) None after from mid now unread left piece so consumes came = absurd so
 CameOf-piece (Some bytes) (Some rest) None from mid now unread left piece so consumes came = absurd consumes
@@ -117,28 +116,25 @@ CameOf-piece (Some bytes) (Some rest) (Some later) from mid now unread left piec
 
 -- a piece is read, and a fault came
 pub CameOf-stopped : (fault : ReplayFault) (known before after : Option (List ℕ)) (from mid : Taking) (stop : Journal) (unread piece : List ℕ)
-    → CameOf known from before unread mid → Consumes before after piece
-    → ((more : List ℕ) → Stopped fault mid.journal stop (commands_over mid.sessions (frames_of ((unread ++ piece) ++ more))))
-    → IfSome known (λ bytes. Stopped fault from.journal stop (commands_over from.sessions (frames_of bytes)))
+    → CameOf known from before unread mid → Consumes before after piece → StoppedOn mid (unread ++ piece) stop fault → StoppedOf known from stop fault
 CameOf-stopped fault None before after from mid stop unread piece so consumes stopped = tt
 CameOf-stopped fault (Some bytes) None after from mid stop unread piece so consumes stopped = absurd so
 CameOf-stopped fault (Some bytes) (Some rest) None from mid stop unread piece so consumes stopped = absurd consumes
 CameOf-stopped fault (Some bytes) (Some rest) (Some later) from mid stop unread piece so consumes stopped =
     let all : (unread ++ piece) ++ later ≡ unread ++ rest = append_assoc unread piece later ∙ ap (λ back. unread ++ back) (sym consumes) in
     stopped-behind fault from (frames_of bytes) mid (frames_of (unread ++ rest)) stop so
-    (subst (λ text. Stopped fault mid.journal stop (commands_over mid.sessions (frames_of text))) all (stopped later))
+    (subst (λ text. Stopped mid.journal stop (commands_over mid.sessions (frames_of text)) fault) all (stopped later))
 
 -- a fault came between two pieces
 pub CameOf-fault : (fault : ReplayFault) (known before : Option (List ℕ)) (from now : Taking) (unread : List ℕ) → (fault ≡ Full → ⊥)
-    → CameOf known from before unread now → IfSome known (λ bytes. Stopped fault from.journal now.journal (commands_over from.sessions (frames_of bytes)))
+    → CameOf known from before unread now → StoppedOf known from now.journal fault
 CameOf-fault fault None before from now unread other so = tt
 CameOf-fault fault (Some bytes) None from now unread other so = absurd so
 CameOf-fault fault (Some bytes) (Some rest) from now unread other so = stopped-here fault from now (frames_of bytes) (frames_of (unread ++ rest)) other so
 
 -- the input is at its end, and no frame is left
 pub CameOf-end : (known before after : Option (List ℕ)) (from now : Taking) (unread : List ℕ)
-    → CameOf known from before unread now → Keeps before after → IsAtEnd after → frames_of unread ≡ []
-    → IfSome known (λ bytes. now.journal ≡ submitted from.journal (commands_over from.sessions (frames_of bytes)))
+    → CameOf known from before unread now → Keeps before after → IsAtEnd after → frames_of unread ≡ [] → TakenOf known from now.journal
 CameOf-end None before after from now unread so keeps end drained = tt
 CameOf-end (Some bytes) None after from now unread so keeps end drained = absurd so
 CameOf-end (Some bytes) (Some rest) None from now unread so keeps end drained = absurd keeps

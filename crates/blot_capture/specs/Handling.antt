@@ -9,11 +9,14 @@ use Rattle.blot_session.specs.declared.state.State.{State}
 use Rattle.blot_session.specs.Met.{met_of}
 use Rattle.blot_session.specs.Runs.{delivered_by, said_by}
 use Rattle.blot_desk.specs.declared.event.Reply.{Reply}
+use Rattle.blot_desk.specs.Desk.{Journal}
 use Rattle.blot_capture.specs.declared.became.Became.{Became}
 use Rattle.blot_capture.specs.declared.became.Became.TheVariants as became
 use Rattle.blot_capture.specs.declared.handled.Handled.{Handled}
 use Rattle.blot_capture.specs.declared.handled.Handled.TheVariants as handled
-use Rattle.blot_capture.specs.Capture.{moment_at}
+use Rattle.blot_capture.specs.Capture.{Sessions, moment_at}
+use Rattle.blot_capture.specs.Replay.{Taking}
+use Rattle.blot_capture.specs.Trace.{actions_in, became_in, session_for}
 
 -- the commands that some actions deliver
 abbrev pub delivered_in : List Action → List Command
@@ -22,6 +25,10 @@ delivered_in actions = map (λ numbered. numbered.command) (delivered_by 0 actio
 -- what a session would make of a frame; a sender without a session has none
 abbrev pub met_at : Option State → List ℕ → Option Met
 met_at session text = option_map (λ state. met_of state (said_by text) (moment_at text)) session
+
+-- what its sender's session would make of it
+abbrev pub met_in : Sessions → List ℕ → Option Met
+met_in sessions text = met_at (session_for sessions text) text
 
 -- what became of the frame
 abbrev pub became_met : Option Met → Became
@@ -49,6 +56,14 @@ Wants actions (handled.Replied reply wanted) = (command : Command) × (actions �
 pub record IsHandled (end : Became) (actions : List Action) (met : Option Met) (handled : Handled) : Type 0 where
   pub became : became_by met handled ≡ end
   pub wanted : Wants actions handled
+
+-- it became what this session makes of it; a sender without a session has none
+abbrev pub IsHandledBy : Option State → Journal → List ℕ → Handled → Type 0
+IsHandledBy session journal text = IsHandled (became_in session journal text) (actions_in session journal text) (met_at session text)
+
+-- it became what its sender's session makes of it
+abbrev pub IsHandledIn : Taking → List ℕ → Handled → Type 0
+IsHandledIn taking text = IsHandledBy (session_for taking.sessions text) taking.journal text
 
 -- the reply to a command, and what the session wants done about it
 abbrev pub IsReplied : Reply → List Action → Handled → Type 0

@@ -6,7 +6,9 @@ use Rattle.blot_types.specs.Keys.{same_text}
 use Rattle.blot_fields.specs.Sender.{sender_of}
 use Rattle.blot_session.specs.declared.state.State.{State}
 use Rattle.blot_slots.specs.Slots.{Slots, slot_of}
+use Rattle.blot_desk.specs.Desk.{Journal}
 use Rattle.blot_capture.specs.Capture.{Sessions}
+use Rattle.blot_capture.specs.Replay.{Taking}
 
 -- the session of a peer among some
 abbrev pub session_among : List ℕ → List State → Option State
@@ -28,6 +30,10 @@ session_in out slots peer = option_or (session_among peer out) (session_of_slot 
 
 abbrev pub sessions_of : Parts → Sessions
 sessions_of parts = session_in parts.out parts.table
+
+-- they and the desk, as they are
+abbrev pub taking_of : Parts → Journal → Taking
+taking_of parts journal = record { sessions = sessions_of parts; journal = journal }
 
 -- the first session of a peer stands at this place
 pub record IsAt (peer : List ℕ) (sessions : List State) (place : ℕ) : Type 0 where

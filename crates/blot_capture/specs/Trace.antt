@@ -11,7 +11,7 @@ use Rattle.blot_fields.specs.Sender.{sender_of}
 use Rattle.blot_session.specs.declared.action.Action.{Action}
 use Rattle.blot_session.specs.declared.met.Met.{Met}
 use Rattle.blot_session.specs.declared.state.State.{State}
-use Rattle.blot_session.specs.Calls.{on_reply}
+use Rattle.blot_session.specs.Calls.{Outcome, on_reply}
 use Rattle.blot_session.specs.Met.{met_of}
 use Rattle.blot_session.specs.Runs.{outcome, said_by}
 use Rattle.blot_desk.specs.declared.event.Event.TheVariants.{Submit}
@@ -21,8 +21,8 @@ use Rattle.blot_desk.specs.Desk.{Journal, empty_journal, run_of, step_of}
 use Rattle.blot_gateway.specs.Serving.{seen_by}
 use Rattle.blot_capture.specs.declared.became.Became.{Became}
 use Rattle.blot_capture.specs.declared.became.Became.TheVariants as became
-use Rattle.blot_capture.specs.Capture.{Sessions, behind_frame, commands_in, commands_of, first_sessions, frame_call, moment_at, sessions_behind, taken_by}
-use Rattle.blot_capture.specs.Replay.{Taking, list_of, submitted}
+use Rattle.blot_capture.specs.Capture.{Sessions, behind_frame, commands_in, commands_of, frame_call, moment_at, sessions_behind, taken_by}
+use Rattle.blot_capture.specs.Replay.{Taking, list_of, submitted, taking_from}
 
 -- ---- a frame at its session
 
@@ -34,6 +34,10 @@ session_for sessions text = option_and_then sessions (sender_of (fields_of text)
 abbrev pub reply_to : Journal → Command → Reply
 reply_to journal command = (step_of journal.book (Submit command)).reply
 
+-- what a session does that is told the reply to its command
+abbrev pub on_told : State → Reply → ℤ → Outcome
+on_told state reply now = on_reply state (seen_by (Ok reply)) now
+
 -- what became of a frame: the reply to the command that it brought, or else what its session made of it
 abbrev pub became_of : Met → Journal → List Command → Became
 became_of met journal [] = became.Met met
@@ -42,7 +46,7 @@ became_of met journal (command ∷ commands) = became.Replied (reply_to journal 
 -- all that the session wants done: about the frame, and then about the reply
 abbrev pub actions_after : State → Journal → ℤ → List Action → List Command → List Action
 actions_after state journal now actions [] = actions
-actions_after state journal now actions (command ∷ commands) = actions ++ (on_reply state (seen_by (Ok (reply_to journal command))) now).actions
+actions_after state journal now actions (command ∷ commands) = actions ++ (on_told state (reply_to journal command) now).actions
 
 abbrev pub became_at : State → Journal → List ℕ → Became
 became_at state journal text = became_of (met_of state (said_by text) (moment_at text)) journal (taken_by state text)
@@ -91,7 +95,7 @@ trace_over taking (placed ∷ more) = turn_of taking placed ∷ trace_over (taki
 
 -- no peer was heard of yet, and the desk is empty
 abbrev pub first_taking : List ℕ → List (List ℕ) → Taking
-first_taking own peers = record { sessions = first_sessions own peers; journal = empty_journal }
+first_taking own peers = taking_from own peers empty_journal
 
 -- the messages of a byte stream
 abbrev pub trace_of : List ℕ → List (List ℕ) → List ℕ → List Turn

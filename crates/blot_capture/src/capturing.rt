@@ -1,12 +1,11 @@
 //! `capture`: the frames of a byte stream at the sessions of their senders, and what these deliver at a desk.
-ghost use Rattle.std.specs.Prelude.{◌≡◌, ◌≢◌, Err, OnOk, IfErr, IfSome};
+ghost use Rattle.std.specs.Prelude.{◌≢◌, Err, OnOk, IfErr};
 ghost use Rattle.std.specs.Io.KnownBytes.{IsAtEnd};
 ghost use Rattle.std.specs.List.{IsDistinct};
 ghost use Rattle.blot_types.specs.Keys.{same_text};
-ghost use Rattle.blot_tag.specs.Walking.{frames_of};
-ghost use Rattle.blot_capture.specs.Capture.{commands_of, commands_over, TakesEachPeer};
-ghost use Rattle.blot_capture.specs.Sessions.{sessions_of};
-ghost use Rattle.blot_capture.specs.Replay.{submitted, Stopped};
+ghost use Rattle.blot_capture.specs.Capture.{TakesEachPeer};
+ghost use Rattle.blot_capture.specs.Sessions.{taking_of};
+ghost use Rattle.blot_capture.specs.Replay.{StoppedOf, TakenOf, taking_from};
 
 use crate::intake::take_piece;
 use crate::sessions::Sessions;
@@ -34,10 +33,9 @@ pub fn capture<R: Read>(
     held: &mut Held,
 ) -> Result<(), ReplayFault>
     requires { IsDistinct same_text peers.now }
-    ensures taken { OnOk result (IfSome (R.remaining input.old) (λ bytes. held.new ≡ submitted held.old (commands_of own peers.now bytes))) }
+    ensures taken { OnOk result (TakenOf (R.remaining input.old) (taking_from own peers.now held.old) held.new) }
     ensures read_to_the_end { OnOk result (IsAtEnd (R.remaining input.new)) }
-    ensures stopped { IfErr result (λ fault. IfSome (R.remaining input.old) (λ bytes.
-        Stopped fault held.old held.new (commands_of own peers.now bytes))) }
+    ensures stopped { IfErr result (StoppedOf (R.remaining input.old) (taking_from own peers.now held.old) held.new) }
     ensures no_write { result ≢ Err ReplayFault.Write }
 
     // The commands that a peer's frames bring are those that its own session takes of them, in their order.
@@ -57,10 +55,9 @@ pub(crate) fn capture_within<R: Read>(
     reads: u64,
 ) -> Result<(), ReplayFault>
     requires { IsDistinct same_text peers.now }
-    ensures taken { OnOk result (IfSome (R.remaining input.old) (λ bytes. held.new ≡ submitted held.old (commands_of own peers.now bytes))) }
+    ensures taken { OnOk result (TakenOf (R.remaining input.old) (taking_from own peers.now held.old) held.new) }
     ensures read_to_the_end { OnOk result (IsAtEnd (R.remaining input.new)) }
-    ensures stopped { IfErr result (λ fault. IfSome (R.remaining input.old) (λ bytes.
-        Stopped fault held.old held.new (commands_of own peers.now bytes))) }
+    ensures stopped { IfErr result (StoppedOf (R.remaining input.old) (taking_from own peers.now held.old) held.new) }
     ensures no_write { result ≢ Err ReplayFault.Write }
 {
     match Sessions::new(alloc, own, peers) {
@@ -77,11 +74,9 @@ fn take_all<R: Read>(
     held: &mut Held,
     reads: u64,
 ) -> Result<(), ReplayFault>
-    ensures taken { OnOk result (IfSome (R.remaining input.old) (λ bytes.
-        held.new ≡ submitted held.old (commands_over (sessions_of sessions.old) (frames_of bytes)))) }
+    ensures taken { OnOk result (TakenOf (R.remaining input.old) (taking_of sessions.old held.old) held.new) }
     ensures read_to_the_end { OnOk result (IsAtEnd (R.remaining input.new)) }
-    ensures stopped { IfErr result (λ fault. IfSome (R.remaining input.old) (λ bytes.
-        Stopped fault held.old held.new (commands_over (sessions_of sessions.old) (frames_of bytes)))) }
+    ensures stopped { IfErr result (StoppedOf (R.remaining input.old) (taking_of sessions.old held.old) held.new) }
     ensures no_write { result ≢ Err ReplayFault.Write }
 {
     let mut reader = Reader::new(alloc);

@@ -12,10 +12,10 @@ ghost use Rattle.blot_session.specs.States.{IsIdle, IsAwaiting};
 ghost use Rattle.blot_desk.specs.declared.event.Event.TheVariants.{Submit};
 ghost use Rattle.blot_desk.specs.Desk.{recorded_of};
 ghost use Rattle.blot_gateway.specs.Serving.{seen_by};
-ghost use Rattle.blot_capture.specs.Capture.{calls_of, reply_calls, waiting_calls, taken_by};
-ghost use Rattle.blot_capture.specs.Handling.{IsHandled, IsReplied, delivered_in, met_at};
+ghost use Rattle.blot_capture.specs.Capture.{behind_all, reply_calls, waiting_calls, taken_by};
+ghost use Rattle.blot_capture.specs.Handling.{IsHandled, IsHandledBy, IsReplied, delivered_in};
 ghost use Rattle.blot_capture.specs.Replay.{submitted, Stopped, fault_of};
-ghost use Rattle.blot_capture.specs.Trace.{actions_after, actions_at, became_at, became_of, reply_to};
+ghost use Rattle.blot_capture.specs.Trace.{actions_after, became_of, on_told, reply_to};
 
 use crate::handled::Handled;
 use crate::moment::sending_by;
@@ -38,13 +38,12 @@ pub(crate) fn take_frame(
     held: &mut Held,
 ) -> Result<Handled, ReplayFault>
     requires { IsIdle session.old }
-    ensures session { OnOk result (session.new ≡ behind_calls session.old (calls_of session.old (text_of frame.now))) }
+    ensures session { OnOk result (session.new ≡ behind_all session.old (text_of frame.now)) }
     ensures peer { session.new.peer ≡ session.old.peer }
     ensures idle { IsIdle session.new }
     ensures desk { OnOk result (held.new ≡ submitted held.old (taken_by session.old (text_of frame.now))) }
-    ensures handled { IfOk result (IsHandled (became_at session.old held.old (text_of frame.now)) (actions_at session.old held.old (text_of frame.now))
-        (met_at (Some session.old) (text_of frame.now))) }
-    ensures err { IfErr result (λ fault. Stopped fault held.old held.new (taken_by session.old (text_of frame.now))) }
+    ensures handled { IfOk result (IsHandledBy (Some session.old) held.old (text_of frame.now)) }
+    ensures err { IfErr result (Stopped held.old held.new (taken_by session.old (text_of frame.now))) }
     ensures no_write { result ≢ Err ReplayFault.Write }
 {
     let said = decode(alloc, frame);
@@ -66,13 +65,12 @@ fn take_said(
     requires said { said.now ≡ said_by (text_of frame.now) }
     requires numbers { IsNumbered said.now }
     requires sent { IfOk said.now (IsSentAt (fields_of (text_of frame.now))) }
-    ensures session { OnOk result (session.new ≡ behind_calls session.old (calls_of session.old (text_of frame.now))) }
+    ensures session { OnOk result (session.new ≡ behind_all session.old (text_of frame.now)) }
     ensures peer { session.new.peer ≡ session.old.peer }
     ensures idle { IsIdle session.new }
     ensures desk { OnOk result (held.new ≡ submitted held.old (taken_by session.old (text_of frame.now))) }
-    ensures handled { IfOk result (IsHandled (became_at session.old held.old (text_of frame.now)) (actions_at session.old held.old (text_of frame.now))
-        (met_at (Some session.old) (text_of frame.now))) }
-    ensures err { IfErr result (λ fault. Stopped fault held.old held.new (taken_by session.old (text_of frame.now))) }
+    ensures handled { IfOk result (IsHandledBy (Some session.old) held.old (text_of frame.now)) }
+    ensures err { IfErr result (Stopped held.old held.new (taken_by session.old (text_of frame.now))) }
     ensures no_write { result ≢ Err ReplayFault.Write }
 {
     let now = sending_by(said, frame);
@@ -104,7 +102,7 @@ fn take_delivered(
     ensures desk { OnOk result (held.new ≡ submitted held.old (delivered_in actions.items)) }
     ensures handled { IfOk result (λ handled. (met : Met) → IsHandled (became_of met held.old (delivered_in actions.items))
         (actions_after session.old held.old now actions.items (delivered_in actions.items)) (Some met) handled) }
-    ensures err { IfErr result (λ fault. Stopped fault held.old held.new (delivered_in actions.items)) }
+    ensures err { IfErr result (Stopped held.old held.new (delivered_in actions.items)) }
     ensures no_write { result ≢ Err ReplayFault.Write }
 {
     if !session.is_awaiting() {
@@ -129,9 +127,8 @@ fn submit(
     ensures peer { session.new.peer ≡ session.old.peer }
     ensures idle { IsIdle session.new }
     ensures desk { OnOk result (held.new ≡ recorded_of held.old (Submit command)) }
-    ensures handled { IfOk result (IsReplied (reply_to held.old command)
-        (on_reply session.old (seen_by (Ok (reply_to held.old command))) now).actions) }
-    ensures err { IfErr result (λ fault. Stopped fault held.old held.new (command ∷ [])) }
+    ensures handled { IfOk result (IsReplied (reply_to held.old command) (on_told session.old (reply_to held.old command) now).actions) }
+    ensures err { IfErr result (Stopped held.old held.new (command ∷ [])) }
     ensures no_write { result ≢ Err ReplayFault.Write }
 {
     match held.step(Event::Submit(command)) {
@@ -151,11 +148,11 @@ fn answer(
     now: Moment,
 ) -> Result<Handled, ReplayFault>
     requires { IsAwaiting session.old }
-    ensures session { OnOk result (session.new ≡ (on_reply session.old (seen_by (Ok reply.now)) now).state) }
+    ensures session { OnOk result (session.new ≡ (on_told session.old reply.now now).state) }
     ensures fault { IfErr result (λ fault. fault ≡ ReplayFault.NoMemory) }
     ensures peer { session.new.peer ≡ session.old.peer }
     ensures idle { IsIdle session.new }
-    ensures handled { IfOk result (IsReplied reply.now (on_reply session.old (seen_by (Ok reply.now)) now).actions) }
+    ensures handled { IfOk result (IsReplied reply.now (on_told session.old reply.now now).actions) }
 {
     match tell(alloc, session, seen_by(Ok(*reply)), now) {
         Ok(wanted) => Ok(Handled::Replied(*reply, wanted)),
@@ -175,7 +172,7 @@ fn tell(
     ensures fault { IfErr result (λ fault. fault ≡ ReplayFault.NoMemory) }
     ensures peer { session.new.peer ≡ session.old.peer }
     ensures idle { IsIdle session.new }
-    ensures wanted { IfOk result (λ wanted. wanted.items ≡ (on_reply session.old seen now).actions) }
+    ensures wanted { IfOk result (λ list. list.items ≡ (on_reply session.old seen now).actions) }
 {
     match session.on_reply(alloc, seen, now) {
         Ok(wanted) => Ok(wanted),

@@ -1,10 +1,10 @@
 //! The frames of a byte stream, taken piece by piece.
-ghost use Rattle.std.specs.Prelude.{◌≡◌, ◌≢◌, ℕ, List, [], ◌++◌, Err, OnOk, IfErr};
+ghost use Rattle.std.specs.Prelude.{◌≡◌, ◌≢◌, [], ◌++◌, Err, OnOk, IfErr};
 ghost use Rattle.blot_tag.specs.Views.{text_of};
 ghost use Rattle.blot_tag.specs.Walking.{frames_of};
-ghost use Rattle.blot_capture.specs.Capture.{sessions_behind, commands_in, commands_over};
-ghost use Rattle.blot_capture.specs.Replay.{submitted, Came, Stopped};
-ghost use Rattle.blot_capture.specs.Sessions.{sessions_of};
+ghost use Rattle.blot_capture.specs.Capture.{sessions_behind, commands_in};
+ghost use Rattle.blot_capture.specs.Replay.{submitted, CameOn, Stopped, StoppedOn};
+ghost use Rattle.blot_capture.specs.Sessions.{sessions_of, taking_of};
 
 use crate::sessions::Sessions;
 use blot_desk::Held;
@@ -22,10 +22,9 @@ pub(crate) fn take_piece(
     piece: &[u8],
 ) -> Result<(), ReplayFault>
     ensures drained { OnOk result (frames_of reader.new.unread ≡ []) }
-    ensures came { OnOk result ((more : List ℕ) → Came (record { sessions = sessions_of sessions.old; journal = held.old }) (frames_of ((reader.old.unread ++ piece.now) ++ more))
-        (record { sessions = sessions_of sessions.new; journal = held.new }) (frames_of (reader.new.unread ++ more))) }
-    ensures err { IfErr result (λ fault. (more : List ℕ)
-        → Stopped fault held.old held.new (commands_over (sessions_of sessions.old) (frames_of ((reader.old.unread ++ piece.now) ++ more)))) }
+    ensures came { OnOk result (CameOn (taking_of sessions.old held.old) (reader.old.unread ++ piece.now)
+        (taking_of sessions.new held.new) reader.new.unread) }
+    ensures err { IfErr result (StoppedOn (taking_of sessions.old held.old) (reader.old.unread ++ piece.now) held.new) }
     ensures no_write { result ≢ Err ReplayFault.Write }
 {
     match reader.feed(piece) {
@@ -42,10 +41,9 @@ fn take_frames(
     held: &mut Held,
 ) -> Result<(), ReplayFault>
     ensures drained { OnOk result (frames_of reader.new.unread ≡ []) }
-    ensures came { OnOk result ((more : List ℕ) → Came (record { sessions = sessions_of sessions.old; journal = held.old }) (frames_of (reader.old.unread ++ more))
-        (record { sessions = sessions_of sessions.new; journal = held.new }) (frames_of (reader.new.unread ++ more))) }
-    ensures err { IfErr result (λ fault. (more : List ℕ)
-        → Stopped fault held.old held.new (commands_over (sessions_of sessions.old) (frames_of (reader.old.unread ++ more)))) }
+    ensures came { OnOk result (CameOn (taking_of sessions.old held.old) reader.old.unread
+        (taking_of sessions.new held.new) reader.new.unread) }
+    ensures err { IfErr result (StoppedOn (taking_of sessions.old held.old) reader.old.unread held.new) }
     ensures no_write { result ≢ Err ReplayFault.Write }
 {
     while let Some(frame) = reader.next()? {
@@ -66,7 +64,7 @@ fn take_frame(
 ) -> Result<(), ReplayFault>
     ensures sessions { OnOk result (sessions_of sessions.new ≡ sessions_behind (sessions_of sessions.old) (text_of frame.now)) }
     ensures desk { OnOk result (held.new ≡ submitted held.old (commands_in (sessions_of sessions.old) (text_of frame.now))) }
-    ensures err { IfErr result (λ fault. Stopped fault held.old held.new (commands_in (sessions_of sessions.old) (text_of frame.now))) }
+    ensures err { IfErr result (Stopped held.old held.new (commands_in (sessions_of sessions.old) (text_of frame.now))) }
     ensures no_write { result ≢ Err ReplayFault.Write }
 {
     match sessions.take(alloc, frame, held) {

@@ -1,11 +1,11 @@
 //! `replay`: a capture taken into an empty desk, and the report of its day.
-ghost use Rattle.std.specs.Prelude.{◌≡◌, ◌≢◌, ◌<◌, ◌≤◌, List, ℕ, ◌++◌, length, Err, IfOk, IfSome, OnOk};
-ghost use Rattle.std.specs.Io.KnownBytes.{Appends, Keeps, IsAtEnd};
+ghost use Rattle.std.specs.Prelude.{◌≡◌, ◌≢◌, ◌≤◌, length, Err, IfErr, IfOk, OnOk};
+ghost use Rattle.std.specs.Io.KnownBytes.{IsAtEnd};
 ghost use Rattle.std.specs.List.{IsDistinct};
 ghost use Rattle.blot_types.specs.Keys.{same_text};
 ghost use Rattle.blot_desk.specs.Desk.{events_of, run_of};
-ghost use Rattle.blot_capture.specs.Capture.{commands_of};
-ghost use Rattle.blot_capture.specs.Replay.{list_of, report_of};
+ghost use Rattle.blot_stream.specs.Texts.{AppendsFrontOf, AppendsOf, IsTextOf, KeepsUnlessWrite};
+ghost use Rattle.blot_capture.specs.Replay.{Fits, Overfills, replay_of, report_of};
 
 use crate::capturing::capture_within;
 use blot_desk::Held;
@@ -28,20 +28,18 @@ pub fn replay<R: Read, W: Write>(
     day: Day,
 ) -> Result<(), ReplayFault>
     requires { IsDistinct same_text peers.now }
-    ensures wrote { OnOk result (IfSome (R.remaining input.old) (λ bytes.
-        Appends (W.contents output.old) (W.contents output.new) (report_of (list_of own peers.now bytes) day))) }
+    ensures wrote { OnOk result (AppendsOf (replay_of own peers.now day) (R.remaining input.old)
+        (W.contents output.old) (W.contents output.new)) }
     ensures read_to_the_end { OnOk result (IsAtEnd (R.remaining input.new)) }
 
     // Ok only where no more commands come than a day has events, and Full only where more come.
-    ensures few { OnOk result (IfSome (R.remaining input.old) (λ bytes. length (commands_of own peers.now bytes) ≤ EVENTS_MAX)) }
-    ensures full { result ≡ Err ReplayFault.Full
-        → IfSome (R.remaining input.old) (λ bytes. EVENTS_MAX < length (commands_of own peers.now bytes)) }
+    ensures few { OnOk result (Fits own peers.now (R.remaining input.old)) }
+    ensures full { result ≡ Err ReplayFault.Full → Overfills own peers.now (R.remaining input.old) }
 
     // A write fault leaves a front of the text, every other fault nothing.
-    ensures write_fault { result ≡ Err ReplayFault.Write → IfSome (R.remaining input.old) (λ bytes. (front back : List ℕ)
-        × (front ++ back ≡ report_of (list_of own peers.now bytes) day) × Appends (W.contents output.old) (W.contents output.new) front) }
-    ensures other_faults { (fault : ReplayFault) → result ≡ Err fault → fault ≢ ReplayFault.Write
-        → Keeps (W.contents output.old) (W.contents output.new) }
+    ensures write_fault { result ≡ Err ReplayFault.Write → AppendsFrontOf (replay_of own peers.now day) (R.remaining input.old)
+        (W.contents output.old) (W.contents output.new) }
+    ensures other_faults { IfErr result (KeepsUnlessWrite (W.contents output.old) (W.contents output.new)) }
 {
     replay_within(alloc, input, output, own, peers, day, READS_MAX)
 }
@@ -58,16 +56,14 @@ pub fn replay_within<R: Read, W: Write>(
     reads: u64,
 ) -> Result<(), ReplayFault>
     requires { IsDistinct same_text peers.now }
-    ensures wrote { OnOk result (IfSome (R.remaining input.old) (λ bytes.
-        Appends (W.contents output.old) (W.contents output.new) (report_of (list_of own peers.now bytes) day))) }
+    ensures wrote { OnOk result (AppendsOf (replay_of own peers.now day) (R.remaining input.old)
+        (W.contents output.old) (W.contents output.new)) }
     ensures read_to_the_end { OnOk result (IsAtEnd (R.remaining input.new)) }
-    ensures few { OnOk result (IfSome (R.remaining input.old) (λ bytes. length (commands_of own peers.now bytes) ≤ EVENTS_MAX)) }
-    ensures full { result ≡ Err ReplayFault.Full
-        → IfSome (R.remaining input.old) (λ bytes. EVENTS_MAX < length (commands_of own peers.now bytes)) }
-    ensures write_fault { result ≡ Err ReplayFault.Write → IfSome (R.remaining input.old) (λ bytes. (front back : List ℕ)
-        × (front ++ back ≡ report_of (list_of own peers.now bytes) day) × Appends (W.contents output.old) (W.contents output.new) front) }
-    ensures other_faults { (fault : ReplayFault) → result ≡ Err fault → fault ≢ ReplayFault.Write
-        → Keeps (W.contents output.old) (W.contents output.new) }
+    ensures few { OnOk result (Fits own peers.now (R.remaining input.old)) }
+    ensures full { result ≡ Err ReplayFault.Full → Overfills own peers.now (R.remaining input.old) }
+    ensures write_fault { result ≡ Err ReplayFault.Write → AppendsFrontOf (replay_of own peers.now day) (R.remaining input.old)
+        (W.contents output.old) (W.contents output.new) }
+    ensures other_faults { IfErr result (KeepsUnlessWrite (W.contents output.old) (W.contents output.new)) }
 {
     match captured_report(alloc, input, own, peers, day, reads) {
         Ok(text) => write_text(output, &text),
@@ -85,11 +81,10 @@ fn captured_report<R: Read>(
     reads: u64,
 ) -> Result<Vec<u8>, ReplayFault>
     requires { IsDistinct same_text peers.now }
-    ensures text { IfOk result (λ text. IfSome (R.remaining input.old) (λ bytes. text.items ≡ report_of (list_of own peers.now bytes) day)) }
+    ensures text { IfOk result (λ text. IsTextOf (replay_of own peers.now day) (R.remaining input.old) text.items) }
     ensures read_to_the_end { OnOk result (IsAtEnd (R.remaining input.new)) }
-    ensures few { OnOk result (IfSome (R.remaining input.old) (λ bytes. length (commands_of own peers.now bytes) ≤ EVENTS_MAX)) }
-    ensures full { result ≡ Err ReplayFault.Full
-        → IfSome (R.remaining input.old) (λ bytes. EVENTS_MAX < length (commands_of own peers.now bytes)) }
+    ensures few { OnOk result (Fits own peers.now (R.remaining input.old)) }
+    ensures full { result ≡ Err ReplayFault.Full → Overfills own peers.now (R.remaining input.old) }
     ensures no_write { result ≢ Err ReplayFault.Write }
 {
     let mut held = Held::new(alloc);

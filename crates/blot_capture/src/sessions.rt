@@ -7,10 +7,10 @@ ghost use Rattle.blot_fields.specs.Numbers.{HasNumber};
 ghost use Rattle.blot_session.specs.Runs.{said_by};
 ghost use Rattle.blot_session.specs.States.{IsIdle};
 ghost use Rattle.blot_capture.specs.Capture.{first_sessions, sessions_behind, commands_in};
-ghost use Rattle.blot_capture.specs.Handling.{IsHandled, met_at};
+ghost use Rattle.blot_capture.specs.Handling.{IsHandledIn, met_in};
 ghost use Rattle.blot_capture.specs.Replay.{submitted, Stopped};
-ghost use Rattle.blot_capture.specs.Sessions.{session_in, sessions_of, IsAt, IsPlaceFor};
-ghost use Rattle.blot_capture.specs.Trace.{actions_in, became_in, session_for};
+ghost use Rattle.blot_capture.specs.Sessions.{session_in, sessions_of, taking_of, IsAt, IsPlaceFor};
+ghost use Rattle.blot_capture.specs.Trace.{session_for};
 
 use crate::handled::Handled;
 use crate::handling::take_frame;
@@ -70,7 +70,7 @@ impl Sessions {
         requires said { said.now ≡ said_by (text_of frame.now) }
         requires number { HasNumber said.now }
         ensures same { OnOk result (sessions_of self.new ≡ sessions_of self.old) }
-        ensures met { IfOk result (λ met. met ≡ met_at (session_for (sessions_of self.old) (text_of frame.now)) (text_of frame.now)) }
+        ensures met { IfOk result (λ met. met ≡ met_in (sessions_of self.old) (text_of frame.now)) }
     {
         match place_for(&mut self.table, &mut self.out, frame)? {
             Some(place) => Ok(Some(self.out[place].meets(said, sending_of(frame)))),
@@ -87,10 +87,8 @@ impl Sessions {
     ) -> Result<Handled, ReplayFault>
         ensures sessions { OnOk result (sessions_of self.new ≡ sessions_behind (sessions_of self.old) (text_of frame.now)) }
         ensures desk { OnOk result (held.new ≡ submitted held.old (commands_in (sessions_of self.old) (text_of frame.now))) }
-        ensures handled { IfOk result (IsHandled (became_in (session_for (sessions_of self.old) (text_of frame.now)) held.old (text_of frame.now))
-            (actions_in (session_for (sessions_of self.old) (text_of frame.now)) held.old (text_of frame.now))
-            (met_at (session_for (sessions_of self.old) (text_of frame.now)) (text_of frame.now))) }
-        ensures err { IfErr result (λ fault. Stopped fault held.old held.new (commands_in (sessions_of self.old) (text_of frame.now))) }
+        ensures handled { IfOk result (IsHandledIn (taking_of self.old held.old) (text_of frame.now)) }
+        ensures err { IfErr result (Stopped held.old held.new (commands_in (sessions_of self.old) (text_of frame.now))) }
         ensures no_write { result ≢ Err ReplayFault.Write }
     {
         match place_for(&mut self.table, &mut self.out, frame) {

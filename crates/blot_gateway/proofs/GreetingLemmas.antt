@@ -127,7 +127,7 @@ nothing-more unread reads read last is none =
     held-on unread reads read ∙ ap (λ bytes. rest_of (held unread reads) ++ bytes) (ap bytes_in is ∙ none) ∙ append-nil (rest_of (held unread reads))
 
 pub greets-last : {W : Type 0} (does : W → Did → W → Type 0) (own : List ℕ) (end : Ended) (a b c : W) (unread left middle next : List ℕ) (count : ℕ) → middle ≡ rest_of left
-    → Reads does a unread count b left → frames_of left ≡ [] → FeedsLast does end b middle c next → Greeted does own (Err end) a unread c next
+    → Reads does a unread count b left → frames_of left ≡ [] → FeedsLast does b middle c next end → Greeted does own (Err end) a unread c next
 greets-last does own ended.End a b c unread left middle next count same one none feeds =
     let reads = one.reads ++ feeds.read ∷ [] in
     let awaits = awaits-more does a b unread left count feeds.read one none in
@@ -166,7 +166,7 @@ pub greets-no-memory : {W : Type 0} (does : W → Did → W → Type 0) (own : L
 greets-no-memory does own a unread = record { reads = []; steps = refl; awaits = tt; holds = inr refl; greets = tt }
 
 pub peeks-counted : (own unread : List ℕ) (answer : Result (List ℕ) Ended) (before after : ℕ) → PeeksBy own unread (Some answer) → before ≤ after
-    → IfErr answer (λ end. IsCounted end before after)
+    → IfErr answer (IsCounted before after)
 peeks-counted own unread (Ok sender) before after peeks some = tt
 peeks-counted own unread (Err (ended.Closed reason)) before after peeks some = some
 peeks-counted own unread (Err ended.NoMemory) before after peeks some = some

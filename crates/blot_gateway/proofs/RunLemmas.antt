@@ -7,7 +7,7 @@ use Rattle.blot_types.specs.declared.command.Command.{Command}
 use Rattle.blot_session.specs.declared.replies.NotTaken.{NotTaken}
 use Rattle.blot_session.specs.declared.replies.SeenReply.{SeenReply}
 use Rattle.blot_session.specs.declared.state.State.{State}
-use Rattle.blot_session.specs.Runs.{Call, Meets, outcome, bytes_of, delivered_by, delivered_of, sent_of}
+use Rattle.blot_session.specs.Runs.{Call, DeliversJust, Meets, outcome, bytes_of, delivered_by, delivered_of, sent_of}
 use Rattle.blot_session.specs.Runs.Call.{Frame, Reply, Tick}
 use Rattle.blot_session.specs.States.{IsIdle, IsAwaiting}
 use Rattle.blot_gateway.specs.declared.ended.Ended.{Ended}
@@ -21,7 +21,7 @@ use Rattle.blot_gateway.specs.Wires.Read.{AtEnd, Failed}
 use Rattle.blot_gateway.specs.Serving.{Due, EndsWith, Parties, parties, Happens, InTurn, Runs, Ends, GoesOn, HasLast, Stops, Cause, IsFront, Wrote, close_in, due_by, moment_by, reply_by, is_served, has_memory, seen_by, texts_of, written_in}
 use Rattle.blot_gateway.specs.Serving.Due.{Fed, Came, Passed}
 use Rattle.blot_gateway.specs.Serving.Turn.{Reads, Calls}
-use Rattle.blot_gateway.specs.Sending.{Called, StopsAt, Halted, Submitted, SubmittedLast, DeliversJust}
+use Rattle.blot_gateway.specs.Sending.{Called, StopsAt, Halted, Submitted, SubmittedLast}
 use Rattle.blot_gateway.proofs.SendingLemmas.{steps-one}
 use Rattle.blot_gateway.proofs.CallLemmas.{goes-on, goes-nowhere, happens-on, in-turn-on, appended, stops-behind, wrote-behind}
 
@@ -173,14 +173,14 @@ nothing-then call state due replies now memory is none = ap (λ given. (outcome 
 
 halted-broke : {W C : Type 0} (does : W → Did → W → Type 0) (ticks : C → ℤ → C → Type 0) (stop : Stop) (call : ℤ → Bool → Call) (before : W) (clock : C) (state : State) (after : W) (clock_after : C) (next : State)
     (due : List Due) (replies : List (Result SeenReply NotTaken)) → IsCall call state due replies
-    → (halted : Halted does ticks stop call before clock state after clock_after next) → Broke does stop before state (call halted.now halted.memory) after
+    → (halted : Halted does ticks call before clock state after clock_after next stop) → Broke does stop before state (call halted.now halted.memory) after
 halted-broke does ticks stop call before clock state after clock_after next due replies is halted =
     broke does stop before state (call halted.now halted.memory) halted.memory after (is.memory_is halted.now halted.memory)
     (nothing-then call state due replies halted.now halted.memory is) halted.halts
 
 pub ends-one : {W C S : Type 0} (does : W → Did → W → Type 0) (ticks : C → ℤ → C → Type 0) (takes : S → Answered → S → Type 0)
     (stop : Stop) (call : ℤ → Bool → Call) (a : Parties W C S) (due more : List Due) (wire : W) (clock : C) (state : State)
-    → IsCall call a.session due [] → Halted does ticks stop call a.wire a.clock a.session wire clock state
+    → IsCall call a.session due [] → Halted does ticks call a.wire a.clock a.session wire clock state stop
     → Ends does ticks takes (ended_by stop) a (due ++ more) [] (parties wire clock a.sink state)
 ends-one does ticks takes stop call a due more wire clock state is halted =
     let made = call halted.now halted.memory in
@@ -219,15 +219,13 @@ handed-pair command call reply state next led one two =
     (ap (λ (before : State). map (λ numbered. numbered.command) (delivered_of before (reply ∷ []))) (sym led) ∙ commands-one next reply None two))
 
 pub runs-pair : {W C S : Type 0} (does : W → Did → W → Type 0) (ticks : C → ℤ → C → Type 0) (takes : S → Answered → S → Type 0)
-    (command : Command) (call : ℤ → Bool → Call) (a : Parties W C S) (due more : List Due) (wire wire_after : W) (clock clock_after : C) (sink_after : S) (state after : State)
+    (command : Command) (call : ℤ → Bool → Call) (a c : Parties W C S) (due more : List Due) (wire : W) (clock : C) (state : State)
     → IsCall call a.session due [] → IsAwaiting state → Called does ticks (Some command) call a.wire a.clock a.session wire clock state
-    → Submitted does ticks takes command wire clock a.sink state wire_after clock_after sink_after after
-    → Runs does ticks takes a (due ++ more) [] more (parties wire_after clock_after sink_after after)
-runs-pair does ticks takes command call a due more wire wire_after clock clock_after sink_after state after is awaiting called submitted =
+    → Submitted does ticks takes command (parties wire clock a.sink state) c → Runs does ticks takes a (due ++ more) [] more c
+runs-pair does ticks takes command call a c due more wire clock state is awaiting called submitted =
     let reply = submitted.called in
     let seen = seen_by submitted.answer in
     let b = parties wire clock a.sink state in
-    let c = parties wire_after clock_after sink_after after in
     let one = call called.now true in
     let two = Reply seen reply.now true in
     let answered : Answered = record { command = command; answer = submitted.answer } in
@@ -239,7 +237,7 @@ runs-pair does ticks takes command call a due more wire wire_after clock clock_a
       happens = happens-on does ticks takes a b c (one ∷ []) (two ∷ []) called.writes.dids reply.writes.dids [] (answered ∷ [])
           (happens-first does ticks takes (Some command) call a due wire clock state is called)
           (happens-one does ticks takes (Reply seen) reply.now true b c [] (seen ∷ []) reply.writes.dids (answered ∷ []) told reply.session reply.ticked
-          (steps-one takes answered a.sink sink_after submitted.taken) refl reply.writes.steps);
+          (steps-one takes answered a.sink c.sink submitted.taken) refl reply.writes.steps);
       in_turn = in-turn-on (λ written sent. written ≡ sent) a.session state (one ∷ []) (two ∷ []) called.writes.dids reply.writes.dids (due ++ more) more more [] []
           (λ _ _ _ _ first second. appended first second) called.session
           (in-turn-one (λ written sent. written ≡ sent) a.session one called.writes.dids due more (is.due_is called.now true) called.writes.read
@@ -251,20 +249,18 @@ runs-pair does ticks takes command call a due more wire wire_after clock clock_a
     }
 
 pub ends-pair : {W C S : Type 0} (does : W → Did → W → Type 0) (ticks : C → ℤ → C → Type 0) (takes : S → Answered → S → Type 0)
-    (stop : Stop) (command : Command) (call : ℤ → Bool → Call) (a : Parties W C S) (due more : List Due) (wire wire_after : W) (clock clock_after : C) (sink_after : S) (state after : State)
+    (stop : Stop) (command : Command) (call : ℤ → Bool → Call) (a c : Parties W C S) (due more : List Due) (wire : W) (clock : C) (state : State)
     → IsCall call a.session due [] → IsAwaiting state → Called does ticks (Some command) call a.wire a.clock a.session wire clock state
-    → SubmittedLast does ticks takes stop command wire clock a.sink state wire_after clock_after sink_after after
-    → Ends does ticks takes (ended_by stop) a (due ++ more) [] (parties wire_after clock_after sink_after after)
-ends-pair does ticks takes stop command call a due more wire wire_after clock clock_after sink_after state after is awaiting called submitted =
+    → SubmittedLast does ticks takes command (parties wire clock a.sink state) c stop → Ends does ticks takes (ended_by stop) a (due ++ more) [] c
+ends-pair does ticks takes stop command call a c due more wire clock state is awaiting called submitted =
     let reply = submitted.halted in
     let seen = seen_by submitted.answer in
     let b = parties wire clock a.sink state in
-    let c = parties wire_after clock_after sink_after after in
     let one = call called.now true in
     let two = Reply seen reply.now reply.memory in
     let answered : Answered = record { command = command; answer = submitted.answer } in
     let told = reply-call seen state awaiting in
-    let broken = halted-broke does ticks stop (Reply seen) wire clock state wire_after clock_after after [] (seen ∷ []) told reply in
+    let broken = halted-broke does ticks stop (Reply seen) wire clock state c.wire c.clock c.session [] (seen ∷ []) told reply in
     let goes = goes-one a.session one called.stays (is.memory_is called.now true) in
     record {
       calls = one ∷ two ∷ [];
@@ -274,7 +270,7 @@ ends-pair does ticks takes stop command call a due more wire wire_after clock cl
       happens = happens-on does ticks takes a b c (one ∷ []) (two ∷ []) called.writes.dids broken.dids [] (answered ∷ [])
           (happens-first does ticks takes (Some command) call a due wire clock state is called)
           (happens-one does ticks takes (Reply seen) reply.now reply.memory b c [] (seen ∷ []) broken.dids (answered ∷ []) told reply.session reply.ticked
-          (steps-one takes answered a.sink sink_after submitted.taken) refl broken.steps);
+          (steps-one takes answered a.sink c.sink submitted.taken) refl broken.steps);
       in_turn = in-turn-on (Wrote (ended_by stop)) a.session state (one ∷ []) (two ∷ []) called.writes.dids broken.dids (due ++ more) more more [] []
           (wrote-behind (ended_by stop)) called.session
           (in-turn-one (λ written sent. written ≡ sent) a.session one called.writes.dids due more (is.due_is called.now true) called.writes.read

@@ -15,6 +15,7 @@ use Rattle.blot_gateway.specs.Endings.{ended_by}
 use Rattle.blot_gateway.specs.Wires.{Read, Did, Answered, Counts}
 use Rattle.blot_gateway.specs.Wires.Read.{AtEnd, Failed}
 use Rattle.blot_gateway.specs.Wires.Did.{Gave}
+use Rattle.blot_gateway.specs.Progress.{CountsStop, Handles}
 use Rattle.blot_gateway.specs.Serving.{Due, Parties, parties, Runs, Ends, EndsWithin, IsCounted, due_behind, due_fed, due_of}
 use Rattle.blot_gateway.specs.Serving.Due.{Fed, Came, Passed}
 use Rattle.blot_gateway.specs.Sending.{Called, Halted}
@@ -69,7 +70,7 @@ runs-fed does ticks takes a b unread rest more wire clock state left idle one ca
 
 pub ends-fed : {W C S : Type 0} (does : W → Did → W → Type 0) (ticks : C → ℤ → C → Type 0) (takes : S → Answered → S → Type 0)
     (stop : Stop) (a b : Parties W C S) (unread : List ℕ) (more : List Read) (wire : W) (clock : C) (state : State) → IsIdle b.session
-    → Runs does ticks takes a (due_fed unread more) [] (Passed ∷ due_behind (rest_of unread) more) b → Halted does ticks stop Tick b.wire b.clock b.session wire clock state
+    → Runs does ticks takes a (due_fed unread more) [] (Passed ∷ due_behind (rest_of unread) more) b → Halted does ticks Tick b.wire b.clock b.session wire clock state stop
     → Ends does ticks takes (ended_by stop) a (due_fed unread more) [] (parties wire clock b.sink state)
 ends-fed does ticks takes stop a b unread more wire clock state idle one halted =
     ends-behind does ticks takes (ended_by stop) a b (parties wire clock b.sink state) (due_fed unread more) (Passed ∷ due_behind (rest_of unread) more) [] [] one
@@ -82,7 +83,7 @@ ended-short (stops.Closed reason) is = absurd cc
 ended-short stops.WriteFault is = absurd cc
 ended-short stops.NoMemory is = absurd cc
 
-pub ended-counted : (stop : Stop) (before after : ℕ) → before ≤ after → (stop ≡ stops.WriteFault → Counts before after) → IsCounted (ended_by stop) before after
+pub ended-counted : (stop : Stop) (before after : ℕ) → before ≤ after → CountsStop before after stop → IsCounted before after (ended_by stop)
 ended-counted (stops.Closed reason) before after some rose = some
 ended-counted stops.WriteFault before after some rose = rose refl
 ended-counted stops.NoMemory before after some rose = some
@@ -97,7 +98,7 @@ counts-behind before mid after one two = record {
     more (inl rises) = inl (omega (arith, one, rises))
     more (inr full) = inr full
 
-pub counted-behind : (end : Ended) (before mid after : ℕ) → before ≤ mid → IsCounted end mid after → IsCounted end before after
+pub counted-behind : (end : Ended) (before mid after : ℕ) → before ≤ mid → IsCounted mid after end → IsCounted before after end
 counted-behind (ended.Closed reason) before mid after one two = omega (arith, one, two)
 counted-behind ended.End before mid after one two = omega (arith, one, two)
 counted-behind ended.ReadFault before mid after one two = counts-behind before mid after one two
@@ -192,7 +193,7 @@ ends-no-memory does ticks takes most a unread =
 
 pub served-reads : {W C S : Type 0} (does : W → Did → W → Type 0) (ticks : C → ℤ → C → Type 0) (takes : S → Answered → S → Type 0)
     (most : ℕ) (end : Ended) (a b c : Parties W C S) (unread rest : List ℕ) → rest ≡ rest_of unread
-    → ((more : List Due) → Runs does ticks takes a (map Came (frames_of unread) ++ more) [] more b) → EndsWithin does ticks takes most end b (due_behind rest) c
+    → Handles does ticks takes a (map Came (frames_of unread)) b → EndsWithin does ticks takes most end b (due_behind rest) c
     → EndsWithin does ticks takes most end a (due_of unread) c
 served-reads does ticks takes most end a b c unread rest left one two =
     let due = due_behind (rest_of unread) two.reads in

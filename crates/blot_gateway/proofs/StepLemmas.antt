@@ -1,13 +1,13 @@
 -- One call of a session.
 use Rattle.std.proofs.Common.{◌≡◌, Bool, true, false, List, [], map, Option, None, Result, Ok, Err, refl, sym, ap, subst}
-use Rattle.std.specs.Prelude.{ℤ, IfErr, IsOk, OnOk}
+use Rattle.std.specs.Prelude.{ℤ, IfErr, IsErrAnd, IsOk, OnOk}
 use Rattle.std.proofs.lemmas.Bool.{false≢true}
 use Rattle.std.specs.List.{flat_map}
 use Rattle.blot_types.specs.declared.command.Command.{Command}
 use Rattle.blot_session.specs.declared.action.Action.{Action}
 use Rattle.blot_session.specs.declared.state.State.{State}
 use Rattle.blot_session.specs.Calls.{Outcome, Awaits}
-use Rattle.blot_session.specs.Runs.{Call, outcome, bytes_of, delivered_by}
+use Rattle.blot_session.specs.Runs.{Call, DeliversJust, outcome, bytes_of, delivered_by}
 use Rattle.blot_session.specs.States.{IsIdle}
 use Rattle.blot_gateway.specs.declared.ended.Ended.{Ended}
 use Rattle.blot_gateway.specs.declared.ended.Stop.{Stop}
@@ -15,7 +15,7 @@ use Rattle.blot_gateway.specs.declared.ended.Stop.TheVariants as stops
 use Rattle.blot_gateway.specs.Endings.{ended_by}
 use Rattle.blot_gateway.specs.Wires.{Did}
 use Rattle.blot_gateway.specs.Serving.{close_in}
-use Rattle.blot_gateway.specs.Sending.{Writes, Halts, Called, StopsAt, Halted, DeliversJust}
+use Rattle.blot_gateway.specs.Sending.{Writes, Halts, Called, StopsAt, Halted}
 use Rattle.blot_session.proofs.ActionLemmas.{delivered-idle}
 
 -- ---- results
@@ -39,9 +39,10 @@ ok-through (Ok x) (Ok y) ok p more = more p
 ok-through (Ok x) (Err f) ok p more = absurd (false≢true ok)
 
 pub err-through : {T : Type 0} (P : Stop → Type 0) (Q : Ended → Type 0) (result : Result T Ended) (served : Result T Stop)
-    → IfErr result (λ end. (stop : Stop) × (served ≡ Err stop) × (end ≡ ended_by stop)) → IfErr served P → ((stop : Stop) → P stop → Q (ended_by stop)) → IfErr result Q
+    → IfErr result (λ end. IsErrAnd served (λ stop. end ≡ ended_by stop)) → IfErr served P → ((stop : Stop) → P stop → Q (ended_by stop)) → IfErr result Q
 err-through P Q (Ok x) served err p more = tt
-err-through P Q (Err end) served err p more = subst Q (sym err.2) (more err.0 (subst (λ found. IfErr found P) err.1 p))
+err-through P Q (Err end) (Ok y) err p more = absurd err
+err-through P Q (Err end) (Err stop) err p more = subst Q (sym err) (more stop p)
 
 -- ---- a call
 
@@ -74,7 +75,7 @@ pub halted : {W C : Type 0} (does : W → Did → W → Type 0) (ticks : C → �
     (wire wire_after : W) (clock clock_after : C) (state after : State) (now : ℤ) (slice actions : List Action) → slice ≡ actions
     → record { state = after; actions = actions } ≡ outcome state (call now true) → ticks clock now clock_after
     → Halts does stop wire slice wire_after → DeliversJust None actions
-    → Halted does ticks stop call wire clock state wire_after clock_after after
+    → Halted does ticks call wire clock state wire_after clock_after after stop
 halted does ticks stop call wire wire_after clock clock_after state after now slice actions same is ticked halts delivers =
     record {
       now = now;
@@ -89,7 +90,7 @@ halted does ticks stop call wire wire_after clock clock_after state after now sl
 pub out-of-memory : {W C : Type 0} (does : W → Did → W → Type 0) (ticks : C → ℤ → C → Type 0) (call : ℤ → Bool → Call)
     (wire : W) (clock clock_after : C) (state after : State) (now : ℤ)
     → after ≡ (outcome state (call now false)).state → (outcome state (call now false)).actions ≡ [] → ticks clock now clock_after
-    → Halted does ticks stops.NoMemory call wire clock state wire clock_after after
+    → Halted does ticks call wire clock state wire clock_after after stops.NoMemory
 out-of-memory does ticks call wire clock clock_after state after now is none ticked =
     record {
       now = now;

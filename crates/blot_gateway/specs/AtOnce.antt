@@ -97,7 +97,7 @@ pub record IsServed {W C : Type 0} (does : W → Did → W → Type 0) (ticks : 
   pub wire_after : W
   pub clock_after : C
   pub serves : ServesLine does ticks TakesReceipt own end (line wire clock receipts) (line wire_after clock_after receipts_after)
-  pub counted : IsCounted end (failures wire) (failures wire_after)
+  pub counted : IsCounted (failures wire) (failures wire_after) end
 
 -- each of these wires did, in their order
 abbrev pub EachServed : {W C : Type 0} → (W → Did → W → Type 0) → (C → ℤ → C → Type 0) → (W → ℕ) → List ℕ

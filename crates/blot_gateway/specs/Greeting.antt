@@ -85,7 +85,7 @@ ReadEnds ended.ReadFault read = read ≡ Failed
 ReadEnds ended.NoMemory read = Unit {0}
 ReadEnds end read = ⊥
 
-pub record FeedsLast {W : Type 0} (does : W → Did → W → Type 0) (end : Ended) (before : W) (unread : List ℕ) (after : W) (left : List ℕ) : Type 0 where
+pub record FeedsLast {W : Type 0} (does : W → Did → W → Type 0) (before : W) (unread : List ℕ) (after : W) (left : List ℕ) (end : Ended) : Type 0 where
   pub read : Read
   pub gave : does before (Gave read) after
   pub ends : ReadEnds end read

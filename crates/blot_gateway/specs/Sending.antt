@@ -1,17 +1,17 @@
 -- What is written to a wire, and how one call of a session ends.
-use Rattle.std.specs.Prelude.{◌≡◌, ℕ, ℤ, Bool, true, false, List, [], map, Option, Some, None, Result, option_to_list}
+use Rattle.std.specs.Prelude.{◌≡◌, ℕ, ℤ, Bool, true, false, List, [], Option, Some, None, Result}
 use Rattle.std.specs.List.{flat_map}
 use Rattle.blot_types.specs.declared.command.Command.{Command}
 use Rattle.blot_desk.specs.declared.event.Reply.{Reply as DeskReply}
 use Rattle.blot_desk.specs.declared.fault.DeskFault.{DeskFault}
 use Rattle.blot_session.specs.declared.action.Action.{Action}
 use Rattle.blot_session.specs.declared.state.State.{State}
-use Rattle.blot_session.specs.Runs.{Call, outcome, bytes_of, delivered_by}
+use Rattle.blot_session.specs.Runs.{Call, DeliversJust, outcome, bytes_of}
 use Rattle.blot_session.specs.Runs.Call.{Reply}
 use Rattle.blot_gateway.specs.declared.ended.Stop.{Stop}
 use Rattle.blot_gateway.specs.declared.ended.Stop.TheVariants as stops
 use Rattle.blot_gateway.specs.Wires.{Did, Answered, Steps, reads_of, written_of}
-use Rattle.blot_gateway.specs.Serving.{IsFront, close_in, seen_by}
+use Rattle.blot_gateway.specs.Serving.{IsFront, Parties, close_in, seen_by}
 
 -- a wire takes just these bytes
 pub record Writes {W : Type 0} (does : W → Did → W → Type 0) (before : W) (text : List ℕ) (after : W) : Type 0 where
@@ -32,10 +32,6 @@ Halts does (stops.Closed reason) before actions after = Writes does before (flat
 Halts does stops.WriteFault before actions after = WritesFront does before (flat_map bytes_of actions) after
 Halts does stops.NoMemory before actions after = ⊥
 
--- some actions deliver just this command, or none
-abbrev pub DeliversJust : Option Command → List Action → Type 0
-DeliversJust command actions = (number : ℕ) → map (λ numbered. numbered.command) (delivered_by number actions) ≡ option_to_list command
-
 -- one call of a session, at the clock's moment: all that it sends is written, it delivers this command or none, and it doesn't end
 -- the connection
 pub record Called {W C : Type 0} (does : W → Did → W → Type 0) (ticks : C → ℤ → C → Type 0) (command : Option Command) (call : ℤ → Bool → Call)
@@ -53,8 +49,8 @@ StopsAt does stops.NoMemory before actions memory after = (memory ≡ false) × 
 StopsAt does stop before actions memory after = (memory ≡ true) × Halts does stop before actions after
 
 -- one call of a session that stops it; it delivers nothing
-pub record Halted {W C : Type 0} (does : W → Did → W → Type 0) (ticks : C → ℤ → C → Type 0) (stop : Stop) (call : ℤ → Bool → Call)
-    (wire : W) (clock : C) (state : State) (wire_after : W) (clock_after : C) (after : State) : Type 0 where
+pub record Halted {W C : Type 0} (does : W → Did → W → Type 0) (ticks : C → ℤ → C → Type 0) (call : ℤ → Bool → Call)
+    (wire : W) (clock : C) (state : State) (wire_after : W) (clock_after : C) (after : State) (stop : Stop) : Type 0 where
   pub now : ℤ
   pub memory : Bool
   pub ticked : ticks clock now clock_after
@@ -63,15 +59,15 @@ pub record Halted {W C : Type 0} (does : W → Did → W → Type 0) (ticks : C 
   pub delivers : DeliversJust None (outcome state (call now memory)).actions
 
 -- a command is handed to the sink, and the session told the answer
-pub record Submitted {W C S : Type 0} (does : W → Did → W → Type 0) (ticks : C → ℤ → C → Type 0) (takes : S → Answered → S → Type 0) (command : Command)
-    (wire : W) (clock : C) (sink : S) (state : State) (wire_after : W) (clock_after : C) (sink_after : S) (after : State) : Type 0 where
+pub record Submitted {W C S : Type 0} (does : W → Did → W → Type 0) (ticks : C → ℤ → C → Type 0) (takes : S → Answered → S → Type 0)
+    (command : Command) (before after : Parties W C S) : Type 0 where
   pub answer : Result DeskReply DeskFault
-  pub taken : takes sink (record { command = command; answer = answer }) sink_after
-  pub called : Called does ticks None (Reply (seen_by answer)) wire clock state wire_after clock_after after
+  pub taken : takes before.sink (record { command = command; answer = answer }) after.sink
+  pub called : Called does ticks None (Reply (seen_by answer)) before.wire before.clock before.session after.wire after.clock after.session
 
 -- and that stops it
-pub record SubmittedLast {W C S : Type 0} (does : W → Did → W → Type 0) (ticks : C → ℤ → C → Type 0) (takes : S → Answered → S → Type 0) (stop : Stop) (command : Command)
-    (wire : W) (clock : C) (sink : S) (state : State) (wire_after : W) (clock_after : C) (sink_after : S) (after : State) : Type 0 where
+pub record SubmittedLast {W C S : Type 0} (does : W → Did → W → Type 0) (ticks : C → ℤ → C → Type 0) (takes : S → Answered → S → Type 0)
+    (command : Command) (before after : Parties W C S) (stop : Stop) : Type 0 where
   pub answer : Result DeskReply DeskFault
-  pub taken : takes sink (record { command = command; answer = answer }) sink_after
-  pub halted : Halted does ticks stop (Reply (seen_by answer)) wire clock state wire_after clock_after after
+  pub taken : takes before.sink (record { command = command; answer = answer }) after.sink
+  pub halted : Halted does ticks (Reply (seen_by answer)) before.wire before.clock before.session after.wire after.clock after.session stop

@@ -173,10 +173,10 @@ Wrote ended.WriteFault written sent = LosesLast written sent
 Wrote end written sent = written ≡ sent
 
 -- a failure is counted, where the wire failed
-abbrev pub IsCounted : Ended → ℕ → ℕ → Type 0
-IsCounted ended.ReadFault before after = Counts before after
-IsCounted ended.WriteFault before after = Counts before after
-IsCounted end before after = before ≤ after
+abbrev pub IsCounted : ℕ → ℕ → Ended → Type 0
+IsCounted before after ended.ReadFault = Counts before after
+IsCounted before after ended.WriteFault = Counts before after
+IsCounted before after end = before ≤ after
 
 -- ---- turns
 

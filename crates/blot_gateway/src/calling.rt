@@ -3,11 +3,10 @@ ghost use Rattle.std.specs.Prelude.{◌≡◌, ◌≤◌, [], ◌∷◌, List, O
 ghost use Rattle.blot_tag.specs.Views.{text_of};
 ghost use Rattle.blot_session.specs.Runs.Call.{Frame as FrameCall, Reply as ReplyCall, Tick};
 ghost use Rattle.blot_session.specs.States.{awaited_of, IsIdle, IsAwaiting};
-ghost use Rattle.blot_gateway.specs.Endings.{ended_by};
-ghost use Rattle.blot_gateway.specs.Wires.{Counts};
+ghost use Rattle.blot_gateway.specs.Progress.{CountsStop, Handles, HandlesLast};
 ghost use Rattle.blot_gateway.specs.Sending.{Called, Halted, Submitted, SubmittedLast};
-ghost use Rattle.blot_gateway.specs.Serving.{Due, Runs, Ends, parties, seen_by};
-ghost use Rattle.blot_gateway.specs.Serving.Due.{Came, Passed};
+ghost use Rattle.blot_gateway.specs.Serving.{parties, seen_by};
+ghost use Rattle.blot_gateway.specs.Serving.Due.{Came};
 
 use crate::ended::Stop;
 use crate::writing::carry_out;
@@ -28,13 +27,13 @@ pub(crate) fn take_frame<W: Wire, C: Clock, S: Sink>(
     frame: &Frame,
 ) -> Result<(), Stop>
     requires { IsIdle session.old }
-    ensures ok { OnOk result ((more : List Due) → Runs W.does C.ticks S.takes (parties wire.old clock.old sink.old session.old)
-        (Came (text_of frame.now) ∷ more) [] more (parties wire.new clock.new sink.new session.new)) }
-    ensures err { IfErr result (λ stop. (more : List Due) → Ends W.does C.ticks S.takes (ended_by stop) (parties wire.old clock.old sink.old session.old)
-        (Came (text_of frame.now) ∷ more) [] (parties wire.new clock.new sink.new session.new)) }
+    ensures ok { OnOk result (Handles W.does C.ticks S.takes (parties wire.old clock.old sink.old session.old)
+        (Came (text_of frame.now) ∷ []) (parties wire.new clock.new sink.new session.new)) }
+    ensures err { IfErr result (HandlesLast W.does C.ticks S.takes (parties wire.old clock.old sink.old session.old)
+        (Came (text_of frame.now) ∷ []) (parties wire.new clock.new sink.new session.new)) }
     ensures idle { IsIdle session.new }
     ensures failures { W.failures wire.old ≤ W.failures wire.new }
-    ensures failed { IfErr result (λ stop. stop ≡ Stop.WriteFault → Counts (W.failures wire.old) (W.failures wire.new)) }
+    ensures failed { IfErr result (CountsStop (W.failures wire.old) (W.failures wire.new)) }
 {
     match give_frame(alloc, wire, clock, session, frame) {
         Ok(Some(command)) => submit(alloc, wire, clock, sink, session, command),
@@ -52,10 +51,10 @@ pub(crate) fn pass_moment<W: Wire, C: Clock>(
 ) -> Result<(), Stop>
     requires { IsIdle session.old }
     ensures ok { OnOk result (Called W.does C.ticks None Tick wire.old clock.old session.old wire.new clock.new session.new) }
-    ensures err { IfErr result (λ stop. Halted W.does C.ticks stop Tick wire.old clock.old session.old wire.new clock.new session.new) }
+    ensures err { IfErr result (Halted W.does C.ticks Tick wire.old clock.old session.old wire.new clock.new session.new) }
     ensures idle { IsIdle session.new }
     ensures failures { W.failures wire.old ≤ W.failures wire.new }
-    ensures failed { IfErr result (λ stop. stop ≡ Stop.WriteFault → Counts (W.failures wire.old) (W.failures wire.new)) }
+    ensures failed { IfErr result (CountsStop (W.failures wire.old) (W.failures wire.new)) }
 {
     let now = clock.now();
     match session.on_tick(alloc, now) {
@@ -73,12 +72,14 @@ fn give_frame<W: Wire, C: Clock>(
     frame: &Frame,
 ) -> Result<Option<Command>, Stop>
     requires { IsIdle session.old }
-    ensures ok { IfOk result (λ command. Called W.does C.ticks command (FrameCall (text_of frame.now)) wire.old clock.old session.old wire.new clock.new session.new) }
+    ensures ok { IfOk result (λ command. Called W.does C.ticks command (FrameCall (text_of frame.now)) wire.old clock.old session.old
+        wire.new clock.new session.new) }
     ensures awaits { IfOk result (λ command. is_some command ≡ is_some (awaited_of session.new)) }
-    ensures err { IfErr result (λ stop. Halted W.does C.ticks stop (FrameCall (text_of frame.now)) wire.old clock.old session.old wire.new clock.new session.new) }
+    ensures err { IfErr result (Halted W.does C.ticks (FrameCall (text_of frame.now)) wire.old clock.old session.old
+        wire.new clock.new session.new) }
     ensures idle { OnErr result (IsIdle session.new) }
     ensures failures { W.failures wire.old ≤ W.failures wire.new }
-    ensures failed { IfErr result (λ stop. stop ≡ Stop.WriteFault → Counts (W.failures wire.old) (W.failures wire.new)) }
+    ensures failed { IfErr result (CountsStop (W.failures wire.old) (W.failures wire.new)) }
 {
     let now = clock.now();
     let Ok(actions) = session.on_frame(alloc, frame, now) else {
@@ -100,11 +101,13 @@ fn submit<W: Wire, C: Clock, S: Sink>(
     command: Command,
 ) -> Result<(), Stop>
     requires { IsAwaiting session.old }
-    ensures ok { OnOk result (Submitted W.does C.ticks S.takes command wire.old clock.old sink.old session.old wire.new clock.new sink.new session.new) }
-    ensures err { IfErr result (λ stop. SubmittedLast W.does C.ticks S.takes stop command wire.old clock.old sink.old session.old wire.new clock.new sink.new session.new) }
+    ensures ok { OnOk result (Submitted W.does C.ticks S.takes command (parties wire.old clock.old sink.old session.old)
+        (parties wire.new clock.new sink.new session.new)) }
+    ensures err { IfErr result (SubmittedLast W.does C.ticks S.takes command (parties wire.old clock.old sink.old session.old)
+        (parties wire.new clock.new sink.new session.new)) }
     ensures idle { IsIdle session.new }
     ensures failures { W.failures wire.old ≤ W.failures wire.new }
-    ensures failed { IfErr result (λ stop. stop ≡ Stop.WriteFault → Counts (W.failures wire.old) (W.failures wire.new)) }
+    ensures failed { IfErr result (CountsStop (W.failures wire.old) (W.failures wire.new)) }
 {
     let answer = sink.take(command);
     tell(alloc, wire, clock, session, seen_by(answer))
@@ -120,10 +123,10 @@ fn tell<W: Wire, C: Clock>(
 ) -> Result<(), Stop>
     requires { IsAwaiting session.old }
     ensures ok { OnOk result (Called W.does C.ticks None (ReplyCall seen) wire.old clock.old session.old wire.new clock.new session.new) }
-    ensures err { IfErr result (λ stop. Halted W.does C.ticks stop (ReplyCall seen) wire.old clock.old session.old wire.new clock.new session.new) }
+    ensures err { IfErr result (Halted W.does C.ticks (ReplyCall seen) wire.old clock.old session.old wire.new clock.new session.new) }
     ensures idle { IsIdle session.new }
     ensures failures { W.failures wire.old ≤ W.failures wire.new }
-    ensures failed { IfErr result (λ stop. stop ≡ Stop.WriteFault → Counts (W.failures wire.old) (W.failures wire.new)) }
+    ensures failed { IfErr result (CountsStop (W.failures wire.old) (W.failures wire.new)) }
 {
     let now = clock.now();
     match session.on_reply(alloc, seen, now) {

@@ -42,7 +42,7 @@ fn serve_wire<R: Wait, W: Wire, C: Clock, S: Sink>(
     sink: &mut S,
 ) -> Ended
     ensures serves { ServesLine W.does C.ticks S.takes slots.now result (line wire.old clock.old sink.old) (line wire.new clock.new sink.new) }
-    ensures counted { IsCounted result (W.failures wire.old) (W.failures wire.new) }
+    ensures counted { IsCounted (W.failures wire.old) (W.failures wire.new) result }
 {
     let mut reader = Reader::new(alloc);
     let peer = match greet(alloc, wire, &mut reader, slots.own()) {

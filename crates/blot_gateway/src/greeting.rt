@@ -23,7 +23,7 @@ pub fn greet<W: Wire>(
     own: Text64,
 ) -> Result<Text64, Ended>
     ensures greeted { Greeted W.does own result wire.old reader.old.unread wire.new reader.new.unread }
-    ensures counted { IfErr result (λ end. IsCounted end (W.failures wire.old) (W.failures wire.new)) }
+    ensures counted { IfErr result (IsCounted (W.failures wire.old) (W.failures wire.new)) }
     ensures failures { W.failures wire.old ≤ W.failures wire.new }
 {
     let Ok(mut buffer) = empty_piece(alloc) else {
@@ -97,9 +97,9 @@ fn sender_by(said: &Result<Message, FieldFault>, own: Text64) -> Result<Text64, 
 fn feed_once<W: Wire>(wire: &mut W, reader: &mut Reader, buffer: &mut [u8]) -> Result<(), Ended>
     requires { 0 < length buffer.old }
     ensures ok { OnOk result (Feeds W.does wire.old reader.old.unread wire.new reader.new.unread) }
-    ensures err { IfErr result (λ end. FeedsLast W.does end wire.old reader.old.unread wire.new reader.new.unread) }
+    ensures err { IfErr result (FeedsLast W.does wire.old reader.old.unread wire.new reader.new.unread) }
     ensures failures { W.failures wire.old ≤ W.failures wire.new }
-    ensures counted { IfErr result (λ end. IsCounted end (W.failures wire.old) (W.failures wire.new)) }
+    ensures counted { IfErr result (IsCounted (W.failures wire.old) (W.failures wire.new)) }
 {
     match wire.read_some(buffer) {
         Reading::Got(count) => match reader.feed(&buffer[..count]) {

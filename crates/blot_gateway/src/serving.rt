@@ -1,12 +1,11 @@
 //! A session, served over a wire.
-ghost use Rattle.std.specs.Prelude.{◌≡◌, ◌≢◌, ◌<◌, ◌≤◌, List, [], ◌∷◌, ◌++◌, length, map, Err, IfErr, IfOk, IsOk, OnOk};
+ghost use Rattle.std.specs.Prelude.{◌≡◌, ◌≢◌, ◌<◌, ◌≤◌, ◌++◌, length, map, IfErr, IsErrAnd, IsOk, OnOk};
 ghost use Rattle.blot_tag.specs.Walking.{frames_of, rest_of};
 ghost use Rattle.blot_session.specs.States.{IsIdle};
-ghost use Rattle.blot_gateway.specs.declared.ended.Stop.{Stop};
 ghost use Rattle.blot_gateway.specs.Endings.{ended_by};
-ghost use Rattle.blot_gateway.specs.Wires.{Counts, Read};
 ghost use Rattle.blot_gateway.specs.declared.ended.TheConstants.{READS_MAX};
-ghost use Rattle.blot_gateway.specs.Serving.{Due, Runs, Ends, EndsWithin, Served, IsCounted, due_behind, due_fed, due_of, left_by, parties};
+ghost use Rattle.blot_gateway.specs.Progress.{CountsStop, Handles, HandlesLast, ServesRead, ServesReadLast, TakesFed, TakesFedLast};
+ghost use Rattle.blot_gateway.specs.Serving.{EndsWithin, Served, IsCounted, due_behind, due_of, left_by, parties};
 ghost use Rattle.blot_gateway.specs.Serving.Due.{Came};
 
 use crate::calling::{pass_moment, take_frame};
@@ -33,7 +32,7 @@ pub fn serve_session<W: Wire, C: Clock, S: Sink>(
     requires { IsIdle session.old }
     ensures served { Served W.does C.ticks S.takes READS_MAX result (parties wire.old clock.old sink.old session.old) reader.old.unread
         (parties wire.new clock.new sink.new session.new) }
-    ensures counted { IsCounted result (W.failures wire.old) (W.failures wire.new) }
+    ensures counted { IsCounted (W.failures wire.old) (W.failures wire.new) result }
 {
     serve_session_within(alloc, wire, clock, sink, reader, session, READS_MAX)
 }
@@ -52,7 +51,7 @@ pub fn serve_session_within<W: Wire, C: Clock, S: Sink>(
     requires { IsIdle session.old }
     ensures served { Served W.does C.ticks S.takes reads result (parties wire.old clock.old sink.old session.old) reader.old.unread
         (parties wire.new clock.new sink.new session.new) }
-    ensures counted { IsCounted result (W.failures wire.old) (W.failures wire.new) }
+    ensures counted { IsCounted (W.failures wire.old) (W.failures wire.new) result }
 {
     let ended = serve_all(alloc, wire, clock, sink, reader, session, reads);
     leave(session, ended);
@@ -73,7 +72,7 @@ fn serve_all<W: Wire, C: Clock, S: Sink>(
     ensures ends { EndsWithin W.does C.ticks S.takes reads result (parties wire.old clock.old sink.old session.old)
         (due_of reader.old.unread) (parties wire.new clock.new sink.new session.new) }
     ensures idle { IsIdle session.new }
-    ensures counted { IsCounted result (W.failures wire.old) (W.failures wire.new) }
+    ensures counted { IsCounted (W.failures wire.old) (W.failures wire.new) result }
 {
     match take_frames(alloc, wire, clock, sink, reader, session) {
         Ok(()) => serve_reads(alloc, wire, clock, sink, reader, session, reads),
@@ -106,7 +105,7 @@ fn serve_reads<W: Wire, C: Clock, S: Sink>(
     ensures ends { EndsWithin W.does C.ticks S.takes reads result (parties wire.old clock.old sink.old session.old)
         (due_behind reader.old.unread) (parties wire.new clock.new sink.new session.new) }
     ensures idle { IsIdle session.new }
-    ensures counted { IsCounted result (W.failures wire.old) (W.failures wire.new) }
+    ensures counted { IsCounted (W.failures wire.old) (W.failures wire.new) result }
 {
     let Ok(mut buffer) = empty_piece(alloc) else {
         return Ended::NoMemory;
@@ -132,14 +131,14 @@ fn serve_read<W: Wire, C: Clock, S: Sink>(
 ) -> Result<(), Ended>
     requires idle { IsIdle session.old }
     requires room { 0 < length buffer.old }
-    ensures ok { OnOk result ((read : Read) × ((more : List Read) → Runs W.does C.ticks S.takes (parties wire.old clock.old sink.old session.old)
-        (due_behind reader.old.unread (read ∷ more)) (read ∷ []) (due_behind reader.new.unread more) (parties wire.new clock.new sink.new session.new))) }
-    ensures err { IfErr result (λ end. (read : Read) × ((more : List Read) → Ends W.does C.ticks S.takes end (parties wire.old clock.old sink.old session.old)
-        (due_behind reader.old.unread (read ∷ more)) (read ∷ []) (parties wire.new clock.new sink.new session.new))) }
+    ensures ok { OnOk result (ServesRead W.does C.ticks S.takes (parties wire.old clock.old sink.old session.old)
+        reader.old.unread (parties wire.new clock.new sink.new session.new) reader.new.unread) }
+    ensures err { IfErr result (ServesReadLast W.does C.ticks S.takes (parties wire.old clock.old sink.old session.old)
+        reader.old.unread (parties wire.new clock.new sink.new session.new)) }
     ensures not_long { IfErr result (λ end. end ≢ Ended.TooLong) }
     ensures idle { IsIdle session.new }
     ensures failures { W.failures wire.old ≤ W.failures wire.new }
-    ensures counted { IfErr result (λ end. IsCounted end (W.failures wire.old) (W.failures wire.new)) }
+    ensures counted { IfErr result (IsCounted (W.failures wire.old) (W.failures wire.new)) }
 {
     match wire.read_some(buffer) {
         Reading::Got(count) => {
@@ -155,7 +154,7 @@ fn serve_read<W: Wire, C: Clock, S: Sink>(
 // The ending of what was stopped, if it was.
 fn end_of(served: Result<(), Stop>) -> Result<(), Ended>
     ensures ok { OnOk result (IsOk served) }
-    ensures err { IfErr result (λ end. (stop : Stop) × (served ≡ Err stop) × (end ≡ ended_by stop)) }
+    ensures err { IfErr result (λ end. IsErrAnd served (λ stop. end ≡ ended_by stop)) }
 {
     match served {
         Ok(()) => Ok(()),
@@ -174,13 +173,13 @@ fn take_piece<W: Wire, C: Clock, S: Sink>(
     piece: &[u8],
 ) -> Result<(), Stop>
     requires { IsIdle session.old }
-    ensures ok { OnOk result ((more : List Read) → Runs W.does C.ticks S.takes (parties wire.old clock.old sink.old session.old)
-        (due_fed (reader.old.unread ++ piece.now) more) [] (due_behind reader.new.unread more) (parties wire.new clock.new sink.new session.new)) }
-    ensures err { IfErr result (λ stop. (more : List Read) → Ends W.does C.ticks S.takes (ended_by stop) (parties wire.old clock.old sink.old session.old)
-        (due_fed (reader.old.unread ++ piece.now) more) [] (parties wire.new clock.new sink.new session.new)) }
+    ensures ok { OnOk result (TakesFed W.does C.ticks S.takes (parties wire.old clock.old sink.old session.old)
+        (reader.old.unread ++ piece.now) (parties wire.new clock.new sink.new session.new) reader.new.unread) }
+    ensures err { IfErr result (TakesFedLast W.does C.ticks S.takes (parties wire.old clock.old sink.old session.old)
+        (reader.old.unread ++ piece.now) (parties wire.new clock.new sink.new session.new)) }
     ensures idle { IsIdle session.new }
     ensures failures { W.failures wire.old ≤ W.failures wire.new }
-    ensures failed { IfErr result (λ stop. stop ≡ Stop.WriteFault → Counts (W.failures wire.old) (W.failures wire.new)) }
+    ensures failed { IfErr result (CountsStop (W.failures wire.old) (W.failures wire.new)) }
 {
     match reader.feed(piece) {
         Ok(()) => take_fed(alloc, wire, clock, sink, reader, session),
@@ -198,13 +197,13 @@ fn take_fed<W: Wire, C: Clock, S: Sink>(
     session: &mut Session,
 ) -> Result<(), Stop>
     requires { IsIdle session.old }
-    ensures ok { OnOk result ((more : List Read) → Runs W.does C.ticks S.takes (parties wire.old clock.old sink.old session.old)
-        (due_fed reader.old.unread more) [] (due_behind reader.new.unread more) (parties wire.new clock.new sink.new session.new)) }
-    ensures err { IfErr result (λ stop. (more : List Read) → Ends W.does C.ticks S.takes (ended_by stop) (parties wire.old clock.old sink.old session.old)
-        (due_fed reader.old.unread more) [] (parties wire.new clock.new sink.new session.new)) }
+    ensures ok { OnOk result (TakesFed W.does C.ticks S.takes (parties wire.old clock.old sink.old session.old)
+        reader.old.unread (parties wire.new clock.new sink.new session.new) reader.new.unread) }
+    ensures err { IfErr result (TakesFedLast W.does C.ticks S.takes (parties wire.old clock.old sink.old session.old)
+        reader.old.unread (parties wire.new clock.new sink.new session.new)) }
     ensures idle { IsIdle session.new }
     ensures failures { W.failures wire.old ≤ W.failures wire.new }
-    ensures failed { IfErr result (λ stop. stop ≡ Stop.WriteFault → Counts (W.failures wire.old) (W.failures wire.new)) }
+    ensures failed { IfErr result (CountsStop (W.failures wire.old) (W.failures wire.new)) }
 {
     match take_frames(alloc, wire, clock, sink, reader, session) {
         Ok(()) => pass_moment(alloc, wire, clock, session),
@@ -222,14 +221,14 @@ fn take_frames<W: Wire, C: Clock, S: Sink>(
     session: &mut Session,
 ) -> Result<(), Stop>
     requires { IsIdle session.old }
-    ensures ok { OnOk result ((more : List Due) → Runs W.does C.ticks S.takes (parties wire.old clock.old sink.old session.old)
-        (map Came (frames_of reader.old.unread) ++ more) [] more (parties wire.new clock.new sink.new session.new)) }
+    ensures ok { OnOk result (Handles W.does C.ticks S.takes (parties wire.old clock.old sink.old session.old)
+        (map Came (frames_of reader.old.unread)) (parties wire.new clock.new sink.new session.new)) }
     ensures rest { OnOk result (reader.new.unread ≡ rest_of reader.old.unread) }
-    ensures err { IfErr result (λ stop. (more : List Due) → Ends W.does C.ticks S.takes (ended_by stop) (parties wire.old clock.old sink.old session.old)
-        (map Came (frames_of reader.old.unread) ++ more) [] (parties wire.new clock.new sink.new session.new)) }
+    ensures err { IfErr result (HandlesLast W.does C.ticks S.takes (parties wire.old clock.old sink.old session.old)
+        (map Came (frames_of reader.old.unread)) (parties wire.new clock.new sink.new session.new)) }
     ensures idle { IsIdle session.new }
     ensures failures { W.failures wire.old ≤ W.failures wire.new }
-    ensures failed { IfErr result (λ stop. stop ≡ Stop.WriteFault → Counts (W.failures wire.old) (W.failures wire.new)) }
+    ensures failed { IfErr result (CountsStop (W.failures wire.old) (W.failures wire.new)) }
 {
     while let Some(frame) = reader.next()? {
         match take_frame(alloc, wire, clock, sink, session, &frame) {

@@ -2,6 +2,7 @@
 ghost use Rattle.std.specs.Prelude.{◌≡◌, ◌<◌, ◌≤◌, [], length, take, IfErr, IfOk, None, OnErr, OnOk};
 ghost use Rattle.std.specs.List.{flat_map};
 ghost use Rattle.blot_session.specs.Runs.{bytes_of};
+ghost use Rattle.blot_gateway.specs.Progress.{CountsStop};
 ghost use Rattle.blot_gateway.specs.Wires.{Counts};
 ghost use Rattle.blot_gateway.specs.Serving.{close_in};
 ghost use Rattle.blot_gateway.specs.Sending.{Writes, WritesFront, Halts};
@@ -20,7 +21,7 @@ pub(crate) fn carry_out<W: Wire>(wire: &mut W, actions: &[Action]) -> Result<(),
     ensures stays { OnOk result (close_in actions.now ≡ None) }
     ensures err { IfErr result (λ stop. Halts W.does stop wire.old actions.now wire.new) }
     ensures failures { W.failures wire.old ≤ W.failures wire.new }
-    ensures failed { IfErr result (λ stop. stop ≡ Stop.WriteFault → Counts (W.failures wire.old) (W.failures wire.new)) }
+    ensures failed { IfErr result (CountsStop (W.failures wire.old) (W.failures wire.new)) }
 {
     if let Err(WriteFault) = send_all(wire, actions) {
         return Err(Stop::WriteFault);

@@ -1,6 +1,6 @@
 -- What is told at a desk, one's own or one of many: each line is answered by what the desk replies, and its answer is told before
 -- the next line is taken. Source: this project's rule.
-use Rattle.std.specs.Prelude.{◌≡◌, ◌↔◌, ℕ, ℤ, List, [], ◌∷◌, ◌++◌, length, IsTrue, IfOk, OnOk, OnErr, Option, Some, None, option_to_list, Result, Ok, Err, ◌⊎◌}
+use Rattle.std.specs.Prelude.{◌≡◌, ◌↔◌, ℕ, ℤ, List, [], ◌∷◌, ◌++◌, length, IsTrue, IfOk, IfSome, OnOk, OnErr, Option, Some, None, option_to_list, Result, Ok, Err, ◌⊎◌}
 use Rattle.std.specs.Io.KnownBytes.{Appends, Keeps}
 use Rattle.std.specs.List.{flat_map}
 use Rattle.blot_types.specs.declared.command.Command.TheVariants.{Withdraw}
@@ -23,7 +23,7 @@ use Rattle.blot_console.specs.declared.ask.Ask.TheVariants as asks
 use Rattle.blot_console.specs.declared.fault.LineFault.{LineFault}
 use Rattle.blot_console.specs.Answers.{answer_text}
 use Rattle.blot_console.specs.Parsing.{parsed}
-use Rattle.blot_operator.specs.Lines.{split_of, kept}
+use Rattle.blot_operator.specs.Lines.{split_of, kept, lines_of}
 use Rattle.blot_operator.specs.Operating.{asked_by, with_key}
 
 -- the ways of a desk, as far as an operator sees them
@@ -130,6 +130,32 @@ pub record StopsAmong {S : Type 0} (ways : Ways S) (before : S) (lines : List (L
 pub record HasTold {S : Type 0} (ways : Ways S) (before : S) (bytes line : List ℕ) (after : S) (old new : Option (List ℕ)) : Type 0 where
   pub told : TellsLines ways before (split_of bytes).ended after old new
   pub line_is : line ≡ kept (split_of bytes).begun
+
+-- a piece of an input comes: whatever came before it, each line is told, and what begins is kept
+abbrev pub TellsOn : {S : Type 0} → Ways S → List ℕ → List ℕ → S → Option (List ℕ) → List ℕ → S → Option (List ℕ) → Type 0
+TellsOn {S = S} ways piece line state old line_after state_after new = (start : S) (bytes : List ℕ) (before : Option (List ℕ))
+    → HasTold ways start bytes line state before old → HasTold ways start (bytes ++ piece) line_after state_after before new
+
+-- or the lines stop, whatever comes behind it
+abbrev pub StopsOn : {S : Type 0} → Ways S → List ℕ → List ℕ → S → Option (List ℕ) → S → Option (List ℕ) → Type 0
+StopsOn {S = S} ways piece line state old state_after new = (start : S) (bytes more : List ℕ) (before : Option (List ℕ))
+    → HasTold ways start bytes line state before old → StopsAmong ways start (lines_of ((bytes ++ piece) ++ more)) state_after before new
+
+-- an input ends: whatever came before, its lines are told, with the one that has begun; or they stop
+abbrev pub TellsLast : {S : Type 0} → Ways S → List ℕ → S → Option (List ℕ) → S → Option (List ℕ) → Type 0
+TellsLast {S = S} ways line state old state_after new = (start : S) (bytes : List ℕ) (before : Option (List ℕ))
+    → HasTold ways start bytes line state before old → TellsLines ways start (lines_of bytes) state_after before new
+
+abbrev pub StopsLast : {S : Type 0} → Ways S → List ℕ → S → Option (List ℕ) → S → Option (List ℕ) → Type 0
+StopsLast {S = S} ways line state old state_after new = (start : S) (bytes : List ℕ) (before : Option (List ℕ))
+    → HasTold ways start bytes line state before old → StopsAmong ways start (lines_of bytes) state_after before new
+
+-- the lines of an input are told, or they stop, where its bytes are known
+abbrev pub TellsOf : {S : Type 0} → Ways S → S → Option (List ℕ) → S → Option (List ℕ) → Option (List ℕ) → Type 0
+TellsOf ways before known after old new = IfSome known (λ bytes. TellsLines ways before (lines_of bytes) after old new)
+
+abbrev pub StopsOf : {S : Type 0} → Ways S → S → Option (List ℕ) → S → Option (List ℕ) → Option (List ℕ) → Type 0
+StopsOf ways before known after old new = IfSome known (λ bytes. StopsAmong ways before (lines_of bytes) after old new)
 
 -- ---- two kinds of desk
 

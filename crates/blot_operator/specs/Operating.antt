@@ -17,6 +17,7 @@ use Rattle.blot_console.specs.declared.ask.Ask.TheVariants as asks
 use Rattle.blot_console.specs.declared.fault.LineFault.{LineFault}
 use Rattle.blot_console.specs.Answers.{answer_text}
 use Rattle.blot_console.specs.Parsing.{parsed}
+use Rattle.blot_operator.specs.Lines.{lines_of}
 use Rattle.blot_operator.specs.declared.answering.Asked.{Asked}
 use Rattle.blot_operator.specs.declared.answering.Asked.TheVariants as asked
 
@@ -70,6 +71,10 @@ told_on told line = record { journal = (answer_to told.journal line).journal; te
 -- lines, in their order
 abbrev pub told_over : Journal → List (List ℕ) → Told
 told_over journal lines = fold told_on (record { journal = journal; text = [] }) lines
+
+-- what its operator is told of an input
+abbrev pub answers_of : Journal → List ℕ → List ℕ
+answers_of journal bytes = (told_over journal (lines_of bytes)).text
 
 -- a desk that stopped among lines: so many are answered, at most one more is taken, and a front of its answer is written
 pub record StoppedIn (start : Journal) (lines : List (List ℕ)) (held : Journal) (before after : Option (List ℕ)) : Type 0 where

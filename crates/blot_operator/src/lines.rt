@@ -1,8 +1,7 @@
 //! The lines of an input, answered as its bytes come.
-ghost use Rattle.std.specs.Prelude.{◌≡◌, ◌≢◌, List, [], ℕ, ◌∷◌, ◌++◌, nat_le, length, Option, Err, OnOk, OnErr, if◌then◌else◌};
+ghost use Rattle.std.specs.Prelude.{◌≡◌, ◌≢◌, [], ◌∷◌, ◌++◌, nat_le, length, Err, OnOk, OnErr, if◌then◌else◌};
 ghost use Rattle.blot_console.specs.declared.parsing.TheConstants.{LINE_MAX};
-ghost use Rattle.blot_operator.specs.Lines.{lines_of};
-ghost use Rattle.blot_operator.specs.Dialogue.{HasTold, StopsAmong, TellsLines};
+ghost use Rattle.blot_operator.specs.Dialogue.{StopsLast, StopsOn, TellsLast, TellsOn};
 
 use crate::answering::answer_line;
 use crate::operated::Operated;
@@ -20,12 +19,10 @@ pub(crate) fn answer_piece<D: Operated, W: Write>(
     line: &mut Vec<u8>,
     piece: &[u8],
 ) -> Result<(), ReplayFault>
-    ensures ok { OnOk result ((start : D.State) (bytes : List ℕ) (before : Option (List ℕ))
-        → HasTold D.ways start bytes line.old.items state.old before (W.contents output.old)
-        → HasTold D.ways start (bytes ++ piece.now) line.new.items state.new before (W.contents output.new)) }
-    ensures err { OnErr result ((start : D.State) (bytes more : List ℕ) (before : Option (List ℕ))
-        → HasTold D.ways start bytes line.old.items state.old before (W.contents output.old)
-        → StopsAmong D.ways start (lines_of ((bytes ++ piece.now) ++ more)) state.new before (W.contents output.new)) }
+    ensures ok { OnOk result (TellsOn D.ways piece.now line.old.items state.old (W.contents output.old)
+        line.new.items state.new (W.contents output.new)) }
+    ensures err { OnErr result (StopsOn D.ways piece.now line.old.items state.old (W.contents output.old)
+        state.new (W.contents output.new)) }
     ensures never_full { result ≢ Err ReplayFault.Full }
 {
     for byte in piece {
@@ -42,12 +39,8 @@ pub(crate) fn answer_last<D: Operated, W: Write>(
     output: &mut W,
     line: &[u8],
 ) -> Result<(), ReplayFault>
-    ensures ok { OnOk result ((start : D.State) (bytes : List ℕ) (before : Option (List ℕ))
-        → HasTold D.ways start bytes line.now state.old before (W.contents output.old)
-        → TellsLines D.ways start (lines_of bytes) state.new before (W.contents output.new)) }
-    ensures err { OnErr result ((start : D.State) (bytes : List ℕ) (before : Option (List ℕ))
-        → HasTold D.ways start bytes line.now state.old before (W.contents output.old)
-        → StopsAmong D.ways start (lines_of bytes) state.new before (W.contents output.new)) }
+    ensures ok { OnOk result (TellsLast D.ways line.now state.old (W.contents output.old) state.new (W.contents output.new)) }
+    ensures err { OnErr result (StopsLast D.ways line.now state.old (W.contents output.old) state.new (W.contents output.new)) }
     ensures never_full { result ≢ Err ReplayFault.Full }
 {
     if line.is_empty() {
@@ -65,12 +58,10 @@ fn take_byte<D: Operated, W: Write>(
     line: &mut Vec<u8>,
     byte: u8,
 ) -> Result<(), ReplayFault>
-    ensures ok { OnOk result ((start : D.State) (bytes : List ℕ) (before : Option (List ℕ))
-        → HasTold D.ways start bytes line.old.items state.old before (W.contents output.old)
-        → HasTold D.ways start (bytes ++ byte ∷ []) line.new.items state.new before (W.contents output.new)) }
-    ensures err { OnErr result ((start : D.State) (bytes more : List ℕ) (before : Option (List ℕ))
-        → HasTold D.ways start bytes line.old.items state.old before (W.contents output.old)
-        → StopsAmong D.ways start (lines_of (bytes ++ byte ∷ more)) state.new before (W.contents output.new)) }
+    ensures ok { OnOk result (TellsOn D.ways (byte ∷ []) line.old.items state.old (W.contents output.old)
+        line.new.items state.new (W.contents output.new)) }
+    ensures err { OnErr result (StopsOn D.ways (byte ∷ []) line.old.items state.old (W.contents output.old)
+        state.new (W.contents output.new)) }
     ensures never_full { result ≢ Err ReplayFault.Full }
 {
     if byte != b'\n' {

@@ -1,9 +1,10 @@
 //! `desk_lines` and `seat_lines`: the lines of an input answered, at a desk of one's own or from a seat.
 ghost use Rattle.std.specs.Prelude.{◌≡◌, ◌≢◌, Err, IfSome, OnOk, OnErr};
-ghost use Rattle.std.specs.Io.KnownBytes.{Appends, IsAtEnd};
-ghost use Rattle.blot_operator.specs.Dialogue.{seat_ways, TellsLines, StopsAmong};
+ghost use Rattle.std.specs.Io.KnownBytes.{IsAtEnd};
+ghost use Rattle.blot_stream.specs.Texts.{AppendsOf};
+ghost use Rattle.blot_operator.specs.Dialogue.{seat_ways, StopsOf, TellsOf};
 ghost use Rattle.blot_operator.specs.Lines.{lines_of};
-ghost use Rattle.blot_operator.specs.Operating.{told_over, StoppedIn};
+ghost use Rattle.blot_operator.specs.Operating.{answers_of, told_over, StoppedIn};
 
 use crate::lines::{answer_last, answer_piece};
 use crate::operated::{Operated, Own, Shared};
@@ -27,8 +28,7 @@ pub fn desk_lines<R: Read, W: Write>(
     held: &mut Held,
 ) -> Result<(), ReplayFault>
     ensures journal { OnOk result (IfSome (R.remaining input.old) (λ bytes. held.new ≡ (told_over held.old (lines_of bytes)).journal)) }
-    ensures wrote { OnOk result (IfSome (R.remaining input.old) (λ bytes.
-        Appends (W.contents output.old) (W.contents output.new) (told_over held.old (lines_of bytes)).text)) }
+    ensures wrote { OnOk result (AppendsOf (answers_of held.old) (R.remaining input.old) (W.contents output.old) (W.contents output.new)) }
     ensures read_to_the_end { OnOk result (IsAtEnd (R.remaining input.new)) }
 
     // After a fault the lines of a front were taken, and a front of the last answer was written.
@@ -51,13 +51,13 @@ pub fn seat_lines<R: Read, W: Write, L: Ledger>(
     desk: &Desk<L>,
     seat: &mut Seat<L>,
 ) -> Result<(), ReplayFault>
-    ensures told { OnOk result (IfSome (R.remaining input.old) (λ bytes.
-        TellsLines seat_ways seat.old (lines_of bytes) seat.new (W.contents output.old) (W.contents output.new))) }
+    ensures told { OnOk result (TellsOf seat_ways seat.old (R.remaining input.old) seat.new
+        (W.contents output.old) (W.contents output.new)) }
     ensures read_to_the_end { OnOk result (IsAtEnd (R.remaining input.new)) }
 
     // After a fault the lines of a front were taken, and a front of the last answer was written.
-    ensures fault { OnErr result (IfSome (R.remaining input.old) (λ bytes.
-        StopsAmong seat_ways seat.old (lines_of bytes) seat.new (W.contents output.old) (W.contents output.new))) }
+    ensures fault { OnErr result (StopsOf seat_ways seat.old (R.remaining input.old) seat.new
+        (W.contents output.old) (W.contents output.new)) }
     ensures never_full { result ≢ Err ReplayFault.Full }
 {
     answer_lines(alloc, input, output, &Shared { rt, desk }, seat)
@@ -71,11 +71,11 @@ fn answer_lines<R: Read, W: Write, D: Operated>(
     desk: &D,
     state: &mut D::State,
 ) -> Result<(), ReplayFault>
-    ensures told { OnOk result (IfSome (R.remaining input.old) (λ bytes.
-        TellsLines D.ways state.old (lines_of bytes) state.new (W.contents output.old) (W.contents output.new))) }
+    ensures told { OnOk result (TellsOf D.ways state.old (R.remaining input.old) state.new
+        (W.contents output.old) (W.contents output.new)) }
     ensures read_to_the_end { OnOk result (IsAtEnd (R.remaining input.new)) }
-    ensures fault { OnErr result (IfSome (R.remaining input.old) (λ bytes.
-        StopsAmong D.ways state.old (lines_of bytes) state.new (W.contents output.old) (W.contents output.new))) }
+    ensures fault { OnErr result (StopsOf D.ways state.old (R.remaining input.old) state.new
+        (W.contents output.old) (W.contents output.new)) }
     ensures never_full { result ≢ Err ReplayFault.Full }
 {
     let mut line = Vec::new(alloc);

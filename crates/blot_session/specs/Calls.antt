@@ -1,5 +1,5 @@
 -- What each call of a session gives: the session after it, and what is to be done.
-use Rattle.std.specs.Prelude.{◌≡◌, ℕ, Bool, true, false, nat_lt, ◌&&◌, ℤ, List, [], ◌∷◌, ◌++◌, Option, Some, None, Result, Ok, Err, is_some, if◌then◌else◌}
+use Rattle.std.specs.Prelude.{◌≡◌, ℕ, Bool, true, false, nat_lt, ◌&&◌, ℤ, List, [], ◌∷◌, ◌++◌, Option, Some, None, Result, Ok, Err, Vec, is_some, if◌then◌else◌}
 use Rattle.std.specs.List.{list_any}
 use Rattle.blot_fields.specs.Commands.{command_of}
 use Rattle.blot_fields.specs.declared.fault.FieldFault.{FieldFault}
@@ -26,6 +26,10 @@ use Rattle.blot_session.specs.Table.{acts, messages_of, silent}
 pub record Outcome : Type 0 where
   pub state : State
   pub actions : List Action
+
+-- a call gives this: so the session is after it, and this is to be done
+abbrev pub Gives : {A : Type 0} → Outcome → State → Vec Action A → Type 0
+Gives given state actions = record { state = state; actions = actions.items } ≡ given
 
 -- a session after a message that was sent
 abbrev pub behind : State → Outbound → ℤ → State

@@ -1,5 +1,5 @@
 -- Lists of calls of a session, and what is delivered, taken and sent over them.
-use Rattle.std.specs.Prelude.{◌≡◌, ℕ, ◌+◌, ◌<◌, ◌≤◌, Bool, true, false, ℤ, List, [], ◌∷◌, ◌++◌, Option, Some, None, Result, Ok, Err, ◌⊎◌}
+use Rattle.std.specs.Prelude.{◌≡◌, ℕ, ◌+◌, ◌<◌, ◌≤◌, Bool, true, false, ℤ, List, [], ◌∷◌, ◌++◌, map, Option, Some, None, option_to_list, Result, Ok, Err, ◌⊎◌}
 use Rattle.std.specs.List.{flat_map}
 use Rattle.std.specs.Option.{option_map}
 use Rattle.blot_tag.specs.Fields.{fields_of}
@@ -72,6 +72,10 @@ abbrev pub delivered_by : ℕ → List Action → List Numbered
 delivered_by number [] = []
 delivered_by number (Deliver command ∷ actions) = record { number = number; command = command } ∷ delivered_by number actions
 delivered_by number (action ∷ actions) = delivered_by number actions
+
+-- some actions deliver just this command, or none
+abbrev pub DeliversJust : Option Command → List Action → Type 0
+DeliversJust command actions = (number : ℕ) → map (λ numbered. numbered.command) (delivered_by number actions) ≡ option_to_list command
 
 -- what is delivered over some calls: each bears the number that is expected then
 abbrev pub delivered_of : State → List Call → List Numbered

@@ -1,7 +1,7 @@
 //! Carries out what a row of the session's table says.
 ghost use Rattle.std.specs.Prelude.{◌≡◌, ◌≤◌, ◌+◌, ◌++◌, ◌∷◌, [], Ok, IfOk, OnOk, OnErr};
 ghost use Rattle.blot_fields.specs.declared.TheConstants.{SEQUENCE_MAX};
-ghost use Rattle.blot_session.specs.Calls.{behind, behind_all, sent, ending, carried_out, is_spent, outcome_of, spent};
+ghost use Rattle.blot_session.specs.Calls.{Gives, behind, behind_all, sent, ending, carried_out, is_spent, outcome_of, spent};
 ghost use Rattle.blot_session.specs.Outbound.{text_of};
 ghost use Rattle.blot_session.specs.States.{IsState};
 ghost use Rattle.blot_session.specs.Table.{Fits, messages_of};
@@ -34,7 +34,7 @@ pub(crate) fn take_row(
 ) -> Result<Outcome, NoMemory>
     requires within { IsState state }
     requires fits { Fits state.next row }
-    ensures outcome { IfOk result (λ done. record { state = done.0; actions = done.1.items } ≡ outcome_of state row command now) }
+    ensures outcome { IfOk result (λ done. Gives (outcome_of state row command now) done.0 done.1) }
     ensures state { IfOk result (λ done. IsState done.0) }
 {
     if is_spent(&state, &row) {
@@ -75,7 +75,7 @@ pub(crate) fn is_spent(state: &State, row: &Row) -> bool
 
 /// The connection ends, since the numbers to send are used up. No number changes.
 pub(crate) fn spent(alloc: Global, state: State) -> Result<Outcome, NoMemory>
-    ensures { IfOk result (λ done. record { state = done.0; actions = done.1.items } ≡ spent state) }
+    ensures { IfOk result (λ done. Gives (spent state) done.0 done.1) }
 {
     let mut actions = Vec::new(alloc);
     actions.push(Action::Close(CloseReason::Spent))?;
@@ -90,7 +90,7 @@ pub(crate) fn carry_out(
     now: Moment,
 ) -> Result<Outcome, NoMemory>
     requires { row.state.next ≤ SEQUENCE_MAX }
-    ensures { IfOk result (λ done. record { state = done.0; actions = done.1.items } ≡ carried_out row command now) }
+    ensures { IfOk result (λ done. Gives (carried_out row command now) done.0 done.1) }
 {
     let Row { sends, end, state } = row;
     let mut actions = Vec::new(alloc);

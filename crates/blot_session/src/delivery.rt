@@ -1,9 +1,9 @@
 //! What the actions of a call deliver.
-ghost use Rattle.std.specs.Prelude.{◌≡◌, ℕ, map, is_some, option_to_list};
+ghost use Rattle.std.specs.Prelude.{◌≡◌, is_some};
 ghost use Rattle.std.specs.List.{list_any};
 ghost use Rattle.std.specs.Option.{option_and_then};
 ghost use Rattle.blot_session.specs.Calls.{DeliversAlone, is_deliver};
-ghost use Rattle.blot_session.specs.Runs.{delivered, delivered_by};
+ghost use Rattle.blot_session.specs.Runs.{DeliversJust, delivered};
 
 use crate::Action;
 use blot_types::Command;
@@ -11,7 +11,7 @@ use blot_types::Command;
 /// The command that the actions of one call deliver: one that delivers a command is the only one.
 pub fn delivered(actions: Vec<Action>) -> Option<Command>
     requires { DeliversAlone actions.items }
-    ensures command { (number : ℕ) → map (λ numbered. numbered.command) (delivered_by number actions.items) ≡ option_to_list result }
+    ensures command { DeliversJust result actions.items }
     ensures some { list_any is_deliver actions.items ≡ is_some result }
 {
     let mut actions = actions;

@@ -3,7 +3,7 @@
 ghost use Rattle.std.specs.Prelude.{◌≡◌, ◌≤◌, true, None, Ok, IfOk, OnErr};
 ghost use Rattle.blot_fields.specs.Commands.{command_of};
 ghost use Rattle.blot_fields.specs.declared.TheConstants.{SEQUENCE_MAX};
-ghost use Rattle.blot_session.specs.Calls.{ending, on_frame};
+ghost use Rattle.blot_session.specs.Calls.{Gives, ending, on_frame};
 ghost use Rattle.blot_session.specs.InTurn.{delivering, is_about_fill, is_of_report, is_on, is_report_in_turn, is_report_taken};
 ghost use Rattle.blot_session.specs.States.{answered, changed, closed, counted, IsState};
 ghost use Rattle.blot_session.specs.declared.row.End.TheVariants.{Delivers};
@@ -40,7 +40,7 @@ pub(crate) fn hand_on(
     requires within { IsState state.old }
     requires number { message.now.head.number ≤ SEQUENCE_MAX }
     requires in_turn { is_report_in_turn state.old message.now ≡ true }
-    ensures ok { IfOk result (λ actions. record { state = state.new; actions = actions.items } ≡ on_frame state.old (Ok message.now) now) }
+    ensures ok { IfOk result (Gives (on_frame state.old (Ok message.now) now) state.new) }
     ensures err { OnErr result (state.new ≡ closed state.old) }
     ensures state { IsState state.new }
 {

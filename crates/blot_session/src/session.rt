@@ -1,13 +1,11 @@
 //! The session with one peer.
 ghost use Rattle.std.specs.Prelude.{◌≡◌, ◌+◌, ◌≤◌, List, is_some, IfOk, OnErr};
-ghost use Rattle.blot_tag.specs.Fields.{fields_of};
 ghost use Rattle.blot_tag.specs.Views.{text_of};
-ghost use Rattle.blot_fields.specs.Decoding.{decoded};
 ghost use Rattle.blot_fields.specs.declared.TheConstants.{SEQUENCE_MAX};
 ghost use Rattle.blot_fields.specs.Numbers.{HasNumber, IsNumbered};
-ghost use Rattle.blot_session.specs.Calls.{Awaits, DeliversAlone, on_frame, on_tick, on_reply, row_of_reply};
+ghost use Rattle.blot_session.specs.Calls.{Awaits, DeliversAlone, Gives, on_frame, on_tick, on_reply, row_of_reply};
 ghost use Rattle.blot_session.specs.Met.{met_of};
-ghost use Rattle.blot_session.specs.Runs.{Call, AreMet, HasNoReset, IsInOrder};
+ghost use Rattle.blot_session.specs.Runs.{Call, AreMet, HasNoReset, IsInOrder, said_by};
 ghost use Rattle.blot_session.specs.States.{awaited_of, fresh, waiting_again, closed, phase_of, IsIdle, IsAwaiting, IsState};
 
 use crate::carrying::{go_on, take_row};
@@ -122,8 +120,7 @@ impl Session {
         now: Moment,
     ) -> Result<Vec<Action>, NoMemory>
         requires { IsIdle self.old }
-        ensures ok { IfOk result (λ actions. record { state = self.new; actions = actions.items }
-            ≡ on_frame self.old (decoded (fields_of (text_of frame.now))) now) }
+        ensures ok { IfOk result (Gives (on_frame self.old (said_by (text_of frame.now)) now) self.new) }
         ensures err { OnErr result (self.new ≡ closed self.old) }
 
         // It is the same peer's.
@@ -146,7 +143,7 @@ impl Session {
     ) -> Result<Vec<Action>, NoMemory>
         requires idle { IsIdle self.old }
         requires numbers { IsNumbered said.now }
-        ensures ok { IfOk result (λ actions. record { state = self.new; actions = actions.items } ≡ on_frame self.old said.now now) }
+        ensures ok { IfOk result (Gives (on_frame self.old said.now now) self.new) }
         ensures err { OnErr result (self.new ≡ closed self.old) }
         ensures peer { self.new.peer ≡ self.old.peer }
         ensures awaits { IfOk result (λ actions. Awaits self.new actions.items) }
@@ -160,7 +157,7 @@ impl Session {
     #[tactic(auto, using(crate::proofs::StateLemmas::row_fits_tick, crate::proofs::DeliveryLemmas::awaits_tick))]
     pub fn on_tick(&mut self, alloc: Global, now: Moment) -> Result<Vec<Action>, NoMemory>
         requires { IsIdle self.old }
-        ensures ok { IfOk result (λ actions. record { state = self.new; actions = actions.items } ≡ on_tick self.old now) }
+        ensures ok { IfOk result (Gives (on_tick self.old now) self.new) }
         ensures err { OnErr result (self.new ≡ closed self.old) }
 
         // It is the same peer's, nothing is delivered, and no command awaits its reply.
@@ -184,7 +181,7 @@ impl Session {
         now: Moment,
     ) -> Result<Vec<Action>, NoMemory>
         requires { IsAwaiting self.old }
-        ensures ok { IfOk result (λ actions. record { state = self.new; actions = actions.items } ≡ on_reply self.old reply now) }
+        ensures ok { IfOk result (Gives (on_reply self.old reply now) self.new) }
         ensures err { OnErr result (self.new ≡ closed (row_of_reply self.old reply).state) }
 
         // It is the same peer's, nothing is delivered, and no command awaits its reply.

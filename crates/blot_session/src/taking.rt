@@ -1,11 +1,10 @@
 //! What a session does about a frame and about a reply: in place for an Execution Report in its turn, and by the rows of
 //! its table for all else.
 ghost use Rattle.std.specs.Prelude.{◌≡◌, IfOk, OnErr};
-ghost use Rattle.blot_tag.specs.Fields.{fields_of};
 ghost use Rattle.blot_tag.specs.Views.{text_of};
-ghost use Rattle.blot_fields.specs.Decoding.{decoded};
 ghost use Rattle.blot_fields.specs.Numbers.{IsNumbered};
-ghost use Rattle.blot_session.specs.Calls.{command_said, ending, on_frame, on_reply, row_of_reply};
+ghost use Rattle.blot_session.specs.Calls.{Gives, command_said, ending, on_frame, on_reply, row_of_reply};
+ghost use Rattle.blot_session.specs.Runs.{said_by};
 ghost use Rattle.blot_session.specs.States.{closed, IsIdle, IsAwaiting, IsState};
 
 use crate::carrying::{Outcome, go_on, take_row};
@@ -30,8 +29,7 @@ pub(crate) fn take_frame(
 ) -> Result<Vec<Action>, NoMemory>
     requires within { IsState state.old }
     requires idle { IsIdle state.old }
-    ensures ok { IfOk result (λ actions. record { state = state.new; actions = actions.items }
-        ≡ on_frame state.old (decoded (fields_of (text_of frame.now))) now) }
+    ensures ok { IfOk result (Gives (on_frame state.old (said_by (text_of frame.now)) now) state.new) }
     ensures err { OnErr result (state.new ≡ closed state.old) }
     ensures state { IsState state.new }
 {
@@ -53,7 +51,7 @@ pub(crate) fn take_reply(
 ) -> Result<Vec<Action>, NoMemory>
     requires within { IsState state.old }
     requires awaiting { IsAwaiting state.old }
-    ensures ok { IfOk result (λ actions. record { state = state.new; actions = actions.items } ≡ on_reply state.old reply now) }
+    ensures ok { IfOk result (Gives (on_reply state.old reply now) state.new) }
     ensures err { OnErr result (state.new ≡ closed (row_of_reply state.old reply).state) }
     ensures state { IsState state.new }
 {
@@ -74,7 +72,7 @@ pub(crate) fn take_said(
     requires within { IsState state.old }
     requires idle { IsIdle state.old }
     requires numbers { IsNumbered said.now }
-    ensures ok { IfOk result (λ actions. record { state = state.new; actions = actions.items } ≡ on_frame state.old said.now now) }
+    ensures ok { IfOk result (Gives (on_frame state.old said.now now) state.new) }
     ensures err { OnErr result (state.new ≡ closed state.old) }
     ensures state { IsState state.new }
 {
@@ -95,7 +93,7 @@ fn take_by_row(
     requires within { IsState state.old }
     requires idle { IsIdle state.old }
     requires numbers { IsNumbered said.now }
-    ensures ok { IfOk result (λ actions. record { state = state.new; actions = actions.items } ≡ on_frame state.old said.now now) }
+    ensures ok { IfOk result (Gives (on_frame state.old said.now now) state.new) }
     ensures err { OnErr result (state.new ≡ closed state.old) }
     ensures state { IsState state.new }
 {
@@ -115,7 +113,7 @@ fn take_message(
     requires within { IsState state }
     requires idle { IsIdle state }
     requires numbers { IsNumbered said.now }
-    ensures outcome { IfOk result (λ done. record { state = done.0; actions = done.1.items } ≡ on_frame state said.now now) }
+    ensures outcome { IfOk result (λ done. Gives (on_frame state said.now now) done.0 done.1) }
     ensures state { IfOk result (λ done. IsState done.0) }
 {
     let row = frame_row(state, said, now);
@@ -148,7 +146,7 @@ fn reply_by_row(
 ) -> Result<Vec<Action>, NoMemory>
     requires within { IsState state.old }
     requires awaiting { IsAwaiting state.old }
-    ensures ok { IfOk result (λ actions. record { state = state.new; actions = actions.items } ≡ on_reply state.old reply now) }
+    ensures ok { IfOk result (Gives (on_reply state.old reply now) state.new) }
     ensures err { OnErr result (state.new ≡ closed (row_of_reply state.old reply).state) }
     ensures state { IsState state.new }
 {

@@ -1,6 +1,7 @@
 //! Bytes in and out, a piece at a time.
-ghost use Rattle.std.specs.Prelude.{◌≡◌, ◌<◌, ◌≤◌, List, ℕ, ◌++◌, length, take, MatchOption, Ok, IfNone, OnOk, OnErr, IfOk, IfErr, IfSome};
-ghost use Rattle.std.specs.Io.KnownBytes.{Appends, Keeps, Consumes, IsAtEnd};
+ghost use Rattle.std.specs.Prelude.{◌≡◌, ◌<◌, ◌≤◌, length, take, Ok, IfNone, OnOk, OnErr, IfOk, IfErr, IfSome};
+ghost use Rattle.std.specs.Io.KnownBytes.{Appends, Keeps};
+ghost use Rattle.blot_stream.specs.Texts.{AppendsFront, Gives};
 
 use crate::ReplayFault;
 use std::io::{ErrorKind, Read, Write};
@@ -10,9 +11,7 @@ use std::io::{ErrorKind, Read, Write};
 pub fn read_piece<R: Read>(input: &mut R, buffer: &mut [u8]) -> Result<Option<usize>, ReplayFault>
     requires { 0 < length buffer.old }
     ensures fault { IfErr result (λ fault. fault ≡ ReplayFault.Read) }
-    ensures piece { IfOk result (λ count. MatchOption count
-        (Keeps (R.remaining input.old) (R.remaining input.new) × IsAtEnd (R.remaining input.new))
-        (λ count. Consumes (R.remaining input.old) (R.remaining input.new) (take count buffer.new) × (count ≤ length buffer.new))) }
+    ensures piece { IfOk result (Gives (R.remaining input.old) (R.remaining input.new) buffer.new) }
 {
     match input.read(buffer) {
         Ok(0) => Ok(None),
@@ -31,7 +30,7 @@ pub fn read_piece<R: Read>(input: &mut R, buffer: &mut [u8]) -> Result<Option<us
 pub fn write_text<W: Write>(output: &mut W, text: &[u8]) -> Result<(), ReplayFault>
     ensures fault { IfErr result (λ fault. fault ≡ ReplayFault.Write) }
     ensures ok { OnOk result (Appends (W.contents output.old) (W.contents output.new) text.now) }
-    ensures err { OnErr result ((front back : List ℕ) × (front ++ back ≡ text.now) × Appends (W.contents output.old) (W.contents output.new) front) }
+    ensures err { OnErr result (AppendsFront (W.contents output.old) (W.contents output.new) text.now) }
 {
     write_all(output, text)?;
     flush(output)
@@ -41,7 +40,7 @@ pub fn write_text<W: Write>(output: &mut W, text: &[u8]) -> Result<(), ReplayFau
 fn write_all<W: Write>(output: &mut W, text: &[u8]) -> Result<(), ReplayFault>
     ensures fault { IfErr result (λ fault. fault ≡ ReplayFault.Write) }
     ensures ok { OnOk result (Appends (W.contents output.old) (W.contents output.new) text.now) }
-    ensures err { OnErr result ((front back : List ℕ) × (front ++ back ≡ text.now) × Appends (W.contents output.old) (W.contents output.new) front) }
+    ensures err { OnErr result (AppendsFront (W.contents output.old) (W.contents output.new) text.now) }
 {
     let mut written = 0;
     for _ in 0..u64::MAX {

@@ -12,12 +12,11 @@ use Rattle.blot_tag.proofs.FrameLemmas.{look_of-prefix}
 use Rattle.blot_tag.proofs.WalkLemmas.{look_of-nil, walk_of-prefix}
 use Rattle.blot_tag.proofs.PlaceLemmas.{passed-within, passed_by-after, placed-none, placed-taken, walk-none, walk-taken}
 use Rattle.blot_stream.specs.declared.outcome.ReplayFault.TheVariants.{NoMemory}
-use Rattle.blot_capture.specs.Capture.{commands_over}
-use Rattle.blot_capture.specs.Replay.{Came, Stopped, Taking}
+use Rattle.blot_capture.specs.Replay.{Came, CameOn, StoppedOn, Taking}
 use Rattle.blot_capture.specs.Trace.{taking_after, trace_over, turn_of}
 use Rattle.blot_capture.proofs.StreamLemmas.{came-first, stopped-here, taken-frame, taken-none}
-use Rattle.blot_trail.specs.Audit.{FindsNoFrame, IsInStep, Notes, TakesNoted, Telling, TellsNext, Told, ToldOf, behind_turn, line_of, size_of, told_by, trail_from}
-use Rattle.blot_trail.specs.TrailText.{Line, Making, behind_bytes, behind_line, finished}
+use Rattle.blot_trail.specs.Audit.{FindsNoFrame, IsInStep, Notes, TakesNoted, Telling, TellsNext, ToldOf, ToldOn, behind_turn, line_of, size_of, told_by, trail_from}
+use Rattle.blot_trail.specs.TrailText.{Line, Making, behind_bytes, behind_line, finished, untold}
 
 -- ---- bytes that are passed over
 
@@ -110,7 +109,7 @@ told-taken old new from now line trail more takes =
     ap (λ placed. text-by trail from placed (skipped_of (old.unread ++ more)) (length (rest_of (old.unread ++ more)))) (placed-taken old new takes.frame more takes.taken)
     ∙ ap (λ (walk : Walk). text-by trail from (record { passed = passed; text = takes.frame } ∷ placed_of left) walk.skipped (length walk.rest)) walk
     ∙ text-taken trail from passed takes.frame (placed_of left) (skipped_of left) (length (rest_of left))
-    ∙ ap (λ line. text-by (behind_line line (behind_bytes passed trail)) (taking_after from takes.frame) (placed_of left) (skipped_of left) (length (rest_of left))) (sym (takes.told passed))
+    ∙ ap (λ line. text-by (behind_line line (behind_bytes passed trail)) (taking_after from takes.frame) (placed_of left) (skipped_of left) (length (rest_of left))) (sym takes.told)
     ∙ ap (λ taking. text-by (behind_line line (behind_bytes passed trail)) taking (placed_of left) (skipped_of left) (length (rest_of left))) (sym takes.behind)
 
 -- and where there is none
@@ -153,7 +152,7 @@ noted-counts old new from now None trail step within notes =
 noted-counts old new from now (Some line) trail step within notes =
     let counts = counts-taken old new notes.frame trail.offset notes.taken step.low within in
     let passed : new.skipped - old.skipped ≡ notes.taken.passed = omega (arith, counts.skipped) in
-    let size : length notes.frame ≡ line.length_of = sym (ap (λ (line : Line). line.length_of) (notes.told 0)) in
+    let size : length notes.frame ≡ line.length_of = sym (ap (λ (line : Line). line.length_of) notes.told) in
     subst (λ passed. Counts old new passed line.length_of) (sym passed) (subst (λ size. Counts old new notes.taken.passed size) size counts)
 
 -- there is room in a trail for what was passed over and what was noted
@@ -164,7 +163,7 @@ room-more old new from now found trail step within notes =
     omega (arith, counts.skipped, step.skipped)
 
 pub room-within : (old new : Reading) (from now : Taking) (found : Option Line) (trail : Making) → IsInStep old trail → trail.offset + length old.unread < 2 ^ 63
-    → Notes found old from new now → trail.offset + (new.skipped - (trail.skipped + trail.passed)) + size_of found < 2 ^ 63
+    → Notes found old from new now → trail.offset + untold new.skipped trail + size_of found < 2 ^ 63
 room-within old new from now found trail step within notes =
     let counts = noted-counts old new from now found trail step within notes in
     omega (arith, counts.unread, step.skipped, within)
@@ -172,18 +171,17 @@ room-within old new from now found trail step within notes =
 -- the whole trail stays the same
 noted-same : (old new : Reading) (from now : Taking) (found : Option Line) (trail : Making) → IsInStep old trail → trail.offset + length old.unread < 2 ^ 63
     → Notes found old from new now → (more : List ℕ)
-    → trail_from trail from (old.unread ++ more) ≡ trail_from (told_by (new.skipped - (trail.skipped + trail.passed)) found trail) now (new.unread ++ more)
+    → trail_from trail from (old.unread ++ more) ≡ trail_from (told_by (untold new.skipped trail) found trail) now (new.unread ++ more)
 noted-same old new from now None trail step within notes more =
     let counts = counts-none old new trail.offset notes.none step.low within in
-    let passed : notes.none.passed ≡ new.skipped - (trail.skipped + trail.passed) = omega (arith, counts.skipped, step.skipped) in
+    let passed : notes.none.passed ≡ untold new.skipped trail = omega (arith, counts.skipped, step.skipped) in
     told-none old new from now trail more notes ∙ ap (λ passed. trail_from (behind_bytes passed trail) now (new.unread ++ more)) passed
 noted-same old new from now (Some line) trail step within notes more =
     let counts = counts-taken old new notes.frame trail.offset notes.taken step.low within in
-    let passed : notes.taken.passed ≡ new.skipped - (trail.skipped + trail.passed) = omega (arith, counts.skipped, step.skipped) in
+    let passed : notes.taken.passed ≡ untold new.skipped trail = omega (arith, counts.skipped, step.skipped) in
     told-taken old new from now line trail more notes ∙ ap (λ passed. trail_from (behind_line line (behind_bytes passed trail)) now (new.unread ++ more)) passed
 
-noted-came : (old new : Reading) (from now : Taking) (found : Option Line) → Notes found old from new now → (more : List ℕ)
-    → Came from (frames_of (old.unread ++ more)) now (frames_of (new.unread ++ more))
+noted-came : (old new : Reading) (from now : Taking) (found : Option Line) → Notes found old from new now → CameOn from old.unread now new.unread
 noted-came old new from now None notes more =
     subst (λ now. Came from (frames_of (old.unread ++ more)) now (frames_of (new.unread ++ more))) (sym notes.same)
     (taken-none from from old.unread old new more notes.none (came-first from (frames_of (old.unread ++ more))))
@@ -192,8 +190,8 @@ noted-came old new from now (Some line) notes more =
     (taken-frame from from old.unread old new notes.frame more (taking_after from notes.frame).sessions (taking_after from notes.frame).journal notes.taken
     (came-first from (frames_of (old.unread ++ more))) refl refl)
 
-pub noted-stopped : (old new : Reading) (from now : Taking) (found : Option Line) → Notes found old from new now → (more : List ℕ)
-    → Stopped NoMemory from.journal now.journal (commands_over from.sessions (frames_of (old.unread ++ more)))
+pub noted-stopped : (old new : Reading) (from now : Taking) (found : Option Line) → Notes found old from new now
+    → StoppedOn from old.unread now.journal NoMemory
 noted-stopped old new from now found notes more =
     stopped-here NoMemory from now (frames_of (old.unread ++ more)) (frames_of (new.unread ++ more)) (λ is. cc) (noted-came old new from now found notes more)
 
@@ -216,17 +214,17 @@ noted-read old new None trail passed counts = omega (arith, counts.unread)
 noted-read old new (Some line) trail passed counts = omega (arith, counts.unread)
 
 pub tells-next : (told : Bool) (old new : Reading) (from now : Taking) (found : Option Line) (trail after : Making) (skipped : ℕ) → IsInStep old trail → trail.offset + length old.unread < 2 ^ 63
-    → Notes found old from new now → skipped ≡ new.skipped → told ≡ is_some found → after ≡ told_by (skipped - (trail.skipped + trail.passed)) found trail
+    → Notes found old from new now → skipped ≡ new.skipped → told ≡ is_some found → after ≡ told_by (untold skipped trail) found trail
     → TellsNext told old (record { trail = trail; taking = from }) new (record { trail = after; taking = now })
 tells-next told old new from now found trail after skipped step within notes all is gives =
     let counts = noted-counts old new from now found trail step within notes in
-    let here : new.skipped - old.skipped ≡ new.skipped - (trail.skipped + trail.passed) = omega (arith, step.skipped) in
+    let here : new.skipped - old.skipped ≡ untold new.skipped trail = omega (arith, step.skipped) in
     let known = subst (λ passed. Counts old new passed (size_of found)) here counts in
-    let trail_is : told_by (new.skipped - (trail.skipped + trail.passed)) found trail ≡ after =
-    ap (λ skipped. told_by (skipped - (trail.skipped + trail.passed)) found trail) (sym all) ∙ sym gives in
+    let trail_is : told_by (untold new.skipped trail) found trail ≡ after =
+    ap (λ skipped. told_by (untold skipped trail) found trail) (sym all) ∙ sym gives in
     subst (λ after. TellsNext told old (record { trail = trail; taking = from }) new (record { trail = after; taking = now })) trail_is (record {
-      step = noted-step old new found trail (new.skipped - (trail.skipped + trail.passed)) known step;
-      read = noted-read old new found trail (new.skipped - (trail.skipped + trail.passed)) known;
+      step = noted-step old new found trail (untold new.skipped trail) known step;
+      read = noted-read old new found trail (untold new.skipped trail) known;
       fewer = λ yes. noted-fewer old new from now found notes (sym is ∙ yes);
       drained = λ no. noted-drained old new from now found notes (sym is ∙ no);
       same = noted-same old new from now found trail step within notes;
@@ -244,7 +242,7 @@ ToldOf-first (Some bytes) from now unread none same =
 -- a piece is read and told
 pub ToldOf-piece : (known before after : Option (List ℕ)) (from mid now : Telling) (unread left piece : List ℕ)
     → ToldOf known from before unread mid → Consumes before after piece
-    → ((more : List ℕ) → Told mid ((unread ++ piece) ++ more) now (left ++ more)) → ToldOf known from after left now
+    → ToldOn mid (unread ++ piece) now left → ToldOf known from after left now
 ToldOf-piece None before after from mid now unread left piece so consumes told = tt
 ToldOf-piece (Some bytes) None after from mid now unread left piece so consumes told = absurd so
 ToldOf-piece (Some bytes) (Some rest) None from mid now unread left piece so consumes told = absurd consumes

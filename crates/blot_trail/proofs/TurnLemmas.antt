@@ -19,11 +19,11 @@ use Rattle.blot_capture.specs.declared.became.Became.{Became}
 use Rattle.blot_capture.specs.declared.handled.Handled.{Handled}
 use Rattle.blot_capture.specs.declared.handled.Handled.TheVariants as handled
 use Rattle.blot_capture.specs.Capture.{Sessions, moment_at, taken_by}
-use Rattle.blot_capture.specs.Handling.{IsHandled, Wants, met_at, wanted_of}
+use Rattle.blot_capture.specs.Handling.{IsHandled, IsHandledBy, Wants, met_in, wanted_of}
 use Rattle.blot_capture.specs.Replay.{Taking}
-use Rattle.blot_capture.specs.Trace.{actions_in, became_in, became_of, session_for, turn_of}
-use Rattle.blot_trail.specs.Audit.{IsTurnOf, line_of}
-use Rattle.blot_trail.specs.TrailText.{IsToldOf, Line, action_text, became_text, head_text, tail_text, word_of, word_or_dash}
+use Rattle.blot_capture.specs.Trace.{actions_in, became_in, became_of, session_for}
+use Rattle.blot_trail.specs.Audit.{IsTurnOf, line_at}
+use Rattle.blot_trail.specs.TrailText.{IsToldOf, Line, action_text, became_text, head_text, line_for, word_of, word_or_dash}
 
 -- what is sent is told, and nothing else that a session wants done
 sent-wanted : (actions : List Action) (handled : Handled) → Wants actions handled → flat_map action_text (wanted_of handled) ≡ flat_map action_text actions
@@ -38,10 +38,10 @@ tail-by text became sent =
 
 pub told-turn : (text : List ℕ) (met : Option Met) (handled : Handled) (line : Line) (became : Became) (actions : List Action)
     → IsTurnOf text met handled line → IsHandled became actions met handled
-    → line ≡ record { tail = tail_text text became actions; word = word_of became; length_of = length text }
+    → line ≡ line_for text became actions
 told-turn text met handled line became actions is of =
     is
-    ∙ ap (λ became. record { tail = tail_text text became (wanted_of handled); word = word_of became; length_of = length text }) of.became
+    ∙ ap (λ became. line_for text became (wanted_of handled)) of.became
     ∙ ap (λ sent. record { tail = tail-by text became sent; word = word_of became; length_of = length text }) (sent-wanted actions handled of.wanted)
 
 -- the book's reply to a command is told without a key
@@ -64,18 +64,18 @@ can-be-told session journal text became is = subst IsToldOf (sym is) (told-in se
 
 -- what is said of the sessions after `meets` is said of those before it
 pub handled-as : (before after : Sessions) (journal : Journal) (text : List ℕ) (met : Option Met) (handled : Handled)
-    → after ≡ before → met ≡ met_at (session_for before text) text
-    → IsHandled (became_in (session_for after text) journal text) (actions_in (session_for after text) journal text) (met_at (session_for after text) text) handled
+    → after ≡ before → met ≡ met_in before text
+    → IsHandledBy (session_for after text) journal text handled
     → IsHandled (became_in (session_for before text) journal text) (actions_in (session_for before text) journal text) met handled
 handled-as before after journal text met handled same is given =
     subst (λ met. IsHandled (became_in (session_for before text) journal text) (actions_in (session_for before text) journal text) met handled) (sym is)
-    (subst (λ sessions. IsHandled (became_in (session_for sessions text) journal text) (actions_in (session_for sessions text) journal text) (met_at (session_for sessions text) text) handled) same given)
+    (subst (λ sessions. IsHandledBy (session_for sessions text) journal text handled) same given)
 
 -- so what is told of it is what is told of its turn
-pub told-taken : (taking : Taking) (text : List ℕ) (met : Option Met) (handled : Handled) (line : Line) (passed : ℕ)
+pub told-taken : (taking : Taking) (text : List ℕ) (met : Option Met) (handled : Handled) (line : Line)
     → IsHandled (became_in (session_for taking.sessions text) taking.journal text) (actions_in (session_for taking.sessions text) taking.journal text) met handled
-    → IsTurnOf text met handled line → line ≡ line_of (turn_of taking (record { passed = passed; text = text }))
-told-taken taking text met handled line passed of is =
+    → IsTurnOf text met handled line → line ≡ line_at taking text
+told-taken taking text met handled line of is =
     told-turn text met handled line (became_in (session_for taking.sessions text) taking.journal text) (actions_in (session_for taking.sessions text) taking.journal text) is of
 
 -- a fact of what is there where a result is Ok, and of its value

@@ -2,21 +2,19 @@
 use Rattle.std.specs.Prelude.{◌≡◌, ◌+◌, ◌<◌, ◌≤◌, ℕ, Bool, true, false, ⊤, ◌++◌, List, fold, length, Option, Some, None}
 use Rattle.blot_tag.specs.Places.{placed_of, passed_last}
 use Rattle.blot_tag.specs.Reading.{Reading, FindsNone, TakesFirst}
-use Rattle.blot_tag.specs.Walking.{frames_of, rest_of, stops_at, walk_of}
+use Rattle.blot_tag.specs.Walking.{rest_of, stops_at, walk_of}
 use Rattle.blot_session.specs.declared.met.Met.{Met}
+use Rattle.blot_desk.specs.Desk.{Journal}
 use Rattle.blot_capture.specs.declared.handled.Handled.{Handled}
 use Rattle.blot_capture.specs.Handling.{became_by, wanted_of}
-use Rattle.blot_capture.specs.Replay.{Came, Taking}
+use Rattle.blot_capture.specs.Replay.{CameOn, Taking}
+use Rattle.blot_capture.specs.Sessions.{Parts, taking_of}
 use Rattle.blot_capture.specs.Trace.{Turn, first_taking, taking_after, trace_over, turn_of}
-use Rattle.blot_trail.specs.TrailText.{Line, Making, behind_bytes, behind_line, finished, none_yet, tail_text, word_of}
+use Rattle.blot_trail.specs.TrailText.{Line, Making, behind_bytes, behind_line, finished, line_for, none_yet}
 
 -- what is told of a message
 abbrev pub line_of : Turn → Line
-line_of turn = record {
-  tail = tail_text turn.placed.text turn.became turn.actions;
-  word = word_of turn.became;
-  length_of = length turn.placed.text;
-}
+line_of turn = line_for turn.placed.text turn.became turn.actions
 
 -- a trail after a message: after the bytes that are passed over right before the message, and after what is told of it
 abbrev pub behind_turn : Making → Turn → Making
@@ -35,18 +33,18 @@ trail_of own peers bytes = trail_from none_yet (first_taking own peers) bytes
 
 -- this is told of a frame, of which its session made this
 abbrev pub IsTurnOf : List ℕ → Option Met → Handled → Line → Type 0
-IsTurnOf text met handled line = line ≡ record {
-  tail = tail_text text (became_by met handled) (wanted_of handled);
-  word = word_of (became_by met handled);
-  length_of = length text;
-}
+IsTurnOf text met handled line = line ≡ line_for text (became_by met handled) (wanted_of handled)
+
+-- what is told of a frame that is taken next, wherever it stands
+abbrev pub line_at : Taking → List ℕ → Line
+line_at taking text = line_of (turn_of taking (record { passed = 0; text = text }))
 
 -- a frame is taken, and this is told of it
 pub record TakesNoted (old : Reading) (from : Taking) (line : Line) (new : Reading) (now : Taking) : Type 0 where
   pub frame : List ℕ
   pub taken : TakesFirst old frame new
   pub behind : now ≡ taking_after from frame
-  pub told : (passed : ℕ) → line ≡ line_of (turn_of from (record { passed = passed; text = frame }))
+  pub told : line ≡ line_at from frame
 
 -- there is no frame
 pub record FindsNoFrame (old : Reading) (from : Taking) (new : Reading) (now : Taking) : Type 0 where
@@ -77,9 +75,17 @@ pub record Telling : Type 0 where
   pub trail : Making
   pub taking : Taking
 
+-- a trail with the sessions and the desk, as they are
+abbrev pub telling_of : Making → Parts → Journal → Telling
+telling_of trail parts journal = record { trail = trail; taking = taking_of parts journal }
+
 -- the whole trail is the same: here with these bytes still to come, there with those
 abbrev pub Told : Telling → List ℕ → Telling → List ℕ → Type 0
 Told from bytes now left = trail_from from.trail from.taking bytes ≡ trail_from now.trail now.taking left
+
+-- the same for the unread bytes of a reader, whatever comes behind them
+abbrev pub ToldOn : Telling → List ℕ → Telling → List ℕ → Type 0
+ToldOn from unread now left = (more : List ℕ) → Told from (unread ++ more) now (left ++ more)
 
 -- the same for an input's bytes, where they are known: some were read, and some of those are unread
 abbrev pub ToldOf : Option (List ℕ) → Telling → Option (List ℕ) → List ℕ → Telling → Type 0
@@ -93,5 +99,5 @@ pub record TellsNext (told : Bool) (old : Reading) (from : Telling) (new : Readi
   pub read : now.trail.offset + length new.unread ≡ from.trail.offset + length old.unread
   pub fewer : told ≡ true → length new.unread < length old.unread
   pub drained : told ≡ false → walk_of new.unread ≡ stops_at new.unread
-  pub same : (more : List ℕ) → Told from (old.unread ++ more) now (new.unread ++ more)
-  pub came : (more : List ℕ) → Came from.taking (frames_of (old.unread ++ more)) now.taking (frames_of (new.unread ++ more))
+  pub same : ToldOn from old.unread now new.unread
+  pub came : CameOn from.taking old.unread now.taking new.unread

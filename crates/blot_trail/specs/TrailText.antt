@@ -186,11 +186,19 @@ none_yet = record { text = []; words = []; offset = 0; passed = 0; skipped = 0 }
 abbrev pub behind_bytes : ℕ → Making → Making
 behind_bytes count trail = record trail { offset = trail.offset + count; passed = trail.passed + count }
 
+-- of the bytes that are passed over by now, so many in all, those that are yet to be told
+abbrev pub untold : ℕ → Making → ℕ
+untold all trail = all - (trail.skipped + trail.passed)
+
 -- what is told of a message, except its place and where it begins
 pub record Line : Type 0 where
   pub tail : List ℕ
   pub word : Word
   pub length_of : ℕ
+
+-- what is told of a frame that became this, and whose session wants these actions done
+abbrev pub line_for : List ℕ → Became → List Action → Line
+line_for text became actions = record { tail = tail_text text became actions; word = word_of became; length_of = length text }
 
 -- one more message
 abbrev pub behind_line : Line → Making → Making

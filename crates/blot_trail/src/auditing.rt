@@ -1,13 +1,11 @@
 //! `audit`: a capture taken into an empty desk, and the trail of what became of each message.
-ghost use Rattle.std.specs.Prelude.{◌≡◌, ◌≢◌, ◌<◌, List, ℕ, ◌++◌, length, Err, IfErr, IfOk, IfSome, OnOk};
-ghost use Rattle.std.specs.Io.KnownBytes.{Appends, IsAtEnd, Keeps};
+ghost use Rattle.std.specs.Prelude.{◌≡◌, ◌≢◌, List, ℕ, Err, IfErr, IfOk, OnOk};
+ghost use Rattle.std.specs.Io.KnownBytes.{IsAtEnd};
 ghost use Rattle.std.specs.List.{IsDistinct};
 ghost use Rattle.blot_types.specs.Keys.{same_text};
-ghost use Rattle.blot_types.specs.declared.TheConstants.{EVENTS_MAX};
-ghost use Rattle.blot_tag.specs.Walking.{frames_of};
-ghost use Rattle.blot_capture.specs.Capture.{commands_of, commands_over};
-ghost use Rattle.blot_capture.specs.Replay.{submitted, Stopped};
-ghost use Rattle.blot_capture.specs.Sessions.{sessions_of};
+ghost use Rattle.blot_stream.specs.Texts.{AppendsFrontOf, AppendsOf, IsTextOf, KeepsUnlessWrite};
+ghost use Rattle.blot_capture.specs.Replay.{Overfills, StoppedOf, TakenOf};
+ghost use Rattle.blot_capture.specs.Sessions.{taking_of};
 ghost use Rattle.blot_capture.specs.Trace.{IsReplayed};
 ghost use Rattle.blot_trail.specs.Audit.{trail_from, trail_of};
 ghost use Rattle.blot_trail.specs.TrailText.{none_yet};
@@ -33,8 +31,8 @@ pub fn audit<R: Read, W: Write>(
     peers: &[Text64],
 ) -> Result<(), ReplayFault>
     requires { IsDistinct same_text peers.now }
-    ensures wrote { OnOk result (IfSome (R.remaining input.old) (λ bytes.
-        Appends (W.contents output.old) (W.contents output.new) (trail_of own peers.now bytes))) }
+    ensures wrote { OnOk result (AppendsOf (trail_of own peers.now) (R.remaining input.old)
+        (W.contents output.old) (W.contents output.new)) }
     ensures read_to_the_end { OnOk result (IsAtEnd (R.remaining input.new)) }
 
     // The commands that a trail shows are those that `replay` submits, their replies those of its run, and the accepted ones are the
@@ -42,14 +40,12 @@ pub fn audit<R: Read, W: Write>(
     ensures replayed { (bytes : List ℕ) → IsReplayed own peers.now bytes }
 
     // Full comes only where more commands come than a day has events.
-    ensures full { result ≡ Err ReplayFault.Full
-        → IfSome (R.remaining input.old) (λ bytes. EVENTS_MAX < length (commands_of own peers.now bytes)) }
+    ensures full { result ≡ Err ReplayFault.Full → Overfills own peers.now (R.remaining input.old) }
 
     // A write fault leaves a front of the trail, every other fault nothing.
-    ensures write_fault { result ≡ Err ReplayFault.Write → IfSome (R.remaining input.old) (λ bytes. (front back : List ℕ)
-        × (front ++ back ≡ trail_of own peers.now bytes) × Appends (W.contents output.old) (W.contents output.new) front) }
-    ensures other_faults { (fault : ReplayFault) → result ≡ Err fault → fault ≢ ReplayFault.Write
-        → Keeps (W.contents output.old) (W.contents output.new) }
+    ensures write_fault { result ≡ Err ReplayFault.Write → AppendsFrontOf (trail_of own peers.now) (R.remaining input.old)
+        (W.contents output.old) (W.contents output.new) }
+    ensures other_faults { IfErr result (KeepsUnlessWrite (W.contents output.old) (W.contents output.new)) }
 {
     match captured_trail(alloc, input, own, peers) {
         Ok(text) => write_text(output, &text),
@@ -65,10 +61,9 @@ fn captured_trail<R: Read>(
     peers: &[Text64],
 ) -> Result<Vec<u8>, ReplayFault>
     requires { IsDistinct same_text peers.now }
-    ensures text { IfOk result (λ text. IfSome (R.remaining input.old) (λ bytes. text.items ≡ trail_of own peers.now bytes)) }
+    ensures text { IfOk result (λ text. IsTextOf (trail_of own peers.now) (R.remaining input.old) text.items) }
     ensures read_to_the_end { OnOk result (IsAtEnd (R.remaining input.new)) }
-    ensures full { result ≡ Err ReplayFault.Full
-        → IfSome (R.remaining input.old) (λ bytes. EVENTS_MAX < length (commands_of own peers.now bytes)) }
+    ensures full { result ≡ Err ReplayFault.Full → Overfills own peers.now (R.remaining input.old) }
     ensures no_write { result ≢ Err ReplayFault.Write }
 {
     let mut held = Held::new(alloc);
@@ -85,13 +80,11 @@ fn tell_all<R: Read>(
     sessions: &mut Sessions,
     held: &mut Held,
 ) -> Result<Vec<u8>, ReplayFault>
-    ensures text { IfOk result (λ text. IfSome (R.remaining input.old) (λ bytes.
-        text.items ≡ trail_from none_yet (record { sessions = sessions_of sessions.old; journal = held.old }) bytes)) }
-    ensures taken { OnOk result (IfSome (R.remaining input.old) (λ bytes.
-        held.new ≡ submitted held.old (commands_over (sessions_of sessions.old) (frames_of bytes)))) }
+    ensures text { IfOk result (λ text. IsTextOf (trail_from none_yet (taking_of sessions.old held.old))
+        (R.remaining input.old) text.items) }
+    ensures taken { OnOk result (TakenOf (R.remaining input.old) (taking_of sessions.old held.old) held.new) }
     ensures read_to_the_end { OnOk result (IsAtEnd (R.remaining input.new)) }
-    ensures stopped { IfErr result (λ fault. IfSome (R.remaining input.old) (λ bytes.
-        Stopped fault held.old held.new (commands_over (sessions_of sessions.old) (frames_of bytes)))) }
+    ensures stopped { IfErr result (StoppedOf (R.remaining input.old) (taking_of sessions.old held.old) held.new) }
     ensures no_write { result ≢ Err ReplayFault.Write }
 {
     let mut reader = Reader::new(alloc);

@@ -1,13 +1,12 @@
 //! A frame of a capture at the session of its sender, and what a trail tells of it.
-ghost use Rattle.std.specs.Prelude.{◌≡◌, ◌≢◌, ℕ, Err, IfErr, IfOk, OnOk};
+ghost use Rattle.std.specs.Prelude.{◌≡◌, ◌≢◌, Err, IfErr, IfOk, OnOk};
 ghost use Rattle.blot_tag.specs.Views.{text_of};
 ghost use Rattle.blot_session.specs.Runs.{said_by};
 ghost use Rattle.blot_capture.specs.Capture.{commands_in, sessions_behind};
 ghost use Rattle.blot_capture.specs.Handling.{became_by};
 ghost use Rattle.blot_capture.specs.Replay.{submitted, Stopped};
-ghost use Rattle.blot_capture.specs.Sessions.{sessions_of};
-ghost use Rattle.blot_capture.specs.Trace.{turn_of};
-ghost use Rattle.blot_trail.specs.Audit.{IsTurnOf, line_of};
+ghost use Rattle.blot_capture.specs.Sessions.{sessions_of, taking_of};
+ghost use Rattle.blot_trail.specs.Audit.{IsTurnOf, line_at};
 ghost use Rattle.blot_trail.specs.TrailText.{IsToldOf};
 
 use crate::trail::Noted;
@@ -28,9 +27,8 @@ pub(crate) fn take_noted(
 ) -> Result<Noted, ReplayFault>
     ensures sessions { OnOk result (sessions_of sessions.new ≡ sessions_behind (sessions_of sessions.old) (text_of frame.now)) }
     ensures desk { OnOk result (held.new ≡ submitted held.old (commands_in (sessions_of sessions.old) (text_of frame.now))) }
-    ensures noted { IfOk result (λ noted. (passed : ℕ) → noted ≡ line_of (turn_of (record { sessions = sessions_of sessions.old; journal = held.old })
-        (record { passed = passed; text = text_of frame.now }))) }
-    ensures err { IfErr result (λ fault. Stopped fault held.old held.new (commands_in (sessions_of sessions.old) (text_of frame.now))) }
+    ensures noted { IfOk result (λ noted. noted ≡ line_at (taking_of sessions.old held.old) (text_of frame.now)) }
+    ensures err { IfErr result (Stopped held.old held.new (commands_in (sessions_of sessions.old) (text_of frame.now))) }
     ensures no_write { result ≢ Err ReplayFault.Write }
 {
     let said = decode(alloc, frame);

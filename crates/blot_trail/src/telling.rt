@@ -1,10 +1,10 @@
 //! The frames of a byte stream, taken and told piece by piece.
-ghost use Rattle.std.specs.Prelude.{◌≡◌, ◌≢◌, ◌+◌, ◌-◌, ◌<◌, ◌≤◌, ◌^◌, ℕ, List, ◌++◌, length, is_some, Err, IfErr, IfOk, OnOk};
-ghost use Rattle.blot_tag.specs.Walking.{frames_of, stops_at, walk_of};
-ghost use Rattle.blot_capture.specs.Capture.{commands_over};
-ghost use Rattle.blot_capture.specs.Replay.{Came, Stopped};
-ghost use Rattle.blot_capture.specs.Sessions.{sessions_of};
-ghost use Rattle.blot_trail.specs.Audit.{IsInStep, Notes, TellsNext, Told, size_of, told_by};
+ghost use Rattle.std.specs.Prelude.{◌≡◌, ◌≢◌, ◌+◌, ◌<◌, ◌≤◌, ◌^◌, ◌++◌, length, is_some, Err, IfErr, IfOk, OnOk};
+ghost use Rattle.blot_tag.specs.Walking.{stops_at, walk_of};
+ghost use Rattle.blot_capture.specs.Replay.{CameOn, StoppedOn};
+ghost use Rattle.blot_capture.specs.Sessions.{taking_of};
+ghost use Rattle.blot_trail.specs.Audit.{IsInStep, Notes, TellsNext, ToldOn, size_of, telling_of, told_by};
+ghost use Rattle.blot_trail.specs.TrailText.{untold};
 
 use crate::noting::take_noted;
 use crate::trail::{Noted, Trail};
@@ -28,13 +28,11 @@ pub(crate) fn tell_piece(
     ensures step { OnOk result (IsInStep reader.new trail.new) }
     ensures read { OnOk result (trail.new.offset + length reader.new.unread ≡ trail.old.offset + length (reader.old.unread ++ piece.now)) }
     ensures drained { OnOk result (walk_of reader.new.unread ≡ stops_at reader.new.unread) }
-    ensures told { OnOk result ((more : List ℕ)
-        → Told (record { trail = trail.old; taking = record { sessions = sessions_of sessions.old; journal = held.old } }) ((reader.old.unread ++ piece.now) ++ more)
-        (record { trail = trail.new; taking = record { sessions = sessions_of sessions.new; journal = held.new } }) (reader.new.unread ++ more)) }
-    ensures came { OnOk result ((more : List ℕ) → Came (record { sessions = sessions_of sessions.old; journal = held.old }) (frames_of ((reader.old.unread ++ piece.now) ++ more))
-        (record { sessions = sessions_of sessions.new; journal = held.new }) (frames_of (reader.new.unread ++ more))) }
-    ensures err { IfErr result (λ fault. (more : List ℕ)
-        → Stopped fault held.old held.new (commands_over (sessions_of sessions.old) (frames_of ((reader.old.unread ++ piece.now) ++ more)))) }
+    ensures told { OnOk result (ToldOn (telling_of trail.old sessions.old held.old) (reader.old.unread ++ piece.now)
+        (telling_of trail.new sessions.new held.new) reader.new.unread) }
+    ensures came { OnOk result (CameOn (taking_of sessions.old held.old) (reader.old.unread ++ piece.now)
+        (taking_of sessions.new held.new) reader.new.unread) }
+    ensures err { IfErr result (StoppedOn (taking_of sessions.old held.old) (reader.old.unread ++ piece.now) held.new) }
     ensures no_write { result ≢ Err ReplayFault.Write }
 {
     match reader.feed(piece) {
@@ -56,13 +54,11 @@ fn tell_frames(
     ensures step { OnOk result (IsInStep reader.new trail.new) }
     ensures read { OnOk result (trail.new.offset + length reader.new.unread ≡ trail.old.offset + length reader.old.unread) }
     ensures drained { OnOk result (walk_of reader.new.unread ≡ stops_at reader.new.unread) }
-    ensures told { OnOk result ((more : List ℕ)
-        → Told (record { trail = trail.old; taking = record { sessions = sessions_of sessions.old; journal = held.old } }) (reader.old.unread ++ more)
-        (record { trail = trail.new; taking = record { sessions = sessions_of sessions.new; journal = held.new } }) (reader.new.unread ++ more)) }
-    ensures came { OnOk result ((more : List ℕ) → Came (record { sessions = sessions_of sessions.old; journal = held.old }) (frames_of (reader.old.unread ++ more))
-        (record { sessions = sessions_of sessions.new; journal = held.new }) (frames_of (reader.new.unread ++ more))) }
-    ensures err { IfErr result (λ fault. (more : List ℕ)
-        → Stopped fault held.old held.new (commands_over (sessions_of sessions.old) (frames_of (reader.old.unread ++ more)))) }
+    ensures told { OnOk result (ToldOn (telling_of trail.old sessions.old held.old) reader.old.unread
+        (telling_of trail.new sessions.new held.new) reader.new.unread) }
+    ensures came { OnOk result (CameOn (taking_of sessions.old held.old) reader.old.unread
+        (taking_of sessions.new held.new) reader.new.unread) }
+    ensures err { IfErr result (StoppedOn (taking_of sessions.old held.old) reader.old.unread held.new) }
     ensures no_write { result ≢ Err ReplayFault.Write }
 {
     loop {
@@ -84,11 +80,9 @@ fn tell_next(
 ) -> Result<bool, ReplayFault>
     requires step { IsInStep reader.old trail.old }
     requires within { trail.old.offset + length reader.old.unread < 2 ^ 63 }
-    ensures ok { IfOk result (λ told. TellsNext told
-        reader.old (record { trail = trail.old; taking = record { sessions = sessions_of sessions.old; journal = held.old } })
-        reader.new (record { trail = trail.new; taking = record { sessions = sessions_of sessions.new; journal = held.new } })) }
-    ensures err { IfErr result (λ fault. (more : List ℕ)
-        → Stopped fault held.old held.new (commands_over (sessions_of sessions.old) (frames_of (reader.old.unread ++ more)))) }
+    ensures ok { IfOk result (λ told. TellsNext told reader.old (telling_of trail.old sessions.old held.old)
+        reader.new (telling_of trail.new sessions.new held.new)) }
+    ensures err { IfErr result (StoppedOn (taking_of sessions.old held.old) reader.old.unread held.new) }
     ensures no_write { result ≢ Err ReplayFault.Write }
 {
     match next_noted(alloc, reader, sessions, held) {
@@ -105,8 +99,8 @@ fn tell(
     noted: Option<Noted>,
 ) -> Result<bool, ReplayFault>
     requires more { trail.old.skipped + trail.old.passed ≤ skipped }
-    requires within { trail.old.offset + (skipped - (trail.old.skipped + trail.old.passed)) + size_of noted < 2 ^ 63 }
-    ensures trail { OnOk result (trail.new ≡ told_by (skipped - (trail.old.skipped + trail.old.passed)) noted trail.old) }
+    requires within { trail.old.offset + untold skipped trail.old + size_of noted < 2 ^ 63 }
+    ensures trail { OnOk result (trail.new ≡ told_by (untold skipped trail.old) noted trail.old) }
     ensures some { IfOk result (λ told. told ≡ is_some noted) }
     ensures memory { IfErr result (λ fault. fault ≡ ReplayFault.NoMemory) }
 {
@@ -127,10 +121,9 @@ fn next_noted(
     sessions: &mut Sessions,
     held: &mut Held,
 ) -> Result<Option<Noted>, ReplayFault>
-    ensures read { IfOk result (λ noted. Notes noted reader.old (record { sessions = sessions_of sessions.old; journal = held.old })
-        reader.new (record { sessions = sessions_of sessions.new; journal = held.new })) }
-    ensures err { IfErr result (λ fault. (more : List ℕ)
-        → Stopped fault held.old held.new (commands_over (sessions_of sessions.old) (frames_of (reader.old.unread ++ more)))) }
+    ensures read { IfOk result (λ noted. Notes noted reader.old (taking_of sessions.old held.old)
+        reader.new (taking_of sessions.new held.new)) }
+    ensures err { IfErr result (StoppedOn (taking_of sessions.old held.old) reader.old.unread held.new) }
     ensures no_write { result ≢ Err ReplayFault.Write }
 {
     match reader.next()? {

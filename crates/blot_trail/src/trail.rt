@@ -3,7 +3,7 @@ ghost use Rattle.std.specs.Prelude.{◌≡◌, ◌+◌, ◌-◌, ◌<◌, ◌≤
 ghost use Rattle.std.specs.List.{flat_map};
 ghost use Rattle.blot_tag.specs.Views.{text_of};
 ghost use Rattle.blot_session.specs.Runs.{said_by};
-ghost use Rattle.blot_trail.specs.TrailText.{IsToldOf, action_text, behind_bytes, behind_line, finished, none_yet, tail_text, times, word_of, word_sum, word_sums};
+ghost use Rattle.blot_trail.specs.TrailText.{IsToldOf, action_text, behind_bytes, behind_line, finished, line_for, none_yet, times, untold, word_sum, word_sums};
 
 use crate::word::Word;
 use crate::wording::{put_became, put_bytes, put_head, put_number, put_sender, put_sent, put_sum};
@@ -41,11 +41,7 @@ impl Noted {
     ) -> Result<Noted, NoMemory>
         requires said { said.now ≡ said_by (text_of frame.now) }
         requires told { IsToldOf became.now }
-        ensures { IfOk result (λ noted. noted ≡ record {
-          tail = tail_text (text_of frame.now) became.now actions.now;
-          word = word_of became.now;
-          length_of = length (text_of frame.now);
-        }) }
+        ensures { IfOk result (λ noted. noted ≡ line_for (text_of frame.now) became.now actions.now) }
     {
         let mut tail = Vec::new(alloc);
         put_sender(&mut tail, frame)?;
@@ -110,8 +106,8 @@ impl Trail {
     /// So many bytes are passed over by now. It takes no memory.
     pub fn pass(&mut self, all: u64)
         requires more { self.old.skipped + self.old.passed ≤ all }
-        requires within { self.old.offset + (all - (self.old.skipped + self.old.passed)) < 2 ^ 63 }
-        ensures { self.new ≡ behind_bytes (all - (self.old.skipped + self.old.passed)) self.old }
+        requires within { self.old.offset + untold all self.old < 2 ^ 63 }
+        ensures { self.new ≡ behind_bytes (untold all self.old) self.old }
     {
         let count = all - (self.skipped + self.passed);
         self.offset += count;

@@ -1,11 +1,15 @@
 -- What the words of the command line ask for.
-use Rattle.std.specs.Prelude.{◌≡◌, ℕ, ◌<◌, ◌≤◌, ℤ, Bool, true, false, List, [], ◌∷◌, length, Option, Some, None, IsSome, IsSomeAnd, IsTrue}
+use Rattle.std.specs.Prelude.{◌≡◌, ◌≢◌, ℕ, ◌<◌, ◌≤◌, ℤ, Bool, true, false, List, [], ◌∷◌, codes, length, Option, Some, None, IsSome, IsSomeAnd, IsTrue, option_map}
 use Rattle.std.specs.List.{IsDistinct, list_all}
 use Rattle.std.specs.Str.Parse.{IsNumeral, digits_value, without_leading_plus}
+use Rattle.clap.specs.Matches.{first_value, found_of, matched_of, one_text, raw_values}
+use Rattle.clap.specs.declared.parser.matches.ArgMatches.{ArgMatches}
 use Rattle.blot_time.specs.Day.{IsDayText}
 use Rattle.blot_types.specs.Keys.{same_text}
 use Rattle.blot_types.specs.Text.{is_text}
 use Rattle.blot_words.specs.declared.command_line.TheConstants.{PORT_MAX, ROUNDS_MAX, SESSIONS_MAX}
+use Rattle.blot_words.specs.declared.refusal.Refusal.{Refusal}
+use Rattle.blot_words.specs.declared.refusal.Refusal.TheVariants.{NoMemory}
 use Rattle.blot_words.specs.declared.words.Words.{Words}
 use Rattle.blot_words.specs.declared.words.Words.TheVariants.{Replay, Desk, Audit, Serve}
 
@@ -15,22 +19,50 @@ pub record IsPeerList (peers : List (List ℕ)) : Type 0 where
   pub texts : list_all is_text peers ≡ true
   pub distinct : IsDistinct same_text peers
 
+-- the words that clap found, by the option that they stand behind: one's own CompID, the day, the file with the capture, and all that name
+-- a peer
+abbrev pub own_word : ArgMatches → Option (List ℕ)
+own_word matches = first_value (found_of matches) (codes "own")
+
+abbrev pub day_word : ArgMatches → Option (List ℕ)
+day_word matches = first_value (found_of matches) (codes "day")
+
+abbrev pub capture_word : ArgMatches → Option (List ℕ)
+capture_word matches = first_value (found_of matches) (codes "capture")
+
+abbrev pub peer_words : ArgMatches → Option (List (List ℕ))
+peer_words matches = option_map raw_values (matched_of (found_of matches) (codes "peer"))
+
+-- the text of an option that is a number, and those of all such options: the port, and how many connections and rounds
+abbrev pub count_word : ArgMatches → List ℕ → Option (List ℕ)
+count_word matches id = one_text (found_of matches) id
+
+abbrev pub count_words : ArgMatches → List (Option (List ℕ))
+count_words matches = count_word matches (codes "port") ∷ count_word matches (codes "sessions") ∷ count_word matches (codes "rounds") ∷ []
+
+-- one's own CompID is a text, and the day a day
+abbrev pub IsOwnWord : ArgMatches → Type 0
+IsOwnWord matches = IsSomeAnd (own_word matches) (λ text. IsTrue (is_text text))
+
+abbrev pub IsDayWord : ArgMatches → Type 0
+IsDayWord matches = IsSomeAnd (day_word matches) IsDayText
+
 -- the words of a replay: one's own CompID is a text, the day a day, and the peers are as above
-pub record IsReplay (own day : Option (List ℕ)) (peers : Option (List (List ℕ))) : Type 0 where
-  pub own_text : IsSomeAnd own (λ text. IsTrue (is_text text))
-  pub day_text : IsSomeAnd day IsDayText
-  pub peer_list : IsSomeAnd peers IsPeerList
+pub record IsReplay (matches : ArgMatches) : Type 0 where
+  pub own_text : IsOwnWord matches
+  pub day_text : IsDayWord matches
+  pub peer_list : IsSomeAnd (peer_words matches) IsPeerList
 
 -- the words of a desk: one's own CompID is a text, a file is named, and the peers are as above
-pub record IsDesk (own capture : Option (List ℕ)) (peers : Option (List (List ℕ))) : Type 0 where
-  pub own_text : IsSomeAnd own (λ text. IsTrue (is_text text))
-  pub file : IsSome capture
-  pub peer_list : IsSomeAnd peers IsPeerList
+pub record IsDesk (matches : ArgMatches) : Type 0 where
+  pub own_text : IsOwnWord matches
+  pub file : IsSome (capture_word matches)
+  pub peer_list : IsSomeAnd (peer_words matches) IsPeerList
 
 -- the words of an audit: one's own CompID is a text, and the peers are as above
-pub record IsAudit (own : Option (List ℕ)) (peers : Option (List (List ℕ))) : Type 0 where
-  pub own_text : IsSomeAnd own (λ text. IsTrue (is_text text))
-  pub peer_list : IsSomeAnd peers IsPeerList
+pub record IsAudit (matches : ArgMatches) : Type 0 where
+  pub own_text : IsOwnWord matches
+  pub peer_list : IsSomeAnd (peer_words matches) IsPeerList
 
 -- the number that the digits of a word write, a plus before them passed over
 abbrev pub count_of : List ℕ → ℕ
@@ -43,11 +75,15 @@ pub record IsCount (most : ℕ) (word : List ℕ) : Type 0 where
   pub few : count_of word ≤ most
 
 -- the words of a server: as of a replay, and the port and the numbers of connections and rounds are counts
-pub record IsServe (own day port sessions rounds : Option (List ℕ)) (peers : Option (List (List ℕ))) : Type 0 where
-  pub as_replay : IsReplay own day peers
-  pub port_count : IsSomeAnd port (IsCount PORT_MAX)
-  pub sessions_count : IsSomeAnd sessions (IsCount SESSIONS_MAX)
-  pub rounds_count : IsSomeAnd rounds (IsCount ROUNDS_MAX)
+pub record IsServe (matches : ArgMatches) : Type 0 where
+  pub as_replay : IsReplay matches
+  pub port_count : IsSomeAnd (count_word matches (codes "port")) (IsCount PORT_MAX)
+  pub sessions_count : IsSomeAnd (count_word matches (codes "sessions")) (IsCount SESSIONS_MAX)
+  pub rounds_count : IsSomeAnd (count_word matches (codes "rounds")) (IsCount ROUNDS_MAX)
+
+-- what a refusal rules out, unless it is want of memory
+abbrev pub RulesOut : Type 0 → Refusal → Type 0
+RulesOut fact refusal = refusal ≢ NoMemory → fact → ⊥
 
 -- one's own CompID, the day, the file with the capture, and the peers that the words name
 abbrev pub own_of : Words → List ℕ

@@ -1,7 +1,7 @@
 //! The peers whose messages are read.
 ghost use Rattle.std.specs.Prelude.{◌≡◌, ◌≢◌, IfErr, IfOk, true, false, map};
 ghost use Rattle.blot_types.specs.Text.{is_text};
-ghost use Rattle.blot_words.specs.Words.{IsPeerList};
+ghost use Rattle.blot_words.specs.Words.{IsPeerList, RulesOut};
 
 use crate::command_line::PEER;
 use crate::refusal::Refusal;
@@ -12,8 +12,7 @@ use std::alloc::Global;
 pub fn read_peers(alloc: Global, named: &[&str]) -> Result<Vec<Text64>, Refusal>
     ensures value { IfOk result (λ peers. peers.items ≡ map (λ word. word.now) named.now) }
     ensures peers { IfOk result (λ peers. IsPeerList peers.items) }
-    ensures refused { IfErr result (λ refusal. refusal ≢ Refusal.NoMemory
-        → IsPeerList (map (λ word. word.now) named.now) → ⊥) }
+    ensures refused { IfErr result (RulesOut (IsPeerList (map (λ word. word.now) named.now))) }
 {
     let mut peers = Vec::new(alloc);
     for word in named {

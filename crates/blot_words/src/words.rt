@@ -1,9 +1,7 @@
 //! The words of the command line: what they ask for.
-ghost use Rattle.std.specs.Prelude.{◌≡◌, ◌≢◌, ◌↔◌, ◌≤◌, [], ◌∷◌, Ok, Some, IfErr, IfOk, IfSome, IsOk, IsSomeAnd, IsTrue, true, codes, option_map};
-ghost use Rattle.clap.specs.Matches.{first_value, found_of, matched_of, one_text, raw_values};
-ghost use Rattle.blot_time.specs.Day.{day_of, IsDayText};
-ghost use Rattle.blot_types.specs.Text.{is_text};
-ghost use Rattle.blot_words.specs.Words.{IsAudit, IsCount, IsPeerList, IsReplay, IsDesk, IsServe, is_audit, own_of, count_of, counts_named, day_named, capture_named, peers_of};
+ghost use Rattle.std.specs.Prelude.{◌≡◌, ◌↔◌, Ok, Some, IfErr, IfOk, IfSome, IsOk, IsSomeAnd, true, map, option_map};
+ghost use Rattle.blot_time.specs.Day.{day_of};
+ghost use Rattle.blot_words.specs.Words.{IsAudit, IsCount, IsDayWord, IsOwnWord, IsPeerList, IsReplay, IsDesk, IsServe, RulesOut, is_audit, own_of, own_word, count_of, count_word, count_words, counts_named, day_named, day_word, capture_named, capture_word, peer_words, peers_of};
 
 use crate::command_line::{
     AUDIT, CAPTURE, DAY, DESK, OWN, PEER, PORT, PORT_MAX, REPLAY, ROUNDS, ROUNDS_MAX, SERVE,
@@ -84,13 +82,11 @@ pub fn parse<S: AsStr>(alloc: Global, words: &[S]) -> Result<Words, Refusal>
 
 // The words of a replay, as `clap` found them.
 fn read_replay(alloc: Global, matches: &ArgMatches<'_>) -> Result<Words, Refusal>
-    ensures own { IfOk result (λ words. first_value (found_of matches.now) (codes "own") ≡ Some (own_of words)) }
-    ensures day { IfOk result (λ words. IfSome (first_value (found_of matches.now) (codes "day")) (λ word. option_map Ok (day_named words) ≡ Some (day_of word))) }
-    ensures named { IfOk result (λ words. option_map raw_values (matched_of (found_of matches.now) (codes "peer")) ≡ Some (peers_of words)) }
+    ensures own { IfOk result (λ words. own_word matches.now ≡ Some (own_of words)) }
+    ensures day { IfOk result (λ words. IfSome (day_word matches.now) (λ word. option_map Ok (day_named words) ≡ Some (day_of word))) }
+    ensures named { IfOk result (λ words. peer_words matches.now ≡ Some (peers_of words)) }
     ensures peers { IfOk result (λ words. IsPeerList (peers_of words)) }
-    ensures refused { IfErr result (λ refusal. refusal ≢ Refusal.NoMemory
-        → IsReplay (first_value (found_of matches.now) (codes "own")) (first_value (found_of matches.now) (codes "day"))
-        (option_map raw_values (matched_of (found_of matches.now) (codes "peer"))) → ⊥) }
+    ensures refused { IfErr result (RulesOut (IsReplay matches.now)) }
 {
     let own = read_own(alloc, matches)?;
     let day = read_day(alloc, matches)?;
@@ -103,13 +99,11 @@ fn read_replay(alloc: Global, matches: &ArgMatches<'_>) -> Result<Words, Refusal
 
 // The words of a desk, as `clap` found them.
 fn read_desk(alloc: Global, matches: &ArgMatches<'_>) -> Result<Words, Refusal>
-    ensures own { IfOk result (λ words. first_value (found_of matches.now) (codes "own") ≡ Some (own_of words)) }
-    ensures capture { IfOk result (λ words. first_value (found_of matches.now) (codes "capture") ≡ capture_named words) }
-    ensures named { IfOk result (λ words. option_map raw_values (matched_of (found_of matches.now) (codes "peer")) ≡ Some (peers_of words)) }
+    ensures own { IfOk result (λ words. own_word matches.now ≡ Some (own_of words)) }
+    ensures capture { IfOk result (λ words. capture_word matches.now ≡ capture_named words) }
+    ensures named { IfOk result (λ words. peer_words matches.now ≡ Some (peers_of words)) }
     ensures peers { IfOk result (λ words. IsPeerList (peers_of words)) }
-    ensures refused { IfErr result (λ refusal. refusal ≢ Refusal.NoMemory
-        → IsDesk (first_value (found_of matches.now) (codes "own")) (first_value (found_of matches.now) (codes "capture"))
-        (option_map raw_values (matched_of (found_of matches.now) (codes "peer"))) → ⊥) }
+    ensures refused { IfErr result (RulesOut (IsDesk matches.now)) }
 {
     let own = read_own(alloc, matches)?;
     let Some(file) = matches.get_str(CAPTURE) else {
@@ -130,12 +124,10 @@ fn read_desk(alloc: Global, matches: &ArgMatches<'_>) -> Result<Words, Refusal>
 // The words of an audit, as `clap` found them.
 fn read_audit(alloc: Global, matches: &ArgMatches<'_>) -> Result<Words, Refusal>
     ensures audit { IfOk result (λ words. is_audit words ≡ true) }
-    ensures own { IfOk result (λ words. first_value (found_of matches.now) (codes "own") ≡ Some (own_of words)) }
-    ensures named { IfOk result (λ words. option_map raw_values (matched_of (found_of matches.now) (codes "peer")) ≡ Some (peers_of words)) }
+    ensures own { IfOk result (λ words. own_word matches.now ≡ Some (own_of words)) }
+    ensures named { IfOk result (λ words. peer_words matches.now ≡ Some (peers_of words)) }
     ensures peers { IfOk result (λ words. IsPeerList (peers_of words)) }
-    ensures refused { IfErr result (λ refusal. refusal ≢ Refusal.NoMemory
-        → IsAudit (first_value (found_of matches.now) (codes "own"))
-        (option_map raw_values (matched_of (found_of matches.now) (codes "peer"))) → ⊥) }
+    ensures refused { IfErr result (RulesOut (IsAudit matches.now)) }
 {
     let own = read_own(alloc, matches)?;
     let Some(named) = matches.get_strs(PEER) else {
@@ -147,16 +139,12 @@ fn read_audit(alloc: Global, matches: &ArgMatches<'_>) -> Result<Words, Refusal>
 
 // The words of a server, as `clap` found them.
 fn read_serve(alloc: Global, matches: &ArgMatches<'_>) -> Result<Words, Refusal>
-    ensures own { IfOk result (λ words. first_value (found_of matches.now) (codes "own") ≡ Some (own_of words)) }
-    ensures day { IfOk result (λ words. IfSome (first_value (found_of matches.now) (codes "day")) (λ word. option_map Ok (day_named words) ≡ Some (day_of word))) }
-    ensures counts { IfOk result (λ words. counts_named words ≡ option_map count_of (one_text (found_of matches.now) (codes "port"))
-        ∷ option_map count_of (one_text (found_of matches.now) (codes "sessions")) ∷ option_map count_of (one_text (found_of matches.now) (codes "rounds")) ∷ []) }
-    ensures named { IfOk result (λ words. option_map raw_values (matched_of (found_of matches.now) (codes "peer")) ≡ Some (peers_of words)) }
+    ensures own { IfOk result (λ words. own_word matches.now ≡ Some (own_of words)) }
+    ensures day { IfOk result (λ words. IfSome (day_word matches.now) (λ word. option_map Ok (day_named words) ≡ Some (day_of word))) }
+    ensures counts { IfOk result (λ words. counts_named words ≡ map (option_map count_of) (count_words matches.now)) }
+    ensures named { IfOk result (λ words. peer_words matches.now ≡ Some (peers_of words)) }
     ensures peers { IfOk result (λ words. IsPeerList (peers_of words)) }
-    ensures refused { IfErr result (λ refusal. refusal ≢ Refusal.NoMemory
-        → IsServe (first_value (found_of matches.now) (codes "own")) (first_value (found_of matches.now) (codes "day"))
-        (one_text (found_of matches.now) (codes "port")) (one_text (found_of matches.now) (codes "sessions")) (one_text (found_of matches.now) (codes "rounds"))
-        (option_map raw_values (matched_of (found_of matches.now) (codes "peer"))) → ⊥) }
+    ensures refused { IfErr result (RulesOut (IsServe matches.now)) }
 {
     let own = read_own(alloc, matches)?;
     let day = read_day(alloc, matches)?;
@@ -179,9 +167,8 @@ fn read_serve(alloc: Global, matches: &ArgMatches<'_>) -> Result<Words, Refusal>
 
 // One's own CompID.
 fn read_own(alloc: Global, matches: &ArgMatches<'_>) -> Result<Text64, Refusal>
-    ensures value { IfOk result (λ own. first_value (found_of matches.now) (codes "own") ≡ Some own) }
-    ensures refused { IfErr result (λ refusal. refusal ≢ Refusal.NoMemory
-        → IsSomeAnd (first_value (found_of matches.now) (codes "own")) (λ text. IsTrue (is_text text)) → ⊥) }
+    ensures value { IfOk result (λ own. own_word matches.now ≡ Some own) }
+    ensures refused { IfErr result (RulesOut (IsOwnWord matches.now)) }
 {
     match matches.get_str(OWN) {
         Some(word) => read_comp_id(alloc, word),
@@ -191,9 +178,8 @@ fn read_own(alloc: Global, matches: &ArgMatches<'_>) -> Result<Text64, Refusal>
 
 // The trading day.
 fn read_day(alloc: Global, matches: &ArgMatches<'_>) -> Result<Day, Refusal>
-    ensures value { IfOk result (λ day. IfSome (first_value (found_of matches.now) (codes "day")) (λ word. day_of word ≡ Ok day)) }
-    ensures refused { IfErr result (λ refusal. refusal ≢ Refusal.NoMemory
-        → IsSomeAnd (first_value (found_of matches.now) (codes "day")) IsDayText → ⊥) }
+    ensures value { IfOk result (λ day. IfSome (day_word matches.now) (λ word. day_of word ≡ Ok day)) }
+    ensures refused { IfErr result (RulesOut (IsDayWord matches.now)) }
 {
     let Some(word) = matches.get_str(DAY) else {
         return Err(Refusal::Missing(DAY));
@@ -206,8 +192,8 @@ fn read_day(alloc: Global, matches: &ArgMatches<'_>) -> Result<Day, Refusal>
 
 // The count that an option's word is, if it is one from 1 to the most.
 fn read_count(matches: &ArgMatches<'_>, id: &'static str, most: u16) -> Result<u16, Refusal>
-    ensures some { IsOk result ↔ IsSomeAnd (one_text (found_of matches.now) id.now) (IsCount most) }
-    ensures value { IfOk result (λ count. option_map count_of (one_text (found_of matches.now) id.now) ≡ Some count) }
+    ensures some { IsOk result ↔ IsSomeAnd (count_word matches.now id.now) (IsCount most) }
+    ensures value { IfOk result (λ count. option_map count_of (count_word matches.now id.now) ≡ Some count) }
 {
     match matches.get_one::<u16>(id) {
         Some(count) if 1 <= count && count <= most => Ok(count),

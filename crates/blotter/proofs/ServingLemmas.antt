@@ -1,15 +1,14 @@
 -- What a day that is served comes to.
 use Rattle.std.proofs.Common.{◌≡◌, ℕ, ◌+◌, ◌<◌, List, [], ◌∷◌, ◌++◌, length, replicate, refl, sym, ap, subst, ◌∙◌, arith, zero, suc}
-use Rattle.std.specs.Prelude.{ℤ, true, ◌&&◌, ◌≢◌, Option, IfErr, IfSome, IsOk, OnOk, Result, Err}
+use Rattle.std.specs.Prelude.{ℤ, true, ◌&&◌, ◌≢◌, Option, IfErr, IsOk, OnOk, Result, Err}
 use Rattle.std.specs.Io.KnownBytes.{IsAtEnd}
 use Rattle.std.specs.List.{All, list_all}
 use Rattle.blot_desk.specs.declared.receipt.Receipt.{Receipt}
 use Rattle.blot_gateway.specs.AtOnce.{AddsSubmits, EachAdds}
 use Rattle.blot_gateway.proofs.AtOnceLemmas.{adds-none, adds-on, each-adds}
 use Rattle.blot_stream.proofs.ResultLemmas.{err-says, ok-says}
-use Rattle.blot_operator.specs.Dialogue.{TellsLines, seat_ways}
-use Rattle.blot_operator.specs.Lines.{lines_of}
-use Rattle.blotter.specs.Serving.{DayServed, Reported, RoundsLead, ServesRound, are_submits}
+use Rattle.blot_operator.specs.Dialogue.{TellsOf, seat_ways}
+use Rattle.blotter.specs.Serving.{DayServed, FewerLead, Reported, RoundsLead, ServesRound, are_submits}
 use Rattle.blotter.specs.Sockets.{ClockTicks, SocketDoes}
 use Rattle.blot_stream.specs.declared.outcome.ServeFault.{ServeFault}
 use Rattle.blot_stream.specs.declared.outcome.ServeFault.TheVariants.{Connection, NoMemory}
@@ -84,24 +83,24 @@ one-more round count before between after rounds last =
 -- rounds that stop at one that serves none
 pub stops-at : (round : List (List Receipt) → List (List Receipt) → Type 0) (count rounds : ℕ) (before between after : List (List Receipt)) (fault : ServeFault)
     → count < rounds → RoundsLead round count before between → (fault ≢ NoMemory → after ≡ between)
-    → fault ≢ NoMemory → (made : ℕ) × (made < rounds) × RoundsLead round made before after
+    → FewerLead round rounds before after fault
 stops-at round count rounds before between after fault less led kept other =
     (count, less, subst (λ seats. RoundsLead round count before seats) (sym (kept other)) led)
 
 -- where a connection was missing there were fewer
 pub were-fewer : {T : Type 0} (round : List (List Receipt) → List (List Receipt) → Type 0) (rounds : ℕ) (before after : List (List Receipt)) (served : Result T ServeFault)
-    → served ≡ Err Connection → IfErr served (λ fault. fault ≢ NoMemory → (count : ℕ) × (count < rounds) × RoundsLead round count before after)
+    → served ≡ Err Connection → IfErr served (FewerLead round rounds before after)
     → (count : ℕ) × (count < rounds) × RoundsLead round count before after
 were-fewer round rounds before after served is fewer =
-    err-says (λ fault. fault ≢ NoMemory → (count : ℕ) × (count < rounds) × RoundsLead round count before after) served Connection is fewer (λ same. cc)
+    err-says (FewerLead round rounds before after) served Connection is fewer (λ same. cc)
 
 -- ---- a day
 
 -- what an operator with an empty seat is told, where the lines come to their end
 pub tells-all : {T E : Type 0} (answered : Result T E) (input : Option (List ℕ)) (first last : List Receipt) (before after : Option (List ℕ)) → first ≡ [] → IsOk answered
-    → OnOk answered (IfSome input (λ bytes. TellsLines seat_ways first (lines_of bytes) last before after)) → IfSome input (λ bytes. TellsLines seat_ways [] (lines_of bytes) last before after)
+    → OnOk answered (TellsOf seat_ways first input last before after) → TellsOf seat_ways [] input last before after
 tells-all answered input first last before after empty is all =
-    subst (λ found. IfSome input (λ bytes. TellsLines seat_ways found (lines_of bytes) last before after)) empty (ok-says answered is all)
+    subst (λ found. TellsOf seat_ways found input last before after) empty (ok-says answered is all)
 
 -- an input that is left so
 pub at-end : {R : Type 0} (remaining : R → Option (List ℕ)) (left last : R) → IsAtEnd (remaining left) → left ≡ last → IsAtEnd (remaining last)
@@ -111,7 +110,7 @@ at-end remaining left last ended same = subst (λ found. IsAtEnd (remaining foun
 pub is-served : {W : Type 0} (contents : W → Option (List ℕ)) (round : List (List Receipt) → List (List Receipt) → Type 0) (rounds : ℕ) (input : Option (List ℕ))
     (opened brokers : List (List Receipt)) (operator : List Receipt) (sessions : ℕ) (day : ℤ) (before : Option (List ℕ)) (between new last : W)
     → ((before after : List (List Receipt)) → round before after → EachAdds before after) → length opened ≡ sessions → All (λ receipts. receipts ≡ []) opened
-    → RoundsLead round rounds opened brokers → IfSome input (λ bytes. TellsLines seat_ways [] (lines_of bytes) operator before (contents between)) → Reported day (brokers ++ (operator ∷ [])) (contents between) (contents new) → new ≡ last
+    → RoundsLead round rounds opened brokers → TellsOf seat_ways [] input operator before (contents between) → Reported day (brokers ++ (operator ∷ [])) (contents between) (contents new) → new ≡ last
     → DayServed round rounds input sessions day before (contents last)
 is-served contents round rounds input opened brokers operator sessions day before between new last adds many empty led told reported same =
     let added = rounds-add round adds rounds opened brokers led in

@@ -1,5 +1,5 @@
 -- What a day that is served comes to.
-use Rattle.std.specs.Prelude.{◌≡◌, ℕ, zero, suc, ℤ, Bool, true, List, [], ◌∷◌, ◌++◌, length, map, replicate, Option, IfSome}
+use Rattle.std.specs.Prelude.{◌≡◌, ◌≢◌, ◌<◌, ℕ, zero, suc, ℤ, Bool, true, List, [], ◌∷◌, ◌++◌, length, map, replicate, Option}
 use Rattle.std.specs.List.{list_all}
 use Rattle.std.specs.Io.KnownBytes.{Appends}
 use Rattle.blot_desk.specs.declared.event.Recorded.{Recorded}
@@ -8,9 +8,10 @@ use Rattle.blot_desk.specs.Desk.{events_of, replies_of, run_of}
 use Rattle.blot_desk.specs.Receipts.{IsSettled}
 use Rattle.blot_gateway.specs.AtOnce.{EachServed, is_submit}
 use Rattle.blot_gateway.specs.declared.ended.Ended.{Ended}
-use Rattle.blot_operator.specs.Dialogue.{TellsLines, seat_ways}
-use Rattle.blot_operator.specs.Lines.{lines_of}
+use Rattle.blot_operator.specs.Dialogue.{TellsOf, seat_ways}
 use Rattle.blot_capture.specs.Replay.{report_of}
+use Rattle.blot_stream.specs.declared.outcome.ServeFault.{ServeFault}
+use Rattle.blot_stream.specs.declared.outcome.ServeFault.TheVariants.{NoMemory}
 use Rattle.blotter.specs.Sockets.{ClockTicks, SocketDoes}
 use Rattle.blotter.specs.declared.socket.Socket.{Socket}
 use Rattle.blotter.specs.declared.system_clock.SystemClock.{SystemClock}
@@ -30,6 +31,12 @@ pub record ServesRound (R : Type 0) {S : Type 0} (remaining contents : S → Opt
 abbrev pub RoundsLead : (List (List Receipt) → List (List Receipt) → Type 0) → ℕ → List (List Receipt) → List (List Receipt) → Type 0
 RoundsLead round zero before after = after ≡ before
 RoundsLead round (suc count) before after = (between : List (List Receipt)) × RoundsLead round count before between × round between after
+
+-- fewer rounds did, where memory didn't run out
+abbrev pub FewerLead : (List (List Receipt) → List (List Receipt) → Type 0)
+    → ℕ → List (List Receipt) → List (List Receipt) → ServeFault → Type 0
+FewerLead round rounds before after fault =
+    fault ≢ NoMemory → (count : ℕ) × (count < rounds) × RoundsLead round count before after
 
 -- ---- a day
 
@@ -56,5 +63,11 @@ pub record DayServed (round : List (List Receipt) → List (List Receipt) → Ty
   pub served : RoundsLead round rounds (replicate sessions []) brokers
   pub count : length brokers ≡ sessions
   pub submits : list_all are_submits brokers ≡ true
-  pub told : IfSome input (λ bytes. TellsLines seat_ways [] (lines_of bytes) operator before between)
+  pub told : TellsOf seat_ways [] input operator before between
   pub reported : Reported day (brokers ++ (operator ∷ [])) between after
+
+-- a day of fewer rounds is served
+abbrev pub DayCutShort : (List (List Receipt) → List (List Receipt) → Type 0)
+    → ℕ → Option (List ℕ) → ℕ → ℤ → Option (List ℕ) → Option (List ℕ) → Type 0
+DayCutShort round rounds input sessions day before after =
+    (count : ℕ) × (count < rounds) × DayServed round count input sessions day before after

@@ -1,6 +1,6 @@
 //! Rounds of connections, each served at once.
 ghost use Rattle.std.specs.Prelude.{◌≡◌, ◌≢◌, ◌<◌, ℕ, IfErr, IfOk, OnOk, map, vec_len};
-ghost use Rattle.blotter.specs.Serving.{RoundsLead, ServesRound};
+ghost use Rattle.blotter.specs.Serving.{FewerLead, RoundsLead, ServesRound};
 
 use crate::{Socket, SystemClock};
 use blot_desk::{Desk, Seat};
@@ -49,9 +49,10 @@ where
     N: OpenListener,
     N::Stream: Read + Write + OpenStream + Send,
     L: Ledger + Send + Sync,
-    ensures served { OnOk result (RoundsLead (ServesRound R N.Stream.remaining N.Stream.contents slots.now) rounds seats.old.items seats.new.items) }
-    ensures fewer { IfErr result (λ fault. fault ≢ ServeFault.NoMemory → (count : ℕ) × (count < rounds)
-        × RoundsLead (ServesRound R N.Stream.remaining N.Stream.contents slots.now) count seats.old.items seats.new.items) }
+    ensures served { OnOk result (RoundsLead (ServesRound R N.Stream.remaining N.Stream.contents slots.now) rounds
+        seats.old.items seats.new.items) }
+    ensures fewer { IfErr result (FewerLead (ServesRound R N.Stream.remaining N.Stream.contents slots.now) rounds
+        seats.old.items seats.new.items) }
 {
     for _ in 0..rounds {
         serve_round(rt, alloc, listener, slots, desk, seats)?;

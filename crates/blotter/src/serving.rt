@@ -2,7 +2,7 @@
 ghost use Rattle.std.specs.Prelude.{◌≡◌, ◌≢◌, ◌+◌, ◌<◌, ◌⊎◌, ℕ, [], ◌∷◌, ◌++◌, length, Err, IfErr, IfOk, IsOk, OnOk};
 ghost use Rattle.std.specs.List.{All};
 ghost use Rattle.std.specs.Io.KnownBytes.{IsAtEnd};
-ghost use Rattle.blotter.specs.Serving.{DayServed, Reported, RoundsLead, ServesRound};
+ghost use Rattle.blotter.specs.Serving.{DayCutShort, DayServed, FewerLead, Reported, RoundsLead, ServesRound};
 
 use crate::Rounds;
 use crate::meanwhile::{Lines, Task, take_back};
@@ -54,9 +54,9 @@ where
     ensures read_to_the_end { OnOk result (IsAtEnd (I.remaining input.new)) }
 
     // Without a further connection the day of the rounds so far is told all the same.
-    ensures no_connection { result ≡ Err ServeFault.Connection → IsAtEnd (I.remaining input.new) × ((count : ℕ) × (count < rounds.rounds)
-        × DayServed (ServesRound R N.Stream.remaining N.Stream.contents slots.now) count
-        (I.remaining input.old) rounds.sessions day (O.contents output.old) (O.contents output.new)) }
+    ensures no_connection { result ≡ Err ServeFault.Connection → IsAtEnd (I.remaining input.new)
+        × DayCutShort (ServesRound R N.Stream.remaining N.Stream.contents slots.now) rounds.rounds
+        (I.remaining input.old) rounds.sessions day (O.contents output.old) (O.contents output.new) }
 {
     let (desk, seats, operator) = open_day::<L>(alloc, blank, rounds.sessions)?;
     let lines = Lines {
@@ -122,17 +122,19 @@ where
     N: OpenListener + Sync,
     N::Stream: Read + Write + OpenStream + Send,
     T: Task<Output = A> + Drop,
-    ensures served { OnOk result.0.0 (RoundsLead (ServesRound R N.Stream.remaining N.Stream.contents slots.now) rounds seats.items result.0.1.items) }
-    ensures fewer { IfErr result.0.0 (λ fault. fault ≢ ServeFault.NoMemory → (count : ℕ) × (count < rounds)
-        × RoundsLead (ServesRound R N.Stream.remaining N.Stream.contents slots.now) count seats.items result.0.1.items) }
+    ensures served { OnOk result.0.0 (RoundsLead (ServesRound R N.Stream.remaining N.Stream.contents slots.now) rounds
+        seats.items result.0.1.items) }
+    ensures fewer { IfErr result.0.0 (FewerLead (ServesRound R N.Stream.remaining N.Stream.contents slots.now) rounds
+        seats.items result.0.1.items) }
     ensures gives { T.gives task result.1 }
 {
     join(
         rt,
         move || -> (Result<(), ServeFault>, Vec<Seat<L>>)
-            ensures served { OnOk result.0 (RoundsLead (ServesRound R N.Stream.remaining N.Stream.contents slots.entry.now) rounds seats.items result.1.items) }
-            ensures fewer { IfErr result.0 (λ fault. fault ≢ ServeFault.NoMemory → (count : ℕ) × (count < rounds)
-                × RoundsLead (ServesRound R N.Stream.remaining N.Stream.contents slots.entry.now) count seats.items result.1.items) }
+            ensures served { OnOk result.0 (RoundsLead (ServesRound R N.Stream.remaining N.Stream.contents slots.entry.now) rounds
+                seats.items result.1.items) }
+            ensures fewer { IfErr result.0 (FewerLead (ServesRound R N.Stream.remaining N.Stream.contents slots.entry.now) rounds
+                seats.items result.1.items) }
         {
             let mut seats = seats;
             let served = serve_rounds(rt, alloc, listener, rounds, slots, desk, &mut seats);

@@ -1,11 +1,11 @@
 -- What a run of the program did.
-use Rattle.std.specs.Prelude.{ℕ, List, Option, IfSome}
-use Rattle.std.specs.Io.KnownBytes.{Appends, IsAtEnd}
+use Rattle.std.specs.Prelude.{ℕ, List, Option}
+use Rattle.std.specs.Io.KnownBytes.{IsAtEnd}
 use Rattle.blot_desk.specs.Desk.{Journal}
 use Rattle.blot_desk.specs.declared.receipt.Receipt.{Receipt}
-use Rattle.blot_capture.specs.Replay.{list_of, report_of}
-use Rattle.blot_operator.specs.Lines.{lines_of}
-use Rattle.blot_operator.specs.Operating.{told_over}
+use Rattle.blot_stream.specs.Texts.{AppendsOf}
+use Rattle.blot_capture.specs.Replay.{replay_of}
+use Rattle.blot_operator.specs.Operating.{answers_of}
 use Rattle.blot_trail.specs.Audit.{trail_of}
 use Rattle.blotter.specs.Serving.{DayServed}
 use Rattle.blot_words.specs.declared.words.Words.{Words}
@@ -18,10 +18,10 @@ use Rattle.blot_words.specs.declared.words.Words.TheVariants.{Replay, Desk, Audi
 -- brokers' seats are as so many rounds of so many connections left them
 abbrev pub Did : (List ℕ → List (List Receipt) → List (List Receipt) → Type 0) → Words → Option (List ℕ) → Option (List ℕ) → Option (List ℕ) → Option (List ℕ) → Type 0
 Did round (Replay own day peers) input left before after =
-    IsAtEnd left × IfSome input (λ bytes. Appends before after (report_of (list_of own peers.items bytes) day))
+    IsAtEnd left × AppendsOf (replay_of own peers.items day) input before after
 Did round (Desk own capture peers) input left before after =
-    IsAtEnd left × ((journal : Journal) × IfSome input (λ bytes. Appends before after (told_over journal (lines_of bytes)).text))
+    IsAtEnd left × ((journal : Journal) × AppendsOf (answers_of journal) input before after)
 Did round (Audit own peers) input left before after =
-    IsAtEnd left × IfSome input (λ bytes. Appends before after (trail_of own peers.items bytes))
+    IsAtEnd left × AppendsOf (trail_of own peers.items) input before after
 Did round (Serve own day port sessions rounds peers) input left before after =
     IsAtEnd left × DayServed (round own) rounds input sessions day before after

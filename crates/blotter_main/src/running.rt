@@ -1,13 +1,12 @@
 //! One run of the program, over any words, files and streams.
 ghost use Rattle.std.specs.Prelude.{◌≡◌, ◌≢◌, ◌≤◌, ◌⊎◌, false, ℕ, List, IfErr, IfOk, IfSome, OnOk};
-ghost use Rattle.std.specs.Io.KnownBytes.{Appends, IsAtEnd, Keeps};
+ghost use Rattle.std.specs.Io.KnownBytes.{IsAtEnd, Keeps};
 ghost use Rattle.std.specs.List.{IsDistinct};
 ghost use Rattle.blot_types.specs.Keys.{same_text};
-ghost use Rattle.blot_desk.specs.Desk.{Journal, empty_journal};
-ghost use Rattle.blot_capture.specs.Capture.{commands_of};
-ghost use Rattle.blot_operator.specs.Lines.{lines_of};
-ghost use Rattle.blot_operator.specs.Operating.{told_over};
-ghost use Rattle.blot_capture.specs.Replay.{submitted};
+ghost use Rattle.blot_desk.specs.Desk.{Journal};
+ghost use Rattle.blot_stream.specs.Texts.{AppendsOf};
+ghost use Rattle.blot_operator.specs.Operating.{answers_of};
+ghost use Rattle.blot_capture.specs.Replay.{captured_by};
 ghost use Rattle.blotter.specs.Serving.{DayServed, ServesRound};
 ghost use Rattle.blot_stream.specs.declared.outcome.Outcome.TheVariants.{BadWords, Done, NoMemory};
 ghost use Rattle.blot_words.specs.Words.{IsPeerList, is_written_last, peers_of};
@@ -171,8 +170,8 @@ fn open_desk<F: Files, R: Read, W: Write>(
     output: &mut W,
 ) -> Result<(), Failure>
     requires { IsDistinct same_text peers.now }
-    ensures told { OnOk result ((journal : Journal) × IfSome (R.remaining input.old) (λ bytes.
-        Appends (W.contents output.old) (W.contents output.new) (told_over journal (lines_of bytes)).text)) }
+    ensures told { OnOk result ((journal : Journal) × AppendsOf (answers_of journal) (R.remaining input.old)
+        (W.contents output.old) (W.contents output.new)) }
     ensures read_to_the_end { OnOk result (IsAtEnd (R.remaining input.new)) }
     ensures words { IfErr result (λ failure. outcome_of failure ≢ BadWords) }
 {
@@ -194,13 +193,13 @@ fn keep_desk<C: Read, R: Read, W: Write>(
     output: &mut W,
 ) -> Result<(), Failure>
     requires { IsDistinct same_text peers.now }
-    ensures told { OnOk result ((journal : Journal) × IfSome (R.remaining input.old) (λ bytes.
-        Appends (W.contents output.old) (W.contents output.new) (told_over journal (lines_of bytes)).text)) }
+    ensures told { OnOk result ((journal : Journal) × AppendsOf (answers_of journal) (R.remaining input.old)
+        (W.contents output.old) (W.contents output.new)) }
 
     // The desk is the one that the capture leads to.
-    ensures captured { OnOk result (IfSome (C.remaining captured.old) (λ frames. IfSome (R.remaining input.old) (λ bytes.
-        Appends (W.contents output.old) (W.contents output.new)
-        (told_over (submitted empty_journal (commands_of own peers.now frames)) (lines_of bytes)).text))) }
+    ensures captured { OnOk result (IfSome (C.remaining captured.old) (λ frames.
+        AppendsOf (answers_of (captured_by own peers.now frames)) (R.remaining input.old)
+        (W.contents output.old) (W.contents output.new))) }
     ensures read_to_the_end { OnOk result (IsAtEnd (R.remaining input.new)) }
     ensures words { IfErr result (λ failure. outcome_of failure ≢ BadWords) }
 {
@@ -217,8 +216,7 @@ fn captured_desk<C: Read>(
     peers: &[Text64],
 ) -> Result<Held, Failure>
     requires { IsDistinct same_text peers.now }
-    ensures captured { IfOk result (λ held. IfSome (C.remaining captured.old) (λ frames.
-        held ≡ submitted empty_journal (commands_of own peers.now frames))) }
+    ensures captured { IfOk result (λ held. IfSome (C.remaining captured.old) (λ frames. held ≡ captured_by own peers.now frames)) }
     ensures words { IfErr result (λ failure. outcome_of failure ≢ BadWords) }
 {
     let mut held = Held::new(alloc);
@@ -236,8 +234,7 @@ fn answer<R: Read, W: Write>(
     input: &mut R,
     output: &mut W,
 ) -> Result<(), Failure>
-    ensures told { OnOk result (IfSome (R.remaining input.old) (λ bytes.
-        Appends (W.contents output.old) (W.contents output.new) (told_over held.old (lines_of bytes)).text)) }
+    ensures told { OnOk result (AppendsOf (answers_of held.old) (R.remaining input.old) (W.contents output.old) (W.contents output.new)) }
     ensures read_to_the_end { OnOk result (IsAtEnd (R.remaining input.new)) }
     ensures words { IfErr result (λ failure. outcome_of failure ≢ BadWords) }
 {

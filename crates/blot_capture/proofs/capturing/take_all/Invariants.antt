@@ -1,12 +1,12 @@
 use Rattle.std.proofs.Common.{◌≡◌, ◌<◌, [], vec_len}
 use Rattle.blot_tag.specs.Walking.{frames_of}
 use Rattle.blot_capture.specs.Replay.{CameOf}
-use Rattle.blot_capture.specs.Sessions.{sessions_of}
+use Rattle.blot_capture.specs.Sessions.{taking_of}
 use Rattle.blot_capture.proofs.capturing.take_all.Given as goal
 
 abbrev pub invariant-loop : goal.invariant-loop
 invariant-loop g l =
-    CameOf (g.R.Read.remaining l.initial.input) (record { sessions = sessions_of l.initial.sessions; journal = l.initial.held }) (g.R.Read.remaining l.input) l.reader.unread
-    (record { sessions = sessions_of l.sessions; journal = l.held })
+    CameOf (g.R.Read.remaining l.initial.input) (taking_of l.initial.sessions l.initial.held) (g.R.Read.remaining l.input) l.reader.unread
+    (taking_of l.sessions l.held)
     × (frames_of l.reader.unread ≡ [])
     × (0 < vec_len l.buffer)

@@ -22,6 +22,6 @@ returns-in-Ok-clause-handled c =
 
 pub returns-in-Ok-clause-err : goal.returns-in-Ok-clause-err
 returns-in-Ok-clause-err c =
-    if-err (λ fault. fault ≡ NoMemory) (λ fault. Stopped fault c.args.held.now c.step.new.self (c.args.command ∷ [])) c.answer.result c.answer.ensures.fault (λ fault is.
-    subst (λ fault. Stopped fault c.args.held.now c.step.new.self (c.args.command ∷ [])) (sym is)
+    if-err (λ fault. fault ≡ NoMemory) (Stopped c.args.held.now c.step.new.self (c.args.command ∷ [])) c.answer.result c.answer.ensures.fault (λ fault is.
+    subst (Stopped c.args.held.now c.step.new.self (c.args.command ∷ [])) (sym is)
     (stopped-submitted c.args.held.now c.step.new.self c.args.command c.in-Ok.ensures.taken))

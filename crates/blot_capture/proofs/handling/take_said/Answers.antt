@@ -21,6 +21,6 @@ returns-in-Ok-take_delivered-clause-handled c =
 pub returns-in-Err-clause-err : goal.returns-in-Err-clause-err
 returns-in-Err-clause-err c =
     let gave = c.in-Ok.ensures.ok ∙ ap (λ said. on_frame c.args.session.now said c.sending_by-now.result) c.requires.said in
-    subst (λ commands. Stopped c.in-Err.fault c.args.held.now c.take_delivered.new.held commands)
+    subst (λ commands. Stopped c.args.held.now c.take_delivered.new.held commands c.in-Err.fault)
     (sym (frame-takes c.args.session.now c.on_said.new.self (text_of c.args.frame.now) c.in-Ok.actions.items c.sending_by-now.result
     c.sending_by-now.ensures gave c.in-Ok.ensures.awaits)) c.in-Err.ensures.err

@@ -1,8 +1,7 @@
 use Rattle.std.proofs.Common.{ap, subst, ◌∙◌, Ok}
 use Rattle.blot_tag.specs.Reading.{Leaves, TakesFirst, FindsNone}
 use Rattle.blot_tag.specs.Views.{text_of}
-use Rattle.blot_capture.specs.Replay.{Taking}
-use Rattle.blot_capture.specs.Sessions.{sessions_of}
+use Rattle.blot_capture.specs.Sessions.{sessions_of, taking_of}
 use Rattle.blot_capture.proofs.StreamLemmas.{taken-frame, taken-none, stopped-frame, frames-rest}
 use Rattle.blot_capture.proofs.intake.take_frames.Goals as goal
 
@@ -12,8 +11,8 @@ loop-frame-preserved c =
     let frame = text_of c.in-Some.frame in
     let takes : TakesFirst c.loop-frame.reader frame left =
     subst (λ given. Leaves c.loop-frame.reader given left) (c.in_ok-frame.was ∙ ap (λ found. Ok found) c.in-Some.is) c.next.follows.holds-at-none in
-    let from : Taking = record { sessions = sessions_of c.args.sessions.now; journal = c.args.held.now } in
-    let before : Taking = record { sessions = sessions_of c.loop-frame.sessions; journal = c.loop-frame.held } in
+    let from = taking_of c.args.sessions.now c.args.held.now in
+    let before = taking_of c.loop-frame.sessions c.loop-frame.held in
     λ more.
     taken-frame from before c.args.reader.now.unread c.loop-frame.reader left frame more (sessions_of c.take_frame.new.sessions) c.take_frame.new.held takes
     (c.loop-frame.invariant more) c.in-Ok.ensures.sessions c.in-Ok.ensures.desk
@@ -24,8 +23,8 @@ returns-in-Err-clause-err c =
     let frame = text_of c.in-Some.frame in
     let takes : TakesFirst c.loop-frame.reader frame left =
     subst (λ given. Leaves c.loop-frame.reader given left) (c.in_ok-frame.was ∙ ap (λ found. Ok found) c.in-Some.is) c.next.follows.holds-at-none in
-    let from : Taking = record { sessions = sessions_of c.args.sessions.now; journal = c.args.held.now } in
-    let before : Taking = record { sessions = sessions_of c.loop-frame.sessions; journal = c.loop-frame.held } in
+    let from = taking_of c.args.sessions.now c.args.held.now in
+    let before = taking_of c.loop-frame.sessions c.loop-frame.held in
     λ more.
     stopped-frame c.in-Err.fault from before c.args.reader.now.unread c.loop-frame.reader left frame more c.take_frame.new.held takes
     (c.loop-frame.invariant more) c.in-Err.ensures.err
@@ -42,6 +41,6 @@ returns-clause-came c =
     let left = c.next.follows.lender-at-none in
     let none : FindsNone c.loop-frame.reader left =
     subst (λ given. Leaves c.loop-frame.reader given left) (c.in_ok-frame.was ∙ ap (λ found. Ok found) c.in_default.is) c.next.follows.holds-at-none in
-    let from : Taking = record { sessions = sessions_of c.args.sessions.now; journal = c.args.held.now } in
-    let now : Taking = record { sessions = sessions_of c.loop-frame.sessions; journal = c.loop-frame.held } in
+    let from = taking_of c.args.sessions.now c.args.held.now in
+    let now = taking_of c.loop-frame.sessions c.loop-frame.held in
     λ more. taken-none from now c.args.reader.now.unread c.loop-frame.reader left more none (c.loop-frame.invariant more)

@@ -11,10 +11,10 @@ use Rattle.blot_capture.proofs.replaying.captured_report.Goals as goal
 pub returns-in-Err-clause-full : goal.returns-in-Err-clause-full
 returns-in-Err-clause-full g c = λ full.
     let is : c.in-Err.fault ≡ Full = same-fault c.in-Err.fault Full full in
-    if-some (λ (bytes : List ℕ). Stopped c.in-Err.fault c.new-held.result c.capture_within.new.held (commands_of c.args.own c.args.peers.now bytes))
+    if-some (λ (bytes : List ℕ). Stopped c.new-held.result c.capture_within.new.held (commands_of c.args.own c.args.peers.now bytes) c.in-Err.fault)
     (λ (bytes : List ℕ). EVENTS_MAX < length (commands_of c.args.own c.args.peers.now bytes)) (g.R.Read.remaining c.args.input.now) c.in-Err.ensures.stopped
     (λ bytes stopped. stopped-over c.new-held.result c.capture_within.new.held (commands_of c.args.own c.args.peers.now bytes) c.new-held.ensures
-    (subst (λ fault. Stopped fault c.new-held.result c.capture_within.new.held (commands_of c.args.own c.args.peers.now bytes)) is stopped))
+    (subst (Stopped c.new-held.result c.capture_within.new.held (commands_of c.args.own c.args.peers.now bytes)) is stopped))
 
 pub returns-in-Ok-clause-text : goal.returns-in-Ok-clause-text
 returns-in-Ok-clause-text g c =

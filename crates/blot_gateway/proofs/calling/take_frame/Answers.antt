@@ -1,10 +1,10 @@
-use Rattle.std.proofs.Common.{[], ◌∷◌, List, sym}
+use Rattle.std.proofs.Common.{[], ◌∷◌, sym}
 use Rattle.blot_tag.specs.Views.{text_of}
 use Rattle.blot_session.specs.Runs.Call.{Frame}
-use Rattle.blot_gateway.specs.Endings.{ended_by}
-use Rattle.blot_gateway.specs.Serving.{Due, Ends, parties}
+use Rattle.blot_gateway.specs.Progress.{Handles, HandlesLast}
+use Rattle.blot_gateway.specs.Serving.{parties}
 use Rattle.blot_gateway.specs.Serving.Due.{Came}
-use Rattle.blot_gateway.specs.Sending.{SubmittedLast}
+use Rattle.blot_gateway.specs.Sending.{Submitted, SubmittedLast}
 use Rattle.blot_gateway.proofs.StepLemmas.{on-ok, if-err}
 use Rattle.blot_gateway.proofs.RunLemmas.{frame-call, runs-one, ends-one, runs-pair, ends-pair}
 use Rattle.blot_gateway.proofs.calling.take_frame.Goals as goal
@@ -13,10 +13,13 @@ pub returns-in-Ok-Some-clause-ok : goal.returns-in-Ok-Some-clause-ok
 returns-in-Ok-Some-clause-ok g c =
     let text = text_of c.args.frame.now in
     let before = parties c.args.wire.now c.args.clock.now c.args.sink.now c.args.session.now in
+    let after = parties c.submit.new.wire c.submit.new.clock c.submit.new.sink c.submit.new.session in
     let called = (rw c.in-Ok-Some.field-0-is at c.in-Ok-Some.ensures.ok) in
-    on-ok c.submit.result c.submit.ensures.ok
-    (λ submitted more. runs-pair g.W.Wire.does g.C.Clock.ticks g.S.Sink.takes c.in-Ok-Some.command (Frame text) before (Came text ∷ []) more
-    c.give_frame.new.wire c.submit.new.wire c.give_frame.new.clock c.submit.new.clock c.submit.new.sink c.give_frame.new.session c.submit.new.session
+    let met = parties c.give_frame.new.wire c.give_frame.new.clock c.args.sink.now c.give_frame.new.session in
+    on-ok {P = Submitted g.W.Wire.does g.C.Clock.ticks g.S.Sink.takes c.in-Ok-Some.command met after}
+    {Q = Handles g.W.Wire.does g.C.Clock.ticks g.S.Sink.takes before (Came text ∷ []) after} c.submit.result c.submit.ensures.ok
+    (λ submitted more. runs-pair g.W.Wire.does g.C.Clock.ticks g.S.Sink.takes c.in-Ok-Some.command (Frame text) before after (Came text ∷ []) more
+    c.give_frame.new.wire c.give_frame.new.clock c.give_frame.new.session
     (frame-call text c.args.session.now c.requires) (sym (rw c.in-Ok-Some.field-0-is at c.in-Ok-Some.ensures.awaits)) called submitted)
 
 pub returns-in-Ok-Some-clause-err : goal.returns-in-Ok-Some-clause-err
@@ -25,13 +28,11 @@ returns-in-Ok-Some-clause-err g c =
     let before = parties c.args.wire.now c.args.clock.now c.args.sink.now c.args.session.now in
     let after = parties c.submit.new.wire c.submit.new.clock c.submit.new.sink c.submit.new.session in
     let called = (rw c.in-Ok-Some.field-0-is at c.in-Ok-Some.ensures.ok) in
-    if-err
-    (λ stop. SubmittedLast g.W.Wire.does g.C.Clock.ticks g.S.Sink.takes stop c.in-Ok-Some.command c.give_frame.new.wire c.give_frame.new.clock c.args.sink.now c.give_frame.new.session
-    c.submit.new.wire c.submit.new.clock c.submit.new.sink c.submit.new.session)
-    (λ stop. (more : List Due) → Ends g.W.Wire.does g.C.Clock.ticks g.S.Sink.takes (ended_by stop) before (Came text ∷ more) [] after)
-    c.submit.result c.submit.ensures.err
-    (λ stop submitted more. ends-pair g.W.Wire.does g.C.Clock.ticks g.S.Sink.takes stop c.in-Ok-Some.command (Frame text) before (Came text ∷ []) more
-    c.give_frame.new.wire c.submit.new.wire c.give_frame.new.clock c.submit.new.clock c.submit.new.sink c.give_frame.new.session c.submit.new.session
+    let met = parties c.give_frame.new.wire c.give_frame.new.clock c.args.sink.now c.give_frame.new.session in
+    if-err (SubmittedLast g.W.Wire.does g.C.Clock.ticks g.S.Sink.takes c.in-Ok-Some.command met after)
+    (HandlesLast g.W.Wire.does g.C.Clock.ticks g.S.Sink.takes before (Came text ∷ []) after) c.submit.result c.submit.ensures.err
+    (λ stop submitted more. ends-pair g.W.Wire.does g.C.Clock.ticks g.S.Sink.takes stop c.in-Ok-Some.command (Frame text) before after (Came text ∷ []) more
+    c.give_frame.new.wire c.give_frame.new.clock c.give_frame.new.session
     (frame-call text c.args.session.now c.requires) (sym (rw c.in-Ok-Some.field-0-is at c.in-Ok-Some.ensures.awaits)) called submitted)
 
 pub returns-in-Ok-None-clause-ok : goal.returns-in-Ok-None-clause-ok

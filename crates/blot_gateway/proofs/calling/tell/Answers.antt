@@ -8,7 +8,7 @@ returns-in-Ok-clause-err g c =
     let does = g.W.Wire.does in
     let after = c.on_reply.new.self in
     if-err (λ stop. Halts does stop c.args.wire.now c.deref.result.now c.carry_out.new.wire)
-    (λ stop. Halted does g.C.Clock.ticks stop (Reply c.args.seen) c.args.wire.now c.args.clock.now c.args.session.now c.carry_out.new.wire c.now-now.new.self after)
+    (Halted does g.C.Clock.ticks (Reply c.args.seen) c.args.wire.now c.args.clock.now c.args.session.now c.carry_out.new.wire c.now-now.new.self after)
     c.carry_out.result c.carry_out.ensures.err
     (λ stop halts. halted does g.C.Clock.ticks stop (Reply c.args.seen) c.args.wire.now c.carry_out.new.wire c.args.clock.now c.now-now.new.self c.args.session.now after c.now-now.result
     c.deref.result.now c.in-Ok.actions.items c.deref.ensures.value c.in-Ok.ensures.ok c.now-now.ensures halts

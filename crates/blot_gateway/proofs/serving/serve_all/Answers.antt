@@ -26,5 +26,5 @@ returns-in-Err-clause-ends g c =
 
 pub returns-in-Err-clause-counted : goal.returns-in-Err-clause-counted
 returns-in-Err-clause-counted g c =
-    subst (λ end. IsCounted end (g.W.Wire.failures c.args.wire.now) (g.W.Wire.failures c.take_frames.new.wire)) (sym c.ended.ensures)
+    subst (IsCounted (g.W.Wire.failures c.args.wire.now) (g.W.Wire.failures c.take_frames.new.wire)) (sym c.ended.ensures)
     (ended-counted c.in-Err.stop (g.W.Wire.failures c.args.wire.now) (g.W.Wire.failures c.take_frames.new.wire) c.take_frames.ensures.failures c.in-Err.ensures.failed)

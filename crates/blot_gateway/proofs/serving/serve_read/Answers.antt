@@ -1,9 +1,8 @@
-use Rattle.std.proofs.Common.{[], ◌∷◌, ◌++◌, List, take}
+use Rattle.std.proofs.Common.{[], ◌∷◌, ◌++◌, take}
 use Rattle.blot_session.specs.Runs.Call.{Tick}
-use Rattle.blot_gateway.specs.Endings.{ended_by}
-use Rattle.blot_gateway.specs.Wires.{Read}
+use Rattle.blot_gateway.specs.Progress.{ServesRead, ServesReadLast, TakesFedLast}
 use Rattle.blot_gateway.specs.Wires.Read.{Piece, Silence, AtEnd, Failed}
-use Rattle.blot_gateway.specs.Serving.{Ends, due_behind, due_fed, parties}
+use Rattle.blot_gateway.specs.Serving.{due_behind, due_fed, parties}
 use Rattle.blot_gateway.specs.Serving.Due.{Passed}
 use Rattle.blot_gateway.specs.Sending.{Halted}
 use Rattle.blot_gateway.proofs.StepLemmas.{ok-through, err-through}
@@ -17,7 +16,7 @@ returns-in-Got-clause-ok g c =
     let b = parties c.take_piece.new.wire c.take_piece.new.clock c.take_piece.new.sink c.take_piece.new.session in
     let piece = take c.in-Got.count c.read_some.new.buffer in
     let gave = c.in-Got.ensures.gave in
-    ok-through c.end_of.result c.take_piece.result c.end_of.ensures.ok c.take_piece.ensures.ok
+    ok-through {Q = ServesRead g.W.Wire.does g.C.Clock.ticks g.S.Sink.takes a c.args.reader.now.unread b c.take_piece.new.reader.unread} c.end_of.result c.take_piece.result c.end_of.ensures.ok c.take_piece.ensures.ok
     (λ runs. (
       Piece piece,
       λ more. runs-behind-read g.W.Wire.does g.C.Clock.ticks g.S.Sink.takes (Piece piece) a b (due_fed (c.args.reader.now.unread ++ piece) more)
@@ -32,8 +31,8 @@ returns-in-Got-clause-err g c =
     let piece = take c.in-Got.count c.read_some.new.buffer in
     let gave = c.in-Got.ensures.gave in
     err-through
-    (λ stop. (more : List Read) → Ends g.W.Wire.does g.C.Clock.ticks g.S.Sink.takes (ended_by stop) m (due_fed (c.args.reader.now.unread ++ piece) more) [] b)
-    (λ end. (read : Read) × ((more : List Read) → Ends g.W.Wire.does g.C.Clock.ticks g.S.Sink.takes end a (due_behind c.args.reader.now.unread (read ∷ more)) (read ∷ []) b))
+    (TakesFedLast g.W.Wire.does g.C.Clock.ticks g.S.Sink.takes m (c.args.reader.now.unread ++ piece) b)
+    (ServesReadLast g.W.Wire.does g.C.Clock.ticks g.S.Sink.takes a c.args.reader.now.unread b)
     c.end_of.result c.take_piece.result c.end_of.ensures.err c.take_piece.ensures.err
     (λ stop ends. (
       Piece piece,
@@ -47,7 +46,7 @@ returns-in-Quiet-clause-ok g c =
     let m = parties c.read_some.new.self c.args.clock.now c.args.sink.now c.args.session.now in
     let b = parties c.pass_moment.new.wire c.pass_moment.new.clock c.args.sink.now c.pass_moment.new.session in
     let unread = c.args.reader.now.unread in
-    ok-through c.end_of-in-Quiet.result c.pass_moment.result c.end_of-in-Quiet.ensures.ok c.pass_moment.ensures.ok
+    ok-through {Q = ServesRead g.W.Wire.does g.C.Clock.ticks g.S.Sink.takes a unread b unread} c.end_of-in-Quiet.result c.pass_moment.result c.end_of-in-Quiet.ensures.ok c.pass_moment.ensures.ok
     (λ called. (
       Silence,
       λ more. runs-behind-read g.W.Wire.does g.C.Clock.ticks g.S.Sink.takes Silence a b (Passed ∷ due_behind unread more) (due_behind unread more)
@@ -63,8 +62,8 @@ returns-in-Quiet-clause-err g c =
     let b = parties c.pass_moment.new.wire c.pass_moment.new.clock c.args.sink.now c.pass_moment.new.session in
     let unread = c.args.reader.now.unread in
     err-through
-    (λ stop. Halted g.W.Wire.does g.C.Clock.ticks stop Tick c.read_some.new.self c.args.clock.now c.args.session.now c.pass_moment.new.wire c.pass_moment.new.clock c.pass_moment.new.session)
-    (λ end. (read : Read) × ((more : List Read) → Ends g.W.Wire.does g.C.Clock.ticks g.S.Sink.takes end a (due_behind unread (read ∷ more)) (read ∷ []) b))
+    (Halted g.W.Wire.does g.C.Clock.ticks Tick c.read_some.new.self c.args.clock.now c.args.session.now c.pass_moment.new.wire c.pass_moment.new.clock c.pass_moment.new.session)
+    (ServesReadLast g.W.Wire.does g.C.Clock.ticks g.S.Sink.takes a unread b)
     c.end_of-in-Quiet.result c.pass_moment.result c.end_of-in-Quiet.ensures.err c.pass_moment.ensures.err
     (λ stop halted. (
       Silence,

@@ -1,9 +1,8 @@
-use Rattle.std.proofs.Common.{[], ◌∷◌, List}
+use Rattle.std.proofs.Common.{◌∷◌}
 use Rattle.blot_session.specs.Runs.Call.{Tick}
 use Rattle.blot_tag.specs.Walking.{rest_of}
-use Rattle.blot_gateway.specs.Endings.{ended_by}
-use Rattle.blot_gateway.specs.Wires.{Read}
-use Rattle.blot_gateway.specs.Serving.{Ends, due_behind, due_fed, parties}
+use Rattle.blot_gateway.specs.Progress.{TakesFed, TakesFedLast}
+use Rattle.blot_gateway.specs.Serving.{due_behind, parties}
 use Rattle.blot_gateway.specs.Serving.Due.{Passed}
 use Rattle.blot_gateway.specs.Sending.{Halted}
 use Rattle.blot_gateway.proofs.StepLemmas.{on-ok, if-err}
@@ -14,8 +13,9 @@ pub returns-in-Ok-clause-ok : goal.returns-in-Ok-clause-ok
 returns-in-Ok-clause-ok g c =
     let a = parties c.args.wire.now c.args.clock.now c.args.sink.now c.args.session.now in
     let b = parties c.take_frames.new.wire c.take_frames.new.clock c.take_frames.new.sink c.take_frames.new.session in
+    let d = parties c.pass_moment.new.wire c.pass_moment.new.clock c.take_frames.new.sink c.pass_moment.new.session in
     let unread = c.args.reader.now.unread in
-    on-ok c.pass_moment.result c.pass_moment.ensures.ok
+    on-ok {Q = TakesFed g.W.Wire.does g.C.Clock.ticks g.S.Sink.takes a unread d c.take_frames.new.reader.unread} c.pass_moment.result c.pass_moment.ensures.ok
     (λ called more. runs-fed g.W.Wire.does g.C.Clock.ticks g.S.Sink.takes a b unread c.take_frames.new.reader.unread more
     c.pass_moment.new.wire c.pass_moment.new.clock c.pass_moment.new.session c.in-Ok.ensures.rest c.take_frames.ensures.idle
     (c.in-Ok.ensures.ok (Passed ∷ due_behind (rest_of unread) more)) called)
@@ -27,9 +27,9 @@ returns-in-Ok-clause-err g c =
     let d = parties c.pass_moment.new.wire c.pass_moment.new.clock c.take_frames.new.sink c.pass_moment.new.session in
     let unread = c.args.reader.now.unread in
     if-err
-    (λ stop. Halted g.W.Wire.does g.C.Clock.ticks stop Tick c.take_frames.new.wire c.take_frames.new.clock c.take_frames.new.session
+    (Halted g.W.Wire.does g.C.Clock.ticks Tick c.take_frames.new.wire c.take_frames.new.clock c.take_frames.new.session
     c.pass_moment.new.wire c.pass_moment.new.clock c.pass_moment.new.session)
-    (λ stop. (more : List Read) → Ends g.W.Wire.does g.C.Clock.ticks g.S.Sink.takes (ended_by stop) a (due_fed unread more) [] d)
+    (TakesFedLast g.W.Wire.does g.C.Clock.ticks g.S.Sink.takes a unread d)
     c.pass_moment.result c.pass_moment.ensures.err
     (λ stop halted more. ends-fed g.W.Wire.does g.C.Clock.ticks g.S.Sink.takes stop a b unread more
     c.pass_moment.new.wire c.pass_moment.new.clock c.pass_moment.new.session c.take_frames.ensures.idle

@@ -1,7 +1,6 @@
-use Rattle.std.proofs.Common.{[], ◌++◌, List, ap, subst}
-use Rattle.blot_gateway.specs.Endings.{ended_by}
-use Rattle.blot_gateway.specs.Wires.{Read}
-use Rattle.blot_gateway.specs.Serving.{Ends, due_fed, parties}
+use Rattle.std.proofs.Common.{[], ◌++◌, ap, subst}
+use Rattle.blot_gateway.specs.Progress.{TakesFedLast}
+use Rattle.blot_gateway.specs.Serving.{due_fed, parties}
 use Rattle.blot_gateway.proofs.StepLemmas.{if-err}
 use Rattle.blot_gateway.proofs.RunLemmas.{runs-nowhere, ends-there}
 use Rattle.blot_gateway.proofs.serving.take_piece.Goals as goal
@@ -12,10 +11,10 @@ returns-in-Ok-clause-err g c =
     let b = parties c.take_fed.new.wire c.take_fed.new.clock c.take_fed.new.sink c.take_fed.new.session in
     let fed = ap (λ reading. reading.unread) c.in-Ok.ensures.ok in
     if-err
-    (λ stop. (more : List Read) → Ends g.W.Wire.does g.C.Clock.ticks g.S.Sink.takes (ended_by stop) a (due_fed c.feed.new.self.unread more) [] b)
-    (λ stop. (more : List Read) → Ends g.W.Wire.does g.C.Clock.ticks g.S.Sink.takes (ended_by stop) a (due_fed (c.args.reader.now.unread ++ c.args.piece.now) more) [] b)
+    (TakesFedLast g.W.Wire.does g.C.Clock.ticks g.S.Sink.takes a c.feed.new.self.unread b)
+    (TakesFedLast g.W.Wire.does g.C.Clock.ticks g.S.Sink.takes a (c.args.reader.now.unread ++ c.args.piece.now) b)
     c.take_fed.result c.take_fed.ensures.err
-    (λ stop ends more. subst (λ unread. Ends g.W.Wire.does g.C.Clock.ticks g.S.Sink.takes (ended_by stop) a (due_fed unread more) [] b) fed (ends more))
+    (λ stop ends. subst (λ unread. TakesFedLast g.W.Wire.does g.C.Clock.ticks g.S.Sink.takes a unread b stop) fed ends)
 
 pub returns-in-Err-clause-err : goal.returns-in-Err-clause-err
 returns-in-Err-clause-err g c =

@@ -12,10 +12,9 @@ one_more front piece index within = append_assoc front (take index piece) (get_o
 
 -- the piece whole, with what stands after it
 whole : (front piece more : List ℕ) (index : ℕ) → index < length piece
-    → (front ++ take index piece) ++ get_or piece index 0 ∷ (drop (index + 1) piece ++ more) ≡ (front ++ piece) ++ more
+    → ((front ++ take index piece) ++ get_or piece index 0 ∷ []) ++ (drop (index + 1) piece ++ more) ≡ (front ++ piece) ++ more
 whole front piece more index within =
-    sym (append_assoc (front ++ take index piece) (get_or piece index 0 ∷ []) (drop (index + 1) piece ++ more))
-    ∙ ap (λ taken. taken ++ (drop (index + 1) piece ++ more)) (one_more front piece index within)
+    ap (λ taken. taken ++ (drop (index + 1) piece ++ more)) (one_more front piece index within)
     ∙ sym (append_assoc (front ++ take (index + 1) piece) (drop (index + 1) piece) more)
     ∙ ap (λ all. all ++ more) (append_assoc front (take (index + 1) piece) (drop (index + 1) piece) ∙ ap (λ piece. front ++ piece) (take-append-drop (index + 1) piece))
 

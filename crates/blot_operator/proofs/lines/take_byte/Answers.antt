@@ -1,4 +1,4 @@
-use Rattle.std.proofs.Common.{[], ◌∷◌, ◌++◌, sym, subst}
+use Rattle.std.proofs.Common.{[], ◌∷◌, ◌++◌, ◌∙◌, ap, append_assoc, sym, subst}
 use Rattle.blot_operator.specs.Dialogue.{HasTold, StopsAmong, StopsAtLine}
 use Rattle.blot_operator.specs.Lines.{lines_of}
 use Rattle.blot_operator.proofs.DialogueLemmas.{OnErr-always, HasTold-more, HasTold-end, StopsAmong-between, StopsAmong-end}
@@ -6,7 +6,11 @@ use Rattle.blot_operator.proofs.lines.take_byte.Goals as goal
 
 pub returns-in_err-keep_byte-clause-err : goal.returns-in_err-keep_byte-clause-err
 returns-in_err-keep_byte-clause-err g c =
-    OnErr-always c.from_residual.result (λ start bytes more before has. StopsAmong-between start bytes (c.args.byte ∷ more) _ _ before _ has)
+    let desk = g.D.Operated in
+    let contents = g.W.Write.contents in
+    OnErr-always c.from_residual.result (λ start bytes more before has.
+    subst (λ all. StopsAmong desk.ways start (lines_of all) c.args.state.now before (contents c.args.output.now)) (sym (append_assoc bytes (c.args.byte ∷ []) more))
+    (StopsAmong-between start bytes (c.args.byte ∷ more) _ _ before _ has))
 
 pub returns-then-byte-ne10-clause-ok : goal.returns-then-byte-ne10-clause-ok
 returns-then-byte-ne10-clause-ok g c = λ start bytes before has.
@@ -19,8 +23,8 @@ returns-in_err-answer_line-clause-err g c =
     let stops = subst (λ line. StopsAtLine desk.ways c.args.state.now line c.answer_line.new.state (contents c.args.output.now) (contents c.answer_line.new.output))
     c.deref.ensures.value c.in_err-answer_line.ensures.err in
     OnErr-always c.from_residual-in_err-answer_line.result (λ start bytes more before has.
-    subst (λ byte. StopsAmong desk.ways start (lines_of (bytes ++ byte ∷ more)) c.answer_line.new.state before (contents c.answer_line.new.output))
-    (sym c.if-byte-ne10.false)
+    subst (λ all. StopsAmong desk.ways start (lines_of all) c.answer_line.new.state before (contents c.answer_line.new.output))
+    (ap (λ byte. bytes ++ byte ∷ more) (sym c.if-byte-ne10.false) ∙ sym (append_assoc bytes (c.args.byte ∷ []) more))
     (StopsAmong-end start bytes more _ _ _ before _ _ has stops))
 
 pub returns-clause-ok : goal.returns-clause-ok

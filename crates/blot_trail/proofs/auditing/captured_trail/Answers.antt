@@ -6,7 +6,7 @@ use Rattle.blot_stream.specs.declared.outcome.ReplayFault.TheVariants.{Full}
 use Rattle.blot_stream.proofs.ResultLemmas.{err-says, if-some}
 use Rattle.blot_capture.specs.Capture.{Sessions, commands_of, commands_over, first_sessions}
 use Rattle.blot_capture.specs.Replay.{Stopped, Taking}
-use Rattle.blot_capture.specs.Sessions.{sessions_of}
+use Rattle.blot_capture.specs.Sessions.{sessions_of, taking_of}
 use Rattle.blot_capture.specs.Trace.{first_taking}
 use Rattle.blot_capture.proofs.DeskLemmas.{stopped-over}
 use Rattle.blot_trail.specs.Audit.{trail_from}
@@ -15,7 +15,7 @@ use Rattle.blot_trail.proofs.auditing.captured_trail.Goals as goal
 
 pub returns-in-Ok-clause-text : goal.returns-in-Ok-clause-text
 returns-in-Ok-clause-text g c =
-    let first : record { sessions = sessions_of c.in-Ok.sessions; journal = c.new-held.result } ≡ first_taking c.args.own c.args.peers.now =
+    let first : taking_of c.in-Ok.sessions c.new-held.result ≡ first_taking c.args.own c.args.peers.now =
     ap (λ (sessions : Sessions). record { sessions = sessions; journal = c.new-held.result }) c.in-Ok.ensures
     ∙ ap (λ journal. record { sessions = first_sessions c.args.own c.args.peers.now; journal = journal }) c.new-held.ensures in
     subst (λ (taking : Taking). IfOk c.tell_all.result (λ text. IfSome (g.R.Read.remaining c.args.input.now) (λ bytes. text.items ≡ trail_from none_yet taking bytes)))
@@ -24,9 +24,9 @@ returns-in-Ok-clause-text g c =
 pub returns-in-Ok-clause-full : goal.returns-in-Ok-clause-full
 returns-in-Ok-clause-full g c = λ full.
     let known = g.R.Read.remaining c.args.input.now in
-    if-some (λ (bytes : List ℕ). Stopped Full c.new-held.result c.tell_all.new.held (commands_over (sessions_of c.in-Ok.sessions) (frames_of bytes)))
+    if-some (λ (bytes : List ℕ). Stopped c.new-held.result c.tell_all.new.held (commands_over (sessions_of c.in-Ok.sessions) (frames_of bytes)) Full)
     (λ (bytes : List ℕ). EVENTS_MAX < length (commands_of c.args.own c.args.peers.now bytes)) known
-    (err-says (λ fault. IfSome known (λ (bytes : List ℕ). Stopped fault c.new-held.result c.tell_all.new.held (commands_over (sessions_of c.in-Ok.sessions) (frames_of bytes))))
+    (err-says (λ fault. IfSome known (λ (bytes : List ℕ). Stopped c.new-held.result c.tell_all.new.held (commands_over (sessions_of c.in-Ok.sessions) (frames_of bytes)) fault))
     c.tell_all.result Full full c.tell_all.ensures.stopped)
     (λ bytes stopped. stopped-over c.new-held.result c.tell_all.new.held (commands_of c.args.own c.args.peers.now bytes) c.new-held.ensures
-    (subst (λ (sessions : Sessions). Stopped Full c.new-held.result c.tell_all.new.held (commands_over sessions (frames_of bytes))) c.in-Ok.ensures stopped))
+    (subst (λ (sessions : Sessions). Stopped c.new-held.result c.tell_all.new.held (commands_over sessions (frames_of bytes)) Full) c.in-Ok.ensures stopped))

@@ -1,7 +1,6 @@
 use Rattle.std.proofs.Common.{◌≡◌, length, take, drop, arith, refl, sym, ap, ◌∙◌}
 use Rattle.std.proofs.lemmas.List.{length-append, length-take-le}
-use Rattle.blot_capture.specs.Replay.{Taking}
-use Rattle.blot_capture.specs.Sessions.{sessions_of}
+use Rattle.blot_capture.specs.Sessions.{taking_of}
 use Rattle.blot_stream.proofs.PieceLemmas.{front_of_buffer}
 use Rattle.blot_capture.proofs.StreamLemmas.{CameOf-first, CameOf-piece, CameOf-stopped}
 use Rattle.blot_trail.specs.Audit.{Telling}
@@ -11,7 +10,7 @@ use Rattle.blot_trail.proofs.auditing.tell_all.Goals as goal
 
 pub loop-init : goal.loop-init
 loop-init g c =
-    let taking : Taking = record { sessions = sessions_of c.args.sessions.now; journal = c.args.held.now } in
+    let taking = taking_of c.args.sessions.now c.args.held.now in
     let empty : c.new-trail.result ≡ none_yet = c.new-trail.ensures in
     let skipped = ap (λ (trail : Making). trail.skipped) empty in
     let passed = ap (λ (trail : Making). trail.passed) empty in
@@ -35,9 +34,9 @@ loop-preserved g c =
     ap (take c.in-Some.count) c.deref.ensures.value
     ∙ front_of_buffer c.in-Some.count c.loop.buffer.len c.read_piece.new.buffer behind consumed.1 (omega (arith, consumed.1)) in
     let size : length (take c.in-Some.count c.deref.result.now) ≡ c.in-Some.count = ap length piece ∙ length-take-le c.in-Some.count c.read_piece.new.buffer consumed.1 in
-    let first : Taking = record { sessions = sessions_of c.args.sessions.now; journal = c.args.held.now } in
-    let before : Taking = record { sessions = sessions_of c.loop.sessions; journal = c.loop.held } in
-    let after : Taking = record { sessions = sessions_of c.tell_piece.new.sessions; journal = c.tell_piece.new.held } in
+    let first = taking_of c.args.sessions.now c.args.held.now in
+    let before = taking_of c.loop.sessions c.loop.held in
+    let after = taking_of c.tell_piece.new.sessions c.tell_piece.new.held in
     let from : Telling = record { trail = none_yet; taking = first } in
     let mid : Telling = record { trail = c.loop.trail; taking = before } in
     let now : Telling = record { trail = c.tell_piece.new.trail; taking = after } in (
@@ -61,7 +60,7 @@ returns-in-Err-clause-stopped g c =
     let piece : take c.in-Some.count c.deref.result.now ≡ take c.in-Some.count c.read_piece.new.buffer =
     ap (take c.in-Some.count) c.deref.ensures.value
     ∙ front_of_buffer c.in-Some.count c.loop.buffer.len c.read_piece.new.buffer behind consumed.1 (omega (arith, consumed.1)) in
-    let from : Taking = record { sessions = sessions_of c.args.sessions.now; journal = c.args.held.now } in
-    let mid : Taking = record { sessions = sessions_of c.loop.sessions; journal = c.loop.held } in
+    let from = taking_of c.args.sessions.now c.args.held.now in
+    let mid = taking_of c.loop.sessions c.loop.held in
     CameOf-stopped c.in-Err.fault (g.R.Read.remaining c.args.input.now) (g.R.Read.remaining c.loop.input) (g.R.Read.remaining c.read_piece.new.input) from mid c.tell_piece.new.held
     c.loop.reader.unread (take c.in-Some.count c.deref.result.now) c.loop.invariant.1 (rw piece consumed.0) c.in-Err.ensures.err

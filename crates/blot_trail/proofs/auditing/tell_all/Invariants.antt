@@ -1,18 +1,18 @@
 use Rattle.std.proofs.Common.{◌≡◌, ◌≤◌, ◌+◌, ◌*◌, length, vec_len}
 use Rattle.blot_tag.specs.Walking.{stops_at, walk_of}
 use Rattle.blot_capture.specs.Replay.{CameOf}
-use Rattle.blot_capture.specs.Sessions.{sessions_of}
+use Rattle.blot_capture.specs.Sessions.{taking_of}
 use Rattle.blot_gateway.specs.declared.piece.TheConstants.{PIECE}
-use Rattle.blot_trail.specs.Audit.{IsInStep, ToldOf}
+use Rattle.blot_trail.specs.Audit.{IsInStep, ToldOf, telling_of}
 use Rattle.blot_trail.specs.TrailText.{none_yet}
 use Rattle.blot_trail.proofs.auditing.tell_all.Given as goal
 
 abbrev pub invariant-loop : goal.invariant-loop
 invariant-loop g l =
-    ToldOf (g.R.Read.remaining l.initial.input) (record { trail = none_yet; taking = record { sessions = sessions_of l.initial.sessions; journal = l.initial.held } })
-    (g.R.Read.remaining l.input) l.reader.unread (record { trail = l.trail; taking = record { sessions = sessions_of l.sessions; journal = l.held } })
-    × CameOf (g.R.Read.remaining l.initial.input) (record { sessions = sessions_of l.initial.sessions; journal = l.initial.held }) (g.R.Read.remaining l.input) l.reader.unread
-    (record { sessions = sessions_of l.sessions; journal = l.held })
+    ToldOf (g.R.Read.remaining l.initial.input) (telling_of none_yet l.initial.sessions l.initial.held)
+    (g.R.Read.remaining l.input) l.reader.unread (telling_of l.trail l.sessions l.held)
+    × CameOf (g.R.Read.remaining l.initial.input) (taking_of l.initial.sessions l.initial.held) (g.R.Read.remaining l.input) l.reader.unread
+    (taking_of l.sessions l.held)
     × IsInStep l.reader l.trail
     × (l.trail.offset + length l.reader.unread ≡ l.total)
     × (l.total ≤ l.counter * PIECE)

@@ -2,10 +2,10 @@ use Rattle.std.proofs.Common.{◌≡◌, ◌∙◌, ap, sym, subst, None, Some}
 use Rattle.std.specs.Prelude.{IfOk}
 use Rattle.blot_tag.specs.Views.{text_of}
 use Rattle.blot_capture.specs.Capture.{sessions_behind, commands_in, taken_by}
-use Rattle.blot_capture.specs.Handling.{IsHandled, met_at}
+use Rattle.blot_capture.specs.Handling.{IsHandledBy}
 use Rattle.blot_capture.specs.Replay.{submitted, Stopped}
 use Rattle.blot_capture.specs.Sessions.{session_in, sessions_of, IsPlaceFor}
-use Rattle.blot_capture.specs.Trace.{actions_in, became_in, session_for}
+use Rattle.blot_capture.specs.Trace.{session_for}
 use Rattle.blot_capture.proofs.LookupLemmas.{sessions-changed, commands-at, session-for, sessions-none}
 use Rattle.blot_stream.proofs.ResultLemmas.{on-ok, if-err}
 use Rattle.blot_capture.proofs.sessions.Sessions.take.Goals as goal
@@ -35,8 +35,7 @@ returns-in-Ok-Some-clause-handled c =
     let found : session_for (sessions_of c.args.self.now) text ≡ Some c.index_mut.result.now =
     ap (λ sessions. session_for sessions text) (sym (c.in-Ok-Some.ensures.same ∙ ap sessions_of c.self.view_is))
     ∙ session-for at.peer c.place_for.new.out.items c.place_for.new.table c.in-Ok-Some.place c.index_mut.result.now text at.at c.index_mut.ensures.value at.sent in
-    subst (λ found. IfOk c.take_frame.result (IsHandled (became_in found c.args.held.now text) (actions_in found c.args.held.now text) (met_at found text)))
-    (sym found) c.take_frame.ensures.handled
+    subst (λ found. IfOk c.take_frame.result (IsHandledBy found c.args.held.now text)) (sym found) c.take_frame.ensures.handled
 
 pub returns-in-Ok-Some-clause-err : goal.returns-in-Ok-Some-clause-err
 returns-in-Ok-Some-clause-err c =
@@ -44,9 +43,9 @@ returns-in-Ok-Some-clause-err c =
     let at : IsPlaceFor text c.place_for.new.out.items c.in-Ok-Some.place = rw c.in-Ok-Some.field-0-is at c.in-Ok-Some.ensures.place in
     let commands = commands-at at.peer c.place_for.new.out.items c.place_for.new.table c.in-Ok-Some.place c.index_mut.result.now text
     at.at c.index_mut.ensures.value at.sent in
-    if-err (λ fault. Stopped fault c.args.held.now c.take_frame.new.held (taken_by c.index_mut.result.now text))
-    (λ fault. Stopped fault c.args.held.now c.take_frame.new.held (commands_in (sessions_of c.args.self.now) text)) c.take_frame.result c.take_frame.ensures.err
-    (λ fault stopped. subst (Stopped fault c.args.held.now c.take_frame.new.held)
+    if-err (Stopped c.args.held.now c.take_frame.new.held (taken_by c.index_mut.result.now text))
+    (Stopped c.args.held.now c.take_frame.new.held (commands_in (sessions_of c.args.self.now) text)) c.take_frame.result c.take_frame.ensures.err
+    (λ fault stopped. subst (λ commands. Stopped c.args.held.now c.take_frame.new.held commands fault)
     (sym commands ∙ ap (λ sessions. commands_in sessions text) (c.in-Ok-Some.ensures.same ∙ ap sessions_of c.self.view_is)) stopped)
 
 pub returns-in-Ok-None-clause-sessions : goal.returns-in-Ok-None-clause-sessions
