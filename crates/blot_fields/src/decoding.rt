@@ -1,7 +1,6 @@
 //! Reads whole messages.
 ghost use Rattle.std.specs.Prelude.{◌≡◌, ◌↔◌, Ok, Err, IsOk, IsOkAnd, IfOk, IfErr, true, false};
-ghost use Rattle.blot_tag.specs.Fields.{fields_of};
-ghost use Rattle.blot_tag.specs.Views.{text_of};
+ghost use Rattle.blot_tag.specs.Views.{items_of};
 ghost use Rattle.blot_fields.specs.Decoding.{IsAllocation, GivesBody, decoded, is_out_of_memory, no_memory};
 ghost use Rattle.blot_fields.specs.First.{IsSentAt};
 ghost use Rattle.blot_fields.specs.Tables.{IsWell, IsFault};
@@ -24,22 +23,19 @@ use std::alloc::Global;
 /// project's rule.
 #[tactic(auto, using(crate::proofs::DecodingLemmas::decoded_well, crate::proofs::DecodingLemmas::decoded_fault, crate::proofs::SendingLemmas::decoded_sent), unfolding(crate::specs::Decoding::decoded))]
 pub fn decode<'a>(alloc: Global, frame: &Frame<'a>) -> Result<Message<'a>, FieldFault<'a>>
-    ensures meaning { is_out_of_memory result ≡ false → result ≡ decoded (fields_of (text_of frame.now)) }
-    ensures memory { is_out_of_memory result ≡ true
-        → IsOkAnd (decoded (fields_of (text_of frame.now)))
+    ensures meaning { is_out_of_memory result ≡ false → result ≡ decoded (items_of frame.now) }
+    ensures memory { is_out_of_memory result ≡ true → IsOkAnd (decoded (items_of frame.now))
         (λ message. (result ≡ Err (no_memory message)) × IsAllocation message.body) }
 
     // Each number that is given is a sequence number.
     ensures numbers { IsNumbered result }
 
     // A message was sent at its first SendingTime.
-    ensures sent { IfOk (decoded (fields_of (text_of frame.now))) (IsSentAt (fields_of (text_of frame.now))) }
+    ensures sent { IfOk (decoded (items_of frame.now)) (IsSentAt (items_of frame.now)) }
 
     // In a reader's words: a message is what is well by each row, and a fault is the first.
-    ensures well { IsOk (decoded (fields_of (text_of frame.now)))
-        ↔ IsWell (fields_of (text_of frame.now)) }
-    ensures first { IfErr (decoded (fields_of (text_of frame.now)))
-        (λ fault. IsFault (fields_of (text_of frame.now)) fault) }
+    ensures well { IsOk (decoded (items_of frame.now)) ↔ IsWell (items_of frame.now) }
+    ensures first { IfErr (decoded (items_of frame.now)) (IsFault (items_of frame.now)) }
 {
     let mut slots = no_slots();
     let refused = note_fields(&mut slots, frame);

@@ -1,7 +1,6 @@
 //! The first field of a tag, in a frame that may be at fault elsewhere.
 ghost use Rattle.std.specs.Prelude.{◌≡◌, option_map};
-ghost use Rattle.blot_tag.specs.Fields.{fields_of};
-ghost use Rattle.blot_tag.specs.Views.{text_of};
+ghost use Rattle.blot_tag.specs.Views.{items_of};
 ghost use Rattle.blot_fields.specs.First.{first_text, first_value, text_in};
 
 use blot_tag::Frame;
@@ -9,7 +8,7 @@ use blot_types::Text64;
 
 /// The value of the first field of a tag, where that can be split off. It takes no memory.
 pub fn first_value<'a>(frame: &Frame<'a>, tag: u32) -> Option<&'a [u8]>
-    ensures { option_map (λ value. value.now) result ≡ first_value tag (fields_of (text_of frame.now)) }
+    ensures { option_map (λ value. value.now) result ≡ first_value tag (items_of frame.now) }
 {
     for item in frame.fields() {
         let Ok(field) = item else {
@@ -24,7 +23,7 @@ pub fn first_value<'a>(frame: &Frame<'a>, tag: u32) -> Option<&'a [u8]>
 
 /// The first field of a tag that can be split off, if it is a text. It takes no memory.
 pub fn first_text(frame: &Frame, tag: u32) -> Option<Text64>
-    ensures { result ≡ first_text tag (fields_of (text_of frame.now)) }
+    ensures { result ≡ first_text tag (items_of frame.now) }
 {
     match first_value(frame, tag) {
         Some(value) => text_in(value),

@@ -1,7 +1,7 @@
 //! The fields of a message, by their tags.
 ghost use Rattle.std.specs.Prelude.{◌≡◌, ◌≤◌, length};
 ghost use Rattle.blot_tag.specs.Fields.{fields_of};
-ghost use Rattle.blot_tag.specs.Views.{text_of, tag_value};
+ghost use Rattle.blot_tag.specs.Views.{items_of, tag_value, text_of};
 ghost use Rattle.blot_fields.specs.declared.sound.TheConstants.{FIELDS_MAX};
 ghost use Rattle.blot_fields.specs.Rows.{only};
 ghost use Rattle.blot_fields.specs.Slots.{found_in};
@@ -69,8 +69,8 @@ fn row_of(tag: u32) -> usize
 impl<'a, 's> FieldIndex<'a, 's> {
     /// The fields of a frame, over the slots that know them.
     pub(crate) fn new(frame: &'s Frame<'a>, slots: &'s [Slot<'a>; ROWS]) -> FieldIndex<'a, 's>
-        requires { IsIndex (sound_fields (fields_of (text_of frame.now))) slots.now }
-        ensures { result ≡ sound_fields (fields_of (text_of frame.now)) }
+        requires { IsIndex (sound_fields (items_of frame.now)) slots.now }
+        ensures { result ≡ sound_fields (items_of frame.now) }
     {
         FieldIndex { frame, slots }
     }
@@ -104,8 +104,8 @@ pub(crate) fn no_slots<'a>() -> [Slot<'a>; ROWS]
 /// Notes the fields of a frame up to the first that is refused, and gives its fault.
 pub(crate) fn note_fields<'a>(slots: &mut [Slot<'a>; ROWS], frame: &Frame<'a>) -> Option<Wrong>
     requires { KnowsNothing slots.old }
-    ensures known { IsIndex (sound_fields (fields_of (text_of frame.now))) slots.new }
-    ensures refused { result ≡ refused_field (fields_of (text_of frame.now)) }
+    ensures known { IsIndex (sound_fields (items_of frame.now)) slots.new }
+    ensures refused { result ≡ refused_field (items_of frame.now) }
 {
     let mut before = 0;
     for item in frame.fields() {

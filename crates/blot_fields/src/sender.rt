@@ -1,7 +1,6 @@
 //! Who sends a frame.
 ghost use Rattle.std.specs.Prelude.{◌≡◌};
-ghost use Rattle.blot_tag.specs.Fields.{fields_of};
-ghost use Rattle.blot_tag.specs.Views.{text_of};
+ghost use Rattle.blot_tag.specs.Views.{items_of};
 ghost use Rattle.blot_fields.specs.Sender.{sender_of};
 
 use crate::first::first_text;
@@ -11,7 +10,7 @@ use blot_types::Text64;
 /// The first field SenderCompID(49) of a frame, if it is a text. The frame may be at fault
 /// elsewhere. It takes no memory.
 pub fn sender_of(frame: &Frame) -> Option<Text64>
-    ensures { result ≡ sender_of (fields_of (text_of frame.now)) }
+    ensures { result ≡ sender_of (items_of frame.now) }
 {
     first_text(frame, 49)
 }

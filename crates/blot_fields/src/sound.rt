@@ -2,8 +2,7 @@
 ghost use Rattle.std.specs.Prelude.{◌≡◌, ◌<◌, ◌≤◌, length, IfSome, IfNone};
 ghost use Rattle.std.specs.Option.{option_map};
 ghost use Rattle.std.specs.Iterator.{YieldsFirstBy, item_count};
-ghost use Rattle.blot_tag.specs.Fields.{fields_of};
-ghost use Rattle.blot_tag.specs.Views.{text_of, tag_value, item_of};
+ghost use Rattle.blot_tag.specs.Views.{item_of, items_of, tag_value};
 ghost use Rattle.blot_fields.specs.Walk.{field_wrong, sound_field, sound_fields};
 
 use crate::fault::{Flaw, Wrong};
@@ -34,7 +33,7 @@ impl<'a> Model for SoundFields<'a> {
 impl<'a> SoundFields<'a> {
     /// The fields of a whole frame.
     pub(crate) fn of(frame: &Frame<'a>) -> SoundFields<'a>
-        ensures value { result ≡ sound_fields (fields_of (text_of frame.now)) }
+        ensures value { result ≡ sound_fields (items_of frame.now) }
         ensures few { length result ≤ FIELDS_MAX }
     {
         SoundFields {

@@ -1,5 +1,5 @@
 //! What is due to a session: its call, and what that comes to at the wire and at the sink.
-ghost use Rattle.std.specs.Prelude.{◌≡◌, ◌≤◌, [], ◌∷◌, List, Ok, Err, Some, None, IfOk, IfErr, OnOk, OnErr, is_some};
+ghost use Rattle.std.specs.Prelude.{◌≡◌, ◌≤◌, [], ◌∷◌, Ok, Err, Some, None, IfOk, IfErr, OnOk, OnErr, is_some};
 ghost use Rattle.blot_tag.specs.Views.{text_of};
 ghost use Rattle.blot_session.specs.Runs.Call.{Frame as FrameCall, Reply as ReplyCall, Tick};
 ghost use Rattle.blot_session.specs.States.{awaited_of, IsIdle, IsAwaiting};

@@ -18,6 +18,10 @@ pub record TagValue : Type 0 where
 abbrev pub Item : Type 0
 Item = Result TagValue SplitFault
 
+-- this tag with this value
+abbrev pub field_of : ℕ → List ℕ → TagValue
+field_of tag value = record { tag = tag; value = value }
+
 -- the field doesn't begin with a tag and `=`
 abbrev pub no_tag : SplitFault
 no_tag = record { tag = 0; reason = InvalidTagNumber }

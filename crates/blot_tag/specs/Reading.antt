@@ -12,6 +12,10 @@ pub record Reading : Type 0 where
   pub unread : List ℕ
   pub skipped : ℕ
 
+-- a piece comes at the end of the unread bytes
+abbrev pub fed : Reading → List ℕ → Reading
+fed reading piece = record reading { unread = reading.unread ++ piece }
+
 -- the count of bytes passed over, with some more of them
 abbrev pub counted : ℕ → ℕ → ℕ
 counted skipped bytes = min (skipped + bytes) (2 ^ 64 - 1)

@@ -4,11 +4,15 @@ use Rattle.std.specs.Borrow.{Bor}
 use Rattle.blot_tag.specs.declared.frame.Frame.{Frame}
 use Rattle.blot_tag.specs.declared.field.Field.{Field}
 use Rattle.blot_tag.specs.declared.field.SplitFault.{SplitFault}
-use Rattle.blot_tag.specs.Fields.{TagValue, Item}
+use Rattle.blot_tag.specs.Fields.{TagValue, Item, fields_of}
 
 -- the whole text of a frame
 abbrev pub text_of : Frame → List ℕ
 text_of frame = frame.text.now
+
+-- the fields of its text
+abbrev pub items_of : Frame → List Item
+items_of frame = fields_of (text_of frame)
 
 -- a field's tag and the bytes of its value
 abbrev pub tag_value : Field → TagValue

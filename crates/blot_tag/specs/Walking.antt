@@ -1,5 +1,5 @@
 -- The frames of a stream: a walk from its first byte on.
-use Rattle.std.specs.Prelude.{◌≡◌, ℕ, zero, suc, ◌+◌, ◌-◌, List, [], ◌∷◌, ◌++◌, take, Result, Ok, Err}
+use Rattle.std.specs.Prelude.{◌≡◌, ℕ, zero, suc, ◌+◌, ◌-◌, List, [], ◌∷◌, ◌++◌, take, slice_get, Option, Result, Ok, Err}
 use Rattle.blot_tag.specs.Frames.{IsFrame, IsFramePrefix, IsGarbled}
 use Rattle.blot_tag.specs.Looking.{look_of}
 use Rattle.blot_tag.specs.declared.look.Miss.{Miss}
@@ -42,6 +42,10 @@ walk_of text = walk_behind 0 text
 -- the frames of a text
 abbrev pub frames_of : List ℕ → List (List ℕ)
 frames_of text = (walk_of text).frames
+
+-- the first of them, if there is one
+abbrev pub first_frame : List ℕ → Option (List ℕ)
+first_frame text = slice_get (frames_of text) 0
 
 -- how many of its bytes are passed over
 abbrev pub skipped_of : List ℕ → ℕ

@@ -1,10 +1,10 @@
 //! The bytes that a reader holds.
-ghost use Rattle.std.specs.Prelude.{◌≡◌, ℕ, ◌+◌, ◌≤◌, ◌++◌, length, drop, slice_get, unwrap_or, vec_len, IfSome, OnOk, OnErr};
+ghost use Rattle.std.specs.Prelude.{◌≡◌, ℕ, ◌+◌, ◌≤◌, length, drop, unwrap_or, vec_len, IfSome, OnOk, OnErr};
 ghost use Rattle.std.specs.Option.{option_map};
 ghost use Rattle.blot_tag.specs.Frames.{IsFrame};
-ghost use Rattle.blot_tag.specs.Reading.{Advances};
+ghost use Rattle.blot_tag.specs.Reading.{Advances, fed};
 ghost use Rattle.blot_tag.specs.Views.{text_of};
-ghost use Rattle.blot_tag.specs.Walking.{frames_of};
+ghost use Rattle.blot_tag.specs.Walking.{first_frame};
 
 use crate::find::{Found, find};
 use crate::frame::Frame;
@@ -43,8 +43,7 @@ impl Buffer {
     /// Adds a piece at the end of the unread bytes. Where those that were read are at least as many, they are given up,
     /// and the unread ones move to the front.
     pub(crate) fn extend(&mut self, piece: &[u8]) -> Result<(), NoMemory>
-        ensures ok { OnOk result (reading_of self.new
-            ≡ record (reading_of self.old) { unread = (reading_of self.old).unread ++ piece.now }) }
+        ensures ok { OnOk result (reading_of self.new ≡ fed (reading_of self.old) piece.now) }
         ensures err { OnErr result (reading_of self.new ≡ reading_of self.old) }
     {
         if self.start >= self.bytes.len() - self.start {
@@ -76,7 +75,7 @@ impl Buffer {
 
     /// Where the first frame stands, which stays unread.
     pub(crate) fn peek(&self) -> Option<Span>
-        ensures first { option_map (bytes_at self.now) result ≡ slice_get (frames_of (reading_of self.now).unread) 0 }
+        ensures first { option_map (bytes_at self.now) result ≡ first_frame (reading_of self.now).unread }
         ensures valid { IfSome (option_map (bytes_at self.now) result) IsFrame }
         ensures inside { IfSome result (IsWithin self.now) }
     {

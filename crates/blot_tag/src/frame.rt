@@ -1,7 +1,7 @@
 //! One valid frame.
 ghost use Rattle.std.specs.Prelude.{◌≡◌, ◌≤◌, ℕ, List, length, None, IsNone};
 ghost use Rattle.std.specs.List.{All};
-ghost use Rattle.blot_tag.specs.Fields.{fields_of, fields_before_fault, fault_of};
+ghost use Rattle.blot_tag.specs.Fields.{fields_before_fault, fault_of};
 ghost use Rattle.blot_tag.specs.FieldText.{fields_text, BeginsWith, IsSlice, EachEnds};
 ghost use Rattle.blot_tag.specs.Frames.{IsFrame, longest_frame};
 ghost use Rattle.blot_tag.specs.Places.{ArePlaced};
@@ -17,7 +17,7 @@ pub struct Frame<'a> {
 }
 
 impl<'a> Frame<'a> {
-    ghost use Rattle.blot_tag.specs.Views.{text_of};
+    ghost use Rattle.blot_tag.specs.Views.{items_of, text_of};
 
     /// A text that is known to be a frame.
     pub(crate) fn new(text: &'a [u8]) -> Frame<'a>
@@ -40,7 +40,7 @@ impl<'a> Frame<'a> {
     /// The fields of the frame, from left to right, 8, 9, 35 and 10 included; or those before the
     /// first that can't be split off, and then that fault. FIX 4.4 volume 1, "tag=value" syntax.
     pub fn fields(&self) -> Fields<'a>
-        ensures items { result ≡ fields_of (text_of self.now) }
+        ensures items { result ≡ items_of self.now }
 
         // In plain words: the fields stand in the frame one after the other, each value a slice of
         // it, and without a fault they are all of it.

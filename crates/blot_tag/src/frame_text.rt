@@ -2,7 +2,7 @@
 ghost use Rattle.std.specs.Prelude.{◌≡◌, ℕ, ◌^◌, ◌<◌, ◌≤◌, ◌++◌, List, length, map, Ok, None, IfOk, IfErr, OnOk, OnErr};
 ghost use Rattle.std.specs.Option.{option_eq};
 ghost use Rattle.std.specs.Result.{result_err};
-ghost use Rattle.blot_tag.specs.Fields.{fields_of};
+ghost use Rattle.blot_tag.specs.Fields.{field_of, fields_of};
 ghost use Rattle.blot_tag.specs.FieldText.{field_text, BeginsWith};
 ghost use Rattle.blot_tag.specs.Frames.{IsFrame};
 ghost use Rattle.blot_tag.specs.Walking.{walk_of, takes};
@@ -59,14 +59,13 @@ impl FrameText {
 
     /// Adds a field after the others. Data is added right after its length.
     pub fn put(&mut self, tag: u32, value: &[u8]) -> Result<(), WriteFault>
-        requires { MayFollow (last_field self.old) (record { tag = tag; value = value.now }) }
-        ensures ok { OnOk result (self.new ≡ with_field self.old (record { tag = tag; value = value.now })) }
-        ensures accepted { OnOk result
-            (refusal_of (length (body_of self.old)) (record { tag = tag; value = value.now }) ≡ None) }
+        requires { MayFollow (last_field self.old) (field_of tag value.now) }
+        ensures ok { OnOk result (self.new ≡ with_field self.old (field_of tag value.now)) }
+        ensures accepted { OnOk result (refusal_of (length (body_of self.old)) (field_of tag value.now) ≡ None) }
 
         // A refused field leaves the message as it was.
         ensures refused { IfErr result
-            (IsWriteFault (refusal_of (length (body_of self.old)) (record { tag = tag; value = value.now }))) }
+            (IsWriteFault (refusal_of (length (body_of self.old)) (field_of tag value.now))) }
         ensures kept { OnErr result (self.new ≡ self.old) }
     {
         let is_data = data_tag(self.last) == Some(tag);
@@ -103,7 +102,7 @@ fn check(size: usize, tag: u32, value: &[u8], is_data: bool) -> Result<(), Write
     requires small { size ≤ SIZE_MAX }
     requires tag { tag < 10 ^ TAG_DIGITS_MAX }
     requires data { is_data ≡ is_data_tag tag }
-    ensures { result_err result ≡ refusal_of size (record { tag = tag; value = value.now }) }
+    ensures { result_err result ≡ refusal_of size (field_of tag value.now) }
 {
     let before = size + Buffer::new().format(tag).len() + 2;
     if before > SIZE_MAX || value.len() > SIZE_MAX - before {
@@ -124,7 +123,7 @@ fn has_soh(bytes: &[u8]) -> bool
 
 // Adds a field at the end of a body, or leaves the body as it was.
 fn put_field(body: &mut Vec<u8>, tag: u32, value: &[u8]) -> Result<(), NoMemory>
-    ensures ok { OnOk result (body.new.items ≡ body.old.items ++ field_text (record { tag = tag; value = value.now })) }
+    ensures ok { OnOk result (body.new.items ≡ body.old.items ++ field_text (field_of tag value.now)) }
     ensures err { OnErr result (body.new.items ≡ body.old.items) }
 {
     let size = body.len();
@@ -137,7 +136,7 @@ fn put_field(body: &mut Vec<u8>, tag: u32, value: &[u8]) -> Result<(), NoMemory>
 
 // Adds a field at the end of a body, or as much of it as there is memory for.
 fn append_field(body: &mut Vec<u8>, tag: u32, value: &[u8]) -> Result<(), NoMemory>
-    ensures ok { OnOk result (body.new.items ≡ body.old.items ++ field_text (record { tag = tag; value = value.now })) }
+    ensures ok { OnOk result (body.new.items ≡ body.old.items ++ field_text (field_of tag value.now)) }
     ensures err { OnErr result (BeginsWith body.old.items body.new.items) }
 {
     let mut digits = Buffer::new();

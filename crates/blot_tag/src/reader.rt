@@ -3,7 +3,7 @@ ghost use Rattle.std.specs.Prelude.{◌≡◌, ◌↔◌, ◌≤◌, [], ◌++�
 ghost use Rattle.std.specs.Option.{option_map};
 ghost use Rattle.blot_tag.specs.Views.{text_of};
 ghost use Rattle.blot_tag.specs.Frames.{IsFrame};
-ghost use Rattle.blot_tag.specs.Walking.{Walk, IsWalk, walk_of, frames_of, joined_with};
+ghost use Rattle.blot_tag.specs.Walking.{Walk, IsWalk, walk_of, first_frame, joined_with};
 
 use crate::buffer::Buffer;
 use crate::frame::Frame;
@@ -30,7 +30,7 @@ impl Model for Reader {
 impl Reader {
     ghost use Rattle.std.specs.Borrow.{sem};
     ghost use Rattle.std.specs.Io.BufRead.{Rests};
-    ghost use Rattle.blot_tag.specs.Reading.{Leaves};
+    ghost use Rattle.blot_tag.specs.Reading.{Leaves, fed};
     ghost use Rattle.blot_tag.specs.contracts.reader.Reader.{the_row};
 
     /// A reader of a stream from its first byte on.
@@ -50,7 +50,7 @@ impl Reader {
     /// Adds a piece of the stream at the end of the unread bytes. The walk over them goes on from the rest
     /// of the earlier one, so it doesn't matter where a stream is cut.
     pub fn feed(&mut self, piece: &[u8]) -> Result<(), NoMemory>
-        ensures ok { OnOk result (self.new ≡ record self.old { unread = self.old.unread ++ piece.now }) }
+        ensures ok { OnOk result (self.new ≡ fed self.old piece.now) }
         ensures err { OnErr result (self.new ≡ self.old) }
         ensures cut { walk_of (self.old.unread ++ piece.now) ≡ joined_with (walk_of self.old.unread) piece.now }
         ensures walk { (walk : Walk) → IsWalk self.new.unread walk ↔ (walk ≡ walk_of self.new.unread) }
@@ -63,7 +63,7 @@ impl Reader {
     /// reader. It takes no memory, so there is never an error.
     pub fn next(&mut self) -> Result<Option<Frame<'_>>, NoMemory>
         ensures ok { IsOk result }
-        ensures first { IfOk result (λ frame. option_map text_of frame ≡ slice_get (frames_of self.old.unread) 0) }
+        ensures first { IfOk result (λ frame. option_map text_of frame ≡ first_frame self.old.unread) }
         ensures valid { IfOk result (λ found. IfSome found (λ frame. IsFrame (text_of frame))) }
         ensures* leaves { sem 𝓛 (Rests the_row self.entry (Leaves self.old result)) }
     {
@@ -74,7 +74,7 @@ impl Reader {
     /// The frame that `next` would give, which stays unread. It takes no memory either.
     pub fn peek(&mut self) -> Result<Option<Frame<'_>>, NoMemory>
         ensures ok { IsOk result }
-        ensures first { IfOk result (λ frame. option_map text_of frame ≡ slice_get (frames_of self.old.unread) 0) }
+        ensures first { IfOk result (λ frame. option_map text_of frame ≡ first_frame self.old.unread) }
         ensures valid { IfOk result (λ found. IfSome found (λ frame. IsFrame (text_of frame))) }
         ensures* leaves { sem 𝓛 (Rests the_row self.entry (λ new. new ≡ self.old)) }
     {

@@ -1,5 +1,5 @@
 //! Rounds of connections, each served at once.
-ghost use Rattle.std.specs.Prelude.{◌≡◌, ◌≢◌, ◌<◌, ℕ, IfErr, IfOk, OnOk, map, vec_len};
+ghost use Rattle.std.specs.Prelude.{◌≡◌, ◌≢◌, IfErr, IfOk, OnOk, map, vec_len};
 ghost use Rattle.blotter.specs.Serving.{FewerLead, RoundsLead, ServesRound};
 
 use crate::{Socket, SystemClock};
