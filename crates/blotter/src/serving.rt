@@ -1,14 +1,17 @@
 //! `serve_day`: connections served round by round while an operator's lines are answered, and the report of the day.
 ghost use Rattle.std.specs.Prelude.{◌≡◌, ◌≢◌, ◌+◌, ◌⊎◌, [], ◌∷◌, ◌++◌, length, Err, IfErr, IfOk, IsOk, OnOk};
 ghost use Rattle.std.specs.List.{All};
-ghost use Rattle.std.specs.Io.KnownBytes.{IsAtEnd};
+ghost use Rattle.std.specs.Io.KnownBytes.{Appends, IsAtEnd};
+ghost use Rattle.blot_desk.specs.Desk.{IsRun, list_after};
+ghost use Rattle.blot_desk.specs.Receipts.{IsSettled};
+ghost use Rattle.blot_capture.specs.Replay.{report_of};
 ghost use Rattle.blotter.specs.Serving.{DayCutShort, DayServed, FewerLead, Reported, RoundsLead, ServesRound};
 
 use crate::Rounds;
 use crate::meanwhile::{Lines, Task, take_back};
 use crate::rounds::serve_rounds;
 use blot_capture::day_report;
-use blot_desk::{Desk, DeskFault, Seat};
+use blot_desk::{Desk, DeskFault, Held, Seat};
 use blot_slots::Slots;
 use blot_stream::{ReplayFault, ServeFault, write_text};
 use blot_time::Day;
@@ -174,13 +177,41 @@ fn report<L: Ledger, O: Write>(
     ensures reported { OnOk result (Reported day (brokers.items ++ (operator ∷ [])) (O.contents output.old) (O.contents output.new)) }
     ensures connected { result ≢ Err ServeFault.Connection }
 {
+    match settled(desk, brokers, operator) {
+        Ok(held) => write_report(alloc, held, day, output),
+        Err(fault) => Err(fault),
+    }
+}
+
+// What the desk held, once the receipts of all seats agree with its history.
+fn settled<L: Ledger>(
+    desk: Desk<L>,
+    brokers: Vec<Seat<L>>,
+    operator: Seat<L>,
+) -> Result<Held, ServeFault>
+    ensures settled { IfOk result (λ held. IsSettled held.history (brokers.items ++ (operator ∷ []))) }
+    ensures run { IfOk result IsRun }
+    ensures connected { result ≢ Err ServeFault.Connection }
+{
     let mut seats = brokers;
     seats.push(operator)?;
-    let held = match desk.close().settle(seats) {
-        Ok(settled) => settled.held,
-        Err((DeskFault::Unsettled, _, _)) => return Err(ServeFault::Unsettled),
-        Err(_) => return Err(ServeFault::NoMemory),
-    };
+    match desk.close().settle(seats) {
+        Ok(settled) => Ok(settled.held),
+        Err((DeskFault::Unsettled, _, _)) => Err(ServeFault::Unsettled),
+        Err(_) => Err(ServeFault::NoMemory),
+    }
+}
+
+// Writes the report of the day.
+fn write_report<O: Write>(
+    alloc: Global,
+    held: Held,
+    day: Day,
+    output: &mut O,
+) -> Result<(), ServeFault>
+    ensures written { OnOk result (Appends (O.contents output.old) (O.contents output.new) (report_of (list_after held.history) day)) }
+    ensures connected { result ≢ Err ServeFault.Connection }
+{
     let text = day_report(alloc, held, day)?;
     match write_text(output, &text) {
         Ok(()) => Ok(()),
