@@ -16,8 +16,8 @@ roots_in instructions key = option_map (λ instruction. instruction.roots) (find
 abbrev pub is_ending : AllocKey → Instruction → Bool
 is_ending key instruction = ends key instruction.role
 
--- the number of the first instruction above a number that lists an execution of a chain that the allocation names which an
--- instruction of this role ended
+-- an instruction of this role ended an allocation, which named some chains: the number of the first instruction above a number
+-- that lists an execution of one of these
 abbrev pub first_after_end : List Instruction → AllocRole → ℕ → Option ℕ
 first_after_end instructions role number = first_instruction (names_any (ended_roots instructions role)) number instructions
 

@@ -66,7 +66,7 @@ pub record Came (from : Taking) (texts : List (List ℕ)) (now : Taking) (left :
   pub joined : front ++ commands_over now.sessions left ≡ commands_over from.sessions texts
   pub taken : now.journal ≡ submitted from.journal front
 
--- the same for the unread bytes of a reader, whatever comes behind them
+-- the same for the unread bytes of a reader, whatever comes after them
 abbrev pub CameOn : Taking → List ℕ → Taking → List ℕ → Type 0
 CameOn from unread now left = (more : List ℕ) → Came from (frames_of (unread ++ more)) now (frames_of (left ++ more))
 

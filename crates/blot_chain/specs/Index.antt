@@ -29,7 +29,7 @@ pub record HasRoomFor (index : Index) (key : ExecKey) (role : Role) (root : Exec
 abbrev pub HasRoomForSlot : Index → Slot Rooted → Type 0
 HasRoomForSlot index slot = HasRoomFor index slot.item.link.key slot.item.link.role slot.item.root
 
--- whether a place is wanted under a key: it is wanted, and the key is its own
+-- whether a place is to stand under a key: it is to stand under its own, and this is its own
 abbrev pub is_wanted : Bool → ExecKey → ExecKey → Bool
 is_wanted wanted own key = wanted && same_exec own key
 

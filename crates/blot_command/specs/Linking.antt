@@ -17,7 +17,7 @@ use Rattle.blot_alloc.specs.Allocs.{instruction_at, lifted_out as lifted_instruc
 use Rattle.blot_chain.specs.Steps.{CanReturn as CanReturnLink, link_at, lifted_out as lifted_link, put_back as put_back_link}
 use Rattle.blot_command.specs.Slots.{AreNumbered, NewestThere, entries_in, left_in, left_instructions}
 
--- the links, and the instructions, with one more entry, newest first; only one of the two changes
+-- the links, and the instructions, with one more entry, newest first; at most one of the two changes
 abbrev pub with_link : Entry → List Link → List Link
 with_link entry links = cons_option (link_of entry) links
 

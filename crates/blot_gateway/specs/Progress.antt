@@ -1,4 +1,4 @@
--- What is due to a session, done part by part. Each word says it whatever is due behind that part.
+-- What is due to a session, done part by part, whatever is due after each part.
 use Rattle.std.specs.Prelude.{◌≡◌, ℕ, ℤ, List, [], ◌∷◌, ◌++◌}
 use Rattle.blot_gateway.specs.declared.ended.Ended.{Ended}
 use Rattle.blot_gateway.specs.declared.ended.Stop.{Stop}

@@ -136,7 +136,7 @@ abbrev pub TellsOn : {S : Type 0} → Ways S → List ℕ → List ℕ → S →
 TellsOn {S = S} ways piece line state old line_after state_after new = (start : S) (bytes : List ℕ) (before : Option (List ℕ))
     → HasTold ways start bytes line state before old → HasTold ways start (bytes ++ piece) line_after state_after before new
 
--- or the lines stop, whatever comes behind it
+-- or the lines stop, whatever comes after it
 abbrev pub StopsOn : {S : Type 0} → Ways S → List ℕ → List ℕ → S → Option (List ℕ) → S → Option (List ℕ) → Type 0
 StopsOn {S = S} ways piece line state old state_after new = (start : S) (bytes more : List ℕ) (before : Option (List ℕ))
     → HasTold ways start bytes line state before old → StopsAmong ways start (lines_of ((bytes ++ piece) ++ more)) state_after before new

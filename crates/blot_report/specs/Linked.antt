@@ -73,7 +73,7 @@ standings_by links instructions day entries = filter_map (λ entry. standing_by 
 
 -- ---- the same, by the chains and the allocations that are linked
 
--- these are those of the entries of a list
+-- these are those of the entries of a list, which is a book
 abbrev pub IsLinkedOf : List Entry → Linked → Type 0
 IsLinkedOf list linked = HoldsList list linked.chains.list linked.allocs.list
 

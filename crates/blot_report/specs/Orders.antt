@@ -23,7 +23,7 @@ with_line fill lines order = if same_order fill.order order then Some (with_fill
 abbrev pub AddsFill : Fill → List (OrderKey × OrderLine) → List (OrderKey × OrderLine) → Type 0
 AddsFill fill earlier later = (order : OrderKey) → line_at later order ≡ with_line fill earlier order
 
--- the line of the fill's order is of one fill more than it was
+-- where the line of the fill's order is that of at most n fills, with this one it is that of at most n + 1
 abbrev pub GrowsByOne : Fill → List (OrderKey × OrderLine) → Type 0
 GrowsByOne fill lines = (n : ℕ) → IsWithin n (line_at lines fill.order) → IsWithin (n + 1) (with_line fill lines fill.order)
 
@@ -39,6 +39,6 @@ line_row lines order = option_map (λ line. record { order = order; line = line 
 abbrev pub line_rows : List (OrderKey × OrderLine) → List OrderKey → List OrderRow
 line_rows lines orders = filter_map (line_row lines) orders
 
--- some orders are those that have a line, sorted: the ones that are filled by whichever fills the lines are of
+-- some orders are those of any fills that the lines are of, sorted
 abbrev pub AreOrdersOf : List (OrderKey × OrderLine) → List OrderKey → Type 0
 AreOrdersOf lines orders = (fills : List Fill) → AreLinesOf lines fills → orders ≡ orders_among fills

@@ -1,4 +1,4 @@
-//! The report of a day: the lines of the orders and of the positions that stand on it, over a snapshot of a desk's
+//! The report of a day: the lines of the orders and of the positions that stand on it, over a snapshot of a
 //! book, and the text of these lines.
 #![tactic(auto)]
 

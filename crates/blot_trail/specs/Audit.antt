@@ -83,7 +83,7 @@ telling_of trail parts journal = record { trail = trail; taking = taking_of part
 abbrev pub Told : Telling → List ℕ → Telling → List ℕ → Type 0
 Told from bytes now left = trail_from from.trail from.taking bytes ≡ trail_from now.trail now.taking left
 
--- the same for the unread bytes of a reader, whatever comes behind them
+-- the same for the unread bytes of a reader, whatever comes after them
 abbrev pub ToldOn : Telling → List ℕ → Telling → List ℕ → Type 0
 ToldOn from unread now left = (more : List ℕ) → Told from (unread ++ more) now (left ++ more)
 

@@ -19,7 +19,7 @@ pub record IsPeerList (peers : List (List ℕ)) : Type 0 where
   pub texts : list_all is_text peers ≡ true
   pub distinct : IsDistinct same_text peers
 
--- the words that clap found, by the option that they stand behind: one's own CompID, the day, the file with the capture, and all that name
+-- the words that clap found, by the option that they come after: one's own CompID, the day, the file with the capture, and all that name
 -- a peer
 abbrev pub own_word : ArgMatches → Option (List ℕ)
 own_word matches = first_value (found_of matches) (codes "own")
