@@ -14,6 +14,5 @@ mod sessions;
 pub use became::Became;
 pub use capturing::capture;
 pub use handled::Handled;
-pub use moment::first_moment;
 pub use replaying::{day_report, replay, replay_within};
 pub use sessions::Sessions;

@@ -8,6 +8,7 @@ ghost use Rattle.blot_fields.specs.First.{IsSentAt};
 ghost use Rattle.blot_capture.specs.Capture.{sending_of};
 
 use blot_fields::{FieldFault, Message, first_value};
+use blot_gateway::first_moment;
 use blot_tag::Frame;
 use blot_time::Moment;
 
@@ -40,15 +41,5 @@ fn moment_in(bytes: &[u8]) -> Moment
     match Moment::read(bytes) {
         Ok(moment) => moment,
         Err(_) => first_moment(),
-    }
-}
-
-/// 19700101-00:00:00.
-pub fn first_moment() -> Moment
-    ensures { result ≡ pos 0 }
-{
-    match Moment::from_millis(0) {
-        Some(moment) => moment,
-        None => unreachable!(),
     }
 }

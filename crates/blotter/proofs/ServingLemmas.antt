@@ -8,8 +8,9 @@ use Rattle.blot_gateway.specs.AtOnce.{AddsSubmits, EachAdds}
 use Rattle.blot_gateway.proofs.AtOnceLemmas.{adds-none, adds-on, each-adds}
 use Rattle.blot_stream.proofs.ResultLemmas.{err-says, ok-says}
 use Rattle.blot_operator.specs.Dialogue.{TellsOf, seat_ways}
-use Rattle.blotter.specs.Serving.{DayServed, FewerLead, Reported, RoundsLead, ServesRound, are_submits}
-use Rattle.blotter.specs.Sockets.{ClockTicks, SocketDoes}
+use Rattle.blot_rounds.specs.Rounds.{FewerLead, RoundsLead, ServesRound}
+use Rattle.blot_rounds.specs.Sockets.{ClockTicks, SocketDoes}
+use Rattle.blotter.specs.Serving.{DayServed, Reported, are_submits}
 use Rattle.blot_stream.specs.declared.outcome.ServeFault.{ServeFault}
 use Rattle.blot_stream.specs.declared.outcome.ServeFault.TheVariants.{Connection, NoMemory}
 
@@ -72,20 +73,6 @@ all-empty (x ∷ seats) empty =
     cc
 
 -- ---- how many rounds there were
-
--- one more round
-pub one-more : (round : List (List Receipt) → List (List Receipt) → Type 0) (count : ℕ) (before between after : List (List Receipt))
-    → RoundsLead round count before between → round between after → RoundsLead round (count + 1) before after
-one-more round count before between after rounds last =
-    let same : suc count ≡ count + 1 = omega arith in
-    subst (λ count. RoundsLead round count before after) same (between, rounds, last)
-
--- rounds that stop at one that serves none
-pub stops-at : (round : List (List Receipt) → List (List Receipt) → Type 0) (count rounds : ℕ) (before between after : List (List Receipt)) (fault : ServeFault)
-    → count < rounds → RoundsLead round count before between → (fault ≢ NoMemory → after ≡ between)
-    → FewerLead round rounds before after fault
-stops-at round count rounds before between after fault less led kept other =
-    (count, less, subst (λ seats. RoundsLead round count before seats) (sym (kept other)) led)
 
 -- where a connection was missing there were fewer
 pub were-fewer : {T : Type 0} (round : List (List Receipt) → List (List Receipt) → Type 0) (rounds : ℕ) (before after : List (List Receipt)) (served : Result T ServeFault)

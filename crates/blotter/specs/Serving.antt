@@ -1,44 +1,15 @@
 -- What a day that is served comes to.
-use Rattle.std.specs.Prelude.{◌≡◌, ◌≢◌, ◌<◌, ℕ, zero, suc, ℤ, Bool, true, List, [], ◌∷◌, ◌++◌, length, map, replicate, Option}
+use Rattle.std.specs.Prelude.{◌≡◌, ◌<◌, ℕ, ℤ, Bool, true, List, [], ◌∷◌, ◌++◌, length, replicate, Option}
 use Rattle.std.specs.List.{list_all}
 use Rattle.std.specs.Io.KnownBytes.{Appends}
 use Rattle.blot_desk.specs.declared.event.Recorded.{Recorded}
 use Rattle.blot_desk.specs.declared.receipt.Receipt.{Receipt}
 use Rattle.blot_desk.specs.Desk.{events_of, replies_of, run_of}
 use Rattle.blot_desk.specs.Receipts.{IsSettled}
-use Rattle.blot_gateway.specs.AtOnce.{EachServed, is_submit}
-use Rattle.blot_gateway.specs.declared.ended.Ended.{Ended}
+use Rattle.blot_gateway.specs.AtOnce.{is_submit}
 use Rattle.blot_operator.specs.Dialogue.{TellsOf, seat_ways}
 use Rattle.blot_capture.specs.Replay.{report_of}
-use Rattle.blot_stream.specs.declared.outcome.ServeFault.{ServeFault}
-use Rattle.blot_stream.specs.declared.outcome.ServeFault.TheVariants.{NoMemory}
-use Rattle.blotter.specs.Sockets.{ClockTicks, SocketDoes}
-use Rattle.blotter.specs.declared.socket.Socket.{Socket}
-use Rattle.blotter.specs.declared.system_clock.SystemClock.{SystemClock}
-
--- ---- rounds
-
--- a round is served: for each seat there is a connection and a clock, each connection was served at its clock until it ended, with its
--- seat as the sink, and those are the seats after the round
-pub record ServesRound (R : Type 0) {S : Type 0} (remaining contents : S → Option (List ℕ)) (own : List ℕ) (before after : List (List Receipt)) : Type 0 where
-  pub wires : List (Socket S)
-  pub clocks : List (SystemClock R)
-  pub endings : List (Ended × List Receipt)
-  pub served : EachServed (SocketDoes remaining contents) ClockTicks (λ socket. socket.faults) own wires clocks before endings
-  pub seats : after ≡ map (λ ending. ending.1) endings
-
--- so many rounds, one after the other, lead from some seats to others
-abbrev pub RoundsLead : (List (List Receipt) → List (List Receipt) → Type 0) → ℕ → List (List Receipt) → List (List Receipt) → Type 0
-RoundsLead round zero before after = after ≡ before
-RoundsLead round (suc count) before after = (between : List (List Receipt)) × RoundsLead round count before between × round between after
-
--- fewer rounds did, where memory didn't run out
-abbrev pub FewerLead : (List (List Receipt) → List (List Receipt) → Type 0)
-    → ℕ → List (List Receipt) → List (List Receipt) → ServeFault → Type 0
-FewerLead round rounds before after fault =
-    fault ≢ NoMemory → (count : ℕ) × (count < rounds) × RoundsLead round count before after
-
--- ---- a day
+use Rattle.blot_rounds.specs.Rounds.{RoundsLead}
 
 -- whether all these receipts are of submits
 abbrev pub are_submits : List Receipt → Bool

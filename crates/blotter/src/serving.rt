@@ -5,13 +5,13 @@ ghost use Rattle.std.specs.Io.KnownBytes.{Appends, IsAtEnd};
 ghost use Rattle.blot_desk.specs.Desk.{IsRun, list_after};
 ghost use Rattle.blot_desk.specs.Receipts.{IsSettled};
 ghost use Rattle.blot_capture.specs.Replay.{report_of};
-ghost use Rattle.blotter.specs.Serving.{DayCutShort, DayServed, FewerLead, Reported, RoundsLead, ServesRound};
+ghost use Rattle.blot_rounds.specs.Rounds.{FewerLead, RoundsLead, ServesRound};
+ghost use Rattle.blotter.specs.Serving.{DayCutShort, DayServed, Reported};
 
-use crate::Rounds;
 use crate::meanwhile::{Lines, Task, take_back};
-use crate::rounds::serve_rounds;
 use blot_capture::day_report;
 use blot_desk::{Desk, DeskFault, Held, Seat};
+use blot_rounds::{Rounds, serve_rounds};
 use blot_slots::Slots;
 use blot_stream::{ReplayFault, ServeFault, write_text};
 use blot_time::Day;

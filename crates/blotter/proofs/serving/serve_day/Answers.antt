@@ -1,5 +1,5 @@
 use Rattle.std.proofs.Common.{rules}
-use Rattle.blotter.specs.Serving.{ServesRound}
+use Rattle.blot_rounds.specs.Rounds.{ServesRound}
 use Rattle.blot_stream.proofs.ResultLemmas.{on-ok, ok-says}
 use Rattle.blotter.proofs.ServingLemmas.{at-end, is-served, round-adds, tells-all, were-fewer}
 use Rattle.blotter.proofs.serving.serve_day.Goals as goal

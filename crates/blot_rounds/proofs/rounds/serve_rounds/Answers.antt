@@ -1,7 +1,7 @@
 use Rattle.std.proofs.Common.{◌≡◌, Err, rules, arith, subst}
-use Rattle.blotter.specs.Serving.{RoundsLead, ServesRound}
-use Rattle.blotter.proofs.ServingLemmas.{one-more, stops-at}
-use Rattle.blotter.proofs.rounds.serve_rounds.Goals as goal
+use Rattle.blot_rounds.specs.Rounds.{RoundsLead, ServesRound}
+use Rattle.blot_rounds.proofs.RoundLemmas.{one-more, stops-at}
+use Rattle.blot_rounds.proofs.rounds.serve_rounds.Goals as goal
 
 pub loop-preserved : goal.loop-preserved
 loop-preserved g c =

@@ -3,7 +3,7 @@ use Rattle.std.specs.Prelude.{IsSome}
 use Rattle.std.proofs.lemmas.Bool.{false≢true}
 use Rattle.std.proofs.lemmas.Int.{ints}
 use Rattle.blot_time.proofs.MomentLemmas.{IsMoment-from}
-use Rattle.blot_capture.proofs.moment.first_moment.Goals as goal
+use Rattle.blot_gateway.proofs.epoch.first_moment.Goals as goal
 
 pub unreachable-requires : goal.unreachable-requires
 unreachable-requires c =

@@ -1,5 +1,5 @@
-use Rattle.blotter.specs.Serving.{RoundsLead, ServesRound}
-use Rattle.blotter.proofs.rounds.serve_rounds.Given as goal
+use Rattle.blot_rounds.specs.Rounds.{RoundsLead, ServesRound}
+use Rattle.blot_rounds.proofs.rounds.serve_rounds.Given as goal
 
 abbrev pub invariant-loop : goal.invariant-loop
 invariant-loop g l =

@@ -1,8 +1,7 @@
 //! The moments of the system's clock.
 ghost use Rattle.std.specs.Prelude.{◌≡◌, pos};
 
-use blot_capture::first_moment;
-use blot_gateway::Clock;
+use blot_gateway::{Clock, first_moment};
 use blot_time::Moment;
 use std::time::{self, SystemTime};
 
@@ -26,7 +25,7 @@ impl<'a, R: time::Clock> SystemClock<'a, R> {
 }
 
 impl<'a, R: time::Clock> Clock for SystemClock<'a, R> {
-    ghost use Rattle.blotter.specs.Sockets.{ClockTicks};
+    ghost use Rattle.blot_rounds.specs.Sockets.{ClockTicks};
 
     ghost ticks = { ClockTicks };
 

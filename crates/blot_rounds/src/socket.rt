@@ -45,7 +45,7 @@ impl<S> Socket<S> {
 }
 
 impl<S: Read + Write> Wire for Socket<S> {
-    ghost use Rattle.blotter.specs.Sockets.{SocketDoes};
+    ghost use Rattle.blot_rounds.specs.Sockets.{SocketDoes};
 
     ghost does = { SocketDoes S.remaining S.contents };
 

@@ -1,6 +1,6 @@
 //! Rounds of connections, each served at once.
 ghost use Rattle.std.specs.Prelude.{◌≡◌, ◌≢◌, IfErr, IfOk, OnOk, map, vec_len};
-ghost use Rattle.blotter.specs.Serving.{FewerLead, RoundsLead, ServesRound};
+ghost use Rattle.blot_rounds.specs.Rounds.{FewerLead, RoundsLead, ServesRound};
 
 use crate::{Socket, SystemClock};
 use blot_desk::{Desk, Seat};
@@ -35,7 +35,7 @@ pub fn log_endings<G: Log, L: Ledger>(log: &G, endings: &[(Ended, Seat<L>)]) {
 
 /// Takes rounds of connections: each has one for each seat, which are served at once, and then their endings are logged. A fault
 /// other than out of memory ends them before the last round.
-pub(crate) fn serve_rounds<R, N, L>(
+pub fn serve_rounds<R, N, L>(
     rt: &R,
     alloc: Global,
     listener: &N,
