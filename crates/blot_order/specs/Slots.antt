@@ -1,6 +1,6 @@
 -- The slots in which an order book stores its fills: slot n is that of number n, and the numbers past the
 -- last slot hold nothing.
-use Rattle.std.specs.Prelude.{ℕ, Bool, false, ◌+◌, ◌-◌, List, [], ◌∷◌, ◌++◌, length, get_or, replicate, Option, Some, None, if◌then◌else◌}
+use Rattle.std.specs.Prelude.{◌≡◌, refl, ℕ, Bool, true, false, ◌+◌, ◌-◌, List, [], ◌∷◌, ◌++◌, length, get_or, replicate, Option, Some, None, if◌then◌else◌}
 use Rattle.std.specs.FinMap as map
 use Rattle.std.specs.List.{filter, filter_map}
 use Rattle.std.specs.Option.{option_and_then}
@@ -8,6 +8,7 @@ use Rattle.blot_types.specs.declared.fill.Fill.{Fill}
 use Rattle.blot_types.specs.declared.keys.OrderKey.{OrderKey}
 use Rattle.blot_types.specs.Keys.{same_order}
 use Rattle.blot_order.specs.declared.held.Held.{Held}
+use Rattle.blot_order.specs.declared.held.Held.TheVariants.{Kept, Put}
 use Rattle.blot_order.specs.Fills.{Fills, fill_put, fill_kept}
 
 -- what slots hold, under the numbers from that of the first slot on
@@ -19,6 +20,33 @@ held_from number (Some held ∷ slots) = (number, held) ∷ held_from (number + 
 -- the fills by number
 unfoldable pub held_by : List (Option Held) → Fills
 held_by slots = map.from_sorted (held_from 0 slots)
+
+-- a fill that is put, or kept
+abbrev pub held_as : Bool → Fill → Held
+held_as true fill = Put fill
+held_as false fill = Kept fill
+
+-- the fill that is held, and whether it is put
+abbrev pub fill_held : Held → Fill
+fill_held (Kept fill) = fill
+fill_held (Put fill) = fill
+
+abbrev pub is_put_in : Held → Bool
+is_put_in (Kept fill) = false
+is_put_in (Put fill) = true
+
+-- both tell what is held
+pub fill_held-as : (is_put : Bool) (fill : Fill) → fill_held (held_as is_put fill) ≡ fill
+fill_held-as true fill = refl
+fill_held-as false fill = refl
+
+pub is_put_in-as : (is_put : Bool) (fill : Fill) → is_put_in (held_as is_put fill) ≡ is_put
+is_put_in-as true fill = refl
+is_put_in-as false fill = refl
+
+-- what is held, put or kept from now on
+abbrev pub marked : Bool → Held → Held
+marked is_put held = held_as is_put (fill_held held)
 
 -- the slot of a number
 abbrev pub slot_at : List (Option Held) → ℕ → Option Held

@@ -4,7 +4,7 @@ ghost use Rattle.blot_types.specs.declared.TheConstants.{EVENTS_MAX};
 ghost use Rattle.blot_order.specs.Cells.{no_tally, line_in, with_one_kept, without_one_kept, with_fill_put, with_fill_taken, CanPut, CanTake};
 ghost use Rattle.blot_order.specs.Totals.{Fits};
 
-use crate::Held;
+use crate::held::HeldFill;
 use crate::numbers::{insert_number, remove_number};
 use crate::slots::put_at;
 use crate::totals::Totals;
@@ -85,7 +85,7 @@ impl Cell {
     }
 
     /// The line of the order; none where no fill is put.
-    pub(crate) fn line(&self, slots: &[Option<Held>]) -> Option<OrderLine>
+    pub(crate) fn line(&self, slots: &[Option<HeldFill>]) -> Option<OrderLine>
         requires { pos 0 ≤ℤ self.now.totals.cum }
         ensures { result ≡ line_in slots.now self.now }
     {

@@ -7,9 +7,9 @@ ghost use Rattle.blot_order.specs.Cells.{without_one_kept, ChangesWhere, CountsK
 ghost use Rattle.blot_order.specs.Fills.{put_at, kept_at, with_put, with_kept, fills_put};
 ghost use Rattle.blot_order.specs.Slots.{held_by, kept_under, keeps_under};
 
-use crate::Held;
 use crate::cells::{Cells, add_kept, put_fill, sub_kept, take_fill};
-use crate::slots::{kept_at, reach};
+use crate::held::HeldFill;
+use crate::slots::{kept_at, mark, put_at, reach};
 use blot_types::{EVENTS_MAX, Fill, OrderKey, OrderLine};
 use indexmap::IndexMap;
 use std::alloc::{AllocError as NoMemory, Global};
@@ -21,7 +21,7 @@ use std::marker::Model;
 pub struct Orders {
     alloc: Global,
     // Slot n is that of number n; the numbers past the last slot hold nothing.
-    slots: Vec<Option<Held>>,
+    slots: Vec<Option<HeldFill>>,
     // What the fills of each order come to.
     cells: Cells,
 }
@@ -61,7 +61,7 @@ impl Orders {
         ensures err { OnErr result (self.new ≡ self.old) }
     {
         keep_fill(&mut self.slots, &mut self.cells, self.alloc, number, fill)?;
-        put_kept(&mut self.slots, &mut self.cells, number, fill);
+        put_kept(&mut self.slots, &mut self.cells, number);
         Ok(())
     }
 
@@ -81,7 +81,7 @@ impl Orders {
         requires { put_at self.old number ≡ Some fill.now }
         ensures { self.new ≡ with_kept number fill.now self.old }
     {
-        self.slots[number as usize] = Some(Held::Kept(*fill));
+        mark(&mut self.slots[number as usize], false);
         take_fill(&mut self.cells, number, fill);
     }
 
@@ -90,8 +90,7 @@ impl Orders {
         requires { IsSome (kept_at self.old number) }
         ensures { ForSome (kept_at self.old number) (λ fill. self.new ≡ with_put number fill self.old) }
     {
-        let fill = kept_at(&self.slots, number);
-        put_kept(&mut self.slots, &mut self.cells, number, &fill);
+        put_kept(&mut self.slots, &mut self.cells, number);
     }
 
     /// The line of an order from its fills that are put, or none without one: the sums of all, what is left
@@ -109,7 +108,7 @@ impl Orders {
 
 // Keeps a fill under a number that has none put, in place of one that is kept there. What may fail comes first.
 fn keep_fill(
-    slots: &mut Vec<Option<Held>>,
+    slots: &mut Vec<Option<HeldFill>>,
     cells: &mut Cells,
     alloc: Global,
     number: u64,
@@ -126,27 +125,30 @@ fn keep_fill(
     reach(slots, index)?;
     add_kept(cells, alloc, &fill.order)?;
     forget_kept(cells, slots, number);
-    slots[index] = Some(Held::Kept(*fill));
+    slots[index] = Some(HeldFill::kept(fill));
     Ok(())
 }
 
 // Counts one less of the order whose fill is kept under a number, if one is.
-fn forget_kept(cells: &mut Cells, slots: &[Option<Held>], number: u64)
+fn forget_kept(cells: &mut Cells, slots: &[Option<HeldFill>], number: u64)
     requires { CountsKept cells.old.entries (kept_under slots.now number) }
     ensures { ChangesWhere (keeps_under slots.now number) without_one_kept cells.old.entries cells.new.entries }
 {
-    if let Some(Some(Held::Kept(fill))) = slots.get(number as usize) {
+    if let Some(fill) = kept_at(slots, number) {
         sub_kept(cells, &fill.order);
     }
 }
 
 // Puts the fill that is kept under a number.
-fn put_kept(slots: &mut Vec<Option<Held>>, cells: &mut Cells, number: u64, fill: &Fill)
+fn put_kept(slots: &mut Vec<Option<HeldFill>>, cells: &mut Cells, number: u64)
     requires holds { HoldsOrders cells.old.entries slots.old.items }
-    requires kept { kept_at (held_by slots.old.items) number ≡ Some fill.now }
+    requires kept { IsSome (kept_under slots.old.items number) }
     ensures holds { HoldsOrders cells.new.entries slots.new.items }
-    ensures fills { held_by slots.new.items ≡ with_put number fill.now (held_by slots.old.items) }
+    ensures fills { ForSome (kept_under slots.old.items number) (λ fill. held_by slots.new.items ≡ with_put number fill (held_by slots.old.items)) }
 {
-    slots[number as usize] = Some(Held::Put(*fill));
-    put_fill(cells, number, fill);
+    mark(&mut slots[number as usize], true);
+    match put_at(slots, Some(number)) {
+        Some(fill) => put_fill(cells, number, fill),
+        None => unreachable!(),
+    }
 }

@@ -44,8 +44,9 @@ returns-clause-holds c =
     let holds = reached cells old c.requires.holds n c.requires.within slots c.in_ok-reach.ensures.ok in
     let view : held_by slots ≡ held_by old = ap held_by c.in_ok-reach.ensures.ok ∙ held_by-reaching n old in
     let within : n < length slots = subst (λ (these : List (Option Held)). n < length these) (sym c.in_ok-reach.ensures.ok) (length-reaching n old) in
-    holds-kept cells slots holds c.forget_kept.new.cells.entries n within c.add_kept.new.cells.entries fill (put_under-unput n slots (held_by old) view c.requires.unput)
-    c.in_ok-add_kept.ensures.ok c.deref.result.now c.deref.ensures.value c.forget_kept.ensures
+    rw c.kept.ensures
+    (holds-kept cells slots holds c.forget_kept.new.cells.entries n within c.add_kept.new.cells.entries fill (put_under-unput n slots (held_by old) view c.requires.unput)
+    c.in_ok-add_kept.ensures.ok c.deref.result.now c.deref.ensures.value c.forget_kept.ensures)
 
 pub returns-clause-ok : goal.returns-clause-ok
 returns-clause-ok c =
@@ -54,4 +55,4 @@ returns-clause-ok c =
     let slots = c.reach.new.slots.items in
     let view : held_by slots ≡ held_by old = ap held_by c.in_ok-reach.ensures.ok ∙ held_by-reaching n old in
     let within : n < length slots = subst (λ (these : List (Option Held)). n < length these) (sym c.in_ok-reach.ensures.ok) (length-reaching n old) in
-    held_by-set n (Kept c.args.fill.now) slots within ∙ ap (λ fills. finite.insert fills n (Kept c.args.fill.now)) view
+    rw c.kept.ensures (held_by-set n (Kept c.args.fill.now) slots within ∙ ap (λ fills. finite.insert fills n (Kept c.args.fill.now)) view)
