@@ -107,7 +107,8 @@ impl Held {
         ensures book { IfOk result (λ snapshot. IsTrue (is_book snapshot)) }
         ensures few { length self.history ≤ EVENTS_MAX }
     {
-        self.steps.into_state().into_snapshot()
+        let snapshot = self.steps.into_state().into_snapshot()?;
+        Ok(snapshot)
     }
 
     /// The recorded events with their replies, in the order in which they came.
