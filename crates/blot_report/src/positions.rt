@@ -17,7 +17,7 @@ use blot_time::Day;
 use blot_types::{Entry, Part, PositionKey};
 use indexmap::IndexSet;
 use std::alloc::{AllocError as NoMemory, Global};
-use std::thread::Threads;
+use std::thread::{Threads, join};
 
 /// The rows of the positions of a day, by account and then by symbol. An error is out of memory.
 pub(crate) fn position_rows(
@@ -58,7 +58,7 @@ fn part_rows(alloc: Global, parts: &[Part]) -> Result<Vec<PositionRow>, NoMemory
     rows_of(alloc, &positions, &keys)
 }
 
-// The same, where each piece of the positions is a worker's.
+// The same, where sums and keys are made side by side, and each piece of the positions is a worker's.
 fn part_rows_in_pieces<R: Threads + Sync>(
     rt: &R,
     alloc: Global,
@@ -67,8 +67,18 @@ fn part_rows_in_pieces<R: Threads + Sync>(
     requires { IsLight parts.now }
     ensures { IfOk result (λ rows. rows.items ≡ position_rows parts.now) }
 {
-    let positions = positions_of(alloc, parts)?;
-    let keys = sorted_positions(alloc, parts)?;
+    let (positions, keys) = join(
+        rt,
+        || -> Result<Positions, NoMemory>
+            requires { IsLight parts.now }
+            ensures { IfOk result (λ positions. Carries (λ amount. total amount parts.entry.now) positions) }
+        { positions_of(alloc, parts) },
+        || -> Result<Vec<PositionKey>, NoMemory>
+            ensures { IfOk result (λ keys. keys.items ≡ positions_among parts.entry.now) }
+        { sorted_positions(alloc, parts) },
+    );
+    let positions = positions?;
+    let keys = keys?;
     rows_in_pieces(rt, alloc, &positions, &keys)
 }
 
