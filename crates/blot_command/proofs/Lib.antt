@@ -32,6 +32,7 @@ pub mod RefusalLemmas
 pub mod SearchLemmas
 pub mod ShowLemmas
 pub mod SlotLemmas
+pub mod StandingLemmas
 pub mod StepLemmas
 pub mod TakeOutLemmas
 pub mod TakenLemmas

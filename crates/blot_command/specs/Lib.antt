@@ -9,5 +9,6 @@ pub mod Meanings
 pub mod Refusing
 pub mod Shown
 pub mod Slots
+pub mod Standings
 pub mod Undoable
 pub mod Withdrawing

@@ -1,8 +1,7 @@
 //! Commands and their inverses. `Undoable` is what a command of any kind promises: exactly when it is
 //! accepted, what the state is after it, and that its inverse restores the state before. `Tables` is the
 //! book: its live list of entries with the chains, the allocations and the positions, and the fills that
-//! stand; each kind of command keeps that promise on it. What an entry is to the chains and the allocations is public
-//! beside them, for those that walk a list.
+//! stand; each kind of command keeps that promise on it. A `Snapshot` has the list, and what each of its entries comes to.
 #![tactic(auto)]
 
 mod accounts;
@@ -23,6 +22,7 @@ mod live;
 mod refusal;
 mod slots;
 mod snapshot;
+mod standing;
 mod tables;
 mod trade;
 mod undoable;
@@ -31,8 +31,8 @@ mod withdrawing;
 pub use boxed_entry::BoxedEntry;
 pub use fault::ApplyFault;
 pub use inverse::Inverse;
-pub use linking::link_entry;
 pub use snapshot::Snapshot;
+pub use standing::Standing;
 pub use tables::Tables;
 pub use undoable::Undoable;
 pub use withdrawing::withdraw;

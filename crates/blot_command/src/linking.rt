@@ -12,7 +12,7 @@ use std::alloc::{AllocError as NoMemory, Global};
 
 /// Adds an entry that the chains and the allocations accept. Its number is above those that they keep. Out of
 /// memory is the only error, and then nothing has changed.
-pub fn link_entry(
+pub(crate) fn link_entry(
     alloc: Global,
     chains: &mut Chains,
     allocs: &mut Allocs,

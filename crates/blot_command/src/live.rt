@@ -11,13 +11,15 @@ ghost use Rattle.blot_types.specs.Survivors.{links_of};
 ghost use Rattle.blot_command.specs.Book.{has_number};
 ghost use Rattle.blot_command.specs.Shown.{version_replaced_by, terms_of_key, terms_keyed, roots_keyed};
 ghost use Rattle.blot_command.specs.Slots.{entries_in};
+ghost use Rattle.blot_command.specs.Standings.{standings_of};
 ghost use Rattle.blot_command.specs.Withdrawing.{with_entry, HasLast, lifted, returned, CanReturn};
 
-use crate::BoxedEntry;
 use crate::blocked::blocked;
 use crate::linking::{lift_entry, link_entry, un_lift_entry, unlink_entry};
 use crate::refusal::{current_version, refusal};
 use crate::slots::{EntrySlot, entry_numbered, newest_number, put_in, take_out, version_numbered};
+use crate::standing::standings_in;
+use crate::{BoxedEntry, Standing};
 use blot_alloc::Allocs;
 use blot_chain::Chains;
 use blot_types::{AllocKey, Command, Entry, ExecKey, Link, Refused, Role, Terms, Version};
@@ -85,6 +87,14 @@ impl LiveList {
             }
         }
         Ok(copies)
+    }
+
+    /// What each entry comes to. An error is out of memory.
+    pub(crate) fn standings(&self) -> Result<Vec<Standing>, NoMemory>
+        ensures { IfOk result (λ standings. standings.items ≡ standings_of self.now.list) }
+    {
+        let alloc = *self.slots.allocator();
+        standings_in(alloc, &self.slots, &self.chains, &self.allocs)
     }
 
     /// The entries; the chains and the instructions go. An error is out of memory.

@@ -12,8 +12,8 @@ ghost use Rattle.blot_command.specs.Book.{has_number};
 ghost use Rattle.blot_command.specs.Shown.{chain_numbered, with_put, with_kept, IsPut, IsKept, CanPut};
 ghost use Rattle.blot_command.specs.Withdrawing.{with_entry, HasLast, lifted, returned, CanReturn};
 
-use crate::BoxedEntry;
 use crate::accounts::Accounts;
+use crate::{BoxedEntry, Snapshot};
 use blot_order::Orders;
 use blot_types::{
     Command, Entry, ExecKey, OrderKey, OrderLine, PositionLine, Refused, Text64, Version,
@@ -109,12 +109,25 @@ impl Tables {
         self.accounts.live().entries(alloc)
     }
 
-    /// The live entries, in rising order of number, not copied; all else of the book goes. An error is out of memory.
-    pub fn into_entries(self) -> Result<Vec<Entry>, NoMemory>
-        ensures entries { IfOk result (λ entries. entries.items ≡ self.list) }
+    /// The live entries, copied, with what each comes to. An error is out of memory.
+    pub fn snapshot(&self, alloc: Global) -> Result<Snapshot, NoMemory>
+        ensures entries { IfOk result (λ snapshot. snapshot ≡ self.now.list) }
+        ensures book { IsTrue (is_book self.now.list) }
+    {
+        let standings = self.accounts.live().standings()?;
+        let entries = self.accounts.live().entries(alloc)?;
+        Ok(Snapshot::of(entries, standings))
+    }
+
+    /// The same, where the entries aren't copied; all else of the book goes. An error is out of memory.
+    pub fn into_snapshot(self) -> Result<Snapshot, NoMemory>
+        ensures entries { IfOk result (λ snapshot. snapshot ≡ self.list) }
         ensures book { IsTrue (is_book self.list) }
     {
-        self.accounts.into_live().into_entries()
+        let live = self.accounts.into_live();
+        let standings = live.standings()?;
+        let entries = live.into_entries()?;
+        Ok(Snapshot::of(entries, standings))
     }
 
     /// Why the book refuses a command as its next entry.

@@ -97,10 +97,7 @@ impl Held {
         // No more events are recorded than a day has.
         ensures few { length self.now.history ≤ EVENTS_MAX }
     {
-        match self.steps.state().entries(self.alloc) {
-            Ok(entries) => Ok(Snapshot::of(entries)),
-            Err(fault) => Err(fault),
-        }
+        self.steps.state().snapshot(self.alloc)
     }
 
     /// The live list as it is at last, not copied; the history and the steps go. An error is out of memory.
@@ -110,8 +107,8 @@ impl Held {
         ensures book { IfOk result (λ snapshot. IsTrue (is_book snapshot)) }
         ensures few { length self.history ≤ EVENTS_MAX }
     {
-        let entries = self.steps.into_state().into_entries()?;
-        Ok(Snapshot::of(entries))
+        let snapshot = self.steps.into_state().into_snapshot()?;
+        Ok(snapshot)
     }
 
     /// The recorded events with their replies, in the order in which they came.

@@ -1,7 +1,6 @@
 mod DayLawLemmas
 mod DayRows
 mod KeyLemmas
-mod LinkedLemmas
 mod ListLemmas
 mod OrderLemmas
 mod PartLemmas
@@ -9,5 +8,6 @@ mod PieceLemmas
 mod RowLemmas
 mod ShowLemmas
 mod SortedLemmas
+mod StandingLemmas
 mod TextLemmas
 mod WeightLemmas

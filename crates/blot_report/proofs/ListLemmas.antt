@@ -10,6 +10,10 @@ pub if_ok : {T E : Type 0} (r : Result T E) (P Q : T → Type 0) → ((x : T) �
 if_ok (Ok x) P Q f p = f x p
 if_ok (Err e) P Q f p = p
 
+-- and of a result that is one
+pub if_was : {T E : Type 0} (r : Result T E) (x : T) (P : T → Type 0) → r ≡ Ok x → IfOk r P → P x
+if_was r x P is told = subst (λ q. IfOk q P) is told
+
 pub found-all :
     {A B : Type 0} (f : A → Option B) (items : List A) (index : ℕ) (found : List B) → found ++ filter_map f (drop index items) ≡ filter_map f items → length items ≤ index
     → found ≡ filter_map f items

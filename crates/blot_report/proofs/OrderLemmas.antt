@@ -1,23 +1,23 @@
 -- The lines of orders as they grow, and the rows that they give.
-use Rattle.std.proofs.Common.{◌≡◌, ℕ, ◌+◌, ◌<◌, arith, true, List, [], ◌∷◌, ◌++◌, length, take, get_or, Some, refl, sym, ap, subst, ◌∙◌, inl, inr}
+use Rattle.std.proofs.Common.{◌≡◌, ℕ, ◌+◌, ◌<◌, arith, true, List, [], ◌∷◌, ◌++◌, length, take, get_or, Option, Some, None, refl, sym, ap, subst, ◌∙◌, inl, inr}
 use Rattle.std.specs.Prelude.{if◌then◌else◌}
 use Rattle.std.specs.Cmp.Lexicographic.{same_text as text_told}
 use Rattle.std.specs.List.{cons_option, filter_map}
 use Rattle.std.specs.Option.{option_map}
 use Rattle.std.proofs.lemmas.Bool.{and_parts, cases_Bool}
 use Rattle.std.proofs.lemmas.Int.{ints}
-use Rattle.std.proofs.lemmas.List.{append-nil, map-append, take_more}
+use Rattle.std.proofs.lemmas.List.{append-nil}
 use Rattle.std.proofs.lemmas.List.Elements.{filter-append}
+use Rattle.blot_types.specs.declared.command.Entry.{Entry}
 use Rattle.blot_types.specs.declared.fill.Fill.{Fill}
 use Rattle.blot_types.specs.declared.keys.OrderKey.{OrderKey}
 use Rattle.blot_types.specs.declared.lines.OrderLine.{OrderLine}
 use Rattle.blot_types.specs.Keys.{same_order, same_text}
 use Rattle.blot_types.specs.Order.{line_of, fills_of, with_fill, IsWithin}
 use Rattle.blot_types.proofs.OrderLemmas.{line_of-push, IsWithin-weaker}
-use Rattle.blot_report.specs.declared.executions.Survivor.{Survivor}
 use Rattle.blot_report.specs.Lines.{order_row}
-use Rattle.blot_report.specs.Linked.{fill_in, fills_in}
 use Rattle.blot_report.specs.Orders.{line_at, with_line, AddsFill, AreLinesOf, GrowsByOne, line_rows}
+use Rattle.blot_report.proofs.ListLemmas.{found-more}
 
 -- orders that the test calls one are equal
 same_order-true : (a b : OrderKey) → same_order a b ≡ true → a ≡ b
@@ -55,9 +55,9 @@ line-more lines fills fill order are =
           ∙ are order ∙ sym (ap line_of more)
     ]
 
--- the lines of the first survivors, each of at most as many fills
-pub record HoldsFirst (lines : List (OrderKey × OrderLine)) (survivors : List Survivor) (index : ℕ) : Type 0 where
-  pub are : AreLinesOf lines (fills_in (take index survivors))
+-- the lines of what the first entries bring, each of at most as many fills
+pub record HoldsFirst (f : Entry → Option Fill) (lines : List (OrderKey × OrderLine)) (entries : List Entry) (index : ℕ) : Type 0 where
+  pub are : AreLinesOf lines (filter_map f (take index entries))
   pub few : (order : OrderKey) → IsWithin index (line_at lines order)
 
 -- one fill more, for every order
@@ -74,30 +74,43 @@ few-more old fill index order few grows =
     ]
 
 pub holds-more :
-    (old new : List (OrderKey × OrderLine)) (survivors : List Survivor) (index : ℕ) (survivor : Survivor)
-    → HoldsFirst old survivors index → index < length survivors → survivor ≡ get_or survivors index survivor
-    → AddsFill survivor.fill.now old new → GrowsByOne survivor.fill.now old
-    → HoldsFirst new survivors (index + 1)
-holds-more old new survivors index survivor holds within is written grows =
-    let next : take (index + 1) survivors ≡ take index survivors ++ survivor ∷ [] = rw is (take_more survivors index survivor within) in
-    let fills : fills_in (take (index + 1) survivors) ≡ fills_in (take index survivors) ++ survivor.fill.now ∷ [] =
-    ap fills_in next ∙ map-append fill_in (take index survivors) (survivor ∷ []) in
+    (f : Entry → Option Fill) (old new : List (OrderKey × OrderLine)) (entries : List Entry) (index : ℕ) (entry : Entry) (fill : Fill)
+    → HoldsFirst f old entries index → index < length entries → entry ≡ get_or entries index entry → f entry ≡ Some fill → AddsFill fill old new → GrowsByOne fill old
+    → HoldsFirst f new entries (index + 1)
+holds-more f old new entries index entry fill holds within is brought written grows =
+    let fills : filter_map f (take (index + 1) entries) ≡ filter_map f (take index entries) ++ fill ∷ [] =
+    found-more f entries index entry within is ∙ ap (λ o. filter_map f (take index entries) ++ cons_option o []) brought in
     record {
-      are = λ order. written order ∙ line-more old (fills_in (take index survivors)) survivor.fill.now order holds.are ∙ sym (ap (λ f. line_of (fills_of f order)) fills);
-      few = λ order. subst (IsWithin (index + 1)) (sym (written order)) (few-more old survivor.fill.now index order holds.few grows);
+      are = λ order. written order ∙ line-more old (filter_map f (take index entries)) fill order holds.are ∙ sym (ap (λ own. line_of (fills_of own order)) fills);
+      few = λ order. subst (IsWithin (index + 1)) (sym (written order)) (few-more old fill index order holds.few grows);
     }
 
+-- an entry that brings none
+pub holds-on :
+    (f : Entry → Option Fill) (old new : List (OrderKey × OrderLine)) (entries : List Entry) (index : ℕ) (entry : Entry)
+    → HoldsFirst f old entries index → index < length entries → entry ≡ get_or entries index entry → f entry ≡ None → new ≡ old → HoldsFirst f new entries (index + 1)
+holds-on f old new entries index entry holds within is none kept =
+    let fills : filter_map f (take (index + 1) entries) ≡ filter_map f (take index entries) =
+    found-more f entries index entry within is ∙ ap (λ o. filter_map f (take index entries) ++ cons_option o []) none ∙ append-nil (filter_map f (take index entries)) in
+    subst (λ lines. HoldsFirst f lines entries (index + 1)) (sym kept) (record {
+      are = λ order. holds.are order ∙ sym (ap (λ own. line_of (fills_of own order)) fills);
+      few = λ order. IsWithin-weaker index (index + 1) (line_at old order) (omega arith) (holds.few order);
+    })
+
 -- no fill yet
-pub holds-none : (lines : List (OrderKey × OrderLine)) (survivors : List Survivor) → lines ≡ [] → HoldsFirst lines survivors 0
-holds-none lines survivors none =
-    subst (λ l. HoldsFirst l survivors 0) (sym none) (record {
+pub holds-none : (f : Entry → Option Fill) (lines : List (OrderKey × OrderLine)) (entries : List Entry) → lines ≡ [] → HoldsFirst f lines entries 0
+holds-none f lines entries none =
+    subst (λ l. HoldsFirst f l entries 0) (sym none) (record {
       are = λ order. refl;
       few = λ order. record { cum_low = omega (arith, ints); cum_high = omega (arith, ints); value_low = omega (arith, ints); value_high = omega (arith, ints) };
     })
 
 -- all of them
-pub holds-all : (lines : List (OrderKey × OrderLine)) (survivors : List Survivor) (index : ℕ) → HoldsFirst lines survivors index → take index survivors ≡ survivors → AreLinesOf lines (fills_in survivors)
-holds-all lines survivors index holds all order = holds.are order ∙ ap (λ vs. line_of (fills_of (fills_in vs) order)) all
+pub holds-all :
+    (f : Entry → Option Fill) (lines : List (OrderKey × OrderLine)) (entries : List Entry) (index : ℕ) (fills : List Fill) → HoldsFirst f lines entries index
+    → take index entries ≡ entries → filter_map f entries ≡ fills → AreLinesOf lines fills
+holds-all f lines entries index fills holds all is order =
+    holds.are order ∙ ap (λ own. line_of (fills_of (filter_map f own) order)) all ∙ ap (λ own. line_of (fills_of own order)) is
 
 -- the rows of lines are those of the fills
 pub rows-same : (lines : List (OrderKey × OrderLine)) (fills : List Fill) (keys : List OrderKey) → AreLinesOf lines fills → line_rows lines keys ≡ filter_map (order_row fills) keys

@@ -1,22 +1,20 @@
 -- The parts of a day, as they are put one behind the other.
-use Rattle.std.proofs.Common.{◌≡◌, ℕ, ℤ, ◌+◌, ◌<◌, ◌≤◌, List, [], ◌∷◌, ◌++◌, length, map, take, get_or, Option, Some, None, sym, ap, subst, ◌∙◌}
+use Rattle.std.proofs.Common.{◌≡◌, ℕ, ℤ, ◌+◌, ◌<◌, ◌≤◌, true, List, [], ◌∷◌, ◌++◌, length, map, take, get_or, Option, Some, None, sym, ap, subst, ◌∙◌}
 use Rattle.std.specs.Prelude.{All}
 use Rattle.std.specs.List.{cons_option, filter_map, flat_map}
 use Rattle.std.proofs.lemmas.List.{append-nil, append_assoc, take_all}
 use Rattle.std.proofs.lemmas.List.Elements.{All-nil, All-cons, All-head, All-tail, All-append}
-use Rattle.blot_types.specs.declared.allocation.Instruction.{Instruction}
 use Rattle.blot_types.specs.declared.allocation.Line.{Line}
 use Rattle.blot_types.specs.declared.allocation.Terms.{Terms}
 use Rattle.blot_types.specs.declared.command.Entry.{Entry}
 use Rattle.blot_types.specs.declared.part.Part.{Part}
-use Rattle.blot_types.specs.declared.link.Link.{Link}
-use Rattle.blot_types.specs.Allocations.{Allocation, allocation_of}
+use Rattle.blot_types.specs.Allocations.{Allocation}
+use Rattle.blot_types.specs.Legal.{is_book}
 use Rattle.blot_types.specs.Position.{part_of_line, from_house, moves_of_line, moves_of, IsSmall, TermsFit}
-use Rattle.blot_types.specs.Legal.{HoldsList}
 use Rattle.blot_report.specs.Day.{survivor_parts_on, allocations_on, day_parts_of}
-use Rattle.blot_report.specs.Linked.{moves_among, terms_among}
+use Rattle.blot_report.specs.Standings.{moves_among, parts_among, terms_among}
 use Rattle.blot_report.specs.Sums.{IsLight}
-use Rattle.blot_report.proofs.LinkedLemmas.{live_on, terms-found, flat-mapped}
+use Rattle.blot_report.proofs.StandingLemmas.{flat-mapped, parts-told, terms-told}
 use Rattle.blot_report.proofs.ListLemmas.{behind, flat-more, found-more, flat_found-more}
 use Rattle.blot_report.proofs.WeightLemmas.{light-on}
 
@@ -32,6 +30,25 @@ moves-next initial items middle after terms lines index line part taken within i
     two ∙ ap (λ front. front ++ taken ∷ []) one ∙ append_assoc items (part ∷ []) (taken ∷ []) ∙ ap (λ back. items ++ back) both in
     behind initial (flat_map (moves_of_line terms) (take index lines)) (moves_of_line terms line) items after so_far put
     ∙ ap (λ done. initial ++ done) (sym (flat-more (moves_of_line terms) lines index line within is))
+
+-- ---- what executions add
+
+pub put-some :
+    {A B : Type 0} (initial items after : List B) (f : A → Option B) (list : List A) (index : ℕ) (item : A) (part : B) → index < length list → item ≡ get_or list index item
+    → items ≡ initial ++ filter_map f (take index list) → f item ≡ Some part → after ≡ items ++ part ∷ []
+    → after ≡ initial ++ filter_map f (take (index + 1) list)
+put-some initial items after f list index item part within is so_far brought put =
+    behind initial (filter_map f (take index list)) (part ∷ []) items after so_far put
+    ∙ ap (λ done. initial ++ done) (sym (found-more f list index item within is ∙ ap (λ o. filter_map f (take index list) ++ cons_option o []) brought))
+
+pub put-none :
+    {A B : Type 0} (initial items after : List B) (f : A → Option B) (list : List A) (index : ℕ) (item : A) → index < length list → item ≡ get_or list index item
+    → items ≡ initial ++ filter_map f (take index list) → f item ≡ None → after ≡ items
+    → after ≡ initial ++ filter_map f (take (index + 1) list)
+put-none initial items after f list index item within is so_far none kept =
+    kept ∙ so_far
+    ∙ ap (λ done. initial ++ done)
+    (sym (found-more f list index item within is ∙ ap (λ o. filter_map f (take index list) ++ cons_option o []) none ∙ append-nil (filter_map f (take index list))))
 
 -- ---- the moves of allocations
 
@@ -77,30 +94,19 @@ all-unmapped P f [] all = All-nil (λ x. P (f x))
 all-unmapped P f (x ∷ xs) all =
     All-cons (λ y. P (f y)) x xs (All-head P (f x) (map f xs) all) (all-unmapped P f xs (All-tail P (f x) (map f xs) all))
 
--- the instructions of a list tell which allocations are live
-terms-told : (list : List Entry) (day : ℤ) (links : List Link) (instructions : List Instruction) → HoldsList list links instructions
-    → terms_among instructions day list ≡ map (λ a. a.terms) (allocations_on list day)
-terms-told list day links instructions holds =
-    terms-found instructions day list ∙ ap (λ i. map (λ (a : Allocation). a.terms) (live_on i day (filter_map (λ (e : Entry). allocation_of e.command) list))) holds.instructions_are
-
 -- the parts of a day are put: those of its fills, and then the moves
-pub record ArePut (list : List Entry) (day : ℤ) (links : List Link) (instructions : List Instruction) (fills parts : List Part) : Type 0 where
-  pub holds : HoldsList list links instructions
-  pub own : fills ≡ survivor_parts_on list day
-  pub put : parts ≡ fills ++ moves_among instructions day list
-
-pub parts-put : (list : List Entry) (day : ℤ) (links : List Link) (instructions : List Instruction) (fills parts : List Part) → ArePut list day links instructions fills parts
-    → parts ≡ day_parts_of list day
-parts-put list day links instructions fills parts put =
-    put.put ∙ (λ i. put.own i ++ flat_map moves_of (terms-told list day links instructions put.holds i))
+pub parts-put : (list : List Entry) (day : ℤ) (parts : List Part) → parts ≡ parts_among list day list ++ moves_among list day list → parts ≡ day_parts_of list day
+parts-put list day parts put =
+    put ∙ (λ i. parts-told list day i ++ flat_map moves_of (terms-told list day i))
     ∙ ap (λ moves. survivor_parts_on list day ++ moves) (flat-mapped moves_of (λ (a : Allocation). a.terms) (allocations_on list day))
 
-pub light-put : (list : List Entry) (day : ℤ) (links : List Link) (instructions : List Instruction) (fills parts : List Part) → ArePut list day links instructions fills parts
-    → All IsSmall fills → All TermsFit (terms_among instructions day list) → IsLight parts
-light-put list day links instructions fills parts put small fit =
-    subst IsLight (sym (parts-put list day links instructions fills parts put))
-    (light-on list day put.holds.book (subst (All IsSmall) put.own small)
-    (all-unmapped TermsFit (λ (a : Allocation). a.terms) (allocations_on list day) (subst (All TermsFit) (terms-told list day links instructions put.holds) fit)))
+pub light-put :
+    (list : List Entry) (day : ℤ) (parts : List Part) → is_book list ≡ true → parts ≡ parts_among list day list ++ moves_among list day list
+    → All IsSmall (parts_among list day list) → All TermsFit (terms_among list day list) → IsLight parts
+light-put list day parts book put small fit =
+    subst IsLight (sym (parts-put list day parts put))
+    (light-on list day book (subst (All IsSmall) (parts-told list day) small)
+    (all-unmapped TermsFit (λ (a : Allocation). a.terms) (allocations_on list day) (subst (All TermsFit) (terms-told list day) fit)))
 
 -- what was put behind nothing, and then more
 pub put-both : (none first second third fills moves : List Part) → none ≡ [] → first ≡ none → second ≡ first ++ fills → third ≡ second ++ moves → third ≡ fills ++ moves

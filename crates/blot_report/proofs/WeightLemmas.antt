@@ -16,6 +16,7 @@ use Rattle.blot_types.specs.Position.{moves_of, part_of, IsSmall, TermsFit}
 use Rattle.blot_types.specs.Survivors.{survivors}
 use Rattle.blot_types.proofs.BookedLemmas.{BooksBlock, books_blocks}
 use Rattle.blot_types.proofs.ChangeLemmas.{allocations_in}
+use Rattle.blot_types.proofs.LegalLemmas.{length_numbered}
 use Rattle.blot_command.proofs.ReadyLemmas.{few-live, few-survivors, length-filtered}
 use Rattle.blot_command.proofs.ReachLemmas.{sizes}
 use Rattle.blot_command.proofs.WeightLemmas.{AreBooked, AllBooked, all_booked}
@@ -95,6 +96,6 @@ light-on list day book small fit =
       light = omega (arith, versions, few_versions, mapped, allocations, few_allocations, heavy, weighed, own, light_moves);
     }
 
--- the survivors of a day are few
-pub few-on : (list : List Entry) (day : ℤ) → is_book list ≡ true → length (survivors_on list day) ≤ EVENTS_MAX + 1
-few-on list day book = (let one = length-filtered (is_on day) (survivors list) in let two = few-survivors list book in omega (arith, one, two))
+-- the entries of a book are few
+pub few-entries : (list : List Entry) → is_book list ≡ true → length list ≤ EVENTS_MAX + 1
+few-entries list book = length_numbered list (and_parts _ _ book).0

@@ -1,8 +1,8 @@
 pub mod Day
 pub mod Laws
 pub mod Lines
-pub mod Linked
 pub mod Orders
 pub mod Pieces
+pub mod Standings
 pub mod Sums
 pub mod Text

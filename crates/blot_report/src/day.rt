@@ -3,10 +3,7 @@ ghost use Rattle.std.specs.Prelude.{◌≡◌, IfOk};
 ghost use Rattle.blot_report.specs.Laws.{IsOfOneDay, ShowsDay, ShowsBook};
 ghost use Rattle.blot_report.specs.Lines.{day_lines_of};
 
-use crate::executions::survivors_on;
-use crate::linked::Linked;
 use crate::orders::order_rows;
-use crate::parts::parts_on;
 use crate::positions::position_rows;
 use crate::{DayLines, Rows};
 use blot_command::Snapshot;
@@ -25,11 +22,9 @@ pub fn day_lines(alloc: Global, snapshot: &Snapshot, day: Day) -> Result<DayLine
     ensures whole { IfOk result (λ lines. IsOfOneDay snapshot.now day → ShowsBook snapshot.now lines) }
 {
     let entries = snapshot.entries();
-    let linked = Linked::of(alloc, entries)?;
-    let survivors = survivors_on(alloc, entries, &linked, day)?;
-    let parts = parts_on(alloc, entries, &linked, &survivors, day)?;
-    let orders = order_rows(alloc, &survivors)?;
-    let positions = position_rows(alloc, &parts)?;
+    let standings = snapshot.standings();
+    let orders = order_rows(alloc, entries, standings, day)?;
+    let positions = position_rows(alloc, entries, standings, day)?;
     Ok(DayLines {
         day,
         orders: Rows::new(orders),

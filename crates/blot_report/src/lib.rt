@@ -3,14 +3,13 @@
 #![tactic(auto)]
 
 mod day;
-mod executions;
 mod lines;
-mod linked;
 mod orders;
 mod parallel;
 mod parts;
 mod pieces;
 mod positions;
+mod standing;
 mod text;
 
 pub use day::day_lines;

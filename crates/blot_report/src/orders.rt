@@ -1,17 +1,20 @@
 //! The rows of orders.
-ghost use Rattle.std.specs.Prelude.{◌≡◌, ◌+◌, ◌≤◌, length, IfOk, OnOk};
+ghost use Rattle.std.specs.Prelude.{◌≡◌, IfOk, OnOk};
 ghost use Rattle.std.specs.List.{IsDistinct};
 ghost use Rattle.std.specs.Map.{keys_of};
 ghost use Rattle.blot_types.specs.Keys.{same_order};
 ghost use Rattle.blot_types.specs.Order.{IsWithin};
 ghost use Rattle.blot_report.specs.Lines.{order_rows};
-ghost use Rattle.blot_report.specs.Linked.{fills_in};
+ghost use Rattle.blot_report.specs.Day.{fills_on};
 ghost use Rattle.blot_report.specs.Orders.{line_at, line_row, line_rows, AddsFill, AreLinesOf, AreOrdersOf, GrowsByOne};
+ghost use Rattle.blot_report.specs.Standings.{AreStandings};
 
 use crate::OrderRow;
-use crate::executions::Survivor;
 use crate::pieces::in_pieces;
-use blot_types::{EVENTS_MAX, Fill, OrderKey, OrderLine};
+use crate::standing::{fill_on, standing_at};
+use blot_command::Standing;
+use blot_time::Day;
+use blot_types::{EVENTS_MAX, Entry, Fill, OrderKey, OrderLine};
 use indexmap::IndexMap;
 use std::alloc::{AllocError as NoMemory, Global};
 use std::thread::Threads;
@@ -19,15 +22,18 @@ use std::thread::Threads;
 // The line of each order, as far as its fills have come.
 type Lines = IndexMap<OrderKey, OrderLine>;
 
-/// The rows of the orders that survivors fill, by peer and then by OrderID. An error is out of memory.
+/// The rows of the orders that the executions of a day fill, of those that stand, by peer and then by OrderID. An error is out of
+/// memory.
 pub(crate) fn order_rows(
     alloc: Global,
-    survivors: &[Survivor<'_>],
+    entries: &[Entry],
+    standings: &[Standing],
+    day: Day,
 ) -> Result<Vec<OrderRow>, NoMemory>
-    requires { length survivors.now ≤ EVENTS_MAX + 1 }
-    ensures { IfOk result (λ rows. rows.items ≡ order_rows (fills_in survivors.now)) }
+    requires { AreStandings entries.now standings.now }
+    ensures { IfOk result (λ rows. rows.items ≡ order_rows (fills_on entries.now day)) }
 {
-    let lines = lines_of(alloc, survivors)?;
+    let lines = lines_of(alloc, entries, standings, day)?;
     let keys = sorted_orders(alloc, &lines)?;
     rows_of(alloc, &lines, &keys)
 }
@@ -36,12 +42,14 @@ pub(crate) fn order_rows(
 pub(crate) fn order_rows_in_pieces<R: Threads + Sync>(
     rt: &R,
     alloc: Global,
-    survivors: &[Survivor<'_>],
+    entries: &[Entry],
+    standings: &[Standing],
+    day: Day,
 ) -> Result<Vec<OrderRow>, NoMemory>
-    requires { length survivors.now ≤ EVENTS_MAX + 1 }
-    ensures { IfOk result (λ rows. rows.items ≡ order_rows (fills_in survivors.now)) }
+    requires { AreStandings entries.now standings.now }
+    ensures { IfOk result (λ rows. rows.items ≡ order_rows (fills_on entries.now day)) }
 {
-    let lines = lines_of(alloc, survivors)?;
+    let lines = lines_of(alloc, entries, standings, day)?;
     let keys = sorted_orders(alloc, &lines)?;
     rows_in_pieces(rt, alloc, &lines, &keys)
 }
@@ -65,14 +73,22 @@ fn rows_in_pieces<R: Threads + Sync>(
     )
 }
 
-// The lines of the orders that survivors fill.
-fn lines_of(alloc: Global, survivors: &[Survivor<'_>]) -> Result<Lines, NoMemory>
-    requires { length survivors.now ≤ EVENTS_MAX + 1 }
-    ensures { IfOk result (λ lines. AreLinesOf lines.entries (fills_in survivors.now)) }
+// The lines of the orders that the executions of a day fill, of those that stand.
+fn lines_of(
+    alloc: Global,
+    entries: &[Entry],
+    standings: &[Standing],
+    day: Day,
+) -> Result<Lines, NoMemory>
+    requires { AreStandings entries.now standings.now }
+    ensures { IfOk result (λ lines. AreLinesOf lines.entries (fills_on entries.now day)) }
 {
     let mut lines = IndexMap::new(alloc);
-    for survivor in survivors {
-        add_fill(&mut lines, survivor.fill)?;
+    for (place, entry) in entries.iter().enumerate() {
+        let standing = standing_at(entries, standings, place, entry);
+        if let Some(fill) = fill_on(entry, standing, day) {
+            add_fill(&mut lines, fill)?;
+        }
     }
     Ok(lines)
 }

@@ -1,18 +1,17 @@
 //! The lines of a day, from several threads.
 ghost use Rattle.std.specs.Prelude.{◌≡◌, IfOk};
+ghost use Rattle.blot_report.specs.Day.{day_parts_of, fills_on};
 ghost use Rattle.blot_report.specs.Laws.{IsOfOneDay, ShowsDay, ShowsBook};
-ghost use Rattle.blot_report.specs.Lines.{day_lines_of};
+ghost use Rattle.blot_report.specs.Lines.{day_lines_of, order_rows, position_rows};
+ghost use Rattle.blot_report.specs.Standings.{AreStandings};
 
-use crate::executions::survivors_in_pieces;
-use crate::linked::Linked;
 use crate::orders::order_rows_in_pieces;
-use crate::parts::parts_on;
 use crate::positions::position_rows_in_pieces;
-use crate::{DayLines, Rows};
+use crate::{DayLines, OrderRow, PositionRow, Rows};
 use blot_command::Snapshot;
 use blot_time::Day;
 use std::alloc::{AllocError as NoMemory, Global};
-use std::thread::Threads;
+use std::thread::{Threads, join};
 
 /// The lines of a day, as `day_lines` gives them, from several threads: the executions, the orders and the positions are
 /// looked up in pieces, which are joined in order. An error is out of memory, in any of them.
@@ -29,11 +28,20 @@ pub fn day_lines_parallel<R: Threads + Sync>(
     ensures whole { IfOk result (λ lines. IsOfOneDay snapshot.now day → ShowsBook snapshot.now lines) }
 {
     let entries = snapshot.entries();
-    let linked = Linked::of(alloc, entries)?;
-    let survivors = survivors_in_pieces(rt, alloc, entries, &linked, day)?;
-    let parts = parts_on(alloc, entries, &linked, &survivors, day)?;
-    let orders = order_rows_in_pieces(rt, alloc, &survivors)?;
-    let positions = position_rows_in_pieces(rt, alloc, &parts)?;
+    let standings = snapshot.standings();
+    let (orders, positions) = join(
+        rt,
+        || -> Result<Vec<OrderRow>, NoMemory>
+            requires { AreStandings entries.now standings.now }
+            ensures { IfOk result (λ rows. rows.items ≡ order_rows (fills_on entries.entry.now day)) }
+        { order_rows_in_pieces(rt, alloc, entries, standings, day) },
+        || -> Result<Vec<PositionRow>, NoMemory>
+            requires { AreStandings entries.now standings.now }
+            ensures { IfOk result (λ rows. rows.items ≡ position_rows (day_parts_of entries.entry.now day)) }
+        { position_rows_in_pieces(rt, alloc, entries, standings, day) },
+    );
+    let orders = orders?;
+    let positions = positions?;
     Ok(DayLines {
         day,
         orders: Rows::new(orders),

@@ -3,19 +3,53 @@ ghost use Rattle.std.specs.Prelude.{◌≡◌, IfOk};
 ghost use Rattle.std.specs.List.{IsDistinct};
 ghost use Rattle.blot_types.specs.Order.{total};
 ghost use Rattle.blot_position.specs.Carried.{Carries};
+ghost use Rattle.blot_report.specs.Day.{day_parts_of};
 ghost use Rattle.blot_report.specs.Lines.{position_key, positions_among, position_rows};
+ghost use Rattle.blot_report.specs.Standings.{AreStandings};
 ghost use Rattle.blot_report.specs.Sums.{IsLight, HasKeys, cell_row, cell_rows, same_key};
 
 use crate::PositionRow;
+use crate::parts::parts_on;
 use crate::pieces::in_pieces;
+use blot_command::Standing;
 use blot_position::Positions;
-use blot_types::{Part, PositionKey};
+use blot_time::Day;
+use blot_types::{Entry, Part, PositionKey};
 use indexmap::IndexSet;
 use std::alloc::{AllocError as NoMemory, Global};
-use std::thread::Threads;
+use std::thread::{Threads, join};
 
-/// The rows of the positions that parts are of, by account and then by symbol. An error is out of memory.
-pub(crate) fn position_rows(alloc: Global, parts: &[Part]) -> Result<Vec<PositionRow>, NoMemory>
+/// The rows of the positions of a day, by account and then by symbol. An error is out of memory.
+pub(crate) fn position_rows(
+    alloc: Global,
+    entries: &[Entry],
+    standings: &[Standing],
+    day: Day,
+) -> Result<Vec<PositionRow>, NoMemory>
+    requires { AreStandings entries.now standings.now }
+    ensures { IfOk result (λ rows. rows.items ≡ position_rows (day_parts_of entries.now day)) }
+{
+    let parts = parts_on(alloc, entries, standings, day)?;
+    part_rows(alloc, &parts)
+}
+
+/// The same, where each piece of the positions is a worker's.
+pub(crate) fn position_rows_in_pieces<R: Threads + Sync>(
+    rt: &R,
+    alloc: Global,
+    entries: &[Entry],
+    standings: &[Standing],
+    day: Day,
+) -> Result<Vec<PositionRow>, NoMemory>
+    requires { AreStandings entries.now standings.now }
+    ensures { IfOk result (λ rows. rows.items ≡ position_rows (day_parts_of entries.now day)) }
+{
+    let parts = parts_on(alloc, entries, standings, day)?;
+    part_rows_in_pieces(rt, alloc, &parts)
+}
+
+// The rows of the positions that parts are of.
+fn part_rows(alloc: Global, parts: &[Part]) -> Result<Vec<PositionRow>, NoMemory>
     requires { IsLight parts.now }
     ensures { IfOk result (λ rows. rows.items ≡ position_rows parts.now) }
 {
@@ -24,8 +58,8 @@ pub(crate) fn position_rows(alloc: Global, parts: &[Part]) -> Result<Vec<Positio
     rows_of(alloc, &positions, &keys)
 }
 
-/// The same, where each piece of the positions is a worker's.
-pub(crate) fn position_rows_in_pieces<R: Threads + Sync>(
+// The same, where sums and keys are made side by side, and each piece of the positions is a worker's.
+fn part_rows_in_pieces<R: Threads + Sync>(
     rt: &R,
     alloc: Global,
     parts: &[Part],
@@ -33,8 +67,18 @@ pub(crate) fn position_rows_in_pieces<R: Threads + Sync>(
     requires { IsLight parts.now }
     ensures { IfOk result (λ rows. rows.items ≡ position_rows parts.now) }
 {
-    let positions = positions_of(alloc, parts)?;
-    let keys = sorted_positions(alloc, parts)?;
+    let (positions, keys) = join(
+        rt,
+        || -> Result<Positions, NoMemory>
+            requires { IsLight parts.now }
+            ensures { IfOk result (λ positions. Carries (λ amount. total amount parts.entry.now) positions) }
+        { positions_of(alloc, parts) },
+        || -> Result<Vec<PositionKey>, NoMemory>
+            ensures { IfOk result (λ keys. keys.items ≡ positions_among parts.entry.now) }
+        { sorted_positions(alloc, parts) },
+    );
+    let positions = positions?;
+    let keys = keys?;
     rows_in_pieces(rt, alloc, &positions, &keys)
 }
 

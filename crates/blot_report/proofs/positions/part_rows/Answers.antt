@@ -3,11 +3,11 @@ use Rattle.std.specs.List.{filter_map}
 use Rattle.blot_report.specs.Lines.{position_row}
 use Rattle.blot_report.proofs.ListLemmas.{if_ok}
 use Rattle.blot_report.proofs.RowLemmas.{rows-carried}
-use Rattle.blot_report.proofs.positions.position_rows_in_pieces.Goals as goal
+use Rattle.blot_report.proofs.positions.part_rows.Goals as goal
 
 pub returns : goal.returns
-returns g c =
+returns c =
     let parts = c.args.parts.now in
     let keys = c.deref.result.now in
     let rows = rows-carried parts c.in_ok-positions.positions keys c.in_ok-positions.ensures ∙ ap (filter_map (position_row parts)) (c.deref.ensures.value ∙ c.in_ok-keys.ensures) in
-    if_ok c.rows_in_pieces.result _ _ (λ found is. is ∙ rows) c.rows_in_pieces.ensures
+    if_ok c.rows_of.result _ _ (λ found is. is ∙ rows) c.rows_of.ensures

@@ -1,0 +1,93 @@
+//! What an entry comes to in a book.
+ghost use Rattle.std.specs.Prelude.{◌≡◌, Some, map, IfOk};
+ghost use Rattle.blot_types.specs.Instructions.{named_in};
+ghost use Rattle.blot_types.specs.Keys.{is_among};
+ghost use Rattle.blot_types.specs.Survivors.{stands_under};
+ghost use Rattle.blot_command.specs.Slots.{entries_in};
+ghost use Rattle.blot_command.specs.Standings.{allocation_standing, execution_standing, standing_in};
+
+use crate::slots::EntrySlot;
+use blot_alloc::Allocs;
+use blot_chain::Chains;
+use blot_types::{AllocKey, Command, Entry, ExecKey};
+use std::alloc::{AllocError as NoMemory, Global};
+
+/// What an entry comes to in a book.
+#[derive(Clone, Copy, Debug, PartialEq, Eq)]
+pub enum Standing {
+    /// An execution that stands, and whether a live allocation names its chain.
+    Stands(bool),
+    /// An allocation that is live.
+    Live,
+    /// Neither.
+    Neither,
+}
+
+/// What the entries that are there come to, one behind the other. An error is out of memory.
+pub(crate) fn standings_in(
+    alloc: Global,
+    slots: &[EntrySlot],
+    chains: &Chains,
+    allocs: &Allocs,
+) -> Result<Vec<Standing>, NoMemory>
+    ensures { IfOk result (λ standings. standings.items ≡ map (standing_in chains.now.list allocs.now.list) (entries_in slots.now)) }
+{
+    let mut standings = Vec::with_capacity(alloc, slots.len())?;
+    for slot in slots {
+        if let Some(entry) = slot.entry() {
+            standings.push(standing_in(chains, allocs, entry))?;
+        }
+    }
+    Ok(standings)
+}
+
+// What an entry comes to, as the chains and the allocations tell it.
+fn standing_in(chains: &Chains, allocs: &Allocs, entry: &Entry) -> Standing
+    ensures { result ≡ standing_in chains.now.list allocs.now.list entry.now }
+{
+    match &entry.command {
+        Command::Trade(trade) => execution_standing(chains, allocs, entry.number, &trade.key),
+        Command::Correct(correct) => execution_standing(chains, allocs, entry.number, &correct.key),
+        Command::AllocNew(new) => allocation_standing(allocs, &new.key),
+        Command::AllocReplace(replace) => allocation_standing(allocs, &replace.key),
+        Command::Bust(_) | Command::AllocCancel(_) | Command::Withdraw(_) => Standing::Neither,
+    }
+}
+
+// An execution of a number and a key stands, and its chain is named or isn't; or it doesn't stand. The root of its chain is looked
+// up once.
+fn execution_standing(chains: &Chains, allocs: &Allocs, number: u64, key: &ExecKey) -> Standing
+    ensures { result ≡ execution_standing chains.now.list allocs.now.list number key.now }
+{
+    let Some(root) = chains.root_of(key) else {
+        return Standing::Neither;
+    };
+    if !stands(chains, number, &root) {
+        return Standing::Neither;
+    }
+    Standing::Stands(is_named(allocs, &root))
+}
+
+// Whether the version of a number stands under a root: the chain isn't busted, and this is its last version.
+fn stands(chains: &Chains, number: u64, root: &ExecKey) -> bool
+    ensures { result ≡ stands_under chains.now.list number (Some root.now) }
+{
+    chains.bust_of(root).is_none() && chains.current(root) == Some(number)
+}
+
+// Whether a live allocation names the chain of a root.
+fn is_named(allocs: &Allocs, root: &ExecKey) -> bool
+    ensures { result ≡ is_among (named_in allocs.now.list) root.now }
+{
+    allocs.holder_of(root).is_some()
+}
+
+// The allocation of a key is live, or was ended.
+fn allocation_standing(allocs: &Allocs, key: &AllocKey) -> Standing
+    ensures { result ≡ allocation_standing allocs.now.list key.now }
+{
+    if allocs.ended_by(key).is_none() {
+        return Standing::Live;
+    }
+    Standing::Neither
+}

@@ -1,0 +1,167 @@
+-- What the standings of a book tell of its entries on a day is what its definitions say.
+use Rattle.std.proofs.Common.{◌≡◌, ℕ, zero, suc, ℤ, ◌<◌, arith, List, [], ◌∷◌, ◌++◌, length, map, get_or, Option, Some, None, refl, sym, ap, ◌∙◌, inl, inr}
+use Rattle.std.specs.Prelude.{filter, is_none, if◌then◌else◌}
+use Rattle.std.specs.List.{cons_option, filter_map, flat_map}
+use Rattle.std.proofs.lemmas.Bool.{cases_Bool}
+use Rattle.blot_types.specs.declared.allocation.Instruction.{Instruction}
+use Rattle.blot_types.specs.declared.allocation.Terms.{Terms}
+use Rattle.blot_types.specs.declared.command.Command.{Command}
+use Rattle.blot_types.specs.declared.command.Command.TheVariants.{Trade, Correct, Bust, AllocNew, AllocReplace, AllocCancel, Withdraw}
+use Rattle.blot_types.specs.declared.command.Entry.{Entry}
+use Rattle.blot_types.specs.declared.lines.Version.{Version}
+use Rattle.blot_types.specs.declared.link.Link.{Link}
+use Rattle.blot_types.specs.declared.part.Part.{Part}
+use Rattle.blot_types.specs.Allocations.{Allocation, allocation_of, instructions_of}
+use Rattle.blot_types.specs.Instructions.{ended_in}
+use Rattle.blot_types.specs.Position.{part_of_fill}
+use Rattle.blot_types.specs.Survivors.{links_of, stands_in, version_by, version_of}
+use Rattle.blot_command.specs.declared.standing.Standing.{Standing}
+use Rattle.blot_command.specs.declared.standing.Standing.TheVariants.{Stands, Live, Neither}
+use Rattle.blot_command.specs.Standings.{allocation_standing, is_named_in, standing_by, standing_in}
+use Rattle.blot_report.specs.Day.{is_on, is_allocated_on, survivor_parts_on, allocations_on, fills_on}
+use Rattle.blot_report.specs.Standings.{day_terms, fill_by, fills_among, part_by, parts_among, terms_among, terms_by}
+
+-- ---- the survivors of a day
+
+no-fill : (day : ℤ) (standing : Standing) → fill_by day standing None ≡ None
+no-fill day (Stands named) = refl
+no-fill day Live = refl
+no-fill day Neither = refl
+
+no-part : (day : ℤ) (standing : Standing) → part_by day standing None ≡ None
+no-part day (Stands named) = refl
+no-part day Live = refl
+no-part day Neither = refl
+
+abbrev kept_on : List Link → ℤ → List Version → List Version
+kept_on links day versions = filter (is_on day) (filter (stands_in links) versions)
+
+fill-kept :
+    (links : List Link) (instructions : List Instruction) (day : ℤ) (found : Option Version) (other : Option Allocation) (rest : List Version)
+    → cons_option (fill_by day (standing_by links instructions found other) found) (map (λ (v : Version). v.fill) (kept_on links day rest))
+    ≡ map (λ (v : Version). v.fill) (kept_on links day (cons_option found rest))
+fill-kept links instructions day None other rest =
+    ap (λ o. cons_option o (map (λ (v : Version). v.fill) (kept_on links day rest))) (no-fill day (standing_by links instructions None other))
+fill-kept links instructions day (Some version) other rest =
+    elim (cases_Bool (stands_in links version)) [
+      | inl stands ↦
+          elim (cases_Bool (is_on day version)) [
+            | inl on ↦ rw (stands, on) refl
+            | inr off ↦ rw (stands, off) refl
+          ]
+      | inr fell ↦ rw fell refl
+    ]
+
+-- what a version adds, whether it stands or not
+abbrev part_at : List Link → List Instruction → Version → Part
+part_at links instructions version = part_of_fill (is_named_in links instructions version.key) version.fill
+
+part-kept :
+    (links : List Link) (instructions : List Instruction) (day : ℤ) (found : Option Version) (other : Option Allocation) (rest : List Version)
+    → cons_option (part_by day (standing_by links instructions found other) found) (map (part_at links instructions) (kept_on links day rest))
+    ≡ map (part_at links instructions) (kept_on links day (cons_option found rest))
+part-kept links instructions day None other rest =
+    ap (λ o. cons_option o (map (part_at links instructions) (kept_on links day rest))) (no-part day (standing_by links instructions None other))
+part-kept links instructions day (Some version) other rest =
+    elim (cases_Bool (stands_in links version)) [
+      | inl stands ↦
+          elim (cases_Bool (is_on day version)) [
+            | inl on ↦ rw (stands, on) refl
+            | inr off ↦ rw (stands, off) refl
+          ]
+      | inr fell ↦ rw fell refl
+    ]
+
+fills-found :
+    (links : List Link) (instructions : List Instruction) (day : ℤ) (list : List Entry)
+    → filter_map (λ e. fill_by day (standing_in links instructions e) (version_of e)) list ≡ map (λ (v : Version). v.fill) (kept_on links day (filter_map version_of list))
+fills-found links instructions day [] = refl
+fills-found links instructions day (entry ∷ list) =
+    ap (cons_option (fill_by day (standing_in links instructions entry) (version_of entry))) (fills-found links instructions day list)
+    ∙ fill-kept links instructions day (version_of entry) (allocation_of entry.command) (filter_map version_of list)
+
+parts-found :
+    (links : List Link) (instructions : List Instruction) (day : ℤ) (list : List Entry)
+    → filter_map (λ e. part_by day (standing_in links instructions e) (version_of e)) list ≡ map (part_at links instructions) (kept_on links day (filter_map version_of list))
+parts-found links instructions day [] = refl
+parts-found links instructions day (entry ∷ list) =
+    ap (cons_option (part_by day (standing_in links instructions entry) (version_of entry))) (parts-found links instructions day list)
+    ∙ part-kept links instructions day (version_of entry) (allocation_of entry.command) (filter_map version_of list)
+
+-- the fills of a day, and what they add
+pub fills-told : (list : List Entry) (day : ℤ) → fills_among list day list ≡ fills_on list day
+fills-told list day = fills-found (links_of list) (instructions_of list) day list
+
+pub parts-told : (list : List Entry) (day : ℤ) → parts_among list day list ≡ survivor_parts_on list day
+parts-told list day = parts-found (links_of list) (instructions_of list) day list
+
+-- ---- the live allocations of a day
+
+abbrev live_on : List Instruction → ℤ → List Allocation → List Allocation
+live_on instructions day allocations = filter (is_allocated_on day) (filter (λ a. is_none (ended_in instructions a.key)) allocations)
+
+-- the terms of an allocation, where it is live and of a day
+abbrev live_by : List Instruction → ℤ → Option Allocation → Option Terms
+live_by instructions day None = None
+live_by instructions day (Some a) = if is_none (ended_in instructions a.key) then day_terms day (Some a) else None
+
+no-terms : (day : ℤ) (standing : Standing) → terms_by day standing None ≡ None
+no-terms day (Stands named) = refl
+no-terms day Live = refl
+no-terms day Neither = refl
+
+terms-of : (instructions : List Instruction) (day : ℤ) (a : Allocation) → terms_by day (allocation_standing instructions a.key) (Some a) ≡ live_by instructions day (Some a)
+terms-of instructions day a =
+    elim (cases_Bool (is_none (ended_in instructions a.key))) [
+      | inl live ↦ rw live refl
+      | inr ended ↦ rw ended refl
+    ]
+
+terms-by :
+    (links : List Link) (instructions : List Instruction) (day : ℤ) (number : ℕ) (command : Command)
+    → terms_by day (standing_by links instructions (version_by number command) (allocation_of command)) (allocation_of command) ≡ live_by instructions day (allocation_of command)
+terms-by links instructions day number (Trade trade) = no-terms day _
+terms-by links instructions day number (Correct correct) = no-terms day _
+terms-by links instructions day number (Bust bust) = refl
+terms-by links instructions day number (AllocNew new) = terms-of instructions day (record { key = new.key; terms = new.terms })
+terms-by links instructions day number (AllocReplace replace) = terms-of instructions day (record { key = replace.key; terms = replace.terms })
+terms-by links instructions day number (AllocCancel cancel) = refl
+terms-by links instructions day number (Withdraw withdrawn) = refl
+
+terms-kept :
+    (instructions : List Instruction) (day : ℤ) (found : Option Allocation) (rest : List Allocation)
+    → cons_option (live_by instructions day found) (map (λ a. a.terms) (live_on instructions day rest)) ≡ map (λ a. a.terms) (live_on instructions day (cons_option found rest))
+terms-kept instructions day None rest = refl
+terms-kept instructions day (Some a) rest =
+    elim (cases_Bool (is_none (ended_in instructions a.key))) [
+      | inl live ↦
+          elim (cases_Bool (is_allocated_on day a)) [
+            | inl on ↦ rw (live, on) refl
+            | inr off ↦ rw (live, off) refl
+          ]
+      | inr ended ↦ rw ended refl
+    ]
+
+terms-found :
+    (links : List Link) (instructions : List Instruction) (day : ℤ) (list : List Entry)
+    → filter_map (λ e. terms_by day (standing_in links instructions e) (allocation_of e.command)) list
+    ≡ map (λ a. a.terms) (live_on instructions day (filter_map (λ e. allocation_of e.command) list))
+terms-found links instructions day [] = refl
+terms-found links instructions day (entry ∷ list) =
+    (λ i. cons_option (terms-by links instructions day entry.number entry.command i) (terms-found links instructions day list i))
+    ∙ terms-kept instructions day (allocation_of entry.command) (filter_map (λ (e : Entry). allocation_of e.command) list)
+
+pub terms-told : (list : List Entry) (day : ℤ) → terms_among list day list ≡ map (λ (a : Allocation). a.terms) (allocations_on list day)
+terms-told list day = terms-found (links_of list) (instructions_of list) day list
+
+-- what the items of a mapped list hold
+pub flat-mapped : {A B C : Type 0} (f : B → List C) (g : A → B) (xs : List A) → flat_map f (map g xs) ≡ flat_map (λ x. f (g x)) xs
+flat-mapped f g [] = refl
+flat-mapped f g (x ∷ xs) = ap (λ rest. f (g x) ++ rest) (flat-mapped f g xs)
+
+-- ---- the standing at a place
+
+pub mapped-at : {A B : Type 0} (f : A → B) (xs : List A) (n : ℕ) (x : A) (b : B) → n < length xs → x ≡ get_or xs n x → get_or (map f xs) n b ≡ f x
+mapped-at f [] n x b within is = absurd (omega (arith, within))
+mapped-at f (y ∷ xs) zero x b within is = ap f (sym is)
+mapped-at f (y ∷ xs) (suc n) x b within is = mapped-at f xs n x b (omega (arith, within)) is

@@ -1,7 +1,0 @@
-use Rattle.std.proofs.Common.{ap, ◌∙◌}
-use Rattle.std.specs.Prelude.{is_some}
-use Rattle.blot_command.proofs.LiveLemmas.{named-holder}
-use Rattle.blot_report.proofs.linked.Linked.is_named.Goals as goal
-
-pub returns : goal.returns
-returns c = c.is_some.ensures ∙ ap is_some c.holder_of.ensures.holder ∙ named-holder c.args.self.now.allocs.list c.args.root.now

@@ -1,0 +1,73 @@
+-- What stands on a day, as the standing of each entry tells it.
+use Rattle.std.specs.Prelude.{◌≡◌, ℤ, true, List, Option, Some, None, if◌then◌else◌}
+use Rattle.std.specs.List.{filter_map, flat_map}
+use Rattle.std.specs.Option.{option_map}
+use Rattle.blot_types.specs.declared.allocation.Terms.{Terms}
+use Rattle.blot_types.specs.declared.command.Entry.{Entry}
+use Rattle.blot_types.specs.declared.fill.Fill.{Fill}
+use Rattle.blot_types.specs.declared.part.Part.{Part}
+use Rattle.blot_types.specs.declared.lines.Version.{Version}
+use Rattle.blot_types.specs.Allocations.{Allocation, allocation_of}
+use Rattle.blot_types.specs.Legal.{is_book}
+use Rattle.blot_types.specs.Position.{moves_of, part_of_fill}
+use Rattle.blot_types.specs.Survivors.{version_of}
+use Rattle.blot_command.specs.declared.standing.Standing.{Standing}
+use Rattle.blot_command.specs.declared.standing.Standing.TheVariants.{Stands, Live, Neither}
+use Rattle.blot_command.specs.Standings.{standing_of, standings_of}
+use Rattle.blot_report.specs.Day.{is_on, is_allocated_on}
+
+-- entries are a book, and the standings are theirs
+pub record AreStandings (entries : List Entry) (standings : List Standing) : Type 0 where
+  pub book : is_book entries ≡ true
+  pub each : standings ≡ standings_of entries
+
+-- the fill of a version, if there is one and it is of a day
+abbrev pub day_fill : ℤ → Option Version → Option Fill
+day_fill day None = None
+day_fill day (Some version) = if is_on day version then Some version.fill else None
+
+-- that of an entry of a standing, if it stands; and what it adds to the positions
+abbrev pub fill_by : ℤ → Standing → Option Version → Option Fill
+fill_by day (Stands named) found = day_fill day found
+fill_by day Live found = None
+fill_by day Neither found = None
+
+abbrev pub part_by : ℤ → Standing → Option Version → Option Part
+part_by day (Stands named) found = option_map (part_of_fill named) (day_fill day found)
+part_by day Live found = None
+part_by day Neither found = None
+
+abbrev pub fill_on : ℤ → Standing → Entry → Option Fill
+fill_on day standing entry = fill_by day standing (version_of entry)
+
+abbrev pub part_on : ℤ → Standing → Entry → Option Part
+part_on day standing entry = part_by day standing (version_of entry)
+
+-- the terms of an allocation, if there is one and it is of a day
+abbrev pub day_terms : ℤ → Option Allocation → Option Terms
+day_terms day None = None
+day_terms day (Some allocation) = if is_allocated_on day allocation then Some allocation.terms else None
+
+-- those of an entry of a standing, if it is live
+abbrev pub terms_by : ℤ → Standing → Option Allocation → Option Terms
+terms_by day (Stands named) found = None
+terms_by day Live found = day_terms day found
+terms_by day Neither found = None
+
+abbrev pub terms_on : ℤ → Standing → Entry → Option Terms
+terms_on day standing entry = terms_by day standing (allocation_of entry.command)
+
+-- ---- of some entries of a list, in their order
+
+abbrev pub fills_among : List Entry → ℤ → List Entry → List Fill
+fills_among list day entries = filter_map (λ entry. fill_on day (standing_of list entry) entry) entries
+
+abbrev pub parts_among : List Entry → ℤ → List Entry → List Part
+parts_among list day entries = filter_map (λ entry. part_on day (standing_of list entry) entry) entries
+
+abbrev pub terms_among : List Entry → ℤ → List Entry → List Terms
+terms_among list day entries = filter_map (λ entry. terms_on day (standing_of list entry) entry) entries
+
+-- what the lines of these move
+abbrev pub moves_among : List Entry → ℤ → List Entry → List Part
+moves_among list day entries = flat_map moves_of (terms_among list day entries)
