@@ -1,22 +1,24 @@
 -- The positions of the live list with one entry more, and with one less.
-use Rattle.std.proofs.Common.{◌≡◌, true, List, [], ◌∷◌, ◌++◌, reverse, Option, Some, None, sym, ap, subst, ◌∙◌}
+use Rattle.std.proofs.Common.{◌≡◌, ℕ, ◌+◌, ◌<◌, true, List, [], ◌∷◌, ◌++◌, reverse, Option, Some, None, refl, sym, ap, subst, ◌∙◌, arith}
 use Rattle.std.specs.List.{last_or}
 use Rattle.std.specs.Option.{option_map}
+use Rattle.std.proofs.lemmas.Bool.{and_from, and_parts, lt-ltb, ltb-true}
 use Rattle.std.proofs.lemmas.List.{reverse-append, reverse-reverse}
 use Rattle.blot_types.specs.declared.command.Entry.{Entry}
 use Rattle.blot_types.specs.declared.keys.AllocKey.{AllocKey}
 use Rattle.blot_types.specs.declared.part.Part.{Part}
 use Rattle.blot_types.specs.declared.lines.Version.{Version}
-use Rattle.blot_types.specs.Legal.{is_book}
+use Rattle.blot_types.specs.Legal.{is_above_entries, is_book}
 use Rattle.blot_types.specs.Position.{part_of}
 use Rattle.blot_types.specs.Refusals.{alloc_reference}
 use Rattle.blot_types.specs.Survivors.{version_of}
 use Rattle.blot_types.proofs.ChangeLemmas.{replaced_version}
+use Rattle.blot_types.proofs.OrderLemmas.{last_or-push}
 use Rattle.blot_position.specs.Positions.{Cells}
 use Rattle.blot_command.specs.Book.{Shown}
 use Rattle.blot_command.specs.Booking.{Change, changed_all, CanChangeAll, rebooked, allocated, released}
 use Rattle.blot_command.specs.Carried.{Opens, HasEntryCells, EntryFits, IsReady, ShowsPositions}
-use Rattle.blot_command.specs.Withdrawing.{with_entry}
+use Rattle.blot_command.specs.Withdrawing.{with_entry, HasLast}
 use Rattle.blot_command.proofs.EntryMoveLemmas.{own_key, AreApart, goes-apart, comes-apart, next-apart}
 use Rattle.blot_command.proofs.LiveLemmas.{next-entry}
 use Rattle.blot_command.proofs.ReadyLemmas.{ready-stays, shows-opened, ready-more, ready-less, CarriesList, CanMove}
@@ -52,6 +54,29 @@ pub last-split : (list : List Entry) (entry : Entry) → last_or None list ≡ S
 last-split [] entry is = cc
 last-split (x ∷ []) entry is = (let one : x ≡ entry = cc in ([], ap (λ e. e ∷ []) one))
 last-split (x ∷ y ∷ ys) entry is = (let rest = last-split (y ∷ ys) entry is in (x ∷ rest.0, ap (λ l. x ∷ l) rest.1))
+
+-- what is below a number is below the next one
+above-next : (n : ℕ) (entries : List Entry) → is_above_entries n entries ≡ true → is_above_entries (n + 1) entries ≡ true
+above-next n [] above = refl
+above-next n (entry ∷ entries) above =
+    let parts = and_parts _ _ above in
+    let less : entry.number < n = ltb-true _ _ parts.0 in
+    and_from _ _ (lt-ltb entry.number (n + 1) (omega arith)) (above-next n entries parts.1)
+
+-- an entry that was put after the others, above all that are kept, is the last one
+pub has-last : (old new : Shown) (entry : Entry) → new ≡ with_entry entry old → is_above_entries entry.number old.kept ≡ true → HasLast new
+has-last old new entry is above = record {
+  rest = old.list;
+  entry = entry;
+  is = ap (λ (shown : Shown). shown.list) is;
+  above = ap (λ (shown : Shown). is_above_entries (entry.number + 1) shown.kept) is ∙ above-next entry.number old.kept above;
+}
+
+pub last-is : (old new : Shown) (entry last : Entry) → new ≡ with_entry entry old → last_or None new.list ≡ Some last → last ≡ entry
+last-is old new entry last is found =
+    let own : last_or None new.list ≡ Some entry = ap (λ (shown : Shown). last_or None shown.list) is ∙ last_or-push None old.list entry in
+    let same : Some last ≡ Some entry = sym found ∙ own in
+    cc
 
 -- it ends in one entry alone
 pub same-ends : (a b : List Entry) (x y : Entry) → a ++ x ∷ [] ≡ b ++ y ∷ [] → (a ≡ b) × (x ≡ y)

@@ -3,7 +3,8 @@ ghost use Rattle.std.specs.Prelude.{◌≡◌, [], ◌∷◌, ◌++◌, find, So
 ghost use Rattle.std.specs.Option.{option_map};
 ghost use Rattle.blot_types.specs.Laws.{HasBoundedTotals};
 ghost use Rattle.blot_types.specs.Legal.{is_above_entries, is_book, without};
-ghost use Rattle.blot_types.specs.Position.{part_of, position_of};
+ghost use Rattle.blot_types.specs.Position.{is_named, part_of, part_of_fill, position_of};
+ghost use Rattle.blot_types.specs.Survivors.{version_of};
 ghost use Rattle.blot_command.specs.Book.{has_number};
 ghost use Rattle.blot_command.specs.Shown.{version_replaced};
 ghost use Rattle.blot_command.specs.Withdrawing.{with_entry, HasLast, lifted, returned, CanReturn};
@@ -13,7 +14,9 @@ use crate::BoxedEntry;
 use crate::booking::{open_cells, put_lines, put_part, rebook, take_lines, take_part};
 use crate::live::LiveList;
 use blot_position::Positions;
-use blot_types::{AllocKey, Entry, ExecKey, Part, PositionLine, Text64, Version};
+use blot_types::{
+    AllocKey, Command, Entry, ExecKey, Fill, Part, PositionLine, Text64, Version,
+};
 use std::alloc::Global;
 use std::marker::Model;
 
@@ -82,13 +85,12 @@ impl Accounts {
         let Ok(()) = open_cells(&mut self.positions, &entry) else {
             return Err(entry);
         };
-        let version = entry.version();
         let ended = entry.command.alloc_reference();
         let brought = entry.command.brought_key();
         let gone = part_of(&self.live, replaced);
         match self.live.push(entry) {
             Ok(()) => {
-                let come = part_of(&self.live, &version);
+                let come = part_by(&self.live, self.live.last());
                 rebook(&mut self.positions, &gone, &come);
                 release(&mut self.positions, &self.live, &ended);
                 allocate(&mut self.positions, &self.live, &brought);
@@ -113,7 +115,7 @@ impl Accounts {
         allocate(&mut self.positions, &self.live, &ended);
         let gone = part_of(&self.live, &version);
         let entry = self.live.pop();
-        let come = part_of(&self.live, &self.live.replaced(&entry.link()));
+        let come = part_of(&self.live, &self.live.replaced(&entry));
         rebook(&mut self.positions, &gone, &come);
         entry
     }
@@ -167,8 +169,30 @@ fn part_of(live: &LiveList, version: &Option<Version>) -> Option<Part>
 {
     match version {
         None => None,
-        Some(version) => Some(Part::of_fill(live.is_named(&version.key), &version.fill)),
+        Some(version) => Some(part_in(live, &version.key, &version.fill)),
     }
+}
+
+// What the version adds that an entry brings, if it brings one.
+fn part_by(live: &LiveList, entry: &Entry) -> Option<Part>
+    ensures { result ≡ option_map (part_of live.now.list) (version_of entry.now) }
+{
+    match &entry.command {
+        Command::Trade(trade) => Some(part_in(live, &trade.key, &trade.fill)),
+        Command::Correct(correct) => Some(part_in(live, &correct.key, &correct.fill)),
+        Command::Bust(_)
+        | Command::AllocNew(_)
+        | Command::AllocReplace(_)
+        | Command::AllocCancel(_)
+        | Command::Withdraw(_) => None,
+    }
+}
+
+// What the fill of a key adds.
+fn part_in(live: &LiveList, key: &ExecKey, fill: &Fill) -> Part
+    ensures { result ≡ part_of_fill (is_named live.now.list key.now) fill.now }
+{
+    Part::of_fill(live.is_named(key), fill)
 }
 
 // Puts what the allocation of a key changes, if there is a key: its chains go to the house account, and its

@@ -9,7 +9,7 @@ ghost use Rattle.blot_types.specs.Position.{is_named};
 ghost use Rattle.blot_types.specs.Standing.{chain_by, standing};
 ghost use Rattle.blot_types.specs.Survivors.{links_of};
 ghost use Rattle.blot_command.specs.Book.{has_number};
-ghost use Rattle.blot_command.specs.Shown.{version_replaced_by, terms_of_key, terms_keyed, roots_keyed};
+ghost use Rattle.blot_command.specs.Shown.{version_replaced, terms_of_key, terms_keyed, roots_keyed};
 ghost use Rattle.blot_command.specs.Slots.{entries_in};
 ghost use Rattle.blot_command.specs.Standings.{standings_of};
 ghost use Rattle.blot_command.specs.Withdrawing.{with_entry, HasLast, lifted, returned, CanReturn};
@@ -136,18 +136,20 @@ impl LiveList {
         blocked(&self.slots, &self.chains, &self.allocs, number)
     }
 
-    /// The version whose place an entry's link takes, or which it busts.
-    pub(crate) fn replaced(&self, link: &Option<Link>) -> Option<Version>
-        ensures { result ≡ version_replaced_by self.now.list link.now }
+    /// The version whose place an entry takes, or which it busts.
+    pub(crate) fn replaced(&self, entry: &Entry) -> Option<Version>
+        ensures { result ≡ version_replaced self.now.list entry.now }
     {
-        match link {
-            None => None,
-            Some(link) => match link.role {
-                Role::Begins => None,
-                Role::Corrects(reference) | Role::Busts(reference) => {
-                    current_version(&self.slots, &self.chains, &reference)
-                }
-            },
+        match &entry.command {
+            Command::Correct(correct) => {
+                current_version(&self.slots, &self.chains, &correct.reference)
+            }
+            Command::Bust(bust) => current_version(&self.slots, &self.chains, &bust.reference),
+            Command::Trade(_)
+            | Command::AllocNew(_)
+            | Command::AllocReplace(_)
+            | Command::AllocCancel(_)
+            | Command::Withdraw(_) => None,
         }
     }
 

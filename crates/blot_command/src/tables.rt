@@ -8,6 +8,7 @@ ghost use Rattle.blot_types.specs.Order.{order_of};
 ghost use Rattle.blot_types.specs.Position.{position_of};
 ghost use Rattle.blot_types.specs.declared.TheConstants.{EVENTS_MAX};
 ghost use Rattle.blot_order.specs.Fills.{put_at, kept_at};
+ghost use Rattle.blot_types.specs.Survivors.{version_of};
 ghost use Rattle.blot_command.specs.Book.{has_number};
 ghost use Rattle.blot_command.specs.Shown.{chain_numbered, with_put, with_kept, IsPut, IsKept, CanPut};
 ghost use Rattle.blot_command.specs.Withdrawing.{with_entry, HasLast, lifted, returned, CanReturn};
@@ -146,15 +147,14 @@ impl Tables {
         ensures err { OnErr result (self.new ≡ self.old) }
         ensures returned { IfErr result (λ back. back ≡ entry) }
     {
-        let version = entry.version();
-        let replaced = self.accounts.live().replaced(&entry.link());
-        let Ok(()) = hold(&mut self.orders, &version) else {
+        let replaced = self.accounts.live().replaced(&entry);
+        let Ok(()) = hold(&mut self.orders, &entry) else {
             return Err(entry);
         };
         match self.accounts.push(entry, &replaced) {
             Ok(()) => {
                 take(&mut self.orders, &replaced);
-                un_take(&mut self.orders, &version);
+                put_held(&mut self.orders, self.accounts.live().last());
                 Ok(())
             }
             Err(back) => Err(back),
@@ -169,7 +169,7 @@ impl Tables {
     {
         let entry = self.accounts.pop();
         let version = entry.version();
-        let restored = self.accounts.live().replaced(&entry.link());
+        let restored = self.accounts.live().replaced(&entry);
         take(&mut self.orders, &version);
         un_take(&mut self.orders, &restored);
         entry
@@ -221,15 +221,35 @@ impl Tables {
     }
 }
 
-// Makes the cell of the fill of a version, if there is one.
-fn hold(orders: &mut Orders, version: &Option<Version>) -> Result<(), NoMemory>
-    requires { IfSome version.now (λ version. CanPut version orders.old) }
-    ensures ok { OnOk result (orders.new ≡ with_kept version.now orders.old) }
+// Makes the cell of the fill that an entry brings, if it brings one.
+fn hold(orders: &mut Orders, entry: &Entry) -> Result<(), NoMemory>
+    requires { IfSome (version_of entry.now) (λ version. CanPut version orders.old) }
+    ensures ok { OnOk result (orders.new ≡ with_kept (version_of entry.now) orders.old) }
     ensures err { OnErr result (orders.new ≡ orders.old) }
 {
-    match version {
-        None => Ok(()),
-        Some(version) => orders.hold(version.number, &version.fill),
+    match &entry.command {
+        Command::Trade(trade) => orders.hold(entry.number, &trade.fill),
+        Command::Correct(correct) => orders.hold(entry.number, &correct.fill),
+        Command::Bust(_)
+        | Command::AllocNew(_)
+        | Command::AllocReplace(_)
+        | Command::AllocCancel(_)
+        | Command::Withdraw(_) => Ok(()),
+    }
+}
+
+// Puts the fill that an entry brings, which is held under its number.
+fn put_held(orders: &mut Orders, entry: &Entry)
+    requires { IfSome (version_of entry.now) (λ version. IsKept version orders.old) }
+    ensures { orders.new ≡ with_put (version_of entry.now) orders.old }
+{
+    match &entry.command {
+        Command::Trade(_) | Command::Correct(_) => orders.un_take(entry.number),
+        Command::Bust(_)
+        | Command::AllocNew(_)
+        | Command::AllocReplace(_)
+        | Command::AllocCancel(_)
+        | Command::Withdraw(_) => {}
     }
 }
 

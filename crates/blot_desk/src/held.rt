@@ -68,14 +68,11 @@ impl Held {
         let Ok(()) = self.history.reserve(1) else {
             return Err(DeskFault::NoMemory);
         };
-        let Ok(copy) = event.try_copy(self.alloc) else {
-            return Err(DeskFault::NoMemory);
-        };
-        let reply = match take(&mut self.steps, event) {
+        let reply = match take(&mut self.steps, self.alloc, &event) {
             Ok(reply) => reply,
             Err(_) => return Err(DeskFault::NoMemory),
         };
-        record(&mut self.history, copy, &reply);
+        record(&mut self.history, event, &reply);
         Ok(reply)
     }
 

@@ -6,32 +6,37 @@ use crate::{Event, Reply};
 use blot_command::ApplyFault;
 use blot_types::{Command, EVENTS_MAX, Refused};
 use blot_undo::{StepFault, Steps};
-use std::alloc::AllocError as NoMemory;
+use std::alloc::{AllocError as NoMemory, Global};
 
-/// Takes an event, and gives the reply to it.
-pub(crate) fn take(steps: &mut Steps<Command>, event: Event) -> Result<Reply, NoMemory>
+/// Takes an event, and gives the reply to it. The book keeps a command of its own.
+pub(crate) fn take(
+    steps: &mut Steps<Command>,
+    alloc: Global,
+    event: &Event,
+) -> Result<Reply, NoMemory>
     requires { steps.old.next ≤ EVENTS_MAX }
-    ensures ok { IfOk result (λ reply. outcome_in steps.new reply ≡ step_of (desk_book steps.old) event) }
+    ensures ok { IfOk result (λ reply. outcome_in steps.new reply ≡ step_of (desk_book steps.old) event.now) }
     ensures err { OnErr result (desk_book steps.new ≡ desk_book steps.old) }
 {
     match event {
-        Event::Submit(command) => submit(steps, command),
-        Event::Undo { newest } => Ok(undo(steps, newest)),
+        Event::Submit(command) => submit(steps, alloc, command),
+        Event::Undo { newest } => Ok(undo(steps, *newest)),
         Event::Redo => redo(steps),
-        Event::AskOrder(order) => Ok(Reply::Order(steps.state().order(&order))),
+        Event::AskOrder(order) => Ok(Reply::Order(steps.state().order(order))),
         Event::AskPosition(account, symbol) => {
-            Ok(Reply::Position(steps.state().position(&account, &symbol)))
+            Ok(Reply::Position(steps.state().position(account, symbol)))
         }
     }
 }
 
 // Takes a command, or refuses it.
-fn submit(steps: &mut Steps<Command>, command: Command) -> Result<Reply, NoMemory>
+fn submit(steps: &mut Steps<Command>, alloc: Global, command: &Command) -> Result<Reply, NoMemory>
     requires { steps.old.next ≤ EVENTS_MAX }
-    ensures ok { IfOk result (λ reply. outcome_in steps.new reply ≡ submit_of (desk_book steps.old) command) }
+    ensures ok { IfOk result (λ reply. outcome_in steps.new reply ≡ submit_of (desk_book steps.old) command.now) }
     ensures err { OnErr result (desk_book steps.new ≡ desk_book steps.old) }
 {
-    let outcome = steps.apply(command);
+    let own = command.try_copy(alloc)?;
+    let outcome = steps.apply(own);
     match &outcome {
         Ok(number) => Ok(Reply::Accepted(*number)),
         Err(StepFault::Refused(_, ApplyFault::Refused(reason))) => Ok(Reply::Refused(*reason)),

@@ -1,6 +1,6 @@
 use Rattle.std.proofs.Common.{◌++◌, ◌∷◌, [], ap, ◌∙◌, sym, subst}
 use Rattle.std.specs.Option.{option_map}
-use Rattle.blot_types.specs.Legal.{is_book}
+use Rattle.blot_types.specs.Legal.{is_above_entries, is_book}
 use Rattle.blot_types.specs.Position.{part_of}
 use Rattle.blot_types.specs.Survivors.{version_of}
 use Rattle.blot_types.proofs.ChangeLemmas.{replaced_version}
@@ -9,8 +9,13 @@ use Rattle.blot_command.specs.Shown.{version_replaced}
 use Rattle.blot_command.specs.Booking.{rebooked, released, allocated}
 use Rattle.blot_command.specs.Carried.{ShowsPositions}
 use Rattle.blot_command.proofs.ReadyLemmas.{shows-opened}
-use Rattle.blot_command.proofs.AccountLemmas.{Reads, pushes, move-second, move-third, move-shows}
+use Rattle.blot_command.proofs.AccountLemmas.{Reads, has-last, last-is, pushes, move-second, move-third, move-shows}
 use Rattle.blot_command.proofs.accounts.Accounts.push.Goals as goal
+
+pub last-requires : goal.last-requires
+last-requires c =
+    let above = ap (λ (shown : Shown). is_above_entries c.args.entry.number shown.kept) c.self.view_is ∙ c.requires.above in
+    has-last c.self.inside.live c.push.new.self c.args.entry c.in-Ok-push.ensures.ok above
 
 pub rebook-requires : goal.rebook-requires
 rebook-requires c =
@@ -19,11 +24,11 @@ rebook-requires c =
     let entry = c.args.entry in
     let cells = c.open_cells.new.positions in
     let gone = c.part_of-gone.result in
-    let come = c.part_of-come.result in
+    let come = c.part_by-come.result in
     let ended = c.alloc_reference-ended.result in
     let brought = c.brought_key-brought.result in
     let it : Reads new.list old.list entry (version_of entry) (replaced_version old.list entry) come gone ended brought = record {
-      lost_is = c.part_of-come.ensures ∙ ap (option_map (part_of new.list)) c.version-version.ensures;
+      lost_is = c.part_by-come.ensures ∙ ap (λ last. option_map (part_of new.list) (version_of last)) (last-is old new entry c.last.result.now c.in-Ok-push.ensures.ok c.last.ensures.last);
       gained_is = c.part_of-gone.ensures ∙ ap (option_map (part_of old.list)) (c.requires.replaces ∙ sym (ap (λ (shown : Shown). version_replaced shown.list entry) c.self.view_is));
       ended_is = c.alloc_reference-ended.ensures;
       brought_is = c.brought_key-brought.ensures;
@@ -39,11 +44,11 @@ release-requires c =
     let entry = c.args.entry in
     let cells = c.open_cells.new.positions in
     let gone = c.part_of-gone.result in
-    let come = c.part_of-come.result in
+    let come = c.part_by-come.result in
     let ended = c.alloc_reference-ended.result in
     let brought = c.brought_key-brought.result in
     let it : Reads new.list old.list entry (version_of entry) (replaced_version old.list entry) come gone ended brought = record {
-      lost_is = c.part_of-come.ensures ∙ ap (option_map (part_of new.list)) c.version-version.ensures;
+      lost_is = c.part_by-come.ensures ∙ ap (λ last. option_map (part_of new.list) (version_of last)) (last-is old new entry c.last.result.now c.in-Ok-push.ensures.ok c.last.ensures.last);
       gained_is = c.part_of-gone.ensures ∙ ap (option_map (part_of old.list)) (c.requires.replaces ∙ sym (ap (λ (shown : Shown). version_replaced shown.list entry) c.self.view_is));
       ended_is = c.alloc_reference-ended.ensures;
       brought_is = c.brought_key-brought.ensures;
@@ -59,11 +64,11 @@ allocate-requires c =
     let entry = c.args.entry in
     let cells = c.open_cells.new.positions in
     let gone = c.part_of-gone.result in
-    let come = c.part_of-come.result in
+    let come = c.part_by-come.result in
     let ended = c.alloc_reference-ended.result in
     let brought = c.brought_key-brought.result in
     let it : Reads new.list old.list entry (version_of entry) (replaced_version old.list entry) come gone ended brought = record {
-      lost_is = c.part_of-come.ensures ∙ ap (option_map (part_of new.list)) c.version-version.ensures;
+      lost_is = c.part_by-come.ensures ∙ ap (λ last. option_map (part_of new.list) (version_of last)) (last-is old new entry c.last.result.now c.in-Ok-push.ensures.ok c.last.ensures.last);
       gained_is = c.part_of-gone.ensures ∙ ap (option_map (part_of old.list)) (c.requires.replaces ∙ sym (ap (λ (shown : Shown). version_replaced shown.list entry) c.self.view_is));
       ended_is = c.alloc_reference-ended.ensures;
       brought_is = c.brought_key-brought.ensures;
@@ -79,11 +84,11 @@ invariant_of-self-in-Ok-push c =
     let entry = c.args.entry in
     let cells = c.open_cells.new.positions in
     let gone = c.part_of-gone.result in
-    let come = c.part_of-come.result in
+    let come = c.part_by-come.result in
     let ended = c.alloc_reference-ended.result in
     let brought = c.brought_key-brought.result in
     let it : Reads new.list old.list entry (version_of entry) (replaced_version old.list entry) come gone ended brought = record {
-      lost_is = c.part_of-come.ensures ∙ ap (option_map (part_of new.list)) c.version-version.ensures;
+      lost_is = c.part_by-come.ensures ∙ ap (λ last. option_map (part_of new.list) (version_of last)) (last-is old new entry c.last.result.now c.in-Ok-push.ensures.ok c.last.ensures.last);
       gained_is = c.part_of-gone.ensures ∙ ap (option_map (part_of old.list)) (c.requires.replaces ∙ sym (ap (λ (shown : Shown). version_replaced shown.list entry) c.self.view_is));
       ended_is = c.alloc_reference-ended.ensures;
       brought_is = c.brought_key-brought.ensures;

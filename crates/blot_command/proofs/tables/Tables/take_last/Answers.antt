@@ -1,9 +1,7 @@
 use Rattle.std.proofs.Common.{ap, ◌∙◌, sym, subst}
-use Rattle.std.specs.Option.{option_and_then}
 use Rattle.std.specs.Prelude.{IfSome}
-use Rattle.blot_types.specs.Chains.{replaced_by}
-use Rattle.blot_types.specs.Survivors.{links_of}
-use Rattle.blot_command.specs.Shown.{version_numbered, Shows, with_put, IsKept}
+use Rattle.blot_command.specs.Book.{Shown}
+use Rattle.blot_command.specs.Shown.{version_replaced, Shows, with_put, IsKept}
 use Rattle.blot_command.proofs.RecordLemmas.{brings, takes_last}
 use Rattle.blot_command.proofs.tables.Tables.take_last.Goals as goal
 
@@ -11,7 +9,7 @@ pub take-requires : goal.take-requires
 take-requires c =
     let entry = c.pop-entry.result in
     let brought = brings entry c.version-version.result c.version-version.ensures in
-    let read = c.replaced-restored.ensures ∙ (λ k. option_and_then (version_numbered (c.live.ensures k).list) (replaced_by (links_of (c.live.ensures k).list) (c.link.ensures k))) in
+    let read = c.replaced-restored.ensures ∙ ap (λ (shown : Shown). version_replaced shown.list entry) c.live.ensures in
     let does =
     takes_last c.self.inside.accounts c.pop-entry.new.self entry c.self.inside.orders c.version-version.result c.replaced-restored.result c.pop-entry.ensures.rest c.pop-entry.ensures.book c.self.invariant brought
     read in
@@ -21,7 +19,7 @@ pub un_take-requires : goal.un_take-requires
 un_take-requires c =
     let entry = c.pop-entry.result in
     let brought = brings entry c.version-version.result c.version-version.ensures in
-    let read = c.replaced-restored.ensures ∙ (λ k. option_and_then (version_numbered (c.live.ensures k).list) (replaced_by (links_of (c.live.ensures k).list) (c.link.ensures k))) in
+    let read = c.replaced-restored.ensures ∙ ap (λ (shown : Shown). version_replaced shown.list entry) c.live.ensures in
     let does =
     takes_last c.self.inside.accounts c.pop-entry.new.self entry c.self.inside.orders c.version-version.result c.replaced-restored.result c.pop-entry.ensures.rest c.pop-entry.ensures.book c.self.invariant brought
     read in
@@ -31,7 +29,7 @@ pub invariant_of-self : goal.invariant_of-self
 invariant_of-self c =
     let entry = c.pop-entry.result in
     let brought = brings entry c.version-version.result c.version-version.ensures in
-    let read = c.replaced-restored.ensures ∙ (λ k. option_and_then (version_numbered (c.live.ensures k).list) (replaced_by (links_of (c.live.ensures k).list) (c.link.ensures k))) in
+    let read = c.replaced-restored.ensures ∙ ap (λ (shown : Shown). version_replaced shown.list entry) c.live.ensures in
     let does =
     takes_last c.self.inside.accounts c.pop-entry.new.self entry c.self.inside.orders c.version-version.result c.replaced-restored.result c.pop-entry.ensures.rest c.pop-entry.ensures.book c.self.invariant brought
     read in
