@@ -6,7 +6,6 @@ use Rattle.blot_places.specs.declared.slots.Slot.{Slot}
 use Rattle.blot_places.specs.Places.{HasRoom, Stacks, places_in}
 use Rattle.blot_places.specs.Slots.{is_below, is_up_to, live_item, newest_live, places_above, places_below, places_by}
 use Rattle.blot_types.specs.declared.keys.ExecKey.{ExecKey}
-use Rattle.blot_types.specs.declared.link.Role.{Role}
 use Rattle.blot_types.specs.Keys.{same_exec}
 use Rattle.blot_types.specs.Refusals.{first_of}
 use Rattle.blot_chain.specs.declared.index.Index.{Index}
@@ -19,15 +18,11 @@ pub record IsIndexed (index : Index) (slots : List (Slot Rooted)) : Type 0 where
   pub versions : (root : ExecKey) → places_in same_exec index.versions root ≡ places_by (is_version_of root) slots
   pub busts : (root : ExecKey) → places_in same_exec index.busts root ≡ places_by (is_bust_of root) slots
 
--- there is room for the place of one more slot
-pub record HasRoomFor (index : Index) (key : ExecKey) (role : Role) (root : ExecKey) : Type 0 where
-  pub takers : HasRoom same_exec index.takers key
-  pub versions : IsTrue (is_version role) → HasRoom same_exec index.versions root
-  pub busts : IsTrue (is_bust role) → HasRoom same_exec index.busts root
-
--- the same, for that of a slot
-abbrev pub HasRoomForSlot : Index → Slot Rooted → Type 0
-HasRoomForSlot index slot = HasRoomFor index slot.item.link.key slot.item.link.role slot.item.root
+-- there is room for the place of one more slot, with this link
+pub record HasRoomFor (index : Index) (item : Rooted) : Type 0 where
+  pub takers : HasRoom same_exec index.takers item.link.key
+  pub versions : IsTrue (is_version item.link.role) → HasRoom same_exec index.versions item.root
+  pub busts : IsTrue (is_bust item.link.role) → HasRoom same_exec index.busts item.root
 
 -- whether a place is to stand under a key: it is to stand under its own, and this is its own
 abbrev pub is_wanted : Bool → ExecKey → ExecKey → Bool

@@ -1,4 +1,5 @@
 pub mod Holds
 pub mod Index
 pub mod Rooted
+pub mod RootedLink
 pub mod Steps

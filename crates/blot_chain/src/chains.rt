@@ -9,7 +9,7 @@ ghost use Rattle.blot_chain.specs.Steps.{Adds, AddsOne, CanReturn, IsNewest, exe
 use crate::index::{Index, number_above, number_at, number_below, referring_at, root_at};
 use crate::rooted::Rooted;
 use blot_places::{Slot, live_numbered, mark};
-use blot_types::{ExecKey, Link, Role, lesser};
+use blot_types::{ExecKey, Role, lesser};
 use std::alloc::{AllocError as NoMemory, Global};
 use std::marker::Model;
 
@@ -58,7 +58,7 @@ impl Chains {
         ensures kept { self.new.kept ≡ self.old.kept }
         ensures err { OnErr result (self.new ≡ self.old) }
     {
-        self.push_link(number, key, Role::Begins, *key)
+        self.push_link(Rooted::begun(number, key))
     }
 
     /// Adds a Correct, which brings a version to the chain of the reference. No listed link takes up its key,
@@ -78,7 +78,9 @@ impl Chains {
         ensures err { OnErr result (self.new ≡ self.old) }
     {
         let root = self.chain_of(reference);
-        self.push_link(number, key, Role::Corrects(*reference), root)
+        let role = Role::Corrects(*reference);
+        let item = Rooted::referring(self.alloc, number, key, role, root)?;
+        self.push_link(item)
     }
 
     /// Adds a Bust, which ends the chain of the reference. No listed link takes up its key, its number is above
@@ -93,7 +95,9 @@ impl Chains {
         ensures err { OnErr result (self.new ≡ self.old) }
     {
         let root = self.chain_of(reference);
-        self.push_link(number, key, Role::Busts(*reference), root)
+        let role = Role::Busts(*reference);
+        let item = Rooted::referring(self.alloc, number, key, role, root)?;
+        self.push_link(item)
     }
 
     /// Takes back a Trade of this key, the newest link. No memory is taken. This project's rule.
@@ -216,30 +220,19 @@ impl Chains {
     }
 
     // Adds a link at the end, with the root of its chain. All room is made before anything changes.
-    fn push_link(
-        &mut self,
-        number: u64,
-        key: &ExecKey,
-        role: Role,
-        root: ExecKey,
-    ) -> Result<(), NoMemory>
-        requires accepted { link_refusal self.old.list key.now role ≡ None }
-        requires above { IsTrue (is_above_links number self.old.list) }
-        requires above_kept { IsTrue (is_above_links number self.old.kept) }
-        requires rooted { chain_root self.old.list key.now role ≡ Some root }
-        ensures ok { OnOk result (Adds number key.now role self.old self.new) }
+    fn push_link(&mut self, item: Rooted) -> Result<(), NoMemory>
+        requires accepted { link_refusal self.old.list item.link.key item.link.role ≡ None }
+        requires above { IsTrue (is_above_links item.link.number self.old.list) }
+        requires above_kept { IsTrue (is_above_links item.link.number self.old.kept) }
+        requires rooted { chain_root self.old.list item.link.key item.link.role ≡ Some item.root }
+        ensures ok { OnOk result (Adds item.link.number item.link.key item.link.role self.old self.new) }
         ensures kept { self.new.kept ≡ self.old.kept }
         ensures err { OnErr result (self.new ≡ self.old) }
     {
         self.slots.reserve(1)?;
-        self.index.make_room(self.alloc, key, &role, &root)?;
-        let link = Link {
-            number,
-            key: *key,
-            role,
-        };
+        self.index.make_room(self.alloc, &item)?;
         let slot = Slot {
-            item: Rooted { link, root },
+            item,
             is_live: true,
         };
         let place = self.slots.len();
@@ -254,9 +247,9 @@ impl Chains {
         ensures adds { AddsOne key.now role self.new self.old }
         ensures kept { self.new.kept ≡ self.old.kept }
     {
-        match self.slots.pop() {
-            Some(slot) => self.index.pop(&slot),
-            None => unreachable!(),
-        }
+        let Some(slot) = self.slots.pop() else {
+            unreachable!()
+        };
+        self.index.pop(&slot);
     }
 }

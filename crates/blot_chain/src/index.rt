@@ -6,11 +6,11 @@ ghost use Rattle.blot_places.specs.Places.{HasRoom, PutsPlace, SamePlaces, Takes
 ghost use Rattle.blot_types.specs.Keys.{same_exec};
 ghost use Rattle.blot_types.specs.Refusals.{first_of};
 ghost use Rattle.blot_chain.specs.Rooted.{kept_root, link_number};
-ghost use Rattle.blot_chain.specs.Index.{BelowFirst, HasRoomFor, HasRoomForSlot, IsIndexed, UpToFirst, is_wanted, newest_below, newest_under, number_if_referring, oldest_above, referring_at};
+ghost use Rattle.blot_chain.specs.Index.{BelowFirst, HasRoomFor, IsIndexed, UpToFirst, is_wanted, newest_below, newest_under, number_if_referring, oldest_above, referring_at};
 
-use crate::rooted::{Rooted, is_bust, is_version, refers_to};
+use crate::rooted::Rooted;
 use blot_places::{Places, Slot, live_at, newest_live, oldest_live, places_above, places_below};
-use blot_types::{ExecKey, Role};
+use blot_types::{ExecKey, Numbered};
 use std::alloc::{AllocError as NoMemory, Global};
 
 /// The places of the slots: by the key that a link takes up, and by the root of the chain that it brings a
@@ -35,35 +35,24 @@ impl Index {
     }
 
     /// Makes room for the place of one more slot. An error leaves what is indexed.
-    pub(crate) fn make_room(
-        &mut self,
-        alloc: Global,
-        key: &ExecKey,
-        role: &Role,
-        root: &ExecKey,
-    ) -> Result<(), NoMemory>
+    pub(crate) fn make_room(&mut self, alloc: Global, item: &Rooted) -> Result<(), NoMemory>
         ensures same { NamesSame IsIndexed self.old self.new }
-        ensures room { OnOk result (HasRoomFor self.new key.now role.now root.now) }
+        ensures room { OnOk result (HasRoomFor self.new item.now) }
     {
-        self.takers.make_room(alloc, key)?;
-        make_room(&mut self.versions, alloc, is_version(role), root)?;
-        make_room(&mut self.busts, alloc, is_bust(role), root)
+        self.takers.make_room(alloc, item.key())?;
+        make_room(&mut self.versions, alloc, item.is_version(), item.root())?;
+        make_room(&mut self.busts, alloc, item.is_bust(), item.root())
     }
 
     /// Puts in the place of one more slot, after the others.
     pub(crate) fn push(&mut self, slot: &Slot<Rooted>, place: usize)
-        requires { HasRoomForSlot self.old slot.now }
+        requires { HasRoomFor self.old slot.now.item }
         ensures { NamesOneMore IsIndexed slot.now place self.old self.new }
     {
         let item = &slot.item;
-        self.takers.push(&item.link.key, place);
-        push_place(
-            &mut self.versions,
-            is_version(&item.link.role),
-            &item.root,
-            place,
-        );
-        push_place(&mut self.busts, is_bust(&item.link.role), &item.root, place);
+        self.takers.push(item.key(), place);
+        push_place(&mut self.versions, item.is_version(), item.root(), place);
+        push_place(&mut self.busts, item.is_bust(), item.root(), place);
     }
 
     /// Takes out the place of the newest slot.
@@ -71,9 +60,9 @@ impl Index {
         ensures { NamesOneLess IsIndexed slot.now self.old self.new }
     {
         let item = &slot.item;
-        self.takers.pop(&item.link.key);
-        pop_place(&mut self.versions, is_version(&item.link.role), &item.root);
-        pop_place(&mut self.busts, is_bust(&item.link.role), &item.root);
+        self.takers.pop(item.key());
+        pop_place(&mut self.versions, item.is_version(), item.root());
+        pop_place(&mut self.busts, item.is_bust(), item.root());
     }
 }
 
@@ -85,7 +74,7 @@ pub(crate) fn number_at(
 ) -> Option<u64>
     ensures { result ≡ option_map link_number (newest_under slots.now places.now key.now) }
 {
-    look_up(slots, places, key).map(|item| item.link.number)
+    look_up(slots, places, key).map(|item| item.number())
 }
 
 /// The number of the newest live link below a number, among the places under a key.
@@ -99,7 +88,7 @@ pub(crate) fn number_below(
     ensures { result ≡ option_map link_number (newest_below number slots.now places.now key.now) }
 {
     let stack = places_below(slots, places.under(key), number);
-    newest_live(slots, stack).map(|item| item.link.number)
+    newest_live(slots, stack).map(|item| item.number())
 }
 
 /// The number of the oldest live link above a number, among the places under a key.
@@ -113,7 +102,7 @@ pub(crate) fn number_above(
     ensures { result ≡ option_map link_number (oldest_above number slots.now places.now key.now) }
 {
     let stack = places_above(slots, places.under(key), number);
-    oldest_live(slots, stack).map(|item| item.link.number)
+    oldest_live(slots, stack).map(|item| item.number())
 }
 
 /// The number of the oldest live link above that of another, among the places under the other's root, that refers to the
@@ -126,8 +115,8 @@ pub(crate) fn referring_at(
     requires { UpToFirst item.now.link.number slots.now places.now item.now.root }
     ensures { result ≡ referring_at slots.now places.now item.now }
 {
-    let stack = places_above(slots, places.under(&item.root), item.link.number);
-    first_referring(slots, stack, &item.link.key)
+    let stack = places_above(slots, places.under(item.root()), item.number());
+    first_referring(slots, stack, item.key())
 }
 
 // The number of the first live link at these places that refers to a key.
@@ -147,8 +136,8 @@ fn number_if_referring(slots: &[Slot<Rooted>], place: usize, key: &ExecKey) -> O
     ensures { result ≡ number_if_referring slots.now key.now place }
 {
     let item = live_at(slots, place)?;
-    if refers_to(key, &item.link.role) {
-        Some(item.link.number)
+    if item.refers_to(key) {
+        Some(item.number())
     } else {
         None
     }
