@@ -1,3 +1,4 @@
+pub mod Cells
 pub mod Holds
 pub mod Index
 pub mod Rooted

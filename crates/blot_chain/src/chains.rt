@@ -6,7 +6,7 @@ ghost use Rattle.blot_types.specs.Laws.{IsOneTrade};
 ghost use Rattle.blot_chain.specs.Rooted.{chain_root};
 ghost use Rattle.blot_chain.specs.Steps.{Adds, AddsOne, CanReturn, IsNewest, exec_refusal, lifted_out, link_at, put_back};
 
-use crate::index::{Index, number_above, number_at, number_below, referring_at, root_at};
+use crate::index::{Index, number_above, number_below, number_on, referring_at, root_on};
 use crate::rooted::Rooted;
 use blot_places::{Slot, live_numbered, mark};
 use blot_types::{ExecKey, Role, lesser};
@@ -156,7 +156,7 @@ impl Chains {
         ensures root { result ≡ root_in self.now.list key.now }
         ensures one_trade { IfSome result (λ root. IsOneTrade self.now.list root) }
     {
-        root_at(&self.slots, &self.index.takers, key)
+        root_on(&self.slots, self.index.cells.takers(key))
     }
 
     /// The number of the last version of the chain of a root, busted or not. None where the key is no root.
@@ -164,21 +164,21 @@ impl Chains {
     pub fn current(&self, root: &ExecKey) -> Option<u64>
         ensures { result ≡ current_in self.now.list root.now }
     {
-        number_at(&self.slots, &self.index.versions, root)
+        number_on(&self.slots, self.index.cells.versions(root))
     }
 
     /// The number of the last version of the chain of a root below a number, busted or not. This project's rule.
     pub fn version_before(&self, root: &ExecKey, number: u64) -> Option<u64>
         ensures { result ≡ version_before_in self.now.list number root.now }
     {
-        number_below(&self.slots, &self.index.versions, root, number)
+        number_below(&self.slots, self.index.cells.versions(root), number)
     }
 
     /// The number of the first version of the chain of a root above a number. This project's rule.
     pub fn version_after(&self, root: &ExecKey, number: u64) -> Option<u64>
         ensures { result ≡ version_after_in self.now.list number root.now }
     {
-        number_above(&self.slots, &self.index.versions, root, number)
+        number_above(&self.slots, self.index.cells.versions(root), number)
     }
 
     /// The number of the first Correct or Bust above the listed link of a number that refers to that link's key. None where
@@ -188,8 +188,8 @@ impl Chains {
     {
         let item = live_numbered(&self.slots, number)?;
         lesser(
-            referring_at(&self.slots, &self.index.versions, item),
-            referring_at(&self.slots, &self.index.busts, item),
+            referring_at(&self.slots, self.index.cells.versions(item.root()), item),
+            referring_at(&self.slots, self.index.cells.busts(item.root()), item),
         )
     }
 
@@ -198,14 +198,14 @@ impl Chains {
     pub fn bust_of(&self, root: &ExecKey) -> Option<u64>
         ensures { result ≡ bust_in self.now.list root.now }
     {
-        number_at(&self.slots, &self.index.busts, root)
+        number_on(&self.slots, self.index.cells.busts(root))
     }
 
     /// The number of the Trade, Correct or Bust that takes up a key. This project's rule.
     pub fn number_of(&self, key: &ExecKey) -> Option<u64>
         ensures { result ≡ taker_in self.now.list key.now }
     {
-        number_at(&self.slots, &self.index.takers, key)
+        number_on(&self.slots, self.index.cells.takers(key))
     }
 
     // The root of a reference that isn't refused.
@@ -230,13 +230,12 @@ impl Chains {
         ensures err { OnErr result (self.new ≡ self.old) }
     {
         self.slots.reserve(1)?;
-        self.index.make_room(self.alloc, &item)?;
         let slot = Slot {
             item,
             is_live: true,
         };
         let place = self.slots.len();
-        self.index.push(&slot, place);
+        self.index.add(self.alloc, &slot, place)?;
         self.slots.push_reserved(slot);
         Ok(())
     }

@@ -1,10 +1,12 @@
 //! A link with the root of its chain.
-ghost use Rattle.std.specs.Prelude.{◌≡◌, IfOk};
+ghost use Rattle.std.specs.Prelude.{◌≡◌, IfOk, IsTrue};
 ghost use Rattle.blot_types.specs.declared.link.Role.TheVariants.{Begins};
 ghost use Rattle.blot_types.specs.Chains.{refers_to};
 ghost use Rattle.blot_chain.specs.RootedLink.{begun, rooted};
-ghost use Rattle.blot_chain.specs.Rooted.{is_bust, is_version, kept_root};
+ghost use Rattle.blot_chain.specs.Cells.{part_in_chain};
+ghost use Rattle.blot_chain.specs.Rooted.{is_version, kept_root};
 
+use crate::cell::Part;
 use blot_types::{ExecKey, Numbered, Role};
 use std::alloc::{AllocError as NoMemory, Global};
 use std::marker::Model;
@@ -73,6 +75,23 @@ impl Rooted {
         &self.key
     }
 
+    /// Whether the link begins its chain, so that the root is its own key.
+    pub(crate) fn begins(&self) -> bool
+        ensures { IsTrue result → self.now ≡ begun self.now.link.number self.now.link.key }
+    {
+        self.origin.is_none()
+    }
+
+    /// What the link is to the key of its root, if that isn't its own.
+    pub(crate) fn part_in_chain(&self) -> Part
+        ensures { result ≡ part_in_chain self.now.link.role }
+    {
+        match &self.origin {
+            Some(origin) => part_in_chain(&origin.role),
+            None => Part::Version,
+        }
+    }
+
     /// Whether the link brings a version to its chain: a Trade's and a Correct's do.
     pub(crate) fn is_version(&self) -> bool
         ensures { result ≡ is_version self.now.link.role }
@@ -80,16 +99,6 @@ impl Rooted {
         match &self.origin {
             Some(origin) => is_version(&origin.role),
             None => true,
-        }
-    }
-
-    /// Whether the link is a Bust's.
-    pub(crate) fn is_bust(&self) -> bool
-        ensures { result ≡ is_bust self.now.link.role }
-    {
-        match &self.origin {
-            Some(origin) => is_bust(&origin.role),
-            None => false,
         }
     }
 
@@ -145,13 +154,13 @@ fn is_version(role: &Role) -> bool
     }
 }
 
-// Whether a link of this role is a Bust.
-fn is_bust(role: &Role) -> bool
-    ensures { result ≡ is_bust role.now }
+// What a link of this role is to the key of its root, if that isn't its own.
+fn part_in_chain(role: &Role) -> Part
+    ensures { result ≡ part_in_chain role.now }
 {
     match role {
-        Role::Begins | Role::Corrects(_) => false,
-        Role::Busts(_) => true,
+        Role::Begins | Role::Corrects(_) => Part::Version,
+        Role::Busts(_) => Part::Bust,
     }
 }
 

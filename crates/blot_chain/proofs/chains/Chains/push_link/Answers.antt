@@ -13,9 +13,9 @@ invariant_of-self-2 c =
     let item = c.args.item in
     let slot : Slot Rooted = record { item = item; is_live = true } in
     let holds = c.self.invariant in
-    held-push c.self.inside.index c.push.new.self slots c.push_reserved.new.self.items item.link item.root holds
+    held-push c.self.inside.index c.add.new.self slots c.push_reserved.new.self.items item.link item.root holds
     (c.push_reserved.ensures.items ∙ ap (λ items. items ++ slot ∷ []) c.reserve.ensures.items)
-    (c.push.ensures (reverse slots) (c.in_ok-make_room.ensures.same (reverse slots) holds.indexed)
+    (c.in_ok-add.ensures.ok (reverse slots) holds.indexed
     (c.len-place.ensures ∙ c.reserve.new.self.ok.0 ∙ ap length c.reserve.ensures.items ∙ sym (length-reverse slots)))
     (subst (λ shown. link_refusal shown.list item.link.key item.link.role ≡ None) (sym c.self.view_is) c.requires.accepted)
     (subst (λ shown. is_above_links item.link.number shown.list ≡ true) (sym c.self.view_is) c.requires.above)
