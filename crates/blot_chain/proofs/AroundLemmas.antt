@@ -26,8 +26,9 @@ use Rattle.blot_places.proofs.MarkLemmas.{falling-side}
 use Rattle.blot_places.proofs.ShownLemmas.{at-here, at-on, at-through, falling-parts, none-at}
 use Rattle.blot_chain.specs.declared.index.Index.{Index}
 use Rattle.blot_chain.specs.declared.rooted.Rooted.{Rooted}
+use Rattle.blot_chain.specs.Cells.{busts_in, versions_in}
 use Rattle.blot_chain.specs.Holds.{HoldsChains}
-use Rattle.blot_chain.specs.Index.{BelowFirst, UpToFirst, newest_below, number_if_referring, oldest_above, places_after, referring_at, stack_under}
+use Rattle.blot_chain.specs.Index.{BelowFirst, UpToFirst, newest_below, number_if_referring, oldest_above, places_after, referring_at}
 use Rattle.blot_chain.specs.Rooted.{AreRooted, chain_root, has_key, is_bust, is_bust_of, is_version, is_version_of, kept_root, link_number, links_in, refers}
 use Rattle.blot_chain.specs.Steps.{number_of}
 use Rattle.blot_chain.proofs.ChainLemmas.{chained-parts, find-current, kept_root-own, version-is_root}
@@ -38,15 +39,22 @@ link_of item = item.link
 
 -- ---- the stacks
 
+-- the places of the versions of a chain, and of its Busts, oldest first
+abbrev pub versions_under : Index → ExecKey → List ℕ
+versions_under index root = reverse (versions_in same_exec index.cells root)
+
+abbrev pub busts_under : Index → ExecKey → List ℕ
+busts_under index root = reverse (busts_in same_exec index.cells root)
+
 stack_is : (places all : List ℕ) → places ≡ all → reverse (reverse places) ≡ all
 stack_is places all is = reverse-reverse places ∙ is
 
 module _ (index : Index) (slots : List (Slot Rooted)) (root : ExecKey) (n : ℕ) (holds : HoldsChains index (reverse slots)) where
   abbrev versions : List ℕ
-  versions = stack_under index.versions root
+  versions = versions_under index root
 
   abbrev busts : List ℕ
-  busts = stack_under index.busts root
+  busts = busts_under index root
 
   versions_are : reverse versions ≡ places_by (is_version_of root) (reverse slots)
   versions_are = stack_is _ _ (holds.indexed.versions root)
@@ -54,13 +62,13 @@ module _ (index : Index) (slots : List (Slot Rooted)) (root : ExecKey) (n : ℕ)
   busts_are : reverse busts ≡ places_by (is_bust_of root) (reverse slots)
   busts_are = stack_is _ _ (holds.indexed.busts root)
 
-  pub parted-versions : UpToFirst n slots index.versions root
+  pub parted-versions : UpToFirst n slots (versions_under index root)
   parted-versions = parted-above link_number n (is_version_of root) slots versions versions_are holds.fall
 
-  pub parted-busts : UpToFirst n slots index.busts root
+  pub parted-busts : UpToFirst n slots (busts_under index root)
   parted-busts = parted-above link_number n (is_bust_of root) slots busts busts_are holds.fall
 
-  pub parted-earlier : BelowFirst n slots index.versions root
+  pub parted-earlier : BelowFirst n slots (versions_under index root)
   parted-earlier = parted-below link_number n (is_version_of root) slots versions versions_are holds.fall
 
 -- ---- the last version below a number
@@ -102,10 +110,10 @@ module _ (n : ℕ) where
 
 pub before-held :
     (index : Index) (slots : List (Slot Rooted)) (root : ExecKey) (n : ℕ) → HoldsChains index (reverse slots)
-    → option_map link_number (newest_below n slots index.versions root) ≡ version_before_in (links_in (live (reverse slots))) n root
+    → option_map link_number (newest_below n slots (versions_under index root)) ≡ version_before_in (links_in (live (reverse slots))) n root
 before-held index slots root n holds =
     let all = live (reverse slots) in
-    ap (option_map link_number) (newest-below link_number n (is_version_of root) slots (stack_under index.versions root) (versions_are index slots root n holds))
+    ap (option_map link_number) (newest-below link_number n (is_version_of root) slots (versions_under index root) (versions_are index slots root n holds))
     ∙ find-current (filter (under n) all) root (rooted-under n all (rooted-live index (reverse slots) holds) (falling-side link_number true (reverse slots) holds.fall))
     ∙ ap (λ links. current_in links root) (links-under n all)
 
@@ -123,9 +131,9 @@ after-rooted n root (item ∷ earlier) are =
 
 pub after-held :
     (index : Index) (slots : List (Slot Rooted)) (root : ExecKey) (n : ℕ) → HoldsChains index (reverse slots)
-    → option_map link_number (oldest_above n slots index.versions root) ≡ version_after_in (links_in (live (reverse slots))) n root
+    → option_map link_number (oldest_above n slots (versions_under index root)) ≡ version_after_in (links_in (live (reverse slots))) n root
 after-held index slots root n holds =
-    ap (option_map link_number) (oldest-above link_number n (is_version_of root) slots (stack_under index.versions root) (versions_are index slots root n holds))
+    ap (option_map link_number) (oldest-above link_number n (is_version_of root) slots (versions_under index root) (versions_are index slots root n holds))
     ∙ after-rooted n root (live (reverse slots)) (rooted-live index (reverse slots) holds)
 
 -- ---- the first link that refers to a key
@@ -277,17 +285,17 @@ module _ (index : Index) (slots : List (Slot Rooted)) (n : ℕ) (k : Rooted) (ho
   falls : numbers_fall link_number all ≡ true
   falls = falling-side link_number true (reverse slots) holds.fall
 
-  on-versions : first_of (number_if_referring slots k.link.key) (places_after n slots (stack_under index.versions k.root)) ≡ first_by link_number (among (is_version_of k.root)) all
+  on-versions : first_of (number_if_referring slots k.link.key) (places_after n slots (versions_under index k.root)) ≡ first_by link_number (among (is_version_of k.root)) all
   on-versions =
-      referring-found slots k.link.key (places_after n slots (stack_under index.versions k.root))
+      referring-found slots k.link.key (places_after n slots (versions_under index k.root))
       ∙ ap (option_map link_number)
-      (find-above link_number n (is_version_of k.root) slots (stack_under index.versions k.root) (versions_are index slots k.root n holds) (refers k.link.key))
+      (find-above link_number n (is_version_of k.root) slots (versions_under index k.root) (versions_are index slots k.root n holds) (refers k.link.key))
 
-  on-busts : first_of (number_if_referring slots k.link.key) (places_after n slots (stack_under index.busts k.root)) ≡ first_by link_number (among (is_bust_of k.root)) all
+  on-busts : first_of (number_if_referring slots k.link.key) (places_after n slots (busts_under index k.root)) ≡ first_by link_number (among (is_bust_of k.root)) all
   on-busts =
-      referring-found slots k.link.key (places_after n slots (stack_under index.busts k.root))
+      referring-found slots k.link.key (places_after n slots (busts_under index k.root))
       ∙ ap (option_map link_number)
-      (find-above link_number n (is_bust_of k.root) slots (stack_under index.busts k.root) (busts_are index slots k.root n holds) (refers k.link.key))
+      (find-above link_number n (is_bust_of k.root) slots (busts_under index k.root) (busts_are index slots k.root n holds) (refers k.link.key))
 
   referring-all : first_referring (links_in all) n k.link.key ≡ lesser (first_by link_number (among (is_version_of k.root)) all) (first_by link_number (among (is_bust_of k.root)) all)
   referring-all =
@@ -301,15 +309,15 @@ module _ (index : Index) (slots : List (Slot Rooted)) (n : ℕ) (k : Rooted) (ho
       ∙ first-either link_number (among (is_version_of k.root)) (among (is_bust_of k.root)) all falls
 
   needing-here :
-      lesser (first_of (number_if_referring slots k.link.key) (places_after n slots (stack_under index.versions k.root)))
-      (first_of (number_if_referring slots k.link.key) (places_after n slots (stack_under index.busts k.root)))
+      lesser (first_of (number_if_referring slots k.link.key) (places_after n slots (versions_under index k.root)))
+      (first_of (number_if_referring slots k.link.key) (places_after n slots (busts_under index k.root)))
       ≡ first_needing_link (links_in all) n
   needing-here =
       (λ i. lesser (on-versions i) (on-busts i)) ∙ sym referring-all
       ∙ sym (ap (λ link. option_and_then (λ (link : Link). first_referring (links_in all) n link.key) link) (at-through link_of number_of n all ∙ ap (option_map link_of) found))
 
-  pub needing-held : lesser (referring_at slots index.versions k) (referring_at slots index.busts k) ≡ first_needing_link (links_in all) n
+  pub needing-held : lesser (referring_at slots (versions_under index k.root) k) (referring_at slots (busts_under index k.root) k) ≡ first_needing_link (links_in all) n
   needing-held =
-      ap (λ m. lesser (first_of (number_if_referring slots k.link.key) (places_after m slots (stack_under index.versions k.root)))
-      (first_of (number_if_referring slots k.link.key) (places_after m slots (stack_under index.busts k.root)))) (item-number n all k found)
+      ap (λ m. lesser (first_of (number_if_referring slots k.link.key) (places_after m slots (versions_under index k.root)))
+      (first_of (number_if_referring slots k.link.key) (places_after m slots (busts_under index k.root)))) (item-number n all k found)
       ∙ needing-here

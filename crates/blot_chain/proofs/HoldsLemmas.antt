@@ -5,7 +5,6 @@ use Rattle.std.specs.Option.{option_map, option_and_then}
 use Rattle.std.proofs.lemmas.Bool.{cases_Bool, and_from, and_parts, ltb-true}
 use Rattle.std.proofs.lemmas.List.{reverse-append}
 use Rattle.blot_places.specs.declared.slots.Slot.{Slot}
-use Rattle.blot_places.specs.Places.{places_in}
 use Rattle.blot_places.specs.Shown.{Shown}
 use Rattle.blot_places.specs.Slots.{is_above, items, lifted, live, newest_live, numbers_fall}
 use Rattle.blot_places.proofs.MarkLemmas.{above-both, above-side}
@@ -19,6 +18,7 @@ use Rattle.blot_types.specs.Keys.{same_exec}
 use Rattle.blot_types.proofs.ChainLemmas.{accepted_key}
 use Rattle.blot_chain.specs.declared.index.Index.{Index}
 use Rattle.blot_chain.specs.declared.rooted.Rooted.{Rooted}
+use Rattle.blot_chain.specs.Cells.{busts_in, takers_in, versions_in}
 use Rattle.blot_chain.specs.Holds.{HoldsChains, shown_of}
 use Rattle.blot_chain.specs.Index.{IsIndexed}
 use Rattle.blot_chain.specs.Steps.{AddsOne, IsNewest, number_of}
@@ -33,7 +33,7 @@ rooted-live index slots holds = live-rooted slots holds.roots holds.newest holds
 
 pub root-held :
     (index : Index) (slots : List (Slot Rooted)) (key : ExecKey) → HoldsChains index (reverse slots)
-    → option_and_then kept_root (newest_live slots (places_in same_exec index.takers key)) ≡ root_in (links_in (live (reverse slots))) key
+    → option_and_then kept_root (newest_live slots (takers_in same_exec index.cells key)) ≡ root_in (links_in (live (reverse slots))) key
 root-held index slots key holds =
     ap (λ places. option_and_then kept_root (newest_live slots places)) (holds.indexed.takers key)
     ∙ ap (option_and_then kept_root) (newest_live-find (has_key key) slots)
@@ -41,7 +41,7 @@ root-held index slots key holds =
 
 pub current-held :
     (index : Index) (slots : List (Slot Rooted)) (root : ExecKey) → HoldsChains index (reverse slots)
-    → option_map (λ item. item.link.number) (newest_live slots (places_in same_exec index.versions root)) ≡ current_in (links_in (live (reverse slots))) root
+    → option_map (λ item. item.link.number) (newest_live slots (versions_in same_exec index.cells root)) ≡ current_in (links_in (live (reverse slots))) root
 current-held index slots root holds =
     ap (λ places. option_map (λ (item : Rooted). item.link.number) (newest_live slots places)) (holds.indexed.versions root)
     ∙ ap (option_map (λ (item : Rooted). item.link.number)) (newest_live-find (is_version_of root) slots)
@@ -49,7 +49,7 @@ current-held index slots root holds =
 
 pub bust-held :
     (index : Index) (slots : List (Slot Rooted)) (root : ExecKey) → HoldsChains index (reverse slots)
-    → option_map (λ item. item.link.number) (newest_live slots (places_in same_exec index.busts root)) ≡ bust_in (links_in (live (reverse slots))) root
+    → option_map (λ item. item.link.number) (newest_live slots (busts_in same_exec index.cells root)) ≡ bust_in (links_in (live (reverse slots))) root
 bust-held index slots root holds =
     ap (λ places. option_map (λ (item : Rooted). item.link.number) (newest_live slots places)) (holds.indexed.busts root)
     ∙ ap (option_map (λ (item : Rooted). item.link.number)) (newest_live-find (is_bust_of root) slots)
@@ -57,7 +57,7 @@ bust-held index slots root holds =
 
 pub taker-held :
     (index : Index) (slots : List (Slot Rooted)) (key : ExecKey) → HoldsChains index (reverse slots)
-    → option_map (λ item. item.link.number) (newest_live slots (places_in same_exec index.takers key)) ≡ taker_in (links_in (live (reverse slots))) key
+    → option_map (λ item. item.link.number) (newest_live slots (takers_in same_exec index.cells key)) ≡ taker_in (links_in (live (reverse slots))) key
 taker-held index slots key holds =
     ap (λ places. option_map (λ (item : Rooted). item.link.number) (newest_live slots places)) (holds.indexed.takers key)
     ∙ ap (option_map (λ (item : Rooted). item.link.number)) (newest_live-find (has_key key) slots)

@@ -1,4 +1,5 @@
 mod AroundLemmas
+mod CellLemmas
 pub mod ChainLemmas
 pub mod HoldsLemmas
 mod IndexLemmas

@@ -1,4 +1,6 @@
+pub mod Cells
 pub mod Holds
 pub mod Index
 pub mod Rooted
+pub mod RootedLink
 pub mod Steps

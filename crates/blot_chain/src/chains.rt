@@ -6,10 +6,10 @@ ghost use Rattle.blot_types.specs.Laws.{IsOneTrade};
 ghost use Rattle.blot_chain.specs.Rooted.{chain_root};
 ghost use Rattle.blot_chain.specs.Steps.{Adds, AddsOne, CanReturn, IsNewest, exec_refusal, lifted_out, link_at, put_back};
 
-use crate::index::{Index, number_above, number_at, number_below, referring_at, root_at};
+use crate::index::{Index, number_above, number_below, number_on, referring_at, root_on};
 use crate::rooted::Rooted;
 use blot_places::{Slot, live_numbered, mark};
-use blot_types::{ExecKey, Link, Role, lesser};
+use blot_types::{ExecKey, Role, lesser};
 use std::alloc::{AllocError as NoMemory, Global};
 use std::marker::Model;
 
@@ -58,7 +58,7 @@ impl Chains {
         ensures kept { self.new.kept ≡ self.old.kept }
         ensures err { OnErr result (self.new ≡ self.old) }
     {
-        self.push_link(number, key, Role::Begins, *key)
+        self.push_link(Rooted::begun(number, key))
     }
 
     /// Adds a Correct, which brings a version to the chain of the reference. No listed link takes up its key,
@@ -78,7 +78,9 @@ impl Chains {
         ensures err { OnErr result (self.new ≡ self.old) }
     {
         let root = self.chain_of(reference);
-        self.push_link(number, key, Role::Corrects(*reference), root)
+        let role = Role::Corrects(*reference);
+        let item = Rooted::referring(self.alloc, number, key, role, root)?;
+        self.push_link(item)
     }
 
     /// Adds a Bust, which ends the chain of the reference. No listed link takes up its key, its number is above
@@ -93,7 +95,9 @@ impl Chains {
         ensures err { OnErr result (self.new ≡ self.old) }
     {
         let root = self.chain_of(reference);
-        self.push_link(number, key, Role::Busts(*reference), root)
+        let role = Role::Busts(*reference);
+        let item = Rooted::referring(self.alloc, number, key, role, root)?;
+        self.push_link(item)
     }
 
     /// Takes back a Trade of this key, the newest link. No memory is taken. This project's rule.
@@ -152,7 +156,7 @@ impl Chains {
         ensures root { result ≡ root_in self.now.list key.now }
         ensures one_trade { IfSome result (λ root. IsOneTrade self.now.list root) }
     {
-        root_at(&self.slots, &self.index.takers, key)
+        root_on(&self.slots, self.index.cells.takers(key))
     }
 
     /// The number of the last version of the chain of a root, busted or not. None where the key is no root.
@@ -160,21 +164,21 @@ impl Chains {
     pub fn current(&self, root: &ExecKey) -> Option<u64>
         ensures { result ≡ current_in self.now.list root.now }
     {
-        number_at(&self.slots, &self.index.versions, root)
+        number_on(&self.slots, self.index.cells.versions(root))
     }
 
     /// The number of the last version of the chain of a root below a number, busted or not. This project's rule.
     pub fn version_before(&self, root: &ExecKey, number: u64) -> Option<u64>
         ensures { result ≡ version_before_in self.now.list number root.now }
     {
-        number_below(&self.slots, &self.index.versions, root, number)
+        number_below(&self.slots, self.index.cells.versions(root), number)
     }
 
     /// The number of the first version of the chain of a root above a number. This project's rule.
     pub fn version_after(&self, root: &ExecKey, number: u64) -> Option<u64>
         ensures { result ≡ version_after_in self.now.list number root.now }
     {
-        number_above(&self.slots, &self.index.versions, root, number)
+        number_above(&self.slots, self.index.cells.versions(root), number)
     }
 
     /// The number of the first Correct or Bust above the listed link of a number that refers to that link's key. None where
@@ -184,8 +188,8 @@ impl Chains {
     {
         let item = live_numbered(&self.slots, number)?;
         lesser(
-            referring_at(&self.slots, &self.index.versions, item),
-            referring_at(&self.slots, &self.index.busts, item),
+            referring_at(&self.slots, self.index.cells.versions(item.root()), item),
+            referring_at(&self.slots, self.index.cells.busts(item.root()), item),
         )
     }
 
@@ -194,14 +198,14 @@ impl Chains {
     pub fn bust_of(&self, root: &ExecKey) -> Option<u64>
         ensures { result ≡ bust_in self.now.list root.now }
     {
-        number_at(&self.slots, &self.index.busts, root)
+        number_on(&self.slots, self.index.cells.busts(root))
     }
 
     /// The number of the Trade, Correct or Bust that takes up a key. This project's rule.
     pub fn number_of(&self, key: &ExecKey) -> Option<u64>
         ensures { result ≡ taker_in self.now.list key.now }
     {
-        number_at(&self.slots, &self.index.takers, key)
+        number_on(&self.slots, self.index.cells.takers(key))
     }
 
     // The root of a reference that isn't refused.
@@ -216,34 +220,22 @@ impl Chains {
     }
 
     // Adds a link at the end, with the root of its chain. All room is made before anything changes.
-    fn push_link(
-        &mut self,
-        number: u64,
-        key: &ExecKey,
-        role: Role,
-        root: ExecKey,
-    ) -> Result<(), NoMemory>
-        requires accepted { link_refusal self.old.list key.now role ≡ None }
-        requires above { IsTrue (is_above_links number self.old.list) }
-        requires above_kept { IsTrue (is_above_links number self.old.kept) }
-        requires rooted { chain_root self.old.list key.now role ≡ Some root }
-        ensures ok { OnOk result (Adds number key.now role self.old self.new) }
+    fn push_link(&mut self, item: Rooted) -> Result<(), NoMemory>
+        requires accepted { link_refusal self.old.list item.link.key item.link.role ≡ None }
+        requires above { IsTrue (is_above_links item.link.number self.old.list) }
+        requires above_kept { IsTrue (is_above_links item.link.number self.old.kept) }
+        requires rooted { chain_root self.old.list item.link.key item.link.role ≡ Some item.root }
+        ensures ok { OnOk result (Adds item.link.number item.link.key item.link.role self.old self.new) }
         ensures kept { self.new.kept ≡ self.old.kept }
         ensures err { OnErr result (self.new ≡ self.old) }
     {
         self.slots.reserve(1)?;
-        self.index.make_room(self.alloc, key, &role, &root)?;
-        let link = Link {
-            number,
-            key: *key,
-            role,
-        };
         let slot = Slot {
-            item: Rooted { link, root },
+            item,
             is_live: true,
         };
         let place = self.slots.len();
-        self.index.push(&slot, place);
+        self.index.add(self.alloc, &slot, place)?;
         self.slots.push_reserved(slot);
         Ok(())
     }
@@ -254,9 +246,9 @@ impl Chains {
         ensures adds { AddsOne key.now role self.new self.old }
         ensures kept { self.new.kept ≡ self.old.kept }
     {
-        match self.slots.pop() {
-            Some(slot) => self.index.pop(&slot),
-            None => unreachable!(),
-        }
+        let Some(slot) = self.slots.pop() else {
+            unreachable!()
+        };
+        self.index.pop(&slot);
     }
 }

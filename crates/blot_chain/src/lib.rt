@@ -2,6 +2,8 @@
 //! `Chains` answers which root a key has, which version of a chain is its last, and which Bust ended it.
 #![tactic(auto)]
 
+mod cell;
+mod cells;
 mod chains;
 mod index;
 mod rooted;

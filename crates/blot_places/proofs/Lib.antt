@@ -2,7 +2,6 @@ pub mod AroundLemmas
 pub mod FirstLemmas
 pub mod MarkLemmas
 mod NumberedLemmas
-mod PlaceLemmas
 mod PointLemmas
 pub mod SearchLemmas
 pub mod ShownLemmas

@@ -1,21 +1,12 @@
 -- Under each key a stack of places.
-use Rattle.std.specs.Prelude.{◌≡◌, ℕ, ◌<◌, ◌-◌, Bool, false, List, [], ◌∷◌, drop, Vec, reverse, if◌then◌else◌}
-use Rattle.std.specs.Vec.{vec_len, vec_capacity}
+use Rattle.std.specs.Prelude.{◌≡◌, ℕ, ◌<◌, Bool, false, List, [], ◌∷◌, drop, if◌then◌else◌}
 use Rattle.std.specs.Map.{lookup}
 use Rattle.std.specs.Option.{option_map_or, IsSomeAnd}
-
--- the places of one key, newest first, and for how many more there is room
-pub record Stack : Type 0 where
-  pub places : List ℕ
-  pub room : ℕ
+use Rattle.blot_places.specs.Stack.{Stack}
 
 -- what a contract sees of the places: the stack of each key that was there once
 pub record Stacks (K : Type 0) : Type 0 where
   pub cells : List (K × Stack)
-
--- the stack that a vector holds
-abbrev pub stack_of : {Z : Type 0} → Vec ℕ Z → Stack
-stack_of cell = record { places = reverse cell.items; room = vec_capacity cell - vec_len cell }
 
 module _ {K : Type 0} (same : K → K → Bool) (stacks : Stacks K) (key : K) where
   -- the places under a key, newest first

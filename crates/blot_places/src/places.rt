@@ -2,6 +2,7 @@
 ghost use Rattle.std.specs.Prelude.{◌≡◌, [], reverse, OnOk};
 ghost use Rattle.blot_places.specs.Places.{HasRoom, KeepsOtherRoom, KeepsRoom, PutsPlace, SamePlaces, TakesPlace, places_in};
 
+use crate::Stack;
 use indexmap::IndexMap;
 use std::alloc::{AllocError as NoMemory, Global};
 use std::hash::Hash;
@@ -11,16 +12,15 @@ use std::marker::Model;
 /// places of each key, newest first, and for how many more there is room.
 #[derive(Drop)]
 pub struct Places<K: Eq + Hash> {
-    cells: IndexMap<K, Vec<usize>>,
+    stacks: IndexMap<K, Stack>,
 }
 
 impl<K: Eq + Hash> Model for Places<K> {
-    ghost use Rattle.std.specs.Prelude.{map};
-    ghost use Rattle.blot_places.specs.Places.{Stacks, stack_of};
+    ghost use Rattle.blot_places.specs.Places.{Stacks};
 
     ghost Value = { Stacks K };
 
-    ghost view = { λ places. record { cells = map (λ cell. (cell.0, stack_of cell.1)) places.cells.entries } };
+    ghost view = { λ places. record { cells = places.stacks.entries } };
 }
 
 impl<K: Eq + Hash + Copy> Places<K> {
@@ -29,7 +29,7 @@ impl<K: Eq + Hash + Copy> Places<K> {
         ensures { (key : K) → places_in K.eq result key ≡ [] }
     {
         Places {
-            cells: IndexMap::new(alloc),
+            stacks: IndexMap::new(alloc),
         }
     }
 
@@ -39,13 +39,8 @@ impl<K: Eq + Hash + Copy> Places<K> {
         ensures room { OnOk result (HasRoom K.eq self.new key.now) }
         ensures kept { OnOk result (KeepsRoom K.eq self.old self.new) }
     {
-        if let Some(cell) = self.cells.get_mut(key) {
-            return cell.reserve(1);
-        }
-        let mut cell = Vec::new(alloc);
-        cell.reserve(1)?;
-        self.cells.insert(*key, cell)?;
-        Ok(())
+        let entry = self.stacks.entry(*key)?;
+        entry.or_insert(Stack::new(alloc)).make_room()
     }
 
     /// Puts a place on the stack of a key. No memory is taken.
@@ -54,28 +49,28 @@ impl<K: Eq + Hash + Copy> Places<K> {
         ensures places { PutsPlace K.eq (K.eq key.now) place self.old self.new }
         ensures kept { KeepsOtherRoom K.eq key.now self.old self.new }
     {
-        let Some(cell) = self.cells.get_mut(key) else {
+        let Some(stack) = self.stacks.get_mut(key) else {
             unreachable!()
         };
-        cell.push_reserved(place);
+        stack.push(place);
     }
 
     /// Takes the newest place off the stack of a key, if there is one. No memory is taken.
     pub fn pop(&mut self, key: &K)
         ensures { TakesPlace K.eq (K.eq key.now) self.old self.new }
     {
-        let Some(cell) = self.cells.get_mut(key) else {
+        let Some(stack) = self.stacks.get_mut(key) else {
             return;
         };
-        cell.pop();
+        stack.pop();
     }
 
     /// The places under a key, the newest last.
     pub fn under(&self, key: &K) -> &[usize]
         ensures { reverse result.now ≡ places_in K.eq self.now key.now }
     {
-        match self.cells.get(key) {
-            Some(cell) => cell.as_slice(),
+        match self.stacks.get(key) {
+            Some(stack) => stack.as_slice(),
             None => &[],
         }
     }

@@ -5,7 +5,7 @@ use Rattle.blot_chain.proofs.chains.Chains.pop_link.Goals as goal
 pub invariant_of-self : goal.invariant_of-self
 invariant_of-self c =
     held-last c.self.inside.index c.args.key.now c.args.role c.self.inside.slots.items c.pop.new.self.items c.in-Some.slot c.in-Some.ensures.items
-    c.pop-in-Some.new.self c.args.self.now c.self.invariant c.self.view_is c.requires.newest (c.pop-in-Some.ensures (reverse c.pop.new.self.items))
+    c.pop-2.new.self c.args.self.now c.self.invariant c.self.view_is c.requires.newest (c.pop-2.ensures (reverse c.pop.new.self.items))
 
 pub returns-clause-adds : goal.returns-clause-adds
 returns-clause-adds c =

@@ -1,7 +1,6 @@
 use Rattle.std.proofs.Common.{◌≡◌, ◌∷◌, [], ◌++◌, true, Some, None, ap, sym, subst, ◌∙◌, reverse, length}
 use Rattle.std.proofs.lemmas.List.{length-reverse}
 use Rattle.blot_places.specs.declared.slots.Slot.{Slot}
-use Rattle.blot_types.specs.declared.link.Link.{Link}
 use Rattle.blot_types.specs.Chains.{link_refusal, is_above_links}
 use Rattle.blot_chain.specs.declared.rooted.Rooted.{Rooted}
 use Rattle.blot_chain.specs.Rooted.{chain_root}
@@ -11,14 +10,14 @@ use Rattle.blot_chain.proofs.chains.Chains.push_link.Goals as goal
 pub invariant_of-self-2 : goal.invariant_of-self-2
 invariant_of-self-2 c =
     let slots = c.self.inside.slots.items in
-    let link : Link = record { number = c.args.number; key = c.args.key.now; role = c.args.role } in
-    let slot : Slot Rooted = record { item = record { link = link; root = c.args.root }; is_live = true } in
+    let item = c.args.item in
+    let slot : Slot Rooted = record { item = item; is_live = true } in
     let holds = c.self.invariant in
-    held-push c.self.inside.index c.push.new.self slots c.push_reserved.new.self.items link c.args.root holds
+    held-push c.self.inside.index c.add.new.self slots c.push_reserved.new.self.items item.link item.root holds
     (c.push_reserved.ensures.items ∙ ap (λ items. items ++ slot ∷ []) c.reserve.ensures.items)
-    (c.push.ensures (reverse slots) (c.in_ok-make_room.ensures.same (reverse slots) holds.indexed)
+    (c.in_ok-add.ensures.ok (reverse slots) holds.indexed
     (c.len-place.ensures ∙ c.reserve.new.self.ok.0 ∙ ap length c.reserve.ensures.items ∙ sym (length-reverse slots)))
-    (subst (λ shown. link_refusal shown.list c.args.key.now c.args.role ≡ None) (sym c.self.view_is) c.requires.accepted)
-    (subst (λ shown. is_above_links c.args.number shown.list ≡ true) (sym c.self.view_is) c.requires.above)
-    (subst (λ shown. is_above_links c.args.number shown.kept ≡ true) (sym c.self.view_is) c.requires.above_kept)
-    (subst (λ shown. chain_root shown.list c.args.key.now c.args.role ≡ Some c.args.root) (sym c.self.view_is) c.requires.rooted)
+    (subst (λ shown. link_refusal shown.list item.link.key item.link.role ≡ None) (sym c.self.view_is) c.requires.accepted)
+    (subst (λ shown. is_above_links item.link.number shown.list ≡ true) (sym c.self.view_is) c.requires.above)
+    (subst (λ shown. is_above_links item.link.number shown.kept ≡ true) (sym c.self.view_is) c.requires.above_kept)
+    (subst (λ shown. chain_root shown.list item.link.key item.link.role ≡ Some item.root) (sym c.self.view_is) c.requires.rooted)

@@ -1,0 +1,102 @@
+-- The places under a key, by what the links there are to it: those that take it up, the versions of its chain, and its Busts.
+use Rattle.std.specs.Prelude.{◌≡◌, ℕ, Bool, true, false, ◌&&◌, ◌<◌, List, [], ◌∷◌, drop, if◌then◌else◌}
+use Rattle.std.specs.Map.{lookup}
+use Rattle.std.specs.Option.{option_map_or, IsSomeAnd}
+use Rattle.blot_types.specs.declared.link.Role.{Role}
+use Rattle.blot_types.specs.declared.link.Role.TheVariants.{Begins, Corrects, Busts}
+use Rattle.blot_chain.specs.declared.cell.Cell.{Cell}
+use Rattle.blot_chain.specs.declared.cell.Part.{Part}
+use Rattle.blot_chain.specs.declared.cell.Part.TheVariants.{First, Taker, Version, Bust}
+
+-- on which stacks the place of a link stands that is this part to the key
+abbrev pub has_taker : Part → Bool
+has_taker First = true
+has_taker Taker = true
+has_taker Version = false
+has_taker Bust = false
+
+abbrev pub has_version : Part → Bool
+has_version First = true
+has_version Taker = false
+has_version Version = true
+has_version Bust = false
+
+abbrev pub has_bust : Part → Bool
+has_bust First = false
+has_bust Taker = false
+has_bust Version = false
+has_bust Bust = true
+
+-- what a link of this role is to the key of its root, if that isn't its own
+abbrev pub part_in_chain : Role → Part
+part_in_chain Begins = Version
+part_in_chain (Corrects reference) = Version
+part_in_chain (Busts reference) = Bust
+
+-- one place more, where it is wanted, and one less
+abbrev pub one_more : Bool → ℕ → List ℕ → List ℕ
+one_more wanted place places = if wanted then place ∷ places else places
+
+abbrev pub one_less : Bool → List ℕ → List ℕ
+one_less wanted places = if wanted then drop 1 places else places
+
+-- a cell has the places that it had; it has one more on the stacks of a part; it has one less
+pub record HasSame (old new : Cell) : Type 0 where
+  pub takers : new.takers.places ≡ old.takers.places
+  pub versions : new.versions.places ≡ old.versions.places
+  pub busts : new.busts.places ≡ old.busts.places
+
+pub record HasMore (part : Part) (place : ℕ) (old new : Cell) : Type 0 where
+  pub takers : new.takers.places ≡ one_more (has_taker part) place old.takers.places
+  pub versions : new.versions.places ≡ one_more (has_version part) place old.versions.places
+  pub busts : new.busts.places ≡ one_more (has_bust part) place old.busts.places
+
+pub record HasOneLess (part : Part) (old new : Cell) : Type 0 where
+  pub takers : new.takers.places ≡ one_less (has_taker part) old.takers.places
+  pub versions : new.versions.places ≡ one_less (has_version part) old.versions.places
+  pub busts : new.busts.places ≡ one_less (has_bust part) old.busts.places
+
+-- ---- all keys
+
+-- what a contract sees of the cells: that of each key that was there once
+pub record CellsByKey (K : Type 0) : Type 0 where
+  pub cells : List (K × Cell)
+
+module _ {K : Type 0} (same : K → K → Bool) (by_key : CellsByKey K) (key : K) where
+  -- the places under a key, newest first: of the links that take it up, of the versions of its chain, of its Busts
+  abbrev pub takers_in : List ℕ
+  takers_in = option_map_or (λ cell. cell.takers.places) (lookup (same key) by_key.cells) []
+
+  abbrev pub versions_in : List ℕ
+  versions_in = option_map_or (λ cell. cell.versions.places) (lookup (same key) by_key.cells) []
+
+  abbrev pub busts_in : List ℕ
+  busts_in = option_map_or (λ cell. cell.busts.places) (lookup (same key) by_key.cells) []
+
+  -- there is room for the place of one more link that takes up a key
+  abbrev pub HasTakerRoom : Type 0
+  HasTakerRoom = IsSomeAnd (lookup (same key) by_key.cells) (λ cell. 0 < cell.takers.room)
+
+-- what a call does to the cells of all keys
+module _ {K : Type 0} (same : K → K → Bool) where
+  -- each key that had room for one more link that takes it up has it
+  abbrev pub KeepsTakerRoom : CellsByKey K → CellsByKey K → Type 0
+  KeepsTakerRoom old new = (other : K) → HasTakerRoom same old other → HasTakerRoom same new other
+
+  -- each key has the places that it had
+  pub record SameUnder (old new : CellsByKey K) : Type 0 where
+    pub takers : (other : K) → takers_in same new other ≡ takers_in same old other
+    pub versions : (other : K) → versions_in same new other ≡ versions_in same old other
+    pub busts : (other : K) → busts_in same new other ≡ busts_in same old other
+
+  -- one more stands under a key, on the stacks of a part
+  pub record PutsUnder (part : Part) (key : K) (place : ℕ) (old new : CellsByKey K) : Type 0 where
+    pub takers : (other : K) → takers_in same new other ≡ one_more (has_taker part && same key other) place (takers_in same old other)
+    pub versions : (other : K) → versions_in same new other ≡ one_more (has_version part && same key other) place (versions_in same old other)
+    pub busts : (other : K) → busts_in same new other ≡ one_more (has_bust part && same key other) place (busts_in same old other)
+
+  -- one less does
+  pub record TakesUnder (part : Part) (key : K) (old new : CellsByKey K) : Type 0 where
+    pub takers : (other : K) → takers_in same new other ≡ one_less (has_taker part && same key other) (takers_in same old other)
+    pub versions : (other : K) → versions_in same new other ≡ one_less (has_version part && same key other) (versions_in same old other)
+    pub busts : (other : K) → busts_in same new other ≡ one_less (has_bust part && same key other) (busts_in same old other)
