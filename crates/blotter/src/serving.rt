@@ -9,7 +9,7 @@ ghost use Rattle.blot_rounds.specs.Rounds.{FewerLead, RoundsLead, ServesRound};
 ghost use Rattle.blotter.specs.Serving.{DayCutShort, DayServed, Reported};
 
 use crate::meanwhile::{Lines, Task, take_back};
-use blot_capture::day_report;
+use blot_capture::day_report_parallel;
 use blot_desk::{Desk, DeskFault, Held, Seat};
 use blot_rounds::{Rounds, serve_rounds};
 use blot_slots::Slots;
@@ -85,7 +85,7 @@ where
     if let Err(ServeFault::NoMemory) = ended {
         return Err(ServeFault::NoMemory);
     }
-    report(alloc, desk, seats, operator, day, output)?;
+    report(rt, alloc, desk, seats, operator, day, output)?;
     ended
 }
 
@@ -166,7 +166,8 @@ fn both(served: Result<(), ServeFault>, answered: Result<(), ReplayFault>) -> Re
 }
 
 // Settles the seats with the desk, and writes the report of the day.
-fn report<L: Ledger, O: Write>(
+fn report<L: Ledger, R: Threads + Sync, O: Write>(
+    rt: &R,
     alloc: Global,
     desk: Desk<L>,
     brokers: Vec<Seat<L>>,
@@ -178,7 +179,7 @@ fn report<L: Ledger, O: Write>(
     ensures connected { result ≢ Err ServeFault.Connection }
 {
     match settled(desk, brokers, operator) {
-        Ok(held) => write_report(alloc, held, day, output),
+        Ok(held) => write_report(rt, alloc, held, day, output),
         Err(fault) => Err(fault),
     }
 }
@@ -202,8 +203,9 @@ fn settled<L: Ledger>(
     }
 }
 
-// Writes the report of the day.
-fn write_report<O: Write>(
+// Writes the report of the day, which several threads make.
+fn write_report<R: Threads + Sync, O: Write>(
+    rt: &R,
     alloc: Global,
     held: Held,
     day: Day,
@@ -212,7 +214,7 @@ fn write_report<O: Write>(
     ensures written { OnOk result (Appends (O.contents output.old) (O.contents output.new) (report_of (list_after held.history) day)) }
     ensures connected { result ≢ Err ServeFault.Connection }
 {
-    let text = day_report(alloc, held, day)?;
+    let text = day_report_parallel(rt, alloc, held, day)?;
     match write_text(output, &text) {
         Ok(()) => Ok(()),
         Err(fault) => Err(ServeFault::Lines(fault)),
