@@ -1,5 +1,5 @@
 //! The places under one key.
-ghost use Rattle.std.specs.Prelude.{◌≡◌, ◌<◌, [], ◌∷◌, false, OnOk, OnErr};
+ghost use Rattle.std.specs.Prelude.{◌≡◌, [], ◌∷◌, false, OnOk, OnErr};
 ghost use Rattle.blot_chain.specs.Cells.{HasMore, HasOneLess, HasSame, has_taker};
 
 use blot_places::Stack;

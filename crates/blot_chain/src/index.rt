@@ -1,6 +1,6 @@
 //! Where the slots of a key, and of the chain of a root, are.
 ghost use Rattle.std.specs.Prelude.{◌≡◌, [], OnOk, OnErr};
-ghost use Rattle.std.specs.Option.{option_and_then, option_copied, option_map};
+ghost use Rattle.std.specs.Option.{option_and_then, option_map};
 ghost use Rattle.blot_places.specs.Indexed.{NamesOneLess, NamesOneMore, NamesSame};
 ghost use Rattle.blot_types.specs.Refusals.{first_of};
 ghost use Rattle.blot_chain.specs.Rooted.{kept_root, link_number};

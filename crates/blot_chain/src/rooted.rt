@@ -1,10 +1,9 @@
 //! A link with the root of its chain.
 ghost use Rattle.std.specs.Prelude.{◌≡◌, IfOk, IsTrue};
-ghost use Rattle.blot_types.specs.declared.link.Role.TheVariants.{Begins};
 ghost use Rattle.blot_types.specs.Chains.{refers_to};
-ghost use Rattle.blot_chain.specs.RootedLink.{begun, rooted};
 ghost use Rattle.blot_chain.specs.Cells.{part_in_chain};
 ghost use Rattle.blot_chain.specs.Rooted.{is_version, kept_root};
+ghost use Rattle.blot_chain.specs.RootedLink.{begun, rooted};
 
 use crate::cell::Part;
 use blot_types::{ExecKey, Numbered, Role};

@@ -16,14 +16,14 @@ use std::alloc::{AllocError as NoMemory, Global};
 #[derive(Clone, Copy, Debug, PartialEq, Eq)]
 pub enum Standing {
     /// An execution that stands, and whether a live allocation names its chain.
-    Stands(bool),
+    Stands { is_named: bool },
     /// An allocation that is live.
     Live,
     /// Neither.
     Neither,
 }
 
-/// What the entries that are there come to, one behind the other. An error is out of memory.
+/// What the entries that are there come to, one after the other. An error is out of memory.
 pub(crate) fn standings_in(
     alloc: Global,
     slots: &[EntrySlot],
@@ -65,7 +65,9 @@ fn execution_standing(chains: &Chains, allocs: &Allocs, number: u64, key: &ExecK
     if !stands(chains, number, &root) {
         return Standing::Neither;
     }
-    Standing::Stands(is_named(allocs, &root))
+    Standing::Stands {
+        is_named: is_named(allocs, &root),
+    }
 }
 
 // Whether the version of a number stands under a root: the chain isn't busted, and this is its last version.

@@ -104,8 +104,7 @@ impl Held {
         ensures book { IfOk result (λ snapshot. IsTrue (is_book snapshot)) }
         ensures few { length self.history ≤ EVENTS_MAX }
     {
-        let snapshot = self.steps.into_state().into_snapshot()?;
-        Ok(snapshot)
+        self.steps.into_state().into_snapshot()
     }
 
     /// The recorded events with their replies, in the order in which they came.

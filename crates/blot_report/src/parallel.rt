@@ -13,8 +13,8 @@ use blot_time::Day;
 use std::alloc::{AllocError as NoMemory, Global};
 use std::thread::{Threads, join};
 
-/// The lines of a day, as `day_lines` gives them, from several threads: the executions, the orders and the positions are
-/// looked up in pieces, which are joined in order. An error is out of memory, in any of them.
+/// The lines of a day, as `day_lines` gives them, from several threads: orders and positions are made side by side, and the
+/// rows of each in pieces, which are joined in order. An error is out of memory, in any of them.
 pub fn day_lines_parallel<R: Threads + Sync>(
     rt: &R,
     alloc: Global,

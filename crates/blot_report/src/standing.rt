@@ -30,7 +30,7 @@ pub(crate) fn fill_on(entry: &Entry, standing: Standing, day: Day) -> Option<&Fi
     ensures { option_copied result ≡ fill_on day standing entry.now }
 {
     match standing {
-        Standing::Stands(_) => day_fill(entry, day),
+        Standing::Stands { .. } => day_fill(entry, day),
         Standing::Live | Standing::Neither => None,
     }
 }
@@ -40,7 +40,7 @@ pub(crate) fn part_on(entry: &Entry, standing: Standing, day: Day) -> Option<Par
     ensures part { result ≡ part_on day standing entry.now }
     ensures small { IfSome result IsSmall }
 {
-    let Standing::Stands(is_named) = standing else {
+    let Standing::Stands { is_named } = standing else {
         return None;
     };
     match day_fill(entry, day) {
