@@ -14,9 +14,7 @@ use crate::BoxedEntry;
 use crate::booking::{open_cells, put_lines, put_part, rebook, take_lines, take_part};
 use crate::live::LiveList;
 use blot_position::Positions;
-use blot_types::{
-    AllocKey, Command, Entry, ExecKey, Fill, Part, PositionLine, Text64, Version,
-};
+use blot_types::{AllocKey, Command, Entry, ExecKey, Fill, Part, PositionLine, Text64, Version};
 use std::alloc::Global;
 use std::marker::Model;
 
