@@ -10,6 +10,7 @@ mod qty;
 mod qty_sum;
 mod reading;
 mod value;
+mod wide;
 
 pub use fault::DecimalFault;
 pub use price::Price;

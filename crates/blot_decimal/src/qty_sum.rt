@@ -6,6 +6,7 @@ ghost use Rattle.blot_decimal.specs.Meaning.{exact_of};
 ghost use Rattle.blot_decimal.specs.Printed.{printed, IsShortest};
 
 use crate::printing::write_wide_units;
+use crate::wide::Wide;
 use std::fmt;
 use std::marker::Model;
 
@@ -13,7 +14,7 @@ use std::marker::Model;
 /// number of its units. Its text is the shortest exact decimal: no point for a whole number,
 /// at least one digit before a point, and after it no zero at the end.
 #[derive(Clone, Copy, Debug, PartialEq, Eq, PartialOrd, Ord, Hash)]
-pub struct QtySum(i128);
+pub struct QtySum(Wide);
 
 impl Model for QtySum {
     ghost use Rattle.std.specs.Prelude.{ℤ};
@@ -33,14 +34,14 @@ impl QtySum {
     pub fn from_units(units: i128) -> QtySum
         ensures { result ≡ units }
     {
-        QtySum(units)
+        QtySum(Wide::from_units(units))
     }
 
     /// How many units of 10^-6 it is.
     pub fn units(self) -> i128
         ensures { result ≡ self }
     {
-        self.0
+        self.0.units()
     }
 }
 
@@ -55,6 +56,6 @@ impl fmt::Display for QtySum {
         ensures read_again { exact_of PLACES (printed PLACES self.now) ≡ Ok self.now }
         ensures shortest { IsShortest PLACES self.now (printed PLACES self.now) }
     {
-        write_wide_units(f, self.0, Self::PLACES)
+        write_wide_units(f, self.0.units(), Self::PLACES)
     }
 }

@@ -1,5 +1,5 @@
 //! What one part, or one line of an allocation, adds to a position; and how such sums are joined.
-ghost use Rattle.std.specs.Prelude.{◌≡◌, ℕ, ◌*◌, ◌^◌, ◌≤◌, [], ◌∷◌};
+ghost use Rattle.std.specs.Prelude.{◌≡◌, ℕ, ◌*◌, ◌^◌, ◌≤◌, ◌+ℤ◌, [], ◌∷◌};
 ghost use Rattle.blot_types.specs.Bounds.{BOOK_QTY};
 ghost use Rattle.blot_types.specs.Position.{moves_of_line};
 ghost use Rattle.blot_model.specs.Sums.{sums_at, joined, IsUpTo, AreUpTo};
@@ -50,9 +50,20 @@ pub(crate) fn joined(
     match (first, second) {
         (None, sums) => sums,
         (sums, None) => sums,
-        (Some(first), Some(second)) => Some(PositionLine {
-            qty: QtySum::from_units(first.qty.units() + second.qty.units()),
-            value: Value::from_units(first.value.units() + second.value.units()),
-        }),
+        (Some(first), Some(second)) => Some(plus(first, second)),
+    }
+}
+
+// The sums of two lines.
+fn plus(first: PositionLine, second: PositionLine) -> PositionLine
+    requires first { IsUpTo BOOK_QTY first.qty first.value }
+    requires second { IsUpTo BOOK_QTY second.qty second.value }
+    ensures { result ≡ record { qty = first.qty +ℤ second.qty; value = first.value +ℤ second.value } }
+{
+    let qty = first.qty.units() + second.qty.units();
+    let value = first.value.units() + second.value.units();
+    PositionLine {
+        qty: QtySum::from_units(qty),
+        value: Value::from_units(value),
     }
 }

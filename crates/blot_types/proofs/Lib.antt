@@ -4,6 +4,7 @@ pub mod AllocOutLemmas
 pub mod AllocStepLemmas
 pub mod AllocationLawLemmas
 mod AllocationRows
+mod AmountLemmas
 pub mod ApartLemmas
 pub mod BetweenLemmas
 pub mod BookedLemmas
