@@ -1,22 +1,20 @@
 -- The cells as they are stored, and the positions that they stand for.
-use Rattle.std.proofs.Common.{◌≡◌, Bool, cond, List, [], ◌∷◌, Option, Some, None, false, refl, sym, ap, ◌∙◌, inl, inr}
+use Rattle.std.proofs.Common.{◌≡◌, cond, List, [], ◌∷◌, Option, Some, None, false, refl, sym, ap, subst, ◌∙◌, inl, inr}
 use Rattle.std.specs.Prelude.{if◌then◌else◌, is_some, is_none}
 use Rattle.std.specs.FinMap as finite
-use Rattle.std.specs.Map.{lookup}
+use Rattle.std.specs.List.{list_any, IsDistinct}
+use Rattle.std.specs.Map.{keys_of, lookup}
 use Rattle.std.specs.Option.{unwrap_or}
 use Rattle.std.proofs.lemmas.Bool.{cases_Bool}
+use Rattle.std.proofs.lemmas.Map.Made.{is_some-lookup}
 use Rattle.blot_types.specs.declared.keys.PositionKey.{PositionKey}
 use Rattle.blot_types.specs.Keys.{position_at, position_cmp}
 use Rattle.blot_types.proofs.KeyLemmas.{position_cmp-total}
 use Rattle.blot_position.specs.declared.sums.Sums.{Sums}
 use Rattle.blot_position.specs.Cells.{cells_in, sums_in}
-use Rattle.blot_position.specs.Positions.{same_position, sums_at, has_cell, with_cell}
+use Rattle.blot_position.specs.Positions.{same_key, same_position, sums_at, has_cell, with_cell, AreKeysOf}
 use Rattle.blot_position.specs.Sums.{no_parts}
 use Rattle.blot_position.proofs.PositionLemmas.{same_position-true, tied-same_position, get-insert, same_cells}
-
--- whether two positions are one, as keys
-abbrev pub same_key : PositionKey → PositionKey → Bool
-same_key a b = same_position a.account a.symbol b.account b.symbol
 
 -- the order finds what the test of keys finds
 found : (entries : List (PositionKey × Sums)) (key : PositionKey) → finite.find position_cmp key entries ≡ lookup (same_key key) entries
@@ -80,3 +78,24 @@ cells-there entries key there =
           ∙ sym (get-insert (cells_in entries) key.account key.symbol a s sums ∙ ap (λ test. if test then Some sums else finite.get (cells_in entries) (position_at a s)) same)
       | inr other ↦ sym (get-insert (cells_in entries) key.account key.symbol a s sums ∙ ap (λ test. if test then Some sums else finite.get (cells_in entries) (position_at a s)) other)
     ])
+
+-- ---- the keys of the cells
+
+pub keys-are : (entries : List (PositionKey × Sums)) (keys : List PositionKey) → keys ≡ keys_of entries → IsDistinct same_key (keys_of entries) → AreKeysOf (cells_in entries) keys
+keys-are entries keys are once = record {
+  all = λ key. ap (list_any (same_key key)) are ∙ sym (is_some-lookup (same_key key) entries) ∙ sym (has_cell-found entries key);
+  once = subst (IsDistinct same_key) (sym are) once;
+}
+
+-- what a cell has that was found, or made with the sums of no parts
+pub sums-found : (entries : List (PositionKey × Sums)) (key : PositionKey) (found : Option Sums) (fresh was : Sums) → found ≡ lookup (same_key key) entries → fresh ≡ no_parts → was ≡ unwrap_or found fresh
+    → was ≡ sums_in entries key
+sums-found entries key found fresh was at_key none is = is ∙ ap (unwrap_or found) none ∙ sym (sums_at-found entries key found (sym at_key))
+
+-- a part is put into such a cell
+pub cells-put :
+    (old new : List (PositionKey × Sums)) (key : PositionKey) (was now : Sums) (change : Sums → Sums) → was ≡ sums_in old key → now ≡ change was
+    → ((other : PositionKey) → lookup (same_key other) new ≡ cond (same_key key other) (Some now) (lookup (same_key other) old))
+    → cells_in new ≡ finite.insert (cells_in old) key (change (sums_in old key))
+cells-put old new key was now change was_is is written =
+    cells-written old new key now written ∙ ap (finite.insert (cells_in old) key) (is ∙ ap change was_is)

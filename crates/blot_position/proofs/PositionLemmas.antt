@@ -184,25 +184,6 @@ has_cell-of_part a s cells some = found_with_part (finite.get cells (position_at
 pub same_cells : (one two : Cells) → ((a s : List ℕ) → finite.get one (position_at a s) ≡ finite.get two (position_at a s)) → one ≡ two
 same_cells one two same = finite.same_map position_cmp-total position_cmp-exact one two (λ key. same key.account key.symbol)
 
--- the second of two entries of one position counts
-pub insert-insert : (a s : List ℕ) (first second : Sums) (cells : Cells) → finite.insert (finite.insert cells (position_at a s) first) (position_at a s) second ≡ finite.insert cells (position_at a s) second
-insert-insert a s first second cells =
-    same_cells (finite.insert (finite.insert cells (position_at a s) first) (position_at a s) second) (finite.insert cells (position_at a s) second) (λ a' s'.
-    get-insert (finite.insert cells (position_at a s) first) a s a' s' second
-    ∙ elim (cases_Bool (same_position a s a' s')) [
-      | inl same ↦ rw same (sym (get-insert cells a s a' s' second ∙ chosen (same_position a s a' s') (Some second) _ same))
-      | inr other ↦
-          rw other
-          (get-insert cells a s a' s' first ∙ passed (same_position a s a' s') (Some first) _ other
-          ∙ sym (get-insert cells a s a' s' second ∙ passed (same_position a s a' s') (Some second) _ other))
-    ])
-
--- a part added to a position for which a cell was made just before
-pub with_part-with_cell : (a s : List ℕ) (qty value : ℤ) (cells : Cells) → with_part a s qty value (with_cell a s cells) ≡ with_part a s qty value cells
-with_part-with_cell a s qty value cells =
-    insert-insert a s (sums_at cells a s) (with_one qty value (sums_at (with_cell a s cells) a s)) cells
-    ∙ ap (λ sums. finite.insert cells (position_at a s) (with_one qty value sums)) (sums_at-with_cell a s a s cells)
-
 -- ---- one part more, and the same part less
 
 added-taken : (sum amount : ℤ) → ((sum +ℤ amount) -ℤ amount) ≡ sum

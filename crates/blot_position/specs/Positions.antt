@@ -1,9 +1,11 @@
 -- The positions by account and symbol: a finite map to the number and the sums of their parts.
-use Rattle.std.specs.Prelude.{ℕ, ℤ, Bool, ◌&&◌, List}
+use Rattle.std.specs.Prelude.{◌≡◌, ℕ, ℤ, Bool, ◌&&◌, List}
 use Rattle.std.specs.Coded.{Coded}
 use Rattle.std.specs.FinMap as map
+use Rattle.std.specs.List.{list_any, IsDistinct}
 use Rattle.std.specs.Option.{unwrap_or}
 use Rattle.blot_types.specs.contracts.keys.PositionKey as position_rust
+use Rattle.blot_types.specs.declared.keys.PositionKey.{PositionKey}
 use Rattle.blot_types.specs.Keys.{same_text, position_at, position_cmp}
 use Rattle.blot_position.specs.contracts.sums.Sums as sums_rust
 use Rattle.blot_position.specs.declared.sums.Sums.{Sums}
@@ -12,6 +14,10 @@ use Rattle.blot_position.specs.Sums.{no_parts, with_one, without_one}
 -- whether two positions are one: the same account and the same symbol
 abbrev pub same_position : List ℕ → List ℕ → List ℕ → List ℕ → Bool
 same_position account symbol account' symbol' = same_text account account' && same_text symbol symbol'
+
+-- the same of their keys
+abbrev pub same_key : PositionKey → PositionKey → Bool
+same_key a b = same_position a.account a.symbol b.account b.symbol
 
 -- the positions for which a cell was made, with the number and the sums of their parts
 abbrev pub Cells : Type 0
@@ -28,6 +34,11 @@ sums_at cells account symbol = unwrap_or (map.get cells (position_at account sym
 -- whether a cell was made for a position
 abbrev pub has_cell : Cells → List ℕ → List ℕ → Bool
 has_cell cells account symbol = map.contains_key cells (position_at account symbol)
+
+-- these are the positions for which a cell was made, each once
+pub record AreKeysOf (cells : Cells) (keys : List PositionKey) : Type 0 where
+  pub all : (key : PositionKey) → list_any (same_key key) keys ≡ has_cell cells key.account key.symbol
+  pub once : IsDistinct same_key keys
 
 -- the cells with one for a position, whose sums stay as they were
 abbrev pub with_cell : List ℕ → List ℕ → Cells → Cells

@@ -1,13 +1,16 @@
 //! The cells in which the sums are stored, by position.
-ghost use Rattle.std.specs.Prelude.{◌≡◌, IsTrue, OnOk, OnErr};
+ghost use Rattle.std.specs.Prelude.{◌≡◌, IsTrue, IfOk, OnOk, OnErr};
+ghost use Rattle.std.specs.List.{IsDistinct};
+ghost use Rattle.std.specs.Map.{keys_of};
 ghost use Rattle.blot_position.specs.Cells.{added_in, cells_in, has_cell_in, opened_in, sums_in, taken_in};
+ghost use Rattle.blot_position.specs.Positions.{same_key};
 ghost use Rattle.blot_position.specs.Sums.{HasRoom, HasPart};
 
 use crate::Sums;
 use blot_decimal::{QtySum, Value};
 use blot_types::PositionKey;
 use indexmap::IndexMap;
-use std::alloc::AllocError as NoMemory;
+use std::alloc::{AllocError as NoMemory, Global};
 
 /// The sums of the positions for which a cell was made. A cell that was made stays.
 pub(crate) type Cells = IndexMap<PositionKey, Sums>;
@@ -22,6 +25,14 @@ pub(crate) fn sums_of(cells: &Cells, position: &PositionKey) -> Sums
     }
 }
 
+/// The positions for which a cell was made, each once. An error is out of memory.
+pub(crate) fn keys_of(alloc: Global, cells: &Cells) -> Result<Vec<PositionKey>, NoMemory>
+    ensures keys { IfOk result (λ keys. keys.items ≡ keys_of cells.now.entries) }
+    ensures once { IsDistinct same_key (keys_of cells.now.entries) }
+{
+    cells.keys().copied().collect(alloc)
+}
+
 /// Makes a cell for a position that has none. An error leaves the cells as they were.
 pub(crate) fn make_cell(cells: &mut Cells, position: &PositionKey) -> Result<(), NoMemory>
     ensures ok { OnOk result (cells_in cells.new.entries ≡ opened_in position.now cells.old.entries) }
@@ -33,6 +44,22 @@ pub(crate) fn make_cell(cells: &mut Cells, position: &PositionKey) -> Result<(),
     Ok(())
 }
 
+/// Adds a part to a position, for which a cell is made where it has none. An error leaves the cells as they were.
+pub(crate) fn put_part(
+    cells: &mut Cells,
+    position: &PositionKey,
+    qty: QtySum,
+    value: Value,
+) -> Result<(), NoMemory>
+    requires { HasRoom (sums_in cells.old.entries position.now) qty value }
+    ensures ok { OnOk result (cells_in cells.new.entries ≡ added_in position.now qty value cells.old.entries) }
+    ensures err { OnErr result (cells_in cells.new.entries ≡ cells_in cells.old.entries) }
+{
+    let entry = cells.entry(*position)?;
+    entry.or_insert(Sums::none()).add(qty, value);
+    Ok(())
+}
+
 /// Adds a part to a position for which a cell was made.
 pub(crate) fn add_part(cells: &mut Cells, position: &PositionKey, qty: QtySum, value: Value)
     requires made { IsTrue (has_cell_in cells.old.entries position.now) }
@@ -40,7 +67,7 @@ pub(crate) fn add_part(cells: &mut Cells, position: &PositionKey, qty: QtySum, v
     ensures { cells_in cells.new.entries ≡ added_in position.now qty value cells.old.entries }
 {
     match cells.get_mut(position) {
-        Some(sums) => *sums = sums.with_part(qty, value),
+        Some(sums) => sums.add(qty, value),
         None => unreachable!(),
     }
 }

@@ -1,11 +1,11 @@
 //! The positions: opened, changed, shown.
-ghost use Rattle.std.specs.Prelude.{◌≡◌, IsTrue, OnOk, OnErr};
+ghost use Rattle.std.specs.Prelude.{◌≡◌, IsTrue, IfOk, OnOk, OnErr};
 ghost use Rattle.std.specs.FinMap as map;
 ghost use Rattle.blot_types.specs.Keys.{position_at};
-ghost use Rattle.blot_position.specs.Positions.{sums_at, has_cell, with_cell, with_part, without_part};
+ghost use Rattle.blot_position.specs.Positions.{sums_at, has_cell, with_cell, with_part, without_part, AreKeysOf};
 ghost use Rattle.blot_position.specs.Sums.{line_by, HasRoom, HasPart};
 
-use crate::cell::{Cells, add_part, make_cell, sub_part, sums_of};
+use crate::cell::{Cells, add_part, keys_of, make_cell, put_part, sub_part, sums_of};
 use blot_decimal::{QtySum, Value};
 use blot_types::{PositionKey, PositionLine, Text64};
 use indexmap::IndexMap;
@@ -61,9 +61,7 @@ impl Positions {
         ensures ok { OnOk result (self.new ≡ with_part account.now symbol.now qty value self.old) }
         ensures err { OnErr result (self.new ≡ self.old) }
     {
-        self.open(account, symbol)?;
-        self.un_sub(account, symbol, qty, value);
-        Ok(())
+        put_part(&mut self.cells, &position_at(account, symbol), qty, value)
     }
 
     /// Takes a part that was added away from a position. Its cell stays. It needs no memory.
@@ -81,6 +79,13 @@ impl Positions {
         ensures { self.new ≡ with_part account.now symbol.now qty value self.old }
     {
         add_part(&mut self.cells, &position_at(account, symbol), qty, value);
+    }
+
+    /// The positions for which a cell was made, each once, in no order. An error is out of memory.
+    pub fn keys(&self, alloc: Global) -> Result<Vec<PositionKey>, NoMemory>
+        ensures { IfOk result (λ keys. AreKeysOf self.now keys.items) }
+    {
+        keys_of(alloc, &self.cells)
     }
 
     /// The line of a position: the sums of its parts, or none without a part.

@@ -41,6 +41,14 @@ impl Sums {
         }
     }
 
+    /// Adds one part.
+    pub(crate) fn add(&mut self, qty: QtySum, value: Value)
+        requires { HasRoom self.old qty value }
+        ensures { self.new ≡ with_one qty value self.old }
+    {
+        *self = self.with_part(qty, value);
+    }
+
     /// The sums with one part less.
     pub(crate) fn without_part(self, qty: QtySum, value: Value) -> Sums
         requires { HasPart self qty value }

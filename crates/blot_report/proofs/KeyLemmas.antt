@@ -1,7 +1,8 @@
 -- The keys of orders and positions: their orders are total and tie no two keys, and a tie is what the tests call one.
 use Rattle.std.proofs.Common.{◌≡◌, ℕ, ◌+◌, ◌<◌, Bool, true, false, ◌&&◌, ◌||◌, List, [], ◌∷◌, length, map, take, get_or, Option, Some, None, refl, sym, ap, subst, ◌∙◌, inl, inr}
-use Rattle.std.specs.Prelude.{filter, is_some, cond}
+use Rattle.std.specs.Prelude.{filter, is_some}
 use Rattle.std.specs.Cmp.{IsTotalOrder, on_total, then_total}
+use Rattle.std.specs.FinMap as finite
 use Rattle.std.specs.Cmp.Lexicographic.{slice_cmp, nat_list_cmp_total, nat_list_eq_equiv, texts_ties}
 use Rattle.std.specs.List.{list_any, last_or, IsDistinct}
 use Rattle.std.specs.List.Sorted.{IsPermutation, IsSorted}
@@ -24,9 +25,11 @@ use Rattle.blot_types.specs.Order.{line_by, fills_of}
 use Rattle.blot_types.proofs.KeyLemmas.{position_cmp-exact, position_cmp-total}
 use Rattle.blot_report.specs.Lines.{order_cmp, orders_among, position_key, positions_among}
 use Rattle.blot_report.specs.Orders.{AreLinesOf}
-use Rattle.blot_report.specs.Sums.{same_key, HasKeys}
+use Rattle.blot_position.specs.Positions.{Cells, same_key, has_cell, with_part, AreKeysOf}
+use Rattle.blot_report.specs.Sums.{HasCells}
 use Rattle.blot_report.proofs.ListLemmas.{any-mapped, mapped-more}
 use Rattle.blot_report.proofs.SortedLemmas.{sorted-once}
+use Rattle.blot_position.proofs.PositionLemmas.{has_cell-empty, has_cell-with_part}
 
 -- ---- the orders of keys
 
@@ -95,27 +98,31 @@ orders-sorted lines keys fills distinct moved rises are =
     sorted-once order_cmp came own keys order_cmp-total order_cmp-exact (subst (λ same. IsDistinct same own) orders-tied distinct)
     (λ key. subst (λ same. list_any (same key) own ≡ list_any (same key) came) orders-tied (lines-keyed lines fills key are)) moved rises
 
--- the positions that parts are of, sorted
+-- the positions for which a cell was made, sorted
 pub positions-sorted :
-    (found keys : List PositionKey) (parts : List Part) → HasKeys found parts → IsDistinct same_key found → IsPermutation found keys → IsSorted position_cmp keys
+    (cells : Cells) (found keys : List PositionKey) (parts : List Part) → AreKeysOf cells found → HasCells parts cells → IsPermutation found keys → IsSorted position_cmp keys
     → keys ≡ positions_among parts
-positions-sorted found keys parts has distinct moved rises =
+positions-sorted cells found keys parts own made moved rises =
     let came = map position_key parts in
-    sorted-once position_cmp came found keys position_cmp-total position_cmp-exact (subst (λ same. IsDistinct same found) positions-tied distinct)
-    (λ key. subst (λ same. list_any (same key) found ≡ list_any (same key) came) positions-tied (has key)) moved rises
+    sorted-once position_cmp came found keys position_cmp-total position_cmp-exact (subst (λ same. IsDistinct same found) positions-tied own.once)
+    (λ key. subst (λ same. list_any (same key) found ≡ list_any (same key) came) positions-tied (own.all key ∙ made key)) moved rises
 
--- the positions of the first parts, with one part more
-pub keys-more :
-    (old new : List PositionKey) (parts : List Part) (index : ℕ) (part : Part) → HasKeys old (take index parts) → index < length parts → part ≡ get_or parts index part
-    → ((key : PositionKey) → list_any (same_key key) new ≡ cond (same_key (position_key part) key) true (list_any (same_key key) old))
-    → HasKeys new (take (index + 1) parts)
-keys-more old new parts index part has within is put key =
-    put key ∙ joined (same_key (position_key part) key) (list_any (same_key key) old) (same_key-sym (position_key part) key) (has key)
+-- the cells of the first parts, with one part more
+pub cells-more :
+    (cells : Cells) (parts : List Part) (index : ℕ) (part : Part) → HasCells (take index parts) cells → index < length parts → part ≡ get_or parts index part
+    → HasCells (take (index + 1) parts) (with_part part.account part.symbol part.qty part.value cells)
+cells-more cells parts index part made within is key =
+    has_cell-with_part part.account part.symbol key.account key.symbol part.qty part.value cells
+    ∙ joined (same_key (position_key part) key) (has_cell cells key.account key.symbol) (same_key-sym (position_key part) key) (made key)
     ∙ sym (ap (list_any (same_key key)) (mapped-more position_key parts index part within is)
     ∙ list_any-append (same_key key) (map position_key (take index parts)) (position_key part ∷ []))
   where
-    joined : (test any : Bool) {turned among : Bool} → test ≡ turned → any ≡ among → cond test true any ≡ (among || (turned || false))
+    joined : (test has : Bool) {turned among : Bool} → test ≡ turned → has ≡ among → (test || has) ≡ (among || (turned || false))
     joined true true one two = rw (← one, ← two) refl
     joined true false one two = rw (← one, ← two) refl
     joined false true one two = rw (← one, ← two) refl
     joined false false one two = rw (← one, ← two) refl
+
+-- no cells are made for no parts
+pub cells-none : (cells : Cells) → cells ≡ finite.empty → HasCells [] cells
+cells-none cells empty key = ap (λ c. has_cell c key.account key.symbol) empty ∙ has_cell-empty key.account key.symbol

@@ -1,16 +1,15 @@
 -- How the parts of a day are summed, and how much they come to.
-use Rattle.std.specs.Prelude.{◌≡◌, ℕ, ◌≤◌, Bool, ◌&&◌, List, length, map, All, Option, unsigned_abs}
+use Rattle.std.specs.Prelude.{◌≡◌, ℕ, ◌≤◌, List, length, map, All, Option, unsigned_abs}
 use Rattle.std.specs.List.{filter_map, list_any, sum_by}
 use Rattle.std.specs.Option.{option_map}
 use Rattle.blot_types.specs.declared.part.Part.{Part}
-use Rattle.blot_position.specs.Positions.{Cells, sums_at}
+use Rattle.blot_position.specs.Positions.{Cells, has_cell, same_key, sums_at}
 use Rattle.blot_position.specs.Sums.{line_by}
 use Rattle.blot_types.specs.Bounds.{BOOK_PARTS, BOOK_QTY}
-use Rattle.blot_types.specs.Keys.{same_text}
 use Rattle.blot_types.specs.Position.{IsSmall}
 use Rattle.blot_types.specs.declared.keys.PositionKey.{PositionKey}
 use Rattle.blot_report.specs.declared.lines.PositionRow.{PositionRow}
-use Rattle.blot_report.specs.Lines.{position_key}
+use Rattle.blot_report.specs.Lines.{position_key, positions_among}
 
 -- the quantities of parts in all, whatever their sign
 abbrev pub weight : List Part → ℕ
@@ -22,10 +21,6 @@ pub record IsLight (parts : List Part) : Type 0 where
   pub few : length parts ≤ BOOK_PARTS
   pub light : weight parts ≤ BOOK_QTY
 
--- the same account and symbol
-abbrev pub same_key : PositionKey → PositionKey → Bool
-same_key a b = same_text a.account b.account && same_text a.symbol b.symbol
-
 -- the row of a position whose sums stand in a cell; none without a part
 abbrev pub cell_row : Cells → PositionKey → Option PositionRow
 cell_row cells position = option_map (λ line. record { position = position; line = line }) (line_by (sums_at cells position.account position.symbol))
@@ -34,6 +29,10 @@ cell_row cells position = option_map (λ line. record { position = position; lin
 abbrev pub cell_rows : Cells → List PositionKey → List PositionRow
 cell_rows cells positions = filter_map (cell_row cells) positions
 
--- keys are those of the positions that parts are of, in whatever order
-abbrev pub HasKeys : List PositionKey → List Part → Type 0
-HasKeys keys parts = (key : PositionKey) → list_any (same_key key) keys ≡ list_any (same_key key) (map position_key parts)
+-- a cell was made for each position that parts are of, and for no other
+abbrev pub HasCells : List Part → Cells → Type 0
+HasCells parts cells = (key : PositionKey) → has_cell cells key.account key.symbol ≡ list_any (same_key key) (map position_key parts)
+
+-- some positions are those of any parts that the cells were made for, sorted
+abbrev pub ArePositionsOf : Cells → List PositionKey → Type 0
+ArePositionsOf cells positions = (parts : List Part) → HasCells parts cells → positions ≡ positions_among parts

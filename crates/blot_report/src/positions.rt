@@ -1,12 +1,11 @@
 //! The rows of positions.
 ghost use Rattle.std.specs.Prelude.{◌≡◌, IfOk};
-ghost use Rattle.std.specs.List.{IsDistinct};
 ghost use Rattle.blot_types.specs.Order.{total};
 ghost use Rattle.blot_position.specs.Carried.{Carries};
 ghost use Rattle.blot_report.specs.Day.{day_parts_of};
-ghost use Rattle.blot_report.specs.Lines.{position_key, positions_among, position_rows};
+ghost use Rattle.blot_report.specs.Lines.{position_rows};
 ghost use Rattle.blot_report.specs.Standings.{AreStandings};
-ghost use Rattle.blot_report.specs.Sums.{IsLight, HasKeys, cell_row, cell_rows, same_key};
+ghost use Rattle.blot_report.specs.Sums.{IsLight, ArePositionsOf, HasCells, cell_row, cell_rows};
 
 use crate::PositionRow;
 use crate::parts::parts_on;
@@ -15,9 +14,8 @@ use blot_command::Standing;
 use blot_position::Positions;
 use blot_time::Day;
 use blot_types::{Entry, Part, PositionKey};
-use indexmap::IndexSet;
 use std::alloc::{AllocError as NoMemory, Global};
-use std::thread::{Threads, join};
+use std::thread::Threads;
 
 /// The rows of the positions of a day, by account and then by symbol. An error is out of memory.
 pub(crate) fn position_rows(
@@ -54,11 +52,11 @@ fn part_rows(alloc: Global, parts: &[Part]) -> Result<Vec<PositionRow>, NoMemory
     ensures { IfOk result (λ rows. rows.items ≡ position_rows parts.now) }
 {
     let positions = positions_of(alloc, parts)?;
-    let keys = sorted_positions(alloc, parts)?;
+    let keys = sorted_positions(alloc, &positions)?;
     rows_of(alloc, &positions, &keys)
 }
 
-// The same, where sums and keys are made side by side, and each piece of the positions is a worker's.
+// The same, where each piece of the positions is a worker's.
 fn part_rows_in_pieces<R: Threads + Sync>(
     rt: &R,
     alloc: Global,
@@ -67,18 +65,8 @@ fn part_rows_in_pieces<R: Threads + Sync>(
     requires { IsLight parts.now }
     ensures { IfOk result (λ rows. rows.items ≡ position_rows parts.now) }
 {
-    let (positions, keys) = join(
-        rt,
-        || -> Result<Positions, NoMemory>
-            requires { IsLight parts.now }
-            ensures { IfOk result (λ positions. Carries (λ amount. total amount parts.entry.now) positions) }
-        { positions_of(alloc, parts) },
-        || -> Result<Vec<PositionKey>, NoMemory>
-            ensures { IfOk result (λ keys. keys.items ≡ positions_among parts.entry.now) }
-        { sorted_positions(alloc, parts) },
-    );
-    let positions = positions?;
-    let keys = keys?;
+    let positions = positions_of(alloc, parts)?;
+    let keys = sorted_positions(alloc, &positions)?;
     rows_in_pieces(rt, alloc, &positions, &keys)
 }
 
@@ -104,7 +92,8 @@ fn rows_in_pieces<R: Threads + Sync>(
 // The positions with these parts added.
 fn positions_of(alloc: Global, parts: &[Part]) -> Result<Positions, NoMemory>
     requires { IsLight parts.now }
-    ensures { IfOk result (λ positions. Carries (λ amount. total amount parts.now) positions) }
+    ensures sums { IfOk result (λ positions. Carries (λ amount. total amount parts.now) positions) }
+    ensures cells { IfOk result (λ positions. HasCells parts.now positions) }
 {
     let mut positions = Positions::new(alloc);
     for part in parts {
@@ -113,43 +102,13 @@ fn positions_of(alloc: Global, parts: &[Part]) -> Result<Positions, NoMemory>
     Ok(positions)
 }
 
-// The positions that parts are of, sorted, each once.
-fn sorted_positions(alloc: Global, parts: &[Part]) -> Result<Vec<PositionKey>, NoMemory>
-    ensures { IfOk result (λ keys. keys.items ≡ positions_among parts.now) }
+// The positions for which a cell was made, sorted.
+fn sorted_positions(alloc: Global, positions: &Positions) -> Result<Vec<PositionKey>, NoMemory>
+    ensures { IfOk result (λ keys. ArePositionsOf positions.now keys.items) }
 {
-    let found = keys_among(alloc, parts)?;
-    let mut keys = keys_of(alloc, &found)?;
+    let mut keys = positions.keys(alloc)?;
     keys.sort_unstable();
     Ok(keys)
-}
-
-// The keys of a set.
-fn keys_of(alloc: Global, found: &IndexSet<PositionKey>) -> Result<Vec<PositionKey>, NoMemory>
-    ensures keys { IfOk result (λ keys. keys.items ≡ found.now.keys) }
-    ensures once { IsDistinct same_key found.now.keys }
-{
-    found.iter().copied().collect(alloc)
-}
-
-// The positions that parts are of, each once.
-fn keys_among(alloc: Global, parts: &[Part]) -> Result<IndexSet<PositionKey>, NoMemory>
-    ensures { IfOk result (λ found. HasKeys found.keys parts.now) }
-{
-    let mut found = IndexSet::new(alloc);
-    for part in parts {
-        found.insert(key_of(part))?;
-    }
-    Ok(found)
-}
-
-// The position that a part is of.
-fn key_of(part: &Part) -> PositionKey
-    ensures { result ≡ position_key part.now }
-{
-    PositionKey {
-        account: part.account,
-        symbol: part.symbol,
-    }
 }
 
 // The rows of some positions: one for each that has a part.

@@ -2,8 +2,9 @@ use Rattle.std.proofs.Common.{◌≡◌, None, false, ap, sym, ◌∙◌, rules}
 use Rattle.std.specs.FinMap as finite
 use Rattle.std.specs.Map.{lookup}
 use Rattle.std.specs.Prelude.{is_none}
+use Rattle.blot_position.specs.Positions.{same_key}
 use Rattle.blot_position.specs.Cells.{cells_in}
-use Rattle.blot_position.proofs.CellLemmas.{same_key, cells-there, cells-written, sums_at-found}
+use Rattle.blot_position.proofs.CellLemmas.{cells-there, cells-written, sums_at-found}
 use Rattle.blot_position.proofs.cell.make_cell.Goals as goal
 
 pub returns-in_ok-insert-clause-ok : goal.returns-in_ok-insert-clause-ok

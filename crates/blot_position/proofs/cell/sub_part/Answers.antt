@@ -1,8 +1,9 @@
 use Rattle.std.proofs.Common.{◌≡◌, Some, None, sym, subst, ap, ◌∙◌, is_some, arith}
 use Rattle.std.specs.Map.{lookup}
 use Rattle.std.specs.Option.{option_copied_mut}
+use Rattle.blot_position.specs.Positions.{same_key}
 use Rattle.blot_position.specs.Sums.{HasPart, without_one}
-use Rattle.blot_position.proofs.CellLemmas.{same_key, cells-changed, sums_at-found}
+use Rattle.blot_position.proofs.CellLemmas.{cells-changed, sums_at-found}
 use Rattle.blot_position.proofs.cell.sub_part.Goals as goal
 
 pub unreachable-requires : goal.unreachable-requires

@@ -8,6 +8,6 @@ use Rattle.blot_report.proofs.positions.part_rows.Goals as goal
 pub returns : goal.returns
 returns c =
     let parts = c.args.parts.now in
-    let keys = c.deref.result.now in
-    let rows = rows-carried parts c.in_ok-positions.positions keys c.in_ok-positions.ensures ∙ ap (filter_map (position_row parts)) (c.deref.ensures.value ∙ c.in_ok-keys.ensures) in
+    let keys = c.deref.ensures.value ∙ c.in_ok-keys.ensures parts c.in_ok-positions.ensures.cells in
+    let rows = rows-carried parts c.in_ok-positions.positions c.deref.result.now c.in_ok-positions.ensures.sums ∙ ap (filter_map (position_row parts)) keys in
     if_ok c.rows_of.result _ _ (λ found is. is ∙ rows) c.rows_of.ensures
