@@ -117,7 +117,7 @@ pub(crate) fn version_numbered(slots: &[EntrySlot], number: u64) -> Option<Versi
     }
 }
 
-/// The number of the last entry that is there. An empty slot behind it is passed over.
+/// The number of the last entry that is there. An empty slot after it is passed over.
 pub(crate) fn newest_number(slots: &[EntrySlot]) -> Option<u64>
     ensures { result ≡ option_map (λ entry. entry.number) (last_or None (entries_in slots.now)) }
 {

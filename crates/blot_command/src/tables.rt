@@ -1,13 +1,11 @@
 //! The book.
-ghost use Rattle.std.specs.Prelude.{◌≡◌, ◌<◌, [], ◌∷◌, ◌++◌, None, Some, IsSome, length, find, IsTrue, OnOk, OnErr, IfOk, IfErr, IfSome};
+ghost use Rattle.std.specs.Prelude.{◌≡◌, ◌<◌, [], ◌∷◌, ◌++◌, None, Some, IsSome, find, IsTrue, OnOk, OnErr, IfOk, IfErr, IfSome};
 ghost use Rattle.std.specs.List.{last_or};
 ghost use Rattle.std.specs.Option.{option_copied, option_map};
 ghost use Rattle.blot_types.specs.Laws.{HasBoundedTotals, IsConserving};
 ghost use Rattle.blot_types.specs.Legal.{is_above_entries, is_book, entry_refusal, least_needing, without};
 ghost use Rattle.blot_types.specs.Order.{order_of};
 ghost use Rattle.blot_types.specs.Position.{position_of};
-ghost use Rattle.blot_types.specs.declared.TheConstants.{EVENTS_MAX};
-ghost use Rattle.blot_order.specs.Fills.{put_at, kept_at};
 ghost use Rattle.blot_types.specs.Survivors.{version_of};
 ghost use Rattle.blot_command.specs.Book.{has_number};
 ghost use Rattle.blot_command.specs.Shown.{chain_numbered, with_put, with_kept, IsPut, IsKept, CanPut};
@@ -131,8 +129,8 @@ impl Tables {
         Ok(Snapshot::of(entries, standings))
     }
 
-    /// Why the book refuses a command as its next entry.
-    pub(crate) fn refusal(&self, command: &Command) -> Option<Refused>
+    /// Why the book refuses a command as its next entry. A Withdraw is never an entry: NotLive. No memory is taken.
+    pub fn refusal(&self, command: &Command) -> Option<Refused>
         ensures refusal { result ≡ entry_refusal self.now.list command.now }
         ensures book { IsTrue (is_book self.now.list) }
     {

@@ -99,7 +99,7 @@ is_withdrawal_by number step event reply = false
 abbrev pub is_withdrawal : ℕ → ℕ → Receipt → Bool
 is_withdrawal number step receipt = is_withdrawal_by number step receipt.event receipt.reply
 
--- ---- receipts laid beside the history
+-- ---- receipts compared with the history
 
 -- the history has the event and the reply of a receipt at its place
 abbrev pub Stands : List Recorded → Receipt → Type 0

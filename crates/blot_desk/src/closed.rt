@@ -1,4 +1,4 @@
-//! A desk at the end of the day, and the receipts laid beside its history.
+//! A desk at the end of the day, and the receipts compared with its history.
 ghost use Rattle.std.specs.Prelude.{◌≡◌, IfOk, IfErr, length};
 ghost use Rattle.blot_desk.specs.Desk.{IsRun};
 ghost use Rattle.blot_desk.specs.Receipts.{IsSettled};

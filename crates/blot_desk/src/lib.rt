@@ -1,7 +1,7 @@
 //! The desk: one event at a time, answered, and recorded with its answer. `Held` keeps the book with its steps,
 //! done and undone, and the history of the day; its book and its replies are those of the run of the events that
 //! it recorded. `Desk` is one under its lock: each caller has a seat, which keeps a receipt of every answer, and at the
-//! end of the day the receipts are laid beside the history.
+//! end of the day the receipts are compared with the history.
 #![tactic(auto)]
 
 mod closed;

@@ -1,4 +1,4 @@
-//! Receipts laid beside the history.
+//! Receipts compared with the history.
 ghost use Rattle.std.specs.Prelude.{◌≡◌, ◌↔◌, ◌<◌, true, false, IfOk, length};
 ghost use Rattle.blot_desk.specs.Marks.{AllDisagree, AllMarked, AreMarked, Disagree, EachMarked};
 ghost use Rattle.blot_desk.specs.Receipts.{IsSettled, Stands};

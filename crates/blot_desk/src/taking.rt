@@ -1,9 +1,11 @@
 //! Each kind of event on the book.
-ghost use Rattle.std.specs.Prelude.{◌≡◌, ◌≤◌, IfOk, OnErr};
+ghost use Rattle.std.specs.Prelude.{◌≡◌, ◌≤◌, None, IfOk, OnErr, is_some, if◌then◌else◌};
+ghost use Rattle.blot_types.specs.Legal.{entry_refusal};
+ghost use Rattle.blot_types.specs.Refusals.{exec_key};
 ghost use Rattle.blot_desk.specs.Desk.{desk_book, outcome_in, step_of, submit_of, undo_of, redo_of};
 
 use crate::{Event, Reply};
-use blot_command::ApplyFault;
+use blot_command::{ApplyFault, Tables};
 use blot_types::{Command, EVENTS_MAX, Refused};
 use blot_undo::{StepFault, Steps};
 use std::alloc::{AllocError as NoMemory, Global};
@@ -29,12 +31,15 @@ pub(crate) fn take(
     }
 }
 
-// Takes a command, or refuses it.
+// Takes a command, or refuses it; that of an execution before it is copied.
 fn submit(steps: &mut Steps<Command>, alloc: Global, command: &Command) -> Result<Reply, NoMemory>
     requires { steps.old.next ≤ EVENTS_MAX }
     ensures ok { IfOk result (λ reply. outcome_in steps.new reply ≡ submit_of (desk_book steps.old) command.now) }
     ensures err { OnErr result (desk_book steps.new ≡ desk_book steps.old) }
 {
+    if let Some(reason) = execution_refusal(steps.state(), command) {
+        return Ok(Reply::Refused(reason));
+    }
     let own = command.try_copy(alloc)?;
     let outcome = steps.apply(own);
     match &outcome {
@@ -42,6 +47,16 @@ fn submit(steps: &mut Steps<Command>, alloc: Global, command: &Command) -> Resul
         Err(StepFault::Refused(_, ApplyFault::Refused(reason))) => Ok(Reply::Refused(*reason)),
         Err(_) => Err(NoMemory),
     }
+}
+
+// Why the book refuses the command of an execution, which a few look-ups tell. What allocates or withdraws is refused by its own step.
+fn execution_refusal(tables: &Tables, command: &Command) -> Option<Refused>
+    ensures { result ≡ (if is_some (exec_key command.now) then entry_refusal tables.now.list command.now else None) }
+{
+    if command.exec_key().is_none() {
+        return None;
+    }
+    tables.refusal(command)
 }
 
 // Undoes the newest step, where it has this number.
