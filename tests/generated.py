@@ -169,7 +169,7 @@ class Drawing:
     # Messages
 
     def fields(self, kind, peer, session):
-        """MsgType and the fields behind the header."""
+        """MsgType and the fields after the header."""
         if kind in 'FGHX':
             return '8', self.execution(kind, peer)
         if kind in 'NRC':
@@ -222,7 +222,7 @@ class Drawing:
         return self.pick((bytes_of(self.pick(NOISE)), whole[:place], whole[:place] + b'\x7C' + whole[place + 1:]))
 
     def capture(self):
-        """Messages with noise between some of them, and behind the last one at times the front of another."""
+        """Messages with noise between some of them, and after the last one at times the front of another."""
         parts = []
         for place in range(MESSAGES):
             parts += [self.noise()] if self.once_in(16) else []
@@ -261,7 +261,7 @@ class Drawing:
             ['report', self.pick((*DAYS, '20240107'))], self.allocate(), self.allocate(), [self.pick(BAD_LINES)])))
 
     def lines(self):
-        """Lines, and at times behind them undos of all that is done and redos of all that is undone, one more of each."""
+        """Lines, and at times after them undos of all that is done and redos of all that is undone, one more of each."""
         drawn = []
         for _ in range(LINES):
             drawn.append(self.line())

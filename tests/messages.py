@@ -10,7 +10,7 @@ import re
 
 OWN, PEER, DAY = 'MO', 'BRKA', '20240105'
 SOH = b'\x01'
-HEADER = ['49', '56', '34', '43', '52']  # behind MsgType(35), in this order
+HEADER = ['49', '56', '34', '43', '52']  # after MsgType(35), in this order
 TYPES = pathlib.Path(__file__).resolve().parent.parent / 'crates' / 'blot_types' / 'src' / 'lib.rt'
 EVENTS_MAX = int(re.search(r'EVENTS_MAX: u64 = ([\d_]+);', TYPES.read_text())[1])
 LIMIT = re.compile(r'EVENTS_MAX([+-]\d+)?')
@@ -58,7 +58,7 @@ def fields_of(text):
 
 
 def with_header(text, sender, target, number, moment):
-    """The message with the fields of the header filled in that it doesn't give behind its 35."""
+    """The message with the fields of the header filled in that it doesn't give after its 35."""
     kind, *rest = fields_of(text)
     filled = {'49': f'49={sender}', '56': f'56={target}', '34': f'34={number}', '43': '', '52': f'52={moment}'}
     while rest and rest[0][0] in HEADER:

@@ -30,7 +30,7 @@ class Unfinished(Exception):
 
 
 def behind(capture, at, text):
-    """The place behind a text that has to stand at this one."""
+    """The place after a text that has to stand at this one."""
     there = capture[at:at + len(text)]
     if not text.startswith(there):
         raise NoFrame
@@ -50,7 +50,7 @@ def check_sum(text):
 
 
 def end_of_frame(capture, start):
-    """The place behind the frame that begins at this one."""
+    """The place after the frame that begins at this one."""
     at = behind(capture, start, f'8=FIX.4.4{SOH}9=')
     digits = re.compile('[0-9]*').match(capture, at)[0][:DIGITS + 1]
     if not can_be_length(digits):
@@ -90,7 +90,7 @@ def pieces_of(capture):
 # Fields
 
 DATA = {90: 91, 93: 89, 95: 96, 212: 213, 348: 349, 350: 351, 352: 353, 354: 355, 356: 357, 358: 359, 360: 361, 362: 363,
-        364: 365, 445: 446, 618: 619, 621: 622}   # the data tag behind each length tag
+        364: 365, 445: 446, 618: 619, 621: 622}   # the data tag after each length tag
 
 
 class Fault(Exception):
@@ -111,7 +111,7 @@ def number_of(digits):
 
 
 def field_at(frame, at, before):
-    """The tag and the value of the field at this place, and the place behind it. Before it stands the field `before`."""
+    """The tag and the value of the field at this place, and the place after it. Before it stands the field `before`."""
     text = frame[at:frame.index(SOH, at)]
     found = re.match('([1-9][0-9]{0,8})=', text)
     if not found:
@@ -374,7 +374,7 @@ def executions_of(fields):
 
 
 def lines_of(fields):
-    """The fields of each line: from a 79 behind 78 to the next, or to the end."""
+    """The fields of each line: from a 79 after 78 to the next, or to the end."""
     begins = [place for place in places_of(fields, 79) if place > min(places_of(fields, 78), default=len(fields))]
     return [fields[begin:end] for begin, end in zip(begins, [*begins[1:], len(fields)])]
 
@@ -853,7 +853,7 @@ def trail(capture, own, peers):
 
 
 def day_of(capture, own, peers):
-    """Sessions and desk behind a capture."""
+    """Sessions and desk after a capture."""
     played = Day(own, peers)
     for what, _, piece in pieces_of(capture):
         if what == 'message':

@@ -23,7 +23,7 @@ MODULES = ('draws', 'keys', 'words', 'refused')
 BEHIND = 8       # at least so many rows of a script stand where it's over
 SECONDS = 900
 # For each group the number of the request that is refused, and its scripts: how each is called, what it does, and its rows, from before its
-# first request to behind its last.
+# first request to after its last.
 GROUPS = {
     'calls': (1000, {
         'held': ('held(rt.alloc(), {})', 'a bust undone, redone and withdrawn, at a desk of one thread', range(1, 91)),

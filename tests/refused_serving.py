@@ -166,7 +166,7 @@ class Progress:
 
 
 def operate(process, is_in):
-    """An operator's lines, behind those of BRKA, and their end."""
+    """An operator's lines, after those of BRKA, and their end."""
     is_in.events['BRKA'].wait(ASKS)
     try:
         process.stdin.write(''.join(line.replace(' ', '\t') + '\n' for line, _ in LINES).encode())

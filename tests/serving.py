@@ -177,7 +177,7 @@ def end_wire(talk, label, deed):
 
 
 def ask(talk, lines):
-    """An operator's lines, one behind the other, and their answers, of which each is awaited."""
+    """An operator's lines, one after the other, and their answers, of which each is awaited."""
     talk['process'].stdin.write(b''.join(spelled(line, b'>', b'\t') + b'\n' for _, line, _ in lines))
     talk['process'].stdin.flush()
     for place, wanted in itertools.chain.from_iterable(answers for _, _, answers in lines):
@@ -247,7 +247,7 @@ def leave(talk):
 
 
 def finish(talk):
-    """Waits for the program's end: what it printed behind the answers, its status, and its standard error."""
+    """Waits for the program's end: what it printed after the answers, its status, and its standard error."""
     status = talk['process'].wait()
     for thread in talk['threads']:
         thread.join()

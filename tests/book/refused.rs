@@ -1,6 +1,6 @@
 //! Scripts of which one request for memory is refused. What was refused is made once more, and then the replies, the history, the book
 //! and the reports are those of a run with ample memory. `tests/refused` has a certain request of the process refused, and runs each
-//! script behind so many others that it is the first of the script's own, then the second, and so on to its end.
+//! script after so many others that it is the first of the script's own, then the second, and so on to its end.
 
 use crate::draws::Draws;
 use crate::keys::order;
@@ -30,7 +30,7 @@ pub enum Refusal {
     NotMet,
 }
 
-// More requests than any script makes, and than come behind one.
+// More requests than any script makes, and than come after one.
 const MANY: usize = 4_000;
 
 // The seed of the drawn events, and how many there are.
@@ -176,7 +176,7 @@ fn spend(alloc: Global, requests: usize) -> bool {
     true
 }
 
-// How a script ended that met a refusal or none. A refusal that is still to come is spent, so that nothing behind it meets it.
+// How a script ended that met a refusal or none. A refusal that is still to come is spent, so that nothing after it meets it.
 fn ended(alloc: Global, is_met: bool) -> Refusal {
     if is_met {
         return Refusal::Met;
@@ -222,7 +222,7 @@ fn expect_reply(reply: &Reply, wanted: &Reply) -> Result<(), Fail> {
     Ok(())
 }
 
-// Takes an event behind others. Where memory ran out nothing has changed, and it is taken once more.
+// Takes an event after others. Where memory ran out nothing has changed, and it is taken once more.
 fn step(
     alloc: Global,
     held: &mut Held,

@@ -181,7 +181,7 @@ with a fill, and one for each position.
 For every fill a broker sends its client's middle office a drop copy: a FIX 4.4 Execution Report
 (35=8 with 150=F). A correction (150=G) brings another version of a fill, whole, and a bust (150=H)
 takes a fill away with all its corrections. An Allocation Instruction (35=J) books fills to accounts.
-A capture is the bytes that came in, message behind message, of one broker or of several. Each broker
+A capture is the bytes that came in, message after message, of one broker or of several. Each broker
 has a session, which begins with its Logon: messages count by their number, each once and in order.
 Bytes that are no whole message with the right BodyLength and CheckSum are passed over, and so are
 the messages of brokers that aren't named.";
@@ -257,7 +257,7 @@ The answers:
                                       what it names
   refused 12 Needed 4                 so it is with a withdrawal: command 4 needs what is to go
   bad 3 2                             the line isn't understood: 1 an unknown word, 2 too few or too
-                                      many words, 3 a bad value and its place behind the first word,
+                                      many words, 3 a bad value and its place after the first word,
                                       4 a line that is too long
   full                                the day's record has no room for another event
 
