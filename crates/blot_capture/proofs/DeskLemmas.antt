@@ -17,30 +17,12 @@ submitted-append journal (command ∷ commands) more = submitted-append (recorde
 
 -- ---- a fault
 
--- none of the commands was submitted yet
-pub stopped-first : (journal : Journal) (commands : List Command) → Stopped journal journal commands NoMemory
-stopped-first journal commands = record { front = []; back = commands; joined = refl; taken = refl; full = λ is. absurd cc }
-
--- all were
+-- all commands were submitted
 pub stopped-last : (before after : Journal) (commands : List Command) → after ≡ submitted before commands → Stopped before after commands NoMemory
 stopped-last before after commands is = record { front = commands; back = []; joined = append-nil commands; taken = is; full = λ full. absurd cc }
 
 pub stopped-submitted : (before after : Journal) (command : Command) → after ≡ recorded_of before (Submit command) → Stopped before after (command ∷ []) NoMemory
 stopped-submitted before after command is = stopped-last before after (command ∷ []) is
-
--- the desk was full
-pub stopped-full : (journal after : Journal) (command : Command) → after ≡ journal → length journal.history ≡ EVENTS_MAX → Stopped journal after (command ∷ []) Full
-stopped-full journal after command is full =
-    record {
-      front = [];
-      back = command ∷ [];
-      joined = refl;
-      taken = is;
-      full = λ f. (ap (λ (held : Journal). length held.history) is ∙ full, omega arith);
-    }
-
-pub stopped-memory : (journal after : Journal) (commands : List Command) → after ≡ journal → Stopped journal after commands NoMemory
-stopped-memory journal after commands is = record { front = []; back = commands; joined = refl; taken = is; full = λ f. absurd cc }
 
 -- more commands were to come
 pub stopped-before : (fault : ReplayFault) (before after : Journal) (commands more : List Command) → Stopped before after commands fault → Stopped before after (commands ++ more) fault

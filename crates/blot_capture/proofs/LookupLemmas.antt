@@ -1,5 +1,5 @@
 -- The session of a peer, among those that are out and in the table.
-use Rattle.std.proofs.Common.{◌≡◌, ℕ, ◌+◌, ◌<◌, true, false, List, [], ◌∷◌, ◌++◌, length, take, Option, Some, None, Ok, Err, refl, sym, ap, subst, ◌∙◌, inl, inr, arith, zero, suc, slice_index_or, slice_set}
+use Rattle.std.proofs.Common.{◌≡◌, ℕ, ◌+◌, ◌<◌, true, false, List, [], ◌∷◌, ◌++◌, length, take, Option, Some, None, Ok, refl, sym, ap, subst, ◌∙◌, inl, inr, arith, zero, suc, slice_index_or, slice_set}
 use Rattle.std.specs.Prelude.{is_some, if◌then◌else◌}
 use Rattle.std.specs.Cmp.Lexicographic.{bytes_decides}
 use Rattle.std.specs.List.{list_any}
@@ -12,7 +12,6 @@ use Rattle.blot_fields.specs.Sender.{sender_of}
 use Rattle.blot_types.specs.Keys.{same_text}
 use Rattle.blot_session.specs.declared.state.State.{State}
 use Rattle.blot_session.specs.Runs.{behind_calls}
-use Rattle.blot_slots.specs.declared.slot_fault.SlotFault.{SlotFault}
 use Rattle.blot_slots.specs.Slots.{Slots, slot_of, with_slot, all_in, answer_of}
 use Rattle.blot_slots.proofs.SlotLemmas.{slot_of-with_slot, slot_of-all_in}
 use Rattle.blot_capture.specs.Capture.{Sessions, first_sessions, sessions_behind, commands_in, is_from, calls_of, taken_by}
@@ -125,11 +124,6 @@ answered-ok (Some (Some found)) session is = cc
 answered-ok (Some None) session is = absurd cc
 answered-ok None session is = absurd cc
 
-pub answered-err : (slot : Option (Option State)) (fault : SlotFault) → answer_of slot ≡ Err fault → session_of_slot slot ≡ None
-answered-err (Some (Some found)) fault is = absurd cc
-answered-err (Some None) fault is = refl
-answered-err None fault is = refl
-
 -- a session that is checked out is the one that its peer had
 pub sessions-out : (out : List State) (slots next : Slots) (peer : List ℕ) (session : State) → session_among peer out ≡ None
     → slot_of slots peer ≡ Some (Some session) → next ≡ with_slot peer None slots → session.peer ≡ peer
@@ -201,9 +195,6 @@ sessions-unsent sessions text none = everywhere (sessions_behind sessions text) 
     let from : is_from other text ≡ false = ap (λ sent. option_map_or (λ sender. same_text sender other) sent false) none in
     rw from refl)
 
-pub commands-unsent : (sessions : Sessions) (text : List ℕ) → sender_of (fields_of text) ≡ None → commands_in sessions text ≡ []
-commands-unsent sessions text none = ap (λ sent. option_map_or (λ state. taken_by state text) (option_and_then sessions sent) []) none
-
 pub sessions-strange : (sessions : Sessions) (text peer : List ℕ) → sender_of (fields_of text) ≡ Some peer → sessions peer ≡ None → sessions_behind sessions text ≡ sessions
 sessions-strange sessions text peer sent none = everywhere (sessions_behind sessions text) sessions (λ other.
     let from : is_from other text ≡ same_text peer other = ap (λ sent. option_map_or (λ sender. same_text sender other) sent false) sent in
@@ -213,11 +204,6 @@ sessions-strange sessions text peer sent none = everywhere (sessions_behind sess
           rw (from ∙ y, was) refl
       | inr n ↦ rw (from ∙ n) refl
     ])
-
-pub commands-strange : (sessions : Sessions) (text peer : List ℕ) → sender_of (fields_of text) ≡ Some peer → sessions peer ≡ None → commands_in sessions text ≡ []
-commands-strange sessions text peer sent none =
-    ap (λ sent. option_map_or (λ state. taken_by state text) (option_and_then sessions sent) []) sent
-    ∙ ap (λ found. option_map_or (λ state. taken_by state text) found []) none
 
 -- ---- the session of a frame's sender
 

@@ -22,7 +22,7 @@ use Rattle.blot_session.specs.declared.replies.SeenReply.TheVariants.{Accepted, 
 use Rattle.blot_session.specs.declared.state.Awaited.{Awaited}
 use Rattle.blot_session.specs.declared.state.Awaited.TheVariants as awaits
 use Rattle.blot_session.specs.declared.state.State.{State}
-use Rattle.blot_session.specs.Calls.{Outcome, Awaits, DeliversAlone, is_spent, outcome_of, reply_row_by, on_frame, on_reply}
+use Rattle.blot_session.specs.Calls.{Outcome, Awaits, is_spent, outcome_of, reply_row_by, on_frame, on_reply}
 use Rattle.blot_session.specs.declared.met.Met.{Met}
 use Rattle.blot_session.specs.Met.{met_of}
 use Rattle.blot_session.specs.Rows.{reply_row}
@@ -127,18 +127,6 @@ handled-frame state next journal text actions now handled at is awaits given =
 -- where no reply is awaited, nothing is delivered
 pub delivers-none : (state : State) (actions : List Action) → Awaits state actions → is_some (awaited_of state) ≡ false → delivered_in actions ≡ []
 delivers-none state actions awaits none = ap (map (λ numbered. numbered.command)) (delivered-none 0 actions (awaits.awaited ∙ none))
-
--- what delivers a command does nothing else
-pub delivers-one : (actions : List Action) (command : Command) → DeliversAlone actions → delivered_in actions ≡ command ∷ [] → actions ≡ Deliver command ∷ []
-delivers-one [] command alone is = absurd cc
-delivers-one (Send bytes ∷ []) command alone is = absurd cc
-delivers-one (Deliver other ∷ []) command alone is = ap (map Deliver) is
-delivers-one (Close reason ∷ []) command alone is = absurd cc
-delivers-one (action ∷ next ∷ actions) command alone is =
-    absurd (nil-cons (ap (map (λ numbered. numbered.command)) (sym (delivered-none 0 (action ∷ next ∷ actions) alone)) ∙ is))
-  where
-    nil-cons : {A : Type 0} {x : A} → [] ≡ x ∷ [] → ⊥
-    nil-cons is = cc
 
 -- a frame brings one command at most
 pub one-taken : (state : State) (text : List ℕ) → AtMostOne (taken_by state text)

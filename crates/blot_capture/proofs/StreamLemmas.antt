@@ -1,7 +1,7 @@
 -- The frames of a stream, taken one by one, and its pieces, one after the other.
 use Rattle.std.proofs.Common.{◌≡◌, ℕ, List, [], ◌∷◌, ◌++◌, Option, Some, None, refl, sym, ap, ◌∙◌, subst}
-use Rattle.std.specs.Io.KnownBytes.{Consumes, Keeps, IsAtEnd}
-use Rattle.std.proofs.lemmas.List.{append_assoc, append-nil}
+use Rattle.std.specs.Io.KnownBytes.{Consumes}
+use Rattle.std.proofs.lemmas.List.{append_assoc}
 use Rattle.blot_tag.specs.Reading.{Reading, TakesFirst, FindsNone}
 use Rattle.blot_tag.specs.Walking.{frames_of, joined_with}
 use Rattle.blot_tag.proofs.WalkLemmas.{walk_of-append, walk_of-prefix, look_of-nil}
@@ -10,7 +10,7 @@ use Rattle.blot_desk.specs.Desk.{Journal}
 use Rattle.blot_stream.specs.declared.outcome.ReplayFault.{ReplayFault}
 use Rattle.blot_stream.specs.declared.outcome.ReplayFault.TheVariants.{Full}
 use Rattle.blot_capture.specs.Capture.{Sessions, sessions_behind, commands_in, commands_over}
-use Rattle.blot_capture.specs.Replay.{Taking, Came, CameOf, CameOn, Stopped, StoppedOf, StoppedOn, TakenOf, submitted}
+use Rattle.blot_capture.specs.Replay.{Taking, Came, CameOf, CameOn, Stopped, StoppedOf, StoppedOn, submitted}
 use Rattle.blot_capture.proofs.DeskLemmas.{submitted-append, stopped-behind, stopped-before}
 
 -- ---- frames
@@ -124,21 +124,3 @@ CameOf-stopped fault (Some bytes) (Some rest) (Some later) from mid stop unread 
     let all : (unread ++ piece) ++ later ≡ unread ++ rest = append_assoc unread piece later ∙ ap (λ back. unread ++ back) (sym consumes) in
     stopped-behind fault from (frames_of bytes) mid (frames_of (unread ++ rest)) stop so
     (subst (λ text. Stopped mid.journal stop (commands_over mid.sessions (frames_of text)) fault) all (stopped later))
-
--- a fault came between two pieces
-pub CameOf-fault : (fault : ReplayFault) (known before : Option (List ℕ)) (from now : Taking) (unread : List ℕ) → (fault ≡ Full → ⊥)
-    → CameOf known from before unread now → StoppedOf known from now.journal fault
-CameOf-fault fault None before from now unread other so = tt
-CameOf-fault fault (Some bytes) None from now unread other so = absurd so
-CameOf-fault fault (Some bytes) (Some rest) from now unread other so = stopped-here fault from now (frames_of bytes) (frames_of (unread ++ rest)) other so
-
--- the input is at its end, and no frame is left
-pub CameOf-end : (known before after : Option (List ℕ)) (from now : Taking) (unread : List ℕ)
-    → CameOf known from before unread now → Keeps before after → IsAtEnd after → frames_of unread ≡ [] → TakenOf known from now.journal
-CameOf-end None before after from now unread so keeps end drained = tt
-CameOf-end (Some bytes) None after from now unread so keeps end drained = absurd so
-CameOf-end (Some bytes) (Some rest) None from now unread so keeps end drained = absurd keeps
-CameOf-end (Some bytes) (Some rest) (Some later) from now unread so keeps end drained =
-    let none : rest ≡ [] = sym keeps ∙ end in
-    let left : frames_of (unread ++ rest) ≡ [] = ap frames_of (ap (λ back. unread ++ back) none ∙ append-nil unread) ∙ drained in
-    so.taken ∙ ap (submitted from.journal) (sym (append-nil so.front) ∙ ap (λ texts. so.front ++ commands_over now.sessions texts) (sym left) ∙ so.joined)

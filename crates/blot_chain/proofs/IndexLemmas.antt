@@ -1,6 +1,5 @@
 -- What is named where the places of one link come and go, and the stack that stands under a key.
-use Rattle.std.proofs.Common.{◌≡◌, ℕ, Bool, false, ◌&&◌, List, reverse, refl, sym, ap, subst, ◌∙◌}
-use Rattle.std.specs.List.Sorted.{IsPartitionedBy}
+use Rattle.std.proofs.Common.{◌≡◌, ℕ, false, ◌&&◌, List, reverse, refl, sym, ap, subst, ◌∙◌}
 use Rattle.std.proofs.lemmas.List.{reverse-reverse}
 use Rattle.blot_places.specs.declared.slots.Slot.{Slot}
 use Rattle.blot_places.specs.Indexed.{NamesOneMore, NamesSame}
@@ -20,9 +19,6 @@ use Rattle.blot_chain.specs.RootedLink.{begun}
 
 pub turned : (stack places : List ℕ) → reverse stack ≡ places → stack ≡ reverse places
 turned stack places is = sym (reverse-reverse stack) ∙ ap reverse is
-
-pub parted-turned : (p : ℕ → Bool) (stack places : List ℕ) → reverse stack ≡ places → IsPartitionedBy p (reverse places) → IsPartitionedBy p stack
-parted-turned p stack places is parted = subst (IsPartitionedBy p) (sym (turned stack places is)) parted
 
 -- ---- where a link stands to the key of its root
 

@@ -7,10 +7,10 @@ use Rattle.std.specs.Option.{option_map}
 use Rattle.std.proofs.lemmas.Bool.{cases_Bool, and_parts, and_from, eqb-true, eq-eqb, lt-ltb, ltb-true}
 use Rattle.std.proofs.lemmas.List.Elements.{All-head, All-tail}
 use Rattle.blot_places.specs.declared.slots.Slot.{Slot}
-use Rattle.blot_places.specs.Shown.{item_at, with_item, with_some, without as without_item}
+use Rattle.blot_places.specs.Shown.{item_at, with_item, with_some}
 use Rattle.blot_places.specs.Slots.{items, is_above, lifted, live, mark, marked, numbers_fall}
 use Rattle.blot_places.proofs.MarkLemmas.{above-side, items-marked, mark-same, marked-below, side_here, side_on}
-use Rattle.blot_places.proofs.ShownLemmas.{at-below, at-here, at-none, at-number, at-on, falling-parts, with_item-front, without-here, without-on}
+use Rattle.blot_places.proofs.ShownLemmas.{at-below, at-here, at-none, at-number, at-on, falling-parts, with_item-front}
 use Rattle.blot_types.specs.declared.allocation.AllocRole.TheVariants.{Allocates, Replaces}
 use Rattle.blot_types.specs.declared.allocation.Instruction.{Instruction}
 use Rattle.blot_types.specs.declared.allocation.Terms.{Terms}
@@ -299,46 +299,6 @@ left-taken (slot ∷ earlier) n fall newest legal =
             omega (arith, less, same)
 
 -- ---- an entry is put back
-
--- its instruction is kept no more
-pub left-put : (slots : List (Slot Entry)) (n : ℕ) → left_instructions (marked entry_number n true slots) ≡ without_item number_of n (left_instructions slots)
-left-put [] n = refl
-left-put (slot ∷ earlier) n =
-    let rest = left-put earlier n in
-    elim (cases_Bool (nat_eq slot.item.number n)) [
-      | inl here ↦ here-put rest here
-      | inr other ↦ other-put rest other
-    ]
-  where
-    gone : nat_eq slot.item.number n ≡ true → (found : Option Instruction) → (told_of slot earlier) ≡ found → without_item number_of n (cons_option found (left_instructions earlier)) ≡ without_item number_of n (left_instructions earlier)
-    gone here None is = refl
-    gone here (Some i) is = without-here number_of n i (left_instructions earlier) (ap (λ k. nat_eq k n) (instruction-number (links_in (items earlier)) slot.item i is) ∙ here)
-
-    stays : nat_eq slot.item.number n ≡ false → (found : Option Instruction) → (told_of slot earlier) ≡ found → without_item number_of n (cons_option found (left_instructions earlier)) ≡ cons_option found (without_item number_of n (left_instructions earlier))
-    stays other None is = refl
-    stays other (Some i) is = without-on number_of n i (left_instructions earlier) (ap (λ k. nat_eq k n) (instruction-number (links_in (items earlier)) slot.item i is) ∙ other)
-
-    here-put : (left_instructions (marked entry_number n true earlier) ≡ without_item number_of n (left_instructions earlier)) → nat_eq slot.item.number n ≡ true → left_instructions (marked entry_number n true (slot ∷ earlier)) ≡ without_item number_of n (left_instructions (slot ∷ earlier))
-    here-put rest here =
-        let there : mark entry_number n true slot ≡ record slot { is_live = true } = ap (λ t. cond t (record slot { is_live = true }) slot) here in
-        ap (λ (s : Slot Entry). left_instructions (s ∷ marked entry_number n true earlier)) there ∙ rest
-        ∙ elim (cases_Bool slot.is_live) [
-          | inl live ↦ sym (ap (λ t. without_item number_of n (cond t (left_instructions earlier) (cons_option (told_of slot earlier) (left_instructions earlier)))) live)
-          | inr taken ↦ sym (ap (λ t. without_item number_of n (cond t (left_instructions earlier) (cons_option (told_of slot earlier) (left_instructions earlier)))) taken ∙ gone here (told_of slot earlier) refl)
-        ]
-
-    other-put : (left_instructions (marked entry_number n true earlier) ≡ without_item number_of n (left_instructions earlier)) → nat_eq slot.item.number n ≡ false → left_instructions (marked entry_number n true (slot ∷ earlier)) ≡ without_item number_of n (left_instructions (slot ∷ earlier))
-    other-put rest other =
-        ap (λ (s : Slot Entry). left_instructions (s ∷ marked entry_number n true earlier)) (mark-same entry_number n true slot other)
-        ∙ elim (cases_Bool slot.is_live) [
-          | inl live ↦
-              ap (λ t. cond t (left_instructions (marked entry_number n true earlier)) (cons_option (instruction_by (links_in (items (marked entry_number n true earlier))) slot.item.number slot.item.command) (left_instructions (marked entry_number n true earlier)))) live
-              ∙ rest ∙ sym (ap (λ t. without_item number_of n (cond t (left_instructions earlier) (cons_option (told_of slot earlier) (left_instructions earlier)))) live)
-          | inr taken ↦
-              ap (λ t. cond t (left_instructions (marked entry_number n true earlier)) (cons_option (instruction_by (links_in (items (marked entry_number n true earlier))) slot.item.number slot.item.command) (left_instructions (marked entry_number n true earlier)))) taken
-              ∙ (λ i. cons_option (instruction_by (links_in (items-marked entry_number n true earlier i)) slot.item.number slot.item.command) (rest i))
-              ∙ sym (ap (λ t. without_item number_of n (cond t (left_instructions earlier) (cons_option (told_of slot earlier) (left_instructions earlier)))) taken ∙ stays other (told_of slot earlier) refl)
-        ]
 
 -- where no entry that was taken out has a number, no instruction of theirs has it
 pub left-apart : (slots : List (Slot Entry)) (n : ℕ) → numbers_fall entry_number (items slots) ≡ true → item_at entry_number n (lifted slots) ≡ None → instruction_at n (left_instructions slots) ≡ None

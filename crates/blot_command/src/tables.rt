@@ -242,7 +242,8 @@ fn put_held(orders: &mut Orders, entry: &Entry)
     ensures { orders.new ≡ with_put (version_of entry.now) orders.old }
 {
     match &entry.command {
-        Command::Trade(_) | Command::Correct(_) => orders.un_take(entry.number),
+        Command::Trade(trade) => orders.un_take(entry.number, &trade.fill),
+        Command::Correct(correct) => orders.un_take(entry.number, &correct.fill),
         Command::Bust(_)
         | Command::AllocNew(_)
         | Command::AllocReplace(_)
@@ -267,6 +268,6 @@ fn un_take(orders: &mut Orders, version: &Option<Version>)
     ensures { orders.new ≡ with_put version.now orders.old }
 {
     if let Some(version) = version {
-        orders.un_take(version.number);
+        orders.un_take(version.number, &version.fill);
     }
 }

@@ -6,7 +6,7 @@ use Rattle.blot_types.specs.declared.TheConstants.{ITEMS_MAX}
 use Rattle.blot_types.specs.declared.allocation.Line.{Line}
 use Rattle.blot_types.specs.declared.keys.ExecKey.{ExecKey}
 use Rattle.blot_types.specs.Making.{Made, Grows, Holds, Makes, IsShort}
-use Rattle.blot_types.proofs.MakingLemmas.{with_first, IsFront, front_begins, front_grows, front_faults, front_ends, made_short, makes_short}
+use Rattle.blot_types.proofs.MakingLemmas.{with_first, IsFront, front_grows, front_faults, front_ends, made_short, makes_short}
 use Rattle.blot_console.specs.declared.allocate.Block.{Block}
 use Rattle.blot_console.specs.declared.fault.Wrong.{Wrong}
 use Rattle.blot_console.specs.Allocate.{execs_of, line_of, lines_of, block_of}
@@ -94,9 +94,6 @@ summed before (Err wrong) = Err wrong
 pub record LinesFront (made : Made Line) (sum : ℕ) (rest meant : Result (List Line) Wrong) : Type 0 where
   pub lines : IsFront made rest meant
   pub sums : summed sum rest ≡ summed 0 meant
-
-pub lines_begin : (made : Made Line) (meant : Result (List Line) Wrong) → made.items ≡ [] → LinesFront made 0 meant meant
-lines_begin made meant none = record { lines = front_begins made meant none; sums = refl }
 
 kept-more : (before qty later : ℕ) → kept_sum (before + (qty + later)) ≡ kept_sum (kept_sum (before + qty) + later)
 kept-more before qty later = omega arith

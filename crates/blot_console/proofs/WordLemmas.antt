@@ -1,12 +1,12 @@
 -- How a line is taken apart into its words.
-use Rattle.std.proofs.Common.{◌≡◌, ◌≢◌, ℕ, zero, suc, ◌+◌, ◌-◌, ◌<◌, ◌≤◌, Bool, true, false, cond, List, [], ◌∷◌, length, take, drop, get_or, Option, Some, None, refl, sym, ap, ◌∙◌, arith, length-take}
+use Rattle.std.proofs.Common.{◌≡◌, ℕ, suc, ◌+◌, ◌-◌, ◌<◌, ◌≤◌, Bool, true, false, cond, List, [], ◌∷◌, length, take, drop, Option, Some, None, refl, sym, ap, ◌∙◌, arith}
 use Rattle.std.specs.Prelude.{not, MatchOption}
 use Rattle.std.specs.Borrow.{Bor}
 use Rattle.std.specs.List.{onto_first, position_or_len}
-use Rattle.std.proofs.lemmas.List.{take-take, take_all, take_rest, drop-drop, get_or-drop}
+use Rattle.std.proofs.lemmas.List.{take_rest, drop-drop}
 use Rattle.std.proofs.lemmas.List.Sums.{count_by-le-length}
 use Rattle.std.proofs.lemmas.List.Splits.{length-slice_split}
-use Rattle.blot_console.specs.Words.{is_tab, words_of, words_behind, word_at}
+use Rattle.blot_console.specs.Words.{is_tab, words_of, words_behind}
 
 -- what stands after the tab at the head of a text, if there is one
 abbrev pub behind_tab : List ℕ → Option (List ℕ)
@@ -52,18 +52,6 @@ first-more text front back place is is_front is_back some =
 pub words_of-few : (text : List ℕ) → length (words_of text) ≤ length text + 1
 words_of-few text = omega (arith, length-slice_split is_tab text, count_by-le-length is_tab text)
 
--- the first of some words
-pub take-first : {A : Type 0} (most : ℕ) (word : A) (later : List A) → most ≢ 0 → take most (word ∷ later) ≡ word ∷ take (most - 1) later
-take-first zero word later some = absurd (some refl)
-take-first (suc most) word later some = ap (λ k. word ∷ take k later) (omega arith)
-
--- the first of the first
-pub take-below : {A : Type 0} (most count : ℕ) (xs : List A) → count ≤ most → take count xs ≡ take count (take most xs)
-take-below most count xs below = sym (take-take count most xs below)
-
-pub take-above : {A : Type 0} (most count : ℕ) (xs : List A) → most ≤ count → take most xs ≡ take count (take most xs)
-take-above most count xs above = sym (take_all count (take most xs) (omega (arith, length-take most xs)))
-
 -- one more word is passed over
 pub drop-one : (words later : List (List ℕ)) (word : List ℕ) (place : ℕ) → drop place words ≡ word ∷ later → drop (place + 1) words ≡ later
 drop-one words later word place is = sym (drop-drop 1 place words) ∙ ap (drop 1) is
@@ -76,12 +64,3 @@ pub passed : (words old new : List (List ℕ)) (found : Option (Bor (List ℕ)))
     → old ≡ drop place words → new ≡ drop (place + 1) words
 passed words old new None place step is = step.1 ∙ sym (drop-none words place (sym is ∙ step.0))
 passed words old new (Some word) place step is = sym (drop-one words new word.now place (sym is ∙ step))
-
--- the word at a place begins what stands from that place on
-pub word_at-found : (words later : List (List ℕ)) (word : List ℕ) (place : ℕ) → drop place words ≡ word ∷ later → word_at place words ≡ word
-word_at-found words later word place is =
-    ap (λ k. get_or words k []) (omega arith) ∙ sym (get_or-drop place words 0 []) ∙ ap (λ rest. get_or rest 0 []) is
-
-pub word_at-none : (words : List (List ℕ)) (place : ℕ) → drop place words ≡ [] → word_at place words ≡ []
-word_at-none words place is =
-    ap (λ k. get_or words k []) (omega arith) ∙ sym (get_or-drop place words 0 []) ∙ ap (λ rest. get_or rest 0 []) is

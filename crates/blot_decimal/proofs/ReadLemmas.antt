@@ -1,5 +1,5 @@
 -- What reading a quantity or a price gives, from the sign and the size that the code reads.
-use Rattle.std.proofs.Common.{◌≡◌, ℕ, zero, suc, ◌^◌, ◌<◌, ◌≤◌, ℤ, pos, negsuc, unsigned_abs, Bool, true, false, List, Result, Ok, Err, Some, None, IfOk, nat_lt, refl, sym, ap, ◌∙◌, subst, arith, inl, inr}
+use Rattle.std.proofs.Common.{◌≡◌, ℕ, zero, suc, ◌^◌, ◌≤◌, ℤ, pos, negsuc, unsigned_abs, Bool, true, false, List, Result, Ok, Err, Some, None, IfOk, nat_lt, refl, sym, ap, ◌∙◌, subst, arith, inl, inr}
 use Rattle.std.proofs.lemmas.Bool.{cases_Bool, cases_lt, lt-ltb, le-ltb}
 use Rattle.blot_decimal.specs.declared.fault.DecimalFault.{DecimalFault}
 use Rattle.blot_decimal.specs.declared.fault.DecimalFault.TheVariants.{TooLarge}
@@ -40,14 +40,6 @@ qty_of-limited text = sym (qty-limited (is_negative text) (size_of 6 (unsigned_o
 pub price_of-limited : (text : List ℕ) → price_of text ≡ within price_units (with_sign (is_negative text) (limited (size_of 8 (unsigned_of text))))
 unfolding price_of
 price_of-limited text = sym (price-limited (is_negative text) (size_of 8 (unsigned_of text)))
-
--- what is left of a size is below 10^16
-pub limited_below : (size : Result ℕ DecimalFault) → IfOk (limited size) (λ units. units < 10 ^ 16)
-limited_below (Err fault) = tt
-limited_below (Ok units) = elim (cases_lt units (10 ^ 16)) [
-  | inl small ↦ rw (lt-ltb units (10 ^ 16) small) small
-  | inr large ↦ rw (le-ltb units (10 ^ 16) large) tt
-]
 
 -- a number of units that is a quantity is that quantity, and likewise a price
 qty_units-some : (units : ℤ) (qty : ℕ) → qty_units units ≡ Some qty → units ≡ pos qty

@@ -247,14 +247,6 @@ exact_of-printed places units small = (unsigned-printed places units small).1
 
 -- ---- nothing shorter
 
--- a text that writes a number is read as it
-exact_of-value : (places : ℕ) (text : List ℕ) (units : ℤ) → IsValue places text units → exact_of places text ≡ Ok units
-exact_of-value places text units value = elim (reads_as places text) [
-  | no_decimal form exact ↦ let known = value.decimal in cc
-  | no_units form none exact ↦ absurd (none units value)
-  | some_units other value' exact ↦ let same = IsValue-unique places text units other value value' in cc
-]
-
 value-exact_of : (places : ℕ) (text : List ℕ) (units : ℤ) → exact_of places text ≡ Ok units → IsValue places text units
 value-exact_of places text units read = elim (reads_as places text) [
   | no_decimal form exact ↦ let clash : Err Format ≡ Ok units = sym exact ∙ read in cc

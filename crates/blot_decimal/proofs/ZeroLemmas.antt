@@ -144,10 +144,6 @@ without_point (byte ∷ size) tail none =
       fraction_of-cons byte size parts.0 ∙ rest.3,
     )
 
--- what stands after a text that isn't empty is no part of its sign
-is_negative-append : (byte : ℕ) (rest tail : List ℕ) → is_negative ((byte ∷ rest) ++ tail) ≡ is_negative (byte ∷ rest)
-is_negative-append byte rest tail = refl
-
 unsigned_of-append : (byte : ℕ) (rest tail : List ℕ) → unsigned_of ((byte ∷ rest) ++ tail) ≡ unsigned_of (byte ∷ rest) ++ tail
 unsigned_of-append byte rest tail = elim (byte == 45) as (λ minus. (if minus then rest ++ tail else byte ∷ (rest ++ tail)) ≡ (if minus then rest else byte ∷ rest) ++ tail) [
   | true ↦ refl

@@ -1,13 +1,13 @@
 -- Receipts laid beside the history, one by one.
-use Rattle.std.proofs.Common.{◌≡◌, ℕ, ◌+◌, ◌==◌, ◌<◌, ◌≤◌, Bool, true, false, List, [], ◌∷◌, ◌++◌, Some, length, slice_index_or, slice_set, refl, sym, ◌∙◌, ap, arith, inl, inr, ◌≢◌, replicate, drop, zero, suc, if◌then◌else◌}
+use Rattle.std.proofs.Common.{◌≡◌, ℕ, ◌+◌, ◌==◌, ◌<◌, ◌≤◌, Bool, true, false, List, [], ◌∷◌, ◌++◌, Some, length, slice_index_or, slice_set, refl, sym, ◌∙◌, ap, arith, inl, inr, ◌≢◌, drop, if◌then◌else◌}
 use Rattle.std.specs.Bool.{Decides}
 use Rattle.std.specs.List.{slice_get}
 use Rattle.std.proofs.lemmas.Bool.{cases_Bool, eqb-true, eq-eqb}
 use Rattle.std.proofs.lemmas.List.{at_drop_more, get_or-set_same, get_or-set_other, length-set}
 use Rattle.blot_desk.specs.declared.event.Recorded.{Recorded}
 use Rattle.blot_desk.specs.declared.receipt.Receipt.{Receipt}
-use Rattle.blot_desk.specs.Marks.{AllDisagree, AllMarked, AreMarked, Disagree, EachMarked, HasTwo, mark_at}
-use Rattle.blot_desk.specs.Receipts.{AllStand, EachRises, IsSettled, RiseFrom, Stands, all_receipts, count_at}
+use Rattle.blot_desk.specs.Marks.{AllDisagree, AreMarked, Disagree, HasTwo, mark_at}
+use Rattle.blot_desk.specs.Receipts.{AllStand, EachRises, RiseFrom, Stands, all_receipts, count_at}
 
 -- what is left of a list, one element on
 pub next_of : {X : Type 0} (xs : List X) (i : ℕ) (x : X) → i < length xs → x ≡ slice_index_or xs i x → drop i xs ≡ x ∷ drop (i + 1) xs
@@ -162,14 +162,6 @@ seated_more history before marks after seats rest receipts so marked long = reco
   size = long ∙ so.size;
 }
 
-pub seated_all : (history : List Recorded) (before marks : List Bool) (seats : List (List Receipt)) → IsSeating history before marks seats []
-    → AllMarked history before marks seats
-seated_all history before marks seats so = record {
-  stand = so.stand tt;
-  rise = so.rise tt;
-  counted = λ place. (let counted = so.counted place in omega (arith, counted));
-}
-
 -- a seat whose receipts don't agree with the history
 pub seat_other :
     (history : List Recorded) (before marks : List Bool) (seats rest : List (List Receipt)) (receipts : List Receipt)
@@ -186,40 +178,3 @@ seat_other history before marks seats rest receipts so other all rise =
           let here = two.two in
           omega (arith, counted, both, here));
     }
-
--- ---- the whole
-
-no_mark : (count place : ℕ) → mark_at (replicate count false) place ≡ 0
-no_mark zero place = refl
-no_mark (suc count) zero = refl
-no_mark (suc count) (suc place) = no_mark count place
-
-pub settled_by :
-    (history : List Recorded) (count : ℕ) (marks : List Bool) (seats : List (List Receipt)) (test : Bool) → AllMarked history (replicate count false) marks seats
-    → length marks ≡ length history → Decides test (EachMarked marks) → Decides test (IsSettled history seats)
-settled_by history count marks seats test marked long decides = (
-  (λ yes. record {
-    stand = marked.stand;
-    rise = marked.rise;
-    once = λ place within.
-        (let one = decides.0 yes place (omega (arith, within, long)) in
-        let counted = marked.counted place in
-        let none = no_mark count place in
-        omega (arith, one, counted, none));
-  }),
-  (λ settled. decides.1 (λ place within.
-      (let once = settled.once place (omega (arith, within, long)) in
-      let counted = marked.counted place in
-      let none = no_mark count place in
-      omega (arith, once, counted, none)))),
-)
-
-pub unsettled_by :
-    (history : List Recorded) (count : ℕ) (seats : List (List Receipt))
-    → AllDisagree history (replicate count false) seats → IsSettled history seats → ⊥
-unsettled_by history count seats other settled =
-    let two = other settled.stand settled.rise in
-    let at = two.two in
-    let once = settled.once two.place two.within in
-    let none = no_mark count two.place in
-    omega (arith, at, once, none)

@@ -1,23 +1,17 @@
 -- The reads up to the first message.
-use Rattle.std.proofs.Common.{◌≡◌, ℕ, ◌+◌, ◌≤◌, List, [], ◌∷◌, ◌++◌, length, map, Option, Some, None, Result, Ok, Err, refl, sym, ap, subst, ◌∙◌, inl, inr, length-append}
-use Rattle.std.specs.Prelude.{IfErr, slice_get}
+use Rattle.std.proofs.Common.{◌≡◌, ℕ, ◌+◌, List, [], ◌∷◌, ◌++◌, length, map, Option, Some, None, Err, refl, sym, ap, subst, ◌∙◌, inl, inr, length-append}
+use Rattle.std.specs.Prelude.{slice_get}
 use Rattle.std.proofs.lemmas.List.{append-nil, map-append}
 use Rattle.blot_tag.specs.Walking.{frames_of, rest_of}
 use Rattle.blot_tag.proofs.WalkLemmas.{walk_of-append}
-use Rattle.blot_session.specs.declared.action.CloseReason.{CloseReason}
 use Rattle.blot_gateway.specs.declared.ended.Ended.{Ended}
 use Rattle.blot_gateway.specs.declared.ended.Ended.TheVariants as ended
-use Rattle.blot_gateway.specs.declared.ended.TheConstants.{READS_MAX}
 use Rattle.blot_gateway.specs.Wires.{Read, Did, Steps}
 use Rattle.blot_gateway.specs.Wires.Did.{Gave}
 use Rattle.blot_gateway.specs.Wires.Read.{AtEnd, Failed}
-use Rattle.blot_gateway.specs.Serving.{EndsWith, IsCounted}
-use Rattle.blot_gateway.specs.Greeting.{AwaitsFrame, Feeds, FeedsLast, Greeted, Holds, PeeksBy, Speaks, bytes_in, fed, held}
+use Rattle.blot_gateway.specs.Serving.{EndsWith}
+use Rattle.blot_gateway.specs.Greeting.{AwaitsFrame, Feeds, FeedsLast, Greeted, Holds, bytes_in, fed, held}
 use Rattle.blot_gateway.proofs.SendingLemmas.{steps-on, steps-one}
-
-fed-on : (unread : List ℕ) (reads : List Read) (read : Read) → fed unread (reads ++ read ∷ []) ≡ fed unread reads ++ bytes_in read
-fed-on unread [] read = refl
-fed-on unread (first ∷ reads) read = fed-on (unread ++ bytes_in first) reads read
 
 held-on : (unread : List ℕ) (reads : List Read) (read : Read) → held unread (reads ++ read ∷ []) ≡ rest_of (held unread reads) ++ bytes_in read
 held-on unread [] read = refl
@@ -48,10 +42,6 @@ held-frames some all (read ∷ reads) frames rest awaits =
 holds-by : (unread left : List ℕ) (reads : List Read) → AwaitsFrame unread reads → left ≡ held unread reads → Holds unread reads left
 holds-by unread left reads awaits is = record { bytes = is; frames = ap frames_of is ∙ held-frames unread unread reads refl refl awaits }
 
-speaks-of : (own left all : List ℕ) (answer : Result (List ℕ) CloseReason) → frames_of left ≡ frames_of all → Speaks own left answer → Speaks own all answer
-speaks-of own left all answer same speaks =
-    record { text = speaks.text; first = ap (λ texts. slice_get texts 0) (sym same) ∙ speaks.first; greets = speaks.greets }
-
 -- so many reads, before each of which no frame stood there
 pub record Reads {W : Type 0} (does : W → Did → W → Type 0) (before : W) (unread : List ℕ) (count : ℕ) (after : W) (left : List ℕ) : Type 0 where
   pub reads : List Read
@@ -59,9 +49,6 @@ pub record Reads {W : Type 0} (does : W → Did → W → Type 0) (before : W) (
   pub steps : Steps does before (map Gave reads) after
   pub awaits : AwaitsFrame unread reads
   pub holds : Holds unread reads left
-
-pub reads-none : {W : Type 0} (does : W → Did → W → Type 0) (before : W) (unread : List ℕ) → Reads does before unread 0 before unread
-reads-none does before unread = record { reads = []; many = refl; steps = refl; awaits = tt; holds = record { bytes = refl; frames = refl } }
 
 steps-more : {W : Type 0} (does : W → Did → W → Type 0) (a b c : W) (reads : List Read) (read : Read) → Steps does a (map Gave reads) b → does b (Gave read) c
     → Steps does a (map Gave (reads ++ read ∷ [])) c
@@ -88,36 +75,6 @@ reads-more does a b c unread left middle next count same one none feeds =
     }
 
 -- ---- the answers
-
-greets-there : {W : Type 0} (does : W → Did → W → Type 0) (own : List ℕ) (answer : Result (List ℕ) Ended) (a b : W) (unread left : List ℕ) (count : ℕ)
-    → Reads does a unread count b left → PeeksBy own left (Some answer) → Greeted does own answer a unread b left
-greets-there does own (Ok sender) a b unread left count one peeks =
-    record { reads = one.reads; steps = one.steps; awaits = one.awaits; holds = inl one.holds; greets = speaks-of own left (fed unread one.reads) (Ok sender) one.holds.frames peeks }
-greets-there does own (Err (ended.Closed reason)) a b unread left count one peeks =
-    record { reads = one.reads; steps = one.steps; awaits = one.awaits; holds = inl one.holds; greets = speaks-of own left (fed unread one.reads) (Err reason) one.holds.frames peeks }
-greets-there does own (Err ended.NoMemory) a b unread left count one peeks =
-    record { reads = one.reads; steps = one.steps; awaits = one.awaits; holds = inl one.holds; greets = tt }
-greets-there does own (Err ended.End) a b unread left count one peeks = absurd cc
-greets-there does own (Err ended.ReadFault) a b unread left count one peeks = absurd cc
-greets-there does own (Err ended.WriteFault) a b unread left count one peeks = absurd cc
-greets-there does own (Err ended.TooLong) a b unread left count one peeks = absurd cc
-
-pub greets-by : {W : Type 0} (does : W → Did → W → Type 0) (own : List ℕ) (answer : Result (List ℕ) Ended) (a b : W) (unread left next : List ℕ) (count : ℕ) → next ≡ left
-    → Reads does a unread count b left → PeeksBy own left (Some answer) → Greeted does own answer a unread b next
-greets-by does own answer a b unread left next count same one peeks =
-    subst (λ held. Greeted does own answer a unread b held) (sym same) (greets-there does own answer a b unread left count one peeks)
-
-pub greets-long : {W : Type 0} (does : W → Did → W → Type 0) (own : List ℕ) (a b : W) (unread left next : List ℕ) → next ≡ left
-    → Reads does a unread READS_MAX b left → frames_of left ≡ [] → Greeted does own (Err ended.TooLong) a unread b next
-greets-long does own a b unread left next same one none =
-    subst (λ held. Greeted does own (Err ended.TooLong) a unread b held) (sym same)
-    (record { reads = one.reads; steps = one.steps; awaits = one.awaits; holds = inl one.holds; greets = (one.many, sym one.holds.frames ∙ none) })
-
--- no memory after some reads
-pub greets-out : {W : Type 0} (does : W → Did → W → Type 0) (own : List ℕ) (a b : W) (unread left next : List ℕ) (count : ℕ)
-    → Reads does a unread count b left → Greeted does own (Err ended.NoMemory) a unread b next
-greets-out does own a b unread left next count one =
-    record { reads = one.reads; steps = one.steps; awaits = one.awaits; holds = inr refl; greets = tt }
 
 with-last : (last read : Read) (reads : List Read) → read ≡ last → EndsWith last (reads ++ read ∷ [])
 with-last last read reads is = record { earlier = reads; joined = ap (λ (found : Read). reads ++ found ∷ []) is }
@@ -161,19 +118,6 @@ greets-last does own ended.NoMemory a b c unread left middle next count same one
 greets-last does own (ended.Closed reason) a b c unread left middle next count same one none feeds = absurd feeds.ends
 greets-last does own ended.WriteFault a b c unread left middle next count same one none feeds = absurd feeds.ends
 greets-last does own ended.TooLong a b c unread left middle next count same one none feeds = absurd feeds.ends
-
-pub greets-no-memory : {W : Type 0} (does : W → Did → W → Type 0) (own : List ℕ) (a : W) (unread : List ℕ) → Greeted does own (Err ended.NoMemory) a unread a unread
-greets-no-memory does own a unread = record { reads = []; steps = refl; awaits = tt; holds = inr refl; greets = tt }
-
-pub peeks-counted : (own unread : List ℕ) (answer : Result (List ℕ) Ended) (before after : ℕ) → PeeksBy own unread (Some answer) → before ≤ after
-    → IfErr answer (IsCounted before after)
-peeks-counted own unread (Ok sender) before after peeks some = tt
-peeks-counted own unread (Err (ended.Closed reason)) before after peeks some = some
-peeks-counted own unread (Err ended.NoMemory) before after peeks some = some
-peeks-counted own unread (Err ended.End) before after peeks some = some
-peeks-counted own unread (Err ended.ReadFault) before after peeks some = absurd cc
-peeks-counted own unread (Err ended.WriteFault) before after peeks some = absurd cc
-peeks-counted own unread (Err ended.TooLong) before after peeks some = some
 
 -- ---- no first frame
 

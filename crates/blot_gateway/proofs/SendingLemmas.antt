@@ -24,9 +24,6 @@ steps-one does event a b step = (b, step, refl)
 
 -- ---- what is written
 
-pub writes-nothing : {W : Type 0} (does : W → Did → W → Type 0) (a b : W) → b ≡ a → Writes does a [] b
-writes-nothing does a b same = record { dids = []; steps = same; read = refl; written = refl }
-
 pub writes-took : {W : Type 0} (does : W → Did → W → Type 0) (text : List ℕ) (a b : W) → does a (Took text) b → Writes does a text b
 writes-took does text a b step = record { dids = Took text ∷ []; steps = steps-one does (Took text) a b step; read = refl; written = append-nil text }
 

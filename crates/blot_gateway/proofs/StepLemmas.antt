@@ -1,5 +1,5 @@
 -- One call of a session.
-use Rattle.std.proofs.Common.{◌≡◌, Bool, true, false, List, [], map, Option, None, Result, Ok, Err, refl, sym, ap, subst}
+use Rattle.std.proofs.Common.{◌≡◌, Bool, true, List, [], map, Option, None, Result, Ok, Err, refl, sym, ap, subst}
 use Rattle.std.specs.Prelude.{ℤ, IfErr, IsErrAnd, IsOk, OnOk}
 use Rattle.std.proofs.lemmas.Bool.{false≢true}
 use Rattle.std.specs.List.{flat_map}
@@ -7,7 +7,7 @@ use Rattle.blot_types.specs.declared.command.Command.{Command}
 use Rattle.blot_session.specs.declared.action.Action.{Action}
 use Rattle.blot_session.specs.declared.state.State.{State}
 use Rattle.blot_session.specs.Calls.{Outcome, Awaits}
-use Rattle.blot_session.specs.Runs.{Call, DeliversJust, outcome, bytes_of, delivered_by}
+use Rattle.blot_session.specs.Runs.{Call, DeliversJust, outcome, bytes_of}
 use Rattle.blot_session.specs.States.{IsIdle}
 use Rattle.blot_gateway.specs.declared.ended.Ended.{Ended}
 use Rattle.blot_gateway.specs.declared.ended.Stop.{Stop}
@@ -23,10 +23,6 @@ use Rattle.blot_session.proofs.ActionLemmas.{delivered-idle}
 pub on-ok : {T E P Q : Type 0} (result : Result T E) → OnOk result P → (P → Q) → OnOk result Q
 on-ok (Ok x) p more = more p
 on-ok (Err e) p more = tt
-
-pub on-ok-both : {T E P Q R : Type 0} (result : Result T E) → OnOk result P → OnOk result Q → (P → Q → R) → OnOk result R
-on-ok-both (Ok x) p q more = more p q
-on-ok-both (Err e) p q more = tt
 
 pub if-err : {T E : Type 0} (P Q : E → Type 0) (result : Result T E) → IfErr result P → ((e : E) → P e → Q e) → IfErr result Q
 if-err P Q (Ok x) p more = tt
@@ -85,18 +81,4 @@ halted does ticks stop call wire wire_after clock clock_after state after now sl
       halts = subst (λ (gives : Outcome). StopsAt does stop wire gives.actions true wire_after) is (stops-at does stop wire actions wire_after
           (subst (λ list. Halts does stop wire list wire_after) same halts));
       delivers = subst (λ (gives : Outcome). DeliversJust None gives.actions) is delivers;
-    }
-
-pub out-of-memory : {W C : Type 0} (does : W → Did → W → Type 0) (ticks : C → ℤ → C → Type 0) (call : ℤ → Bool → Call)
-    (wire : W) (clock clock_after : C) (state after : State) (now : ℤ)
-    → after ≡ (outcome state (call now false)).state → (outcome state (call now false)).actions ≡ [] → ticks clock now clock_after
-    → Halted does ticks call wire clock state wire clock_after after stops.NoMemory
-out-of-memory does ticks call wire clock clock_after state after now is none ticked =
-    record {
-      now = now;
-      memory = false;
-      ticked = ticked;
-      session = is;
-      halts = (refl, refl);
-      delivers = λ number. ap (λ actions. map (λ numbered. numbered.command) (delivered_by number actions)) none;
     }

@@ -1,5 +1,5 @@
 -- The positions after a change: the sums and the cell of the same position, and of another one.
-use Rattle.std.proofs.Common.{◌≡◌, ℕ, ◌+◌, ◌-◌, ◌<◌, ℤ, ◌+ℤ◌, ◌-ℤ◌, List, Option, Some, None, Bool, true, false, ◌||◌, refl, sym, ap, ◌∙◌, arith, inl, inr}
+use Rattle.std.proofs.Common.{◌≡◌, ℕ, ◌-◌, ℤ, List, Option, Some, Bool, true, false, ◌||◌, refl, sym, ap, ◌∙◌, inl, inr}
 use Rattle.std.specs.Prelude.{if◌then◌else◌, is_some}
 use Rattle.std.specs.Cmp.{tied_then}
 use Rattle.std.specs.Cmp.Lexicographic.{slice_cmp, nat_list_eq_equiv, texts_ties, same_text as text_told}
@@ -7,7 +7,6 @@ use Rattle.std.specs.FinMap as finite
 use Rattle.std.specs.Option.{unwrap_or}
 use Rattle.std.specs.Ordering.{nat_cmp, eq_by_cmp}
 use Rattle.std.proofs.lemmas.Bool.{cases_Bool, and_from, and_parts}
-use Rattle.std.proofs.lemmas.Int.{ints}
 use Rattle.blot_types.specs.Keys.{same_text, position_at, position_cmp}
 use Rattle.blot_types.proofs.KeyLemmas.{position_cmp-total, position_cmp-exact}
 use Rattle.blot_position.specs.declared.sums.Sums.{Sums}
@@ -101,34 +100,6 @@ sums_at-without_part a s a' s' qty value cells =
       | inr other ↦ rw other refl
     ]
 
--- the same position, and every other one
-
-chosen : {A : Type 0} (test : Bool) (a b : A) → test ≡ true → (if test then a else b) ≡ a
-chosen test a b is = ap (λ t. if t then a else b) is
-
-passed : {A : Type 0} (test : Bool) (a b : A) → test ≡ false → (if test then a else b) ≡ b
-passed test a b is = ap (λ t. if t then a else b) is
-
-pub sums_at-with_part_same : (a s : List ℕ) (qty value : ℤ) (cells : Cells) → sums_at (with_part a s qty value cells) a s ≡ with_one qty value (sums_at cells a s)
-sums_at-with_part_same a s qty value cells =
-    sums_at-with_part a s a s qty value cells ∙ chosen (same_position a s a s) _ (sums_at cells a s) (same_position-refl a s)
-
-pub sums_at-with_part_other :
-    (a s a' s' : List ℕ) (qty value : ℤ) (cells : Cells) → same_position a s a' s' ≡ false
-    → sums_at (with_part a s qty value cells) a' s' ≡ sums_at cells a' s'
-sums_at-with_part_other a s a' s' qty value cells other = sums_at-with_part a s a' s' qty value cells ∙ passed (same_position a s a' s') _ (sums_at cells a' s') other
-
-pub sums_at-without_part_same :
-    (a s : List ℕ) (qty value : ℤ) (cells : Cells) → sums_at (without_part a s qty value cells) a s ≡ without_one qty value (sums_at cells a s)
-sums_at-without_part_same a s qty value cells =
-    sums_at-without_part a s a s qty value cells ∙ chosen (same_position a s a s) _ (sums_at cells a s) (same_position-refl a s)
-
-pub sums_at-without_part_other :
-    (a s a' s' : List ℕ) (qty value : ℤ) (cells : Cells) → same_position a s a' s' ≡ false
-    → sums_at (without_part a s qty value cells) a' s' ≡ sums_at cells a' s'
-sums_at-without_part_other a s a' s' qty value cells other =
-    sums_at-without_part a s a' s' qty value cells ∙ passed (same_position a s a' s') _ (sums_at cells a' s') other
-
 -- ---- the cells after a change
 
 pub has_cell-with_cell : (a s a' s' : List ℕ) (cells : Cells) → has_cell (with_cell a s cells) a' s' ≡ (same_position a s a' s' || has_cell cells a' s')
@@ -166,38 +137,8 @@ has_cell-stays_without_part a s a' s' qty value cells has =
 pub has_cell-own_with_cell : (a s : List ℕ) (cells : Cells) → has_cell (with_cell a s cells) a s ≡ true
 has_cell-own_with_cell a s cells = has_cell-with_cell a s a s cells ∙ ap (λ test. test || has_cell cells a s) (same_position-refl a s)
 
-pub has_cell-own_with_part : (a s : List ℕ) (qty value : ℤ) (cells : Cells) → has_cell (with_part a s qty value cells) a s ≡ true
-has_cell-own_with_part a s qty value cells = has_cell-with_part a s a s qty value cells ∙ ap (λ test. test || has_cell cells a s) (same_position-refl a s)
-
--- a position with a part has a cell
-
-found_with_part : (found : Option Sums) → 0 < (unwrap_or found no_parts).parts → is_some found ≡ true
-found_with_part None some = absurd (omega arith)
-found_with_part (Some sums) some = refl
-
-pub has_cell-of_part : (a s : List ℕ) (cells : Cells) → 0 < (sums_at cells a s).parts → has_cell cells a s ≡ true
-has_cell-of_part a s cells some = found_with_part (finite.get cells (position_at a s)) some
-
 -- ---- changes one after the other
 
 -- maps that answer alike are equal
 pub same_cells : (one two : Cells) → ((a s : List ℕ) → finite.get one (position_at a s) ≡ finite.get two (position_at a s)) → one ≡ two
 same_cells one two same = finite.same_map position_cmp-total position_cmp-exact one two (λ key. same key.account key.symbol)
-
--- ---- one part more, and the same part less
-
-added-taken : (sum amount : ℤ) → ((sum +ℤ amount) -ℤ amount) ≡ sum
-added-taken sum amount = omega (arith, ints)
-
-taken-added : (sum amount : ℤ) → ((sum -ℤ amount) +ℤ amount) ≡ sum
-taken-added sum amount = omega (arith, ints)
-
-pub without_one-with_one : (qty value : ℤ) (sums : Sums) → without_one qty value (with_one qty value sums) ≡ sums
-without_one-with_one qty value sums =
-    let parts : (sums.parts + 1) - 1 ≡ sums.parts = omega arith in
-    λ i. record { parts = parts i; qty = added-taken sums.qty qty i; value = added-taken sums.value value i }
-
-pub with_one-without_one : (qty value : ℤ) (sums : Sums) → 0 < sums.parts → with_one qty value (without_one qty value sums) ≡ sums
-with_one-without_one qty value sums some =
-    let parts : (sums.parts - 1) + 1 ≡ sums.parts = omega arith in
-    λ i. record { parts = parts i; qty = taken-added sums.qty qty i; value = taken-added sums.value value i }

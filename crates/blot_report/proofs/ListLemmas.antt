@@ -60,9 +60,5 @@ pub any-mapped : {A B : Type 0} (p : B → Bool) (f : A → B) (xs : List A) →
 any-mapped p f [] = refl
 any-mapped p f (x ∷ xs) = ap (λ any. p (f x) || any) (any-mapped p f xs)
 
--- all of some items are well, and one more is
-pub All-more : {A B : Type 0} (P : B → Type 0) (f : A → B) (items : List A) (index : ℕ) (item : A) → index < length items → item ≡ get_or items index item → All P (map f (take index items)) → P (f item) → All P (map f (take (index + 1) items))
-All-more P f items index item within is all one = subst (All P) (sym (mapped-more f items index item within is)) (All-push P (map f (take index items)) (f item) all one)
-
 pub All-item : {A : Type 0} (P : A → Type 0) (items : List A) (index : ℕ) (item : A) → index < length items → item ≡ get_or items index item → All P (take index items) → P item → All P (take (index + 1) items)
 All-item P items index item within is all one = subst (All P) (sym (more items index item within is)) (All-push P (take index items) item all one)

@@ -1,8 +1,8 @@
 -- The parts of a day, as they are put one behind the other.
-use Rattle.std.proofs.Common.{◌≡◌, ℕ, ℤ, ◌+◌, ◌<◌, ◌≤◌, true, List, [], ◌∷◌, ◌++◌, length, map, take, get_or, Option, Some, None, sym, ap, subst, ◌∙◌}
+use Rattle.std.proofs.Common.{◌≡◌, ℕ, ℤ, ◌+◌, ◌<◌, true, List, [], ◌∷◌, ◌++◌, length, map, take, get_or, Option, Some, None, sym, ap, subst, ◌∙◌}
 use Rattle.std.specs.Prelude.{All}
 use Rattle.std.specs.List.{cons_option, filter_map, flat_map}
-use Rattle.std.proofs.lemmas.List.{append-nil, append_assoc, take_all}
+use Rattle.std.proofs.lemmas.List.{append-nil, append_assoc}
 use Rattle.std.proofs.lemmas.List.Elements.{All-nil, All-cons, All-head, All-tail, All-append}
 use Rattle.blot_types.specs.declared.allocation.Line.{Line}
 use Rattle.blot_types.specs.declared.allocation.Terms.{Terms}
@@ -83,9 +83,6 @@ pub all-passed :
     → All P (filter_map f (take index items)) → f item ≡ None → All P (filter_map f (take (index + 1) items))
 all-passed P f items index item within is all none =
     subst (All P) (sym (found-more f items index item within is ∙ ap (λ o. filter_map f (take index items) ++ cons_option o []) none ∙ append-nil (filter_map f (take index items)))) all
-
-pub all-done : {A B : Type 0} (P : B → Type 0) (f : A → Option B) (items : List A) (index : ℕ) → length items ≤ index → All P (filter_map f (take index items)) → All P (filter_map f items)
-all-done P f items index done all = subst (λ xs. All P (filter_map f xs)) (take_all index items done) all
 
 -- ---- the parts of a day
 

@@ -1,6 +1,6 @@
 -- What is made of the pieces of a list is what is made of the list.
 use Rattle.std.proofs.Common.{◌≡◌, ℕ, ◌<◌, List, [], ◌∷◌, ◌++◌, map, map-id, Option, Result, Ok, Vec, refl, sym, ap, subst, ◌∙◌}
-use Rattle.std.specs.Prelude.{IfOk, MatchResult}
+use Rattle.std.specs.Prelude.{IfOk}
 use Rattle.std.specs.Borrow.{Bor}
 use Rattle.std.specs.List.{AllZip, filter_map, flat_map}
 use Rattle.std.proofs.lemmas.List.{map-append}
@@ -53,17 +53,3 @@ pub rows-joined :
 rows-joined {K} {T} {A} g made list items told joins =
     sym (map-id items)
     ∙ joined-found (λ (x : T). x) g made list items (λ piece result own. if_ok result _ _ (λ (v : Vec T A) is. map-id v.items ∙ is) (told piece result own)) joins
-
--- what was made of chunks, through a view
-pub chunks-found :
-    {K T V A E : Type 0} (view : T → V) (g : K → Option V) (made : Bor (List K) → Result (Vec T A) E → Type 0) (list : List K) (size : ℕ)
-    (chunks : List (Bor (List K))) (results : List (Result (Vec T A) E)) (found : List (Vec T A)) (items : List T)
-    → ((piece : Bor (List K)) (result : Result (Vec T A) E) → made piece result → IfOk result (λ v. map view v.items ≡ filter_map g piece.now))
-    → map (λ (chunk : Bor (List K)). chunk.now) chunks ≡ chunks_of size list → 0 < size → AllZip made chunks results → results ≡ map Ok found
-    → items ≡ flat_map (λ (piece : Vec T A). piece.items) found → map view items ≡ filter_map g list
-chunks-found view g made list size chunks results found items told cut some each oks is =
-    joined-found view g made list items told (chunks-joined made list size chunks results found items cut some each oks is)
-
--- what a result that is Ok was matched with
-pub when_matched : {T E : Type 0} (r : Result T E) (x : T) (P : T → Type 0) (Q : E → Type 0) → r ≡ Ok x → MatchResult r P Q → P x
-when_matched r x P Q is told = subst (λ q. MatchResult q P Q) is told

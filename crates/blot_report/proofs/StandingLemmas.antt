@@ -1,5 +1,5 @@
 -- What the standings of a book tell of its entries on a day is what its definitions say.
-use Rattle.std.proofs.Common.{◌≡◌, ℕ, zero, suc, ℤ, ◌<◌, arith, List, [], ◌∷◌, ◌++◌, length, map, get_or, Option, Some, None, refl, sym, ap, ◌∙◌, inl, inr}
+use Rattle.std.proofs.Common.{◌≡◌, ℕ, ℤ, List, [], ◌∷◌, ◌++◌, map, Option, Some, None, refl, ap, ◌∙◌, inl, inr}
 use Rattle.std.specs.Prelude.{filter, is_none, if◌then◌else◌}
 use Rattle.std.specs.List.{cons_option, filter_map, flat_map}
 use Rattle.std.proofs.lemmas.Bool.{cases_Bool}
@@ -158,10 +158,3 @@ terms-told list day = terms-found (links_of list) (instructions_of list) day lis
 pub flat-mapped : {A B C : Type 0} (f : B → List C) (g : A → B) (xs : List A) → flat_map f (map g xs) ≡ flat_map (λ x. f (g x)) xs
 flat-mapped f g [] = refl
 flat-mapped f g (x ∷ xs) = ap (λ rest. f (g x) ++ rest) (flat-mapped f g xs)
-
--- ---- the standing at a place
-
-pub mapped-at : {A B : Type 0} (f : A → B) (xs : List A) (n : ℕ) (x : A) (b : B) → n < length xs → x ≡ get_or xs n x → get_or (map f xs) n b ≡ f x
-mapped-at f [] n x b within is = absurd (omega (arith, within))
-mapped-at f (y ∷ xs) zero x b within is = ap f (sym is)
-mapped-at f (y ∷ xs) (suc n) x b within is = mapped-at f xs n x b (omega (arith, within)) is

@@ -8,24 +8,23 @@ use Rattle.blot_fields.specs.declared.message.Body.{Body}
 use Rattle.blot_fields.specs.declared.message.Body.TheVariants as bodies
 use Rattle.blot_fields.specs.declared.message.Message.{Message}
 use Rattle.blot_types.specs.declared.command.Command.{Command}
-use Rattle.blot_session.specs.declared.action.Action.{Action}
 use Rattle.blot_session.specs.declared.outbound.Outbound.{Outbound}
 use Rattle.blot_session.specs.declared.replies.NotTaken.{NotTaken}
 use Rattle.blot_session.specs.declared.replies.SeenReply.{SeenReply}
 use Rattle.blot_session.specs.declared.row.End.{End}
-use Rattle.blot_session.specs.declared.row.End.TheVariants.{Stays, Delivers, Closes}
+use Rattle.blot_session.specs.declared.row.End.TheVariants.{Delivers}
 use Rattle.blot_session.specs.declared.row.Row.{Row}
 use Rattle.blot_session.specs.declared.row.Sends.{Sends}
 use Rattle.blot_session.specs.declared.row.Sends.TheVariants.{Nothing, One, Two}
 use Rattle.blot_session.specs.declared.state.State.{State}
 use Rattle.blot_session.specs.declared.carrying.TheConstants.{LAST_NUMBER}
-use Rattle.blot_session.specs.Calls.{Outcome, behind, behind_all, sent, ending, carried_out, is_spent, spent, outcome_of, command_said, on_frame, row_of_reply}
+use Rattle.blot_session.specs.Calls.{Outcome, behind, behind_all, sent, carried_out, is_spent, spent, outcome_of, command_said, on_frame, row_of_reply}
 use Rattle.blot_session.specs.Rows.{frame_row, tick_row}
 use Rattle.blot_session.specs.Runs.{Call, Numbered, outcome, said_by, quiet, behind_calls, delivered_by, taken_by, taken_behind, AreMet, is_reset, HasNoReset, RiseFrom, AreBelow, CoversBy, Covers, Bears, Passes, IsPassed, IsTaken, IsInOrder}
 use Rattle.blot_session.specs.Runs.Call.{Frame, Reply, Tick, Closing, WaitAgain}
 use Rattle.blot_session.specs.States.{closed, waiting_again, awaited_of, IsIdle, IsAwaiting}
 use Rattle.blot_session.specs.Table.{acts, messages_of}
-use Rattle.blot_session.proofs.RowLemmas.{Names, NamesBy, Steps, GoesOn, HandsOn, is_delivery, frame-moves}
+use Rattle.blot_session.proofs.RowLemmas.{Names, NamesBy, Steps, GoesOn, HandsOn, frame-moves}
 use Rattle.blot_session.proofs.StateLemmas.{spoken-awaited, steps-grow, unspent-last, idle-none, Rests, tick-rests, settles}
 
 -- ---- what is sent changes no expected number, and delivers nothing
@@ -37,15 +36,6 @@ behind_all-expected (message ∷ messages) state now = behind_all-expected messa
 pub behind_all-awaited : (messages : List Outbound) (state : State) (now : ℤ) → awaited_of (behind_all state messages now) ≡ awaited_of state
 behind_all-awaited [] state now = refl
 behind_all-awaited (message ∷ messages) state now = behind_all-awaited messages (behind state message now) now ∙ spoken-awaited now state.link
-
-delivered-sent : (messages : List Outbound) (number : ℕ) (state : State) (now : ℤ) (actions : List Action) → delivered_by number (sent state messages now ++ actions) ≡ delivered_by number actions
-delivered-sent [] number state now actions = refl
-delivered-sent (message ∷ messages) number state now actions = delivered-sent messages number (behind state message now) now actions
-
-delivered-none : (number : ℕ) (end : End) (command : Option Command) → is_delivery end ≡ false → delivered_by number (ending end command) ≡ []
-delivered-none number Stays command none = refl
-delivered-none number Delivers command none = absurd (false≢true (sym none))
-delivered-none number (Closes reason) command none = refl
 
 -- ---- one call
 

@@ -1,5 +1,5 @@
 -- What holds of a result.
-use Rattle.std.proofs.Common.{◌≡◌, ◌≢◌, ap, subst, Result, Option, Ok, Err, Some, None}
+use Rattle.std.proofs.Common.{◌≡◌, ap, subst, Result, Option, Ok, Err, Some, None}
 use Rattle.std.specs.Prelude.{IsOk, OnOk, OnErr, IfErr, IfSome}
 
 pub on-ok : {T E P Q : Type 0} (result : Result T E) → OnOk result P → (P → Q) → OnOk result Q
@@ -9,10 +9,6 @@ on-ok (Err e) p more = tt
 pub ok-says : {T E P : Type 0} (result : Result T E) → IsOk result → OnOk result P → P
 ok-says (Ok x) is p = p
 ok-says (Err e) is p = absurd cc
-
-pub ok-other : {T E : Type 0} (result : Result T E) (e : E) → IsOk result → result ≢ Err e
-ok-other (Ok x) e is = λ same. cc
-ok-other (Err other) e is = absurd cc
 
 pub if-err : {T E : Type 0} (P Q : E → Type 0) (result : Result T E) → IfErr result P → ((e : E) → P e → Q e) → IfErr result Q
 if-err P Q (Ok x) p more = tt

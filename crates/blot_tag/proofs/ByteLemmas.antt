@@ -1,20 +1,10 @@
 -- Numbers that digits write.
-use Rattle.std.proofs.Common.{◌≡◌, ℕ, ◌+◌, ◌*◌, ◌-◌, ◌^◌, ◌<◌, ◌≤◌, true, List, [], ◌∷◌, length, fold, get_or, inl, lit≤, inr, arith}
+use Rattle.std.proofs.Common.{◌≡◌, ℕ, ◌+◌, ◌*◌, ◌-◌, ◌^◌, ◌<◌, ◌≤◌, true, List, [], ◌∷◌, length, fold, lit≤, arith}
 use Rattle.std.specs.Char.{is_ascii_digit}
 use Rattle.std.specs.List.{list_all}
-use Rattle.std.proofs.lemmas.Bool.{cases_Bool}
 use Rattle.std.proofs.Math.Nat.{mul-le-mul_right, pow-suc, pow-le-pow_right}
 use Rattle.std.proofs.lemmas.Bool.Decides.{nat_tests}
-use Rattle.std.proofs.lemmas.List.Folds.{list_all_at}
 use Rattle.blot_tag.specs.Bytes.{is_number, with_digit, number_of}
-
--- each byte of a number is a digit
-pub is_number_at : (digits : List ℕ) (i : ℕ) → i < length digits → is_number digits ≡ true → (48 ≤ get_or digits i 0) × (get_or digits i 0 ≤ 57)
-is_number_at digits i inside number =
-    let all : list_all is_ascii_digit digits ≡ true = grind (arith, nat_tests) in
-    let here : is_ascii_digit (get_or digits i 0) ≡ true =
-    elim (cases_Bool (is_ascii_digit (get_or digits i 0))) [ inl y ↦ y | inr n ↦ cc (list_all_at is_ascii_digit digits i 0 inside n) ] in
-    (grind (arith, nat_tests), grind (arith, nat_tests))
 
 widen : (start digit power value : ℕ) → digit ≤ 9 → value < (start * 10 + digit + 1) * power → value < (start + 1) * (power * 10)
 widen start digit power value low below =

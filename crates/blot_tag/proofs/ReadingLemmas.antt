@@ -1,12 +1,11 @@
 -- What a step over the unread bytes finds.
-use Rattle.std.proofs.Common.{◌≡◌, ℕ, ◌+◌, ◌≤◌, List, length, take, drop, slice_get, unwrap_or, Option, Some, None, IfSome, Ok, Err, refl, sym, ap, subst, ◌∙◌, arith}
+use Rattle.std.proofs.Common.{◌≡◌, ℕ, ◌+◌, ◌≤◌, List, length, take, drop, unwrap_or, Option, Some, None, Ok, Err, refl, sym, ap, subst, ◌∙◌, arith}
 use Rattle.std.proofs.lemmas.List.{drop-drop, take-append-drop, length-drop}
 use Rattle.std.specs.Option.{ok_or, option_map}
-use Rattle.blot_tag.specs.Frames.{IsFrame}
 use Rattle.blot_tag.specs.Looking.{look_of}
 use Rattle.blot_tag.specs.Buffers.{reading_of, bytes_at, span_of, behind_found}
 use Rattle.blot_tag.specs.Finding.{NeitherBefore, IsFound}
-use Rattle.blot_tag.specs.Walking.{passes_by, frames_of}
+use Rattle.blot_tag.specs.Walking.{passes_by}
 use Rattle.blot_tag.specs.Reading.{Reading, counted, TakesFirst, FindsNone, Advances}
 use Rattle.blot_tag.specs.declared.buffer.Buffer.{Buffer}
 use Rattle.blot_tag.specs.declared.find.Found.{Found}
@@ -67,12 +66,3 @@ steps_by buffer seen found seen_is is =
     (omega (arith, is.inside, ap length seen_is))
     (subst (NeitherBefore place) seen_is is.before)
     (ap (λ text. look_of (drop place text)) (sym seen_is) ∙ is.here))
-
--- the frame of a step is the first of the walk, and valid
-pub Advances-first : (old new : Reading) (frame : Option (List ℕ)) → Advances old frame new → frame ≡ slice_get (frames_of old.unread) 0
-Advances-first old new (Some frame) step = sym (ap (λ walk. slice_get walk.frames 0) step.walk)
-Advances-first old new None step = sym (ap (λ walk. slice_get walk.frames 0) step.walk)
-
-pub Advances-valid : (old new : Reading) (frame : Option (List ℕ)) → Advances old frame new → IfSome frame IsFrame
-Advances-valid old new (Some frame) step = step.valid
-Advances-valid old new None step = tt

@@ -1,13 +1,8 @@
 -- Times of day: a fraction by its first byte and the rest, and what was written.
-use Rattle.std.proofs.Common.{◌≡◌, ℕ, ◌+◌, ◌*◌, ◌/◌, ◌%◌, ◌<◌, ◌≤◌, min, true, List, [], ◌∷◌, length, refl, ◌∙◌, ap, arith, Ok}
+use Rattle.std.proofs.Common.{◌≡◌, ℕ, ◌+◌, ◌*◌, ◌/◌, ◌%◌, ◌<◌, ◌≤◌, min, true, [], refl, ◌∙◌, ap, arith, Ok}
 use Rattle.std.proofs.lemmas.Bool.{and_from, le-leb}
 use Rattle.blot_time.specs.Clock.{is_time, fraction_of, clock_of, time_text, clock_text}
 use Rattle.blot_time.proofs.DigitLemmas.{digit_fits, number-two, number-three}
-
-pub fraction_of-empty : (text : List ℕ) → length text ≡ 0 → fraction_of text ≡ Ok 0
-unfolding fraction_of
-fraction_of-empty [] h = refl
-fraction_of-empty (byte ∷ digits) h = absurd (omega arith)
 
 -- a time that was written
 clock_of-time : (hour minute second millis : ℕ) → hour ≤ 23 → minute ≤ 59 → second ≤ 59 → millis < 1000 → clock_of (time_text hour minute second millis) ≡ Ok (((hour * 60 + minute) * 60 + second) * 1000 + millis)

@@ -16,9 +16,6 @@ moment-parts moment = omega (arith, signed_arith)
 pub since_midnight-lt : (moment : ℤ) → since_midnight moment < 86_400_000
 since_midnight-lt moment = omega (arith, signed_arith)
 
-pub utc_day-at : (day : ℤ) (millis : ℕ) → millis < 86_400_000 → utc_day (day *ℤ pos 86_400_000 +ℤ pos millis) ≡ day
-utc_day-at day millis h = omega (arith, signed_arith)
-
 -- the day begins at the moment or before it, and is not over
 pub day-begun : (moment : ℤ) → (utc_day moment *ℤ pos 86_400_000) ≤ℤ moment
 day-begun moment = omega (arith, signed_arith)

@@ -1,11 +1,11 @@
 -- The trail of a stream, told as its frames are taken one by one, and its pieces one after the other.
 use Rattle.std.proofs.Common.{◌≡◌, ℕ, ◌+◌, ◌-◌, ◌^◌, ◌<◌, ◌≤◌, List, [], ◌∷◌, ◌++◌, length, fold, min, Option, Some, None, refl, sym, ap, subst, ◌∙◌, arith}
-use Rattle.std.specs.Prelude.{Bool, true, false, IfSome, is_some}
+use Rattle.std.specs.Prelude.{Bool, true, false, is_some}
 use Rattle.std.proofs.lemmas.Bool.{false≢true}
-use Rattle.std.specs.Io.KnownBytes.{Consumes, Keeps, IsAtEnd}
-use Rattle.std.proofs.lemmas.List.{append_assoc, append-nil, length-append, length-drop}
+use Rattle.std.specs.Io.KnownBytes.{Consumes}
+use Rattle.std.proofs.lemmas.List.{append_assoc, length-append, length-drop}
 use Rattle.std.proofs.lemmas.List.Sums.{sum_by-cons}
-use Rattle.blot_tag.specs.Places.{Placed, placed_in, placed_of, after_bytes, passed_by, passed_last}
+use Rattle.blot_tag.specs.Places.{Placed, placed_of, after_bytes, passed_by}
 use Rattle.blot_tag.specs.Reading.{Reading, FindsNone, TakesFirst}
 use Rattle.blot_tag.specs.Walking.{Walk, frames_of, rest_of, skipped_of, stops_at, walk_of}
 use Rattle.blot_tag.proofs.FrameLemmas.{look_of-prefix}
@@ -26,12 +26,6 @@ bytes-add first second trail =
     let passed : trail.passed + first + second ≡ trail.passed + (first + second) = omega arith in
     ap (λ o. record trail { offset = o; passed = trail.passed + first + second }) offset
     ∙ ap (λ p. record trail { offset = trail.offset + (first + second); passed = p }) passed
-
-bytes-none : (trail : Making) → behind_bytes 0 trail ≡ trail
-bytes-none trail =
-    let offset : trail.offset + 0 ≡ trail.offset = omega arith in
-    let passed : trail.passed + 0 ≡ trail.passed = omega arith in
-    ap (λ o. record trail { offset = o; passed = trail.passed + 0 }) offset ∙ ap (λ p. record trail { passed = p }) passed
 
 -- how many a call passed over, by the count of all
 pub counted-bytes : (unread skipped after passed offset : ℕ) → after ≡ min (skipped + passed) (2 ^ 64 - 1) → passed ≤ unread → skipped ≤ offset → offset + unread < 2 ^ 63
@@ -128,18 +122,6 @@ told-none old new from now trail more finds =
 pub stops-nil : (unread : List ℕ) → unread ≡ [] → walk_of unread ≡ stops_at unread
 stops-nil unread none = subst (λ unread. walk_of unread ≡ stops_at unread) (sym none) (walk_of-prefix [] look_of-nil)
 
--- nothing is left to take: the rest is what is unread
-told-rest : (trail : Making) (taking : Taking) (unread : List ℕ) → walk_of unread ≡ stops_at unread → trail_from trail taking unread ≡ finished trail (length unread)
-told-rest trail taking unread stops =
-    let none : placed_of unread ≡ [] = ap (λ (walk : Walk). placed_in walk.frames unread) stops in
-    let last : passed_last unread ≡ 0 =
-    let skipped : skipped_of unread ≡ 0 = ap (λ (walk : Walk). walk.skipped) stops in
-    omega (arith, skipped) in
-    ap (λ placed. finished (behind_bytes (passed_last unread) (fold behind_turn trail (trace_over taking placed))) (length (rest_of unread))) none
-    ∙ ap (λ count. finished (behind_bytes count trail) (length (rest_of unread))) last
-    ∙ ap (λ trail. finished trail (length (rest_of unread))) (bytes-none trail)
-    ∙ ap (λ (walk : Walk). finished trail (length walk.rest)) stops
-
 -- ---- one call of the reader, told
 
 -- how many bytes it passed over and took
@@ -154,13 +136,6 @@ noted-counts old new from now (Some line) trail step within notes =
     let passed : new.skipped - old.skipped ≡ notes.taken.passed = omega (arith, counts.skipped) in
     let size : length notes.frame ≡ line.length_of = sym (ap (λ (line : Line). line.length_of) notes.told) in
     subst (λ passed. Counts old new passed line.length_of) (sym passed) (subst (λ size. Counts old new notes.taken.passed size) size counts)
-
--- there is room in a trail for what was passed over and what was noted
-pub room-more : (old new : Reading) (from now : Taking) (found : Option Line) (trail : Making) → IsInStep old trail → trail.offset + length old.unread < 2 ^ 63
-    → Notes found old from new now → trail.skipped + trail.passed ≤ new.skipped
-room-more old new from now found trail step within notes =
-    let counts = noted-counts old new from now found trail step within notes in
-    omega (arith, counts.skipped, step.skipped)
 
 pub room-within : (old new : Reading) (from now : Taking) (found : Option Line) (trail : Making) → IsInStep old trail → trail.offset + length old.unread < 2 ^ 63
     → Notes found old from new now → trail.offset + untold new.skipped trail + size_of found < 2 ^ 63
@@ -249,15 +224,3 @@ ToldOf-piece (Some bytes) (Some rest) None from mid now unread left piece so con
 ToldOf-piece (Some bytes) (Some rest) (Some later) from mid now unread left piece so consumes told =
     let all : unread ++ rest ≡ (unread ++ piece) ++ later = ap (λ back. unread ++ back) consumes ∙ sym (append_assoc unread piece later) in
     so ∙ ap (trail_from mid.trail mid.taking) all ∙ told later
-
--- the input is at its end, and no frame is left
-pub ToldOf-end : (known before after : Option (List ℕ)) (from now : Telling) (unread : List ℕ)
-    → ToldOf known from before unread now → Keeps before after → IsAtEnd after → walk_of unread ≡ stops_at unread
-    → IfSome known (λ bytes. finished now.trail (length unread) ≡ trail_from from.trail from.taking bytes)
-ToldOf-end None before after from now unread so keeps end stops = tt
-ToldOf-end (Some bytes) None after from now unread so keeps end stops = absurd so
-ToldOf-end (Some bytes) (Some rest) None from now unread so keeps end stops = absurd keeps
-ToldOf-end (Some bytes) (Some rest) (Some later) from now unread so keeps end stops =
-    let none : rest ≡ [] = sym keeps ∙ end in
-    let left : unread ++ rest ≡ unread = ap (λ back. unread ++ back) none ∙ append-nil unread in
-    sym (so ∙ ap (trail_from now.trail now.taking) left ∙ told-rest now.trail now.taking unread stops)

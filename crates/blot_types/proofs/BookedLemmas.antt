@@ -1,5 +1,5 @@
 -- The lines of each allocation of a legal list book its block; the instructions of a list name each chain once.
-use Rattle.std.proofs.Common.{◌≡◌, ℕ, Bool, true, false, pos, List, [], ◌∷◌, ◌++◌, reverse, Option, Some, None, refl, sym, subst, ◌∙◌, inl, inr}
+use Rattle.std.proofs.Common.{◌≡◌, ℕ, Bool, true, false, pos, List, [], ◌∷◌, reverse, Option, Some, None, refl, sym, subst, ◌∙◌, inl, inr}
 use Rattle.std.specs.Prelude.{ℤ, is_none, find, All}
 use Rattle.std.specs.List.{cons_option, list_any, list_all}
 use Rattle.std.specs.Option.{option_map}
@@ -113,21 +113,3 @@ free_roots instructions reference (root ∷ roots) free =
     let parts : (is_none (other_holder_in instructions reference root) ≡ true) × (list_all (λ r. is_none (other_holder_in instructions reference r)) roots ≡ true) = and_parts _ _ free in
     All-cons (λ r. list_any (holds_beside instructions reference r) instructions ≡ false) root roots
     (unfound-any (holds_beside instructions reference root) instructions (unnumbered (λ i. i.number) _ parts.0)) (free_roots instructions reference roots parts.1)
-
--- ---- the allocation of a live key is among those of the list
-
-found-append : {X : Type 0} (p : X → Bool) (xs ys : List X) (x : X) → find p xs ≡ Some x → find p (xs ++ ys) ≡ Some x
-found-append p [] ys x found = cc
-found-append p (y ∷ xs) ys x found =
-    elim (cases_Bool (p y)) [
-      | inl here ↦ rw here (rw here at found)
-      | inr passed ↦ rw passed (found-append p xs ys x (rw passed at found))
-    ]
-
-unfound-append : {X : Type 0} (p : X → Bool) (xs ys : List X) → find p xs ≡ None → find p (xs ++ ys) ≡ find p ys
-unfound-append p [] ys none = refl
-unfound-append p (x ∷ xs) ys none =
-    elim (cases_Bool (p x)) [
-      | inl here ↦ absurd (clash (rw here at none))
-      | inr passed ↦ rw passed (unfound-append p xs ys (rw passed at none))
-    ]

@@ -11,9 +11,8 @@ use Rattle.blot_types.specs.declared.command.Entry.{Entry}
 use Rattle.blot_types.specs.declared.keys.ExecKey.{ExecKey}
 use Rattle.blot_types.specs.declared.lines.Version.{Version}
 use Rattle.blot_types.specs.declared.link.Link.{Link}
-use Rattle.blot_types.specs.declared.link.Role.TheVariants.{Corrects}
 use Rattle.blot_types.specs.declared.refused.Refused.TheVariants.{DuplicateExec, UnknownExec, BustedExec}
-use Rattle.blot_types.specs.Chains.{taker_in, root_in, bust_in, chain_refusal, reference_refusal, link_refusal, is_chained, is_above_links, falls}
+use Rattle.blot_types.specs.Chains.{taker_in, root_in, bust_in, chain_refusal, link_refusal, is_chained, is_above_links, falls}
 use Rattle.blot_types.specs.Legal.{is_above_entries, rises_in, refusal_in, legal_in}
 use Rattle.blot_types.specs.Survivors.{link_by, link_of, links_in, links_of, version_by, version_of}
 use Rattle.blot_types.proofs.ChainLemmas.{none_is}
@@ -106,11 +105,6 @@ version-of_bust entry link is = subst (λ found. BringsNone found (version_of en
 or-none : (bust : Option ℕ) → option_or (option_map BustedExec (option_or bust None)) None ≡ option_map BustedExec bust
 or-none None = refl
 or-none (Some number) = refl
-
-referred :
-    (links : List Link) (reference : ExecKey) (found : Option ExecKey) → root_in links reference ≡ found
-    → reference_refusal links (Corrects reference) ≡ chain_refusal links reference found
-referred links reference found is = ap (chain_refusal links reference) is
 
 -- the rules of unknown and busted executions, of the one execution that a Correct or a Bust refers to
 one_reference :

@@ -5,7 +5,7 @@ use Rattle.std.specs.List.{list_all, All}
 use Rattle.std.proofs.lemmas.List.Elements.{All-head, All-tail}
 use Rattle.std.proofs.lemmas.List.Folds.{list_all-append}
 use Rattle.std.proofs.lemmas.List.{reverse-append, length-reverse, take-append-drop, take_more}
-use Rattle.std.proofs.lemmas.Bool.{cases_Bool, and_from, and_parts, lt-ltb, ltb-true}
+use Rattle.std.proofs.lemmas.Bool.{cases_Bool, and_from, lt-ltb, ltb-true}
 use Rattle.blot_types.specs.declared.command.Entry.{Entry}
 use Rattle.blot_types.specs.Legal.{is_above_entries, rises_in, numbers_rise, legal_in, is_legal, is_numbered, is_book, entry_refusal}
 use Rattle.blot_types.specs.declared.TheConstants.{EVENTS_MAX}
@@ -96,10 +96,3 @@ is_book-front list entry book =
     sym (ap (is_above_entries (EVENTS_MAX + 1)) (reverse-append list (entry ∷ []))) ∙ parts.1 in
     let legal : is_legal list ≡ true = is_legal-front list (entry ∷ []) parts.2 in
     grind (arith, rise, limited, legal)
-
--- a greater number is above the same entries
-pub is_above_entries-weaker : (m n : ℕ) (entries : List Entry) → m ≤ n → is_above_entries m entries ≡ true → is_above_entries n entries ≡ true
-is_above_entries-weaker m n [] more above = refl
-is_above_entries-weaker m n (entry ∷ entries) more above =
-    let parts : (nat_lt entry.number m ≡ true) × (is_above_entries m entries ≡ true) = and_parts _ _ above in
-    and_from _ _ (lt-ltb _ _ (omega (arith, more, ltb-true _ _ parts.0))) (is_above_entries-weaker m n entries more parts.1)

@@ -30,14 +30,6 @@ with_first-faults : {T F : Type 0} (item : T) (rest : Result (List T) F) → res
 with_first-faults item (Ok rest) = refl
 with_first-faults item (Err fault) = refl
 
--- before an item is made, the rest gives all
-pub front_begins : {T F : Type 0} (made : Made T) (meant : Result (List T) F) → made.items ≡ [] → IsFront made meant meant
-front_begins made meant none = record { items = λ complete. rw none (joined-none meant); faults = refl }
-  where
-    joined-none : {T F : Type 0} (meant : Result (List T) F) → joined [] meant ≡ meant
-    joined-none (Ok items) = refl
-    joined-none (Err fault) = refl
-
 -- one item more
 pub front_grows : {T F : Type 0} (item : T) (old new : Made T) (rest meant : Result (List T) F)
     → Grows item old new → IsFront old (with_first item rest) meant → IsFront new rest meant
