@@ -1,5 +1,5 @@
 -- The keys of orders and positions: their orders are total and tie no two keys, and a tie is what the tests call one.
-use Rattle.std.proofs.Common.{◌≡◌, ℕ, ◌+◌, ◌<◌, Bool, true, false, ◌&&◌, ◌||◌, List, [], ◌∷◌, length, map, take, get_or, Option, Some, None, refl, sym, ap, subst, ◌∙◌, inl, inr}
+use Rattle.std.proofs.Common.{◌≡◌, ℕ, Bool, true, false, ◌&&◌, ◌||◌, List, [], ◌∷◌, ◌++◌, map, Option, Some, None, refl, sym, ap, subst, ◌∙◌, inl, inr}
 use Rattle.std.specs.Prelude.{filter, is_some}
 use Rattle.std.specs.Cmp.{IsTotalOrder, on_total, then_total}
 use Rattle.std.specs.FinMap as finite
@@ -27,7 +27,7 @@ use Rattle.blot_report.specs.Lines.{order_cmp, orders_among, position_key, posit
 use Rattle.blot_report.specs.Orders.{AreLinesOf}
 use Rattle.blot_position.specs.Positions.{Cells, same_key, has_cell, with_part, AreKeysOf}
 use Rattle.blot_report.specs.Sums.{HasCells}
-use Rattle.blot_report.proofs.ListLemmas.{any-mapped, mapped-more}
+use Rattle.blot_report.proofs.ListLemmas.{any-mapped, map-push}
 use Rattle.blot_report.proofs.SortedLemmas.{sorted-once}
 use Rattle.blot_position.proofs.PositionLemmas.{has_cell-empty, has_cell-with_part}
 
@@ -107,15 +107,13 @@ positions-sorted cells found keys parts own made moved rises =
     sorted-once position_cmp came found keys position_cmp-total position_cmp-exact (subst (λ same. IsDistinct same found) positions-tied own.once)
     (λ key. subst (λ same. list_any (same key) found ≡ list_any (same key) came) positions-tied (own.all key ∙ made key)) moved rises
 
--- the cells of the first parts, with one part more
+-- the cells of some parts, with one part more
 pub cells-more :
-    (cells : Cells) (parts : List Part) (index : ℕ) (part : Part) → HasCells (take index parts) cells → index < length parts → part ≡ get_or parts index part
-    → HasCells (take (index + 1) parts) (with_part part.account part.symbol part.qty part.value cells)
-cells-more cells parts index part made within is key =
+    (cells : Cells) (done : List Part) (part : Part) → HasCells done cells → HasCells (done ++ part ∷ []) (with_part part.account part.symbol part.qty part.value cells)
+cells-more cells done part made key =
     has_cell-with_part part.account part.symbol key.account key.symbol part.qty part.value cells
     ∙ joined (same_key (position_key part) key) (has_cell cells key.account key.symbol) (same_key-sym (position_key part) key) (made key)
-    ∙ sym (ap (list_any (same_key key)) (mapped-more position_key parts index part within is)
-    ∙ list_any-append (same_key key) (map position_key (take index parts)) (position_key part ∷ []))
+    ∙ sym (ap (list_any (same_key key)) (map-push position_key done part) ∙ list_any-append (same_key key) (map position_key done) (position_key part ∷ []))
   where
     joined : (test has : Bool) {turned among : Bool} → test ≡ turned → has ≡ among → (test || has) ≡ (among || (turned || false))
     joined true true one two = rw (← one, ← two) refl

@@ -1,5 +1,5 @@
 -- What a loop has found, with one item more, and where nothing is left.
-use Rattle.std.proofs.Common.{◌≡◌, ℕ, ◌+◌, ◌<◌, ◌≤◌, Bool, ◌||◌, List, [], ◌∷◌, ◌++◌, length, map, take, drop, get_or, Option, Result, Ok, Err, refl, sym, ap, subst, ◌∙◌}
+use Rattle.std.proofs.Common.{◌≡◌, ℕ, zero, suc, arith, ◌+◌, ◌<◌, ◌≤◌, Bool, ◌||◌, List, [], ◌∷◌, ◌++◌, length, map, take, drop, get_or, Option, Some, None, Result, Ok, Err, refl, sym, ap, subst, ◌∙◌}
 use Rattle.std.specs.Prelude.{All, IfOk}
 use Rattle.std.specs.List.{cons_option, filter_map, flat_map, list_any}
 use Rattle.std.proofs.lemmas.List.{append-nil, append_assoc, drop_all, take_more}
@@ -28,12 +28,9 @@ more items index item within is = rw is (take_more items index item within)
 pub behind : {B : Type 0} (initial done put items after : List B) → items ≡ initial ++ done → after ≡ items ++ put → after ≡ initial ++ (done ++ put)
 behind initial done put items after so_far is = is ∙ ap (λ front. front ++ put) so_far ∙ append_assoc initial done put
 
-map-push : {A B : Type 0} (f : A → B) (xs : List A) (x : A) → map f (xs ++ x ∷ []) ≡ map f xs ++ f x ∷ []
+pub map-push : {A B : Type 0} (f : A → B) (xs : List A) (x : A) → map f (xs ++ x ∷ []) ≡ map f xs ++ f x ∷ []
 map-push f [] x = refl
 map-push f (y ∷ xs) x = ap (λ rest. f y ∷ rest) (map-push f xs x)
-
-pub mapped-more : {A B : Type 0} (f : A → B) (items : List A) (index : ℕ) (item : A) → index < length items → item ≡ get_or items index item → map f (take (index + 1) items) ≡ map f (take index items) ++ f item ∷ []
-mapped-more f items index item within is = ap (map f) (more items index item within is) ∙ map-push f (take index items) item
 
 flat-push : {A B : Type 0} (f : A → List B) (xs : List A) (x : A) → flat_map f (xs ++ x ∷ []) ≡ flat_map f xs ++ f x
 flat-push f [] x = append-nil (f x)
@@ -44,6 +41,29 @@ flat-more f items index item within is = ap (flat_map f) (more items index item 
 
 pub found-more : {A B : Type 0} (f : A → Option B) (items : List A) (index : ℕ) (item : A) → index < length items → item ≡ get_or items index item → filter_map f (take (index + 1) items) ≡ filter_map f (take index items) ++ cons_option (f item) []
 found-more f items index item within is = ap (filter_map f) (more items index item within is) ∙ filter_map-append f (take index items) (item ∷ [])
+
+-- where the item brings something, and where it brings nothing
+pub found-one :
+    {A B : Type 0} (f : A → Option B) (items : List A) (index : ℕ) (item : A) (b : B) → index < length items → item ≡ get_or items index item → f item ≡ Some b
+    → filter_map f (take (index + 1) items) ≡ filter_map f (take index items) ++ b ∷ []
+found-one f items index item b within is brought =
+    found-more f items index item within is ∙ ap (λ o. filter_map f (take index items) ++ cons_option o []) brought
+
+pub found-none :
+    {A B : Type 0} (f : A → Option B) (items : List A) (index : ℕ) (item : A) → index < length items → item ≡ get_or items index item → f item ≡ None
+    → filter_map f (take (index + 1) items) ≡ filter_map f (take index items)
+found-none f items index item within is none =
+    found-more f items index item within is ∙ ap (λ o. filter_map f (take index items) ++ cons_option o []) none ∙ append-nil (filter_map f (take index items))
+
+-- no more are found than there are
+pub found-few : {A B : Type 0} (f : A → Option B) (items : List A) (index : ℕ) → length (filter_map f (take index items)) ≤ length items
+found-few f [] zero = omega arith
+found-few f [] (suc index) = omega arith
+found-few f (item ∷ items) zero = omega arith
+found-few f (item ∷ items) (suc index) = elim (f item) as (λ found. length (cons_option found (filter_map f (take index items))) ≤ length (item ∷ items)) [
+  | None ↦ let rest = found-few f items index in omega (arith, rest)
+  | Some b ↦ let rest = found-few f items index in omega (arith, rest)
+]
 
 flat-append : {A B : Type 0} (f : A → List B) (xs ys : List A) → flat_map f (xs ++ ys) ≡ flat_map f xs ++ flat_map f ys
 flat-append f [] ys = refl

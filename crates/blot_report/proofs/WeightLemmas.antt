@@ -4,7 +4,7 @@ use Rattle.std.specs.Prelude.{unsigned_abs, is_none, All}
 use Rattle.std.specs.List.{flat_map}
 use Rattle.std.proofs.lemmas.Bool.{and_parts}
 use Rattle.std.proofs.lemmas.List.{length-append, length-map}
-use Rattle.std.proofs.lemmas.List.Elements.{All-nil, All-head, All-tail, All-append, All-filter}
+use Rattle.std.proofs.lemmas.List.Elements.{All-nil, All-cons, All-head, All-tail, All-append, All-filter}
 use Rattle.std.proofs.lemmas.List.Sums.{sum_by-cons}
 use Rattle.blot_types.specs.declared.command.Entry.{Entry}
 use Rattle.blot_types.specs.declared.part.Part.{Part}
@@ -72,6 +72,10 @@ booked-on list day book fit =
     (All-filter (is_allocated_on day) BooksBlock (live_allocations list)
     (All-filter (λ a. is_none (ended_in (instructions_of list) a.key)) BooksBlock (allocations_in list) (books_blocks list (and_parts _ _ book).1)))
 
+All-front : {A : Type 0} (P : A → Type 0) (front back : List A) → All P (front ++ back) → All P front
+All-front P [] back all = All-nil P
+All-front P (x ∷ front) back all = All-cons P x front (All-head P x (front ++ back) all) (All-front P front back (All-tail P x (front ++ back) all))
+
 pub light-on :
     (list : List Entry) (day : ℤ) → is_book list ≡ true → All IsSmall (survivor_parts_on list day) → All (λ a. TermsFit a.terms) (allocations_on list day)
     → IsLight (day_parts_of list day)
@@ -95,6 +99,24 @@ light-on list day book small fit =
       few = omega (arith, versions, few_versions, mapped, allocations, few_allocations, long, few_moves);
       light = omega (arith, versions, few_versions, mapped, allocations, few_allocations, heavy, weighed, own, light_moves);
     }
+
+-- few small parts are light
+pub light-few : (parts : List Part) → All IsSmall parts → length parts ≤ EVENTS_MAX + 1 → IsLight parts
+light-few parts small few =
+    let weighed = weight-sizes parts in
+    let own = sizes-small parts small in
+    record { small = small; few = omega (arith, few); light = omega (arith, weighed, own, few) }
+
+-- and so is a front of light ones
+pub light-front : (front back : List Part) → IsLight (front ++ back) → IsLight front
+light-front front back light =
+    let long = length-append front back in
+    let heavy = sizes-append front back in
+    let whole = weight-sizes (front ++ back) in
+    let own = weight-sizes front in
+    let few = light.few in
+    let limit = light.light in
+    record { small = All-front IsSmall front back light.small; few = omega (arith, long, few); light = omega (arith, heavy, whole, own, limit) }
 
 -- the entries of a book are few
 pub few-entries : (list : List Entry) → is_book list ≡ true → length list ≤ EVENTS_MAX + 1

@@ -1,72 +1,77 @@
 //! What the executions and the allocations of a day add to the positions.
-ghost use Rattle.std.specs.Prelude.{◌≡◌, ◌++◌, All, IfOk, OnOk};
+ghost use Rattle.std.specs.Prelude.{◌≡◌, [], ◌++◌, All, IfOk, OnOk};
 ghost use Rattle.blot_types.specs.Position.{moves_of, IsSmall, TermsFit};
 ghost use Rattle.blot_report.specs.Day.{day_parts_of};
 ghost use Rattle.blot_report.specs.Standings.{AreStandings, moves_among, parts_among, terms_among};
-ghost use Rattle.blot_report.specs.Sums.{IsLight};
+ghost use Rattle.blot_report.specs.Sums.{MadeOf};
 
 use crate::standing::{part_on, standing_at, terms_on};
 use blot_command::Standing;
+use blot_position::Positions;
 use blot_time::Day;
 use blot_types::{Entry, Part, Terms};
 use std::alloc::{AllocError as NoMemory, Global};
 
-/// The parts of a day: those of the executions that stand, and those of the lines of the live allocations. An error is out of
-/// memory.
-pub(crate) fn parts_on(
+/// The positions of a day: what its executions that stand add, and then what the lines of its live allocations move. An error is out
+/// of memory.
+pub(crate) fn positions_on(
+    alloc: Global,
+    entries: &[Entry],
+    standings: &[Standing],
+    day: Day,
+) -> Result<Positions, NoMemory>
+    requires { AreStandings entries.now standings.now }
+    ensures { IfOk result (MadeOf (day_parts_of entries.now day)) }
+{
+    let mut positions = Positions::new(alloc);
+    add_fills(&mut positions, entries, standings, day)?;
+    let moves = moves_on(alloc, entries, standings, day)?;
+    for part in &moves {
+        positions.add(&part.account, &part.symbol, part.qty, part.value)?;
+    }
+    Ok(positions)
+}
+
+// Adds what the executions that stand add, to positions without a part.
+fn add_fills(
+    positions: &mut Positions,
+    entries: &[Entry],
+    standings: &[Standing],
+    day: Day,
+) -> Result<(), NoMemory>
+    requires standings { AreStandings entries.now standings.now }
+    requires none { MadeOf [] positions.old }
+    ensures made { OnOk result (MadeOf (parts_among entries.now day entries.now) positions.new) }
+    ensures small { OnOk result (All IsSmall (parts_among entries.now day entries.now)) }
+{
+    for (place, entry) in entries.iter().enumerate() {
+        let standing = standing_at(entries, standings, place, entry);
+        if let Some(part) = part_on(entry, standing, day) {
+            positions.add(&part.account, &part.symbol, part.qty, part.value)?;
+        }
+    }
+    Ok(())
+}
+
+// What the lines of the live allocations move.
+fn moves_on(
     alloc: Global,
     entries: &[Entry],
     standings: &[Standing],
     day: Day,
 ) -> Result<Vec<Part>, NoMemory>
     requires { AreStandings entries.now standings.now }
-    ensures parts { IfOk result (λ parts. parts.items ≡ day_parts_of entries.now day) }
-    ensures light { IfOk result (λ parts. IsLight parts.items) }
+    ensures moves { IfOk result (λ moves. moves.items ≡ moves_among entries.now day entries.now) }
+    ensures fit { IfOk result (λ moves. All TermsFit (terms_among entries.now day entries.now)) }
 {
-    let mut parts = Vec::new(alloc);
-    put_fills(&mut parts, entries, standings, day)?;
-    put_allocations(&mut parts, entries, standings, day)?;
-    Ok(parts)
-}
-
-// Puts what the executions that stand add after other parts.
-fn put_fills(
-    parts: &mut Vec<Part>,
-    entries: &[Entry],
-    standings: &[Standing],
-    day: Day,
-) -> Result<(), NoMemory>
-    requires { AreStandings entries.now standings.now }
-    ensures parts { OnOk result (parts.new.items ≡ parts.old.items ++ parts_among entries.now day entries.now) }
-    ensures small { OnOk result (All IsSmall (parts_among entries.now day entries.now)) }
-{
-    for (place, entry) in entries.iter().enumerate() {
-        let standing = standing_at(entries, standings, place, entry);
-        if let Some(part) = part_on(entry, standing, day) {
-            parts.push(part)?;
-        }
-    }
-    Ok(())
-}
-
-// Puts what the live allocations move after other parts.
-fn put_allocations(
-    parts: &mut Vec<Part>,
-    entries: &[Entry],
-    standings: &[Standing],
-    day: Day,
-) -> Result<(), NoMemory>
-    requires { AreStandings entries.now standings.now }
-    ensures parts { OnOk result (parts.new.items ≡ parts.old.items ++ moves_among entries.now day entries.now) }
-    ensures fit { OnOk result (All TermsFit (terms_among entries.now day entries.now)) }
-{
+    let mut moves = Vec::new(alloc);
     for (place, entry) in entries.iter().enumerate() {
         let standing = standing_at(entries, standings, place, entry);
         if let Some(terms) = terms_on(entry, standing, day) {
-            put_moves(parts, terms)?;
+            put_moves(&mut moves, terms)?;
         }
     }
-    Ok(())
+    Ok(moves)
 }
 
 // Puts what the lines of terms move after other parts.

@@ -1,19 +1,17 @@
 //! The rows of positions.
 ghost use Rattle.std.specs.Prelude.{◌≡◌, IfOk};
-ghost use Rattle.blot_types.specs.Order.{total};
-ghost use Rattle.blot_position.specs.Carried.{Carries};
 ghost use Rattle.blot_report.specs.Day.{day_parts_of};
 ghost use Rattle.blot_report.specs.Lines.{position_rows};
 ghost use Rattle.blot_report.specs.Standings.{AreStandings};
-ghost use Rattle.blot_report.specs.Sums.{IsLight, ArePositionsOf, HasCells, cell_row, cell_rows};
+ghost use Rattle.blot_report.specs.Sums.{ArePositionsOf, cell_row, cell_rows};
 
 use crate::PositionRow;
-use crate::parts::parts_on;
+use crate::parts::positions_on;
 use crate::pieces::in_pieces;
 use blot_command::Standing;
 use blot_position::Positions;
 use blot_time::Day;
-use blot_types::{Entry, Part, PositionKey};
+use blot_types::{Entry, PositionKey};
 use std::alloc::{AllocError as NoMemory, Global};
 use std::thread::Threads;
 
@@ -27,8 +25,9 @@ pub(crate) fn position_rows(
     requires { AreStandings entries.now standings.now }
     ensures { IfOk result (λ rows. rows.items ≡ position_rows (day_parts_of entries.now day)) }
 {
-    let parts = parts_on(alloc, entries, standings, day)?;
-    part_rows(alloc, &parts)
+    let positions = positions_on(alloc, entries, standings, day)?;
+    let keys = sorted_positions(alloc, &positions)?;
+    rows_of(alloc, &positions, &keys)
 }
 
 /// The same, where each piece of the positions is a worker's.
@@ -42,30 +41,7 @@ pub(crate) fn position_rows_in_pieces<R: Threads + Sync>(
     requires { AreStandings entries.now standings.now }
     ensures { IfOk result (λ rows. rows.items ≡ position_rows (day_parts_of entries.now day)) }
 {
-    let parts = parts_on(alloc, entries, standings, day)?;
-    part_rows_in_pieces(rt, alloc, &parts)
-}
-
-// The rows of the positions that parts are of.
-fn part_rows(alloc: Global, parts: &[Part]) -> Result<Vec<PositionRow>, NoMemory>
-    requires { IsLight parts.now }
-    ensures { IfOk result (λ rows. rows.items ≡ position_rows parts.now) }
-{
-    let positions = positions_of(alloc, parts)?;
-    let keys = sorted_positions(alloc, &positions)?;
-    rows_of(alloc, &positions, &keys)
-}
-
-// The same, where each piece of the positions is a worker's.
-fn part_rows_in_pieces<R: Threads + Sync>(
-    rt: &R,
-    alloc: Global,
-    parts: &[Part],
-) -> Result<Vec<PositionRow>, NoMemory>
-    requires { IsLight parts.now }
-    ensures { IfOk result (λ rows. rows.items ≡ position_rows parts.now) }
-{
-    let positions = positions_of(alloc, parts)?;
+    let positions = positions_on(alloc, entries, standings, day)?;
     let keys = sorted_positions(alloc, &positions)?;
     rows_in_pieces(rt, alloc, &positions, &keys)
 }
@@ -87,19 +63,6 @@ fn rows_in_pieces<R: Threads + Sync>(
             ensures { IfOk result (λ rows. rows.items ≡ cell_rows positions.entry.now piece.now) }
         { rows_of(alloc, positions, piece) },
     )
-}
-
-// The positions with these parts added.
-fn positions_of(alloc: Global, parts: &[Part]) -> Result<Positions, NoMemory>
-    requires { IsLight parts.now }
-    ensures sums { IfOk result (λ positions. Carries (λ amount. total amount parts.now) positions) }
-    ensures cells { IfOk result (λ positions. HasCells parts.now positions) }
-{
-    let mut positions = Positions::new(alloc);
-    for part in parts {
-        positions.add(&part.account, &part.symbol, part.qty, part.value)?;
-    }
-    Ok(positions)
 }
 
 // The positions for which a cell was made, sorted.

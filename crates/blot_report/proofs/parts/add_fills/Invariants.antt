@@ -1,11 +1,12 @@
-use Rattle.std.proofs.Common.{◌≡◌, ◌++◌, take}
+use Rattle.std.proofs.Common.{take}
 use Rattle.std.specs.Prelude.{All}
 use Rattle.blot_types.specs.Position.{IsSmall}
 use Rattle.blot_report.specs.Standings.{parts_among}
-use Rattle.blot_report.proofs.parts.put_fills.Given as goal
+use Rattle.blot_report.specs.Sums.{MadeOf}
+use Rattle.blot_report.proofs.parts.add_fills.Given as goal
 
 abbrev pub invariant-loop-place : goal.invariant-loop-place
 invariant-loop-place l = record {
-  items : l.parts.items ≡ l.initial.parts.items ++ parts_among l.entries l.day (take l.place l.entries);
+  made : MadeOf (parts_among l.entries l.day (take l.place l.entries)) l.positions;
   small : All IsSmall (parts_among l.entries l.day (take l.place l.entries));
 }

@@ -1,0 +1,59 @@
+use Rattle.std.proofs.Common.{◌≡◌, ◌+◌, ◌∷◌, [], ◌++◌, Option, Some, take, sym, ap, subst, ◌∙◌}
+use Rattle.std.specs.Prelude.{IfSome}
+use Rattle.std.specs.List.{filter_map}
+use Rattle.blot_types.specs.declared.command.Entry.{Entry}
+use Rattle.blot_types.specs.declared.part.Part.{Part}
+use Rattle.blot_types.specs.Position.{IsSmall}
+use Rattle.blot_command.specs.declared.standing.Standing.{Standing}
+use Rattle.blot_command.specs.Standings.{standing_of}
+use Rattle.blot_report.specs.Standings.{part_on}
+use Rattle.blot_report.specs.Sums.{IsLight, MadeOf}
+use Rattle.blot_report.proofs.ListLemmas.{found-one, found-none}
+use Rattle.blot_report.proofs.PartLemmas.{all-found, all-passed, light-fills}
+use Rattle.blot_report.proofs.RowLemmas.{made-more, room-more}
+use Rattle.blot_report.proofs.parts.add_fills.Goals as goal
+use Rattle.blot_report.proofs.parts.add_fills.Goals.{in-Some+in_ok-add, in_default}
+
+pub add-requires : goal.add-requires
+add-requires c =
+    let list = c.args.entries.now in
+    let f : Entry → Option Part = λ e. part_on c.args.day (standing_of list e) e in
+    let index = c.loop-place.place in
+    let entry = c.index-entries-place.result in
+    let part = c.in-Some.part in
+    let within = c.loop-place-test.true in
+    let told = c.part_on.ensures.part ∙ ap (λ (s : Standing). part_on c.args.day s entry) c.standing_at-standing.ensures in
+    let brought : f entry ≡ Some part = sym told ∙ c.in-Some.is in
+    let small = all-found IsSmall f list index entry part within c.index-entries-place.is c.loop-place.invariant.small brought
+    (subst (λ found. IfSome found IsSmall) c.in-Some.is c.part_on.ensures.small) in
+    let light = subst IsLight (found-one f list index entry part within c.index-entries-place.is brought)
+    (light-fills list c.args.day (index + 1) c.requires.standings.book small) in
+    record { room = room-more (filter_map f (take index list)) part c.loop-place.positions light c.loop-place.invariant.made }
+
+pub loop-place-preserved : goal.loop-place-preserved
+loop-place-preserved c =
+    let list = c.args.entries.now in
+    let f : Entry → Option Part = λ e. part_on c.args.day (standing_of list e) e in
+    let index = c.loop-place.place in
+    let entry = c.index-entries-place.result in
+    let within = c.loop-place-test.true in
+    let told = c.part_on.ensures.part ∙ ap (λ (s : Standing). part_on c.args.day s entry) c.standing_at-standing.ensures in
+    elim c.match-part_on.branch [
+      | in-Some+in_ok-add w ↦
+          let part = w.in-Some.part in
+          let brought = sym told ∙ w.in-Some.is in
+          let made = made-more (filter_map f (take index list)) part c.loop-place.positions c.loop-place.invariant.made in
+          record {
+            made = subst (λ parts. MadeOf parts c.match-part_on.positions) (sym (found-one f list index entry part within c.index-entries-place.is brought))
+                (subst (MadeOf (filter_map f (take index list) ++ part ∷ [])) (sym (w.positions-is ∙ w.in_ok-add.ensures.ok)) made);
+            small = all-found IsSmall f list index entry part within c.index-entries-place.is c.loop-place.invariant.small brought
+                (subst (λ found. IfSome found IsSmall) w.in-Some.is c.part_on.ensures.small);
+          }
+      | in_default w ↦
+          let none = sym told ∙ w.in_default.is in
+          record {
+            made = subst (λ parts. MadeOf parts c.match-part_on.positions) (sym (found-none f list index entry within c.index-entries-place.is none))
+                (subst (MadeOf (filter_map f (take index list))) (sym w.positions-is) c.loop-place.invariant.made);
+            small = all-passed IsSmall f list index entry within c.index-entries-place.is c.loop-place.invariant.small none;
+          }
+    ]

@@ -1,0 +1,15 @@
+use Rattle.std.proofs.Common.{ap, ◌∙◌}
+use Rattle.std.specs.List.{filter_map}
+use Rattle.blot_report.specs.Day.{day_parts_of}
+use Rattle.blot_report.specs.Lines.{position_row}
+use Rattle.blot_report.proofs.ListLemmas.{if_ok}
+use Rattle.blot_report.proofs.RowLemmas.{rows-carried}
+use Rattle.blot_report.proofs.positions.position_rows_in_pieces.Goals as goal
+
+pub returns : goal.returns
+returns g c =
+    let parts = day_parts_of c.args.entries.now c.args.day in
+    let made = c.in_ok-positions.ensures in
+    let keys = c.deref.ensures.value ∙ c.in_ok-keys.ensures parts made.cells in
+    let rows = rows-carried parts c.in_ok-positions.positions c.deref.result.now made.sums ∙ ap (filter_map (position_row parts)) keys in
+    if_ok c.rows_in_pieces.result _ _ (λ found is. is ∙ rows) c.rows_in_pieces.ensures
