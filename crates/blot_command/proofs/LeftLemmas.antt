@@ -298,8 +298,6 @@ left-taken (slot ∷ earlier) n fall newest legal =
             let same = instruction-number (links_in (items earlier)) slot.item j own_is in
             omega (arith, less, same)
 
--- ---- an entry is put back
-
 -- where no entry that was taken out has a number, no instruction of theirs has it
 pub left-apart : (slots : List (Slot Entry)) (n : ℕ) → numbers_fall entry_number (items slots) ≡ true → item_at entry_number n (lifted slots) ≡ None → instruction_at n (left_instructions slots) ≡ None
 left-apart [] n fall none = refl

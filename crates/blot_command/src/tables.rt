@@ -242,8 +242,7 @@ fn put_held(orders: &mut Orders, entry: &Entry)
     ensures { orders.new ≡ with_put (version_of entry.now) orders.old }
 {
     match &entry.command {
-        Command::Trade(trade) => orders.un_take(entry.number, &trade.fill),
-        Command::Correct(correct) => orders.un_take(entry.number, &correct.fill),
+        Command::Trade(_) | Command::Correct(_) => orders.un_take(entry.number),
         Command::Bust(_)
         | Command::AllocNew(_)
         | Command::AllocReplace(_)
@@ -268,6 +267,6 @@ fn un_take(orders: &mut Orders, version: &Option<Version>)
     ensures { orders.new ≡ with_put version.now orders.old }
 {
     if let Some(version) = version {
-        orders.un_take(version.number, &version.fill);
+        orders.un_take(version.number);
     }
 }

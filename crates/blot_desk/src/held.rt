@@ -120,6 +120,7 @@ impl Held {
     pub fn history(&self) -> &[Recorded]
         ensures history { result.now ≡ self.now.history }
         ensures run { IsRun self.now }
+        ensures few { length self.now.history ≤ EVENTS_MAX }
     {
         &self.history
     }

@@ -1,8 +1,7 @@
 -- The cells of the fills in slots: what they say, and that they hold where room is made, and where a fill is kept, put or taken.
-use Rattle.std.proofs.Common.{◌≡◌, ℕ, ◌+◌, ◌-◌, ◌<◌, ◌≤◌, true, false, List, length, set, Option, Some, None, refl, sym, ap, subst, ◌∙◌, arith, inl, inr, if◌then◌else◌}
+use Rattle.std.proofs.Common.{◌≡◌, ℕ, ◌+◌, ◌<◌, ◌≤◌, true, false, List, length, set, Option, Some, None, refl, sym, ap, subst, ◌∙◌, arith, inl, inr, if◌then◌else◌}
 use Rattle.std.specs.Cmp.Lexicographic.{nat_list_eq_equiv}
 use Rattle.std.specs.Prelude.{◌==◌, Bool, Contains, IfSome}
-use Rattle.std.specs.List.{last_or}
 use Rattle.std.specs.Option.{option_and_then, option_map}
 use Rattle.std.proofs.lemmas.Bool.{cases_Bool, and_from, eqb-true, eqb-false}
 use Rattle.std.proofs.lemmas.Int.{ints}
@@ -14,43 +13,28 @@ use Rattle.blot_types.specs.Keys.{same_order}
 use Rattle.blot_types.specs.Order.{fills_of, line_of, line_by}
 use Rattle.blot_order.specs.declared.held.Held.{Held}
 use Rattle.blot_order.specs.declared.held.Held.TheVariants.{Kept, Put}
-use Rattle.blot_order.specs.declared.totals.Totals.{Totals}
-use Rattle.blot_order.specs.Cells.{Tally, tally_at, tally_of, line_in, with_more_room, with_fill_put, with_fill_taken, Changes, CanPut, CanTake, Covers, HoldsOrders}
-use Rattle.blot_order.specs.Fills.{Fills, fill_put, fills_put}
-use Rattle.blot_order.specs.Numbers.{Rise, with_number, without_number}
-use Rattle.blot_order.specs.Slots.{held_by, slot_at, fills_in_slots, put_under, puts, keeps, numbers_from, count_kept, reaching}
-use Rattle.blot_order.specs.Totals.{with_one, without_one, line_with, Fits, AreSmall}
+use Rattle.blot_order.specs.Cells.{Tally, tally_at, tally_of, line_in, with_one_kept, without_one_kept, with_fill_put, with_fill_taken, Changes, ChangesWhere, CountsKept, CanPut, CanTake, HoldsOrders}
+use Rattle.blot_order.specs.Fills.{Fills, fill_put, fill_kept, fills_put}
+use Rattle.blot_order.specs.Numbers.{Rise}
+use Rattle.blot_order.specs.Slots.{held_by, slot_at, fills_in_slots, put_under, kept_under, puts, keeps, keeps_under, numbers_from, reaching}
+use Rattle.blot_order.specs.Totals.{Fits, AreSmall}
 use Rattle.blot_order.proofs.SlotLemmas.{slot_at-reaching, few-reaching, fills_put-held_by, slot_within}
 use Rattle.blot_order.proofs.SumLemmas.{within_slots}
-use Rattle.blot_order.proofs.TallyLemmas.{rise-numbers, listed-number, last_fill-is, count-some, tally-reaching, covers-kept, tally-put, tally-taken}
+use Rattle.blot_order.proofs.TallyLemmas.{rise-numbers, listed-number, last_fill-is, count-few, count-some, tally-reaching, tally-kept, tally-put, tally-taken}
 
 -- an order is itself
 same_order-refl : (order : OrderKey) → same_order order order ≡ true
 same_order-refl order = and_from _ _ (nat_list_eq_equiv.refl order.peer) (nat_list_eq_equiv.refl order.id)
 
+-- one more fill that is kept, or none, leaves one
+still_one : (test : Bool) (tally : Tally) → 0 < tally.kept → 0 < (if test then with_one_kept tally else tally).kept
+still_one true tally one = omega (arith, one)
+still_one false tally one = one
+
 -- a tally that stays either way
 either_way : (test : Bool) (tally : Tally) → (if test then tally else tally) ≡ tally
 either_way true tally = refl
 either_way false tally = refl
-
--- ---- a cell that covers a tally covers it after a change, too
-
-covers-put : (n : ℕ) (fill : Fill) (tally cell : Tally) → Covers tally cell → Covers (with_fill_put n fill tally) (with_fill_put n fill cell)
-covers-put n fill tally cell covers =
-    let room : tally.room - 1 ≤ cell.room - 1 = omega (arith, covers.room) in
-    record { totals = ap (with_one fill) covers.totals; numbers = ap (with_number n) covers.numbers; room = room }
-
-covers-taken : (n : ℕ) (fill : Fill) (tally cell : Tally) → Covers tally cell → Covers (with_fill_taken n fill tally) (with_fill_taken n fill cell)
-covers-taken n fill tally cell covers =
-    let room : tally.room + 1 ≤ cell.room + 1 = omega (arith, covers.room) in
-    record { totals = ap (without_one fill) covers.totals; numbers = ap (without_number n) covers.numbers; room = room }
-
--- so does one that is changed or isn't
-covers-changed :
-    (test : Bool) (change : Tally → Tally) (tally cell new : Tally) → ((tally cell : Tally) → Covers tally cell → Covers (change tally) (change cell))
-    → new ≡ (if test then change tally else tally) → Covers tally cell → Covers new (if test then change cell else cell)
-covers-changed true change tally cell new keeps is covers = subst (λ t. Covers t (change cell)) (sym is) (keeps tally cell covers)
-covers-changed false change tally cell new keeps is covers = subst (λ t. Covers t cell) (sym is) covers
 
 -- ---- what cells that hold say
 
@@ -59,8 +43,8 @@ module _ (cells : List (OrderKey × Tally)) (slots : List (Option Held)) (are : 
   pub small : (order : OrderKey) → AreSmall (tally_at cells order).totals
   small order =
       let within = within_slots order slots are.fits in
-      let cum = ap (λ (t : Totals). t.cum) (are.covers order).totals in
-      let value = ap (λ (t : Totals). t.value) (are.covers order).totals in
+      let cum = ap (λ (t : Tally). t.totals.cum) (are.tallies order) in
+      let value = ap (λ (t : Tally). t.totals.value) (are.tallies order) in
       record {
         cum_low = omega (arith, ints, cum, within.cum_low);
         cum_high = omega (arith, ints, cum, within.cum_high, are.few);
@@ -70,25 +54,30 @@ module _ (cells : List (OrderKey × Tally)) (slots : List (Option Held)) (are : 
 
   -- the numbers of an order rise
   rise : (order : OrderKey) → Rise (tally_at cells order).numbers
-  rise order = subst Rise (sym (are.covers order).numbers) (rise-numbers order 0 slots)
+  rise order = subst (λ (t : Tally). Rise t.numbers) (sym (are.tallies order)) (rise-numbers order 0 slots)
 
-  -- where a fill is kept, its order has room for it
-  has_room : (n : ℕ) (fill : Fill) → slot_at slots n ≡ Some (Kept fill) → 0 < (tally_at cells fill.order).room
-  has_room n fill is =
-      let own : keeps fill.order (slot_at slots n) ≡ true = ap (keeps fill.order) is ∙ same_order-refl fill.order in
-      let one = count-some fill.order n slots (slot_within n slots (Kept fill) is) own in
-      let room : count_kept fill.order slots ≤ (tally_at cells fill.order).room = (are.covers fill.order).room in
-      omega (arith, one, room)
+  -- no more fills are kept than there are slots
+  pub few_kept : (order : OrderKey) → (tally_at cells order).kept ≤ EVENTS_MAX + 1
+  few_kept order =
+      let count = ap (λ (t : Tally). t.kept) (are.tallies order) in
+      let few = count-few order slots in
+      omega (arith, count, few, are.few)
+
+  -- where a fill is kept, its order has one
+  has_kept : (n : ℕ) (fill : Fill) → slot_at slots n ≡ Some (Kept fill) → 0 < (tally_at cells fill.order).kept
+  has_kept n fill is =
+      let one : keeps fill.order (slot_at slots n) ≡ true = ap (keeps fill.order) is ∙ same_order-refl fill.order in
+      subst (λ (t : Tally). 0 < t.kept) (sym (are.tallies fill.order)) (count-some fill.order n slots (slot_within n slots (Kept fill) is) one)
 
   pub can_put : (n : ℕ) (fill : Fill) → slot_at slots n ≡ Some (Kept fill) → CanPut (tally_at cells fill.order)
-  can_put n fill is = record { room = has_room n fill is; rise = rise fill.order; small = small fill.order }
+  can_put n fill is = record { kept = has_kept n fill is; rise = rise fill.order; small = small fill.order }
 
   -- where a fill is put, its order lists the number
   lists : (n : ℕ) (fill : Fill) → slot_at slots n ≡ Some (Put fill) → Contains (tally_at cells fill.order).numbers n
   lists n fill is =
       let there = listed-number fill.order 0 n slots (ap (puts fill.order) is ∙ same_order-refl fill.order) in
       let here : 0 + n ≡ n = omega arith in
-      subst (λ (numbers : List ℕ). Contains numbers n) (sym (are.covers fill.order).numbers) (subst (Contains (numbers_from 0 fill.order slots)) here there)
+      subst (λ (t : Tally). Contains t.numbers n) (sym (are.tallies fill.order)) (subst (Contains (numbers_from 0 fill.order slots)) here there)
 
   pub can_take : (n : ℕ) (fill : Fill) → slot_at slots n ≡ Some (Put fill) → CanTake n (tally_at cells fill.order)
   can_take n fill is = record { listed = lists n fill is; rise = rise fill.order; small = small fill.order }
@@ -98,9 +87,8 @@ module _ (cells : List (OrderKey × Tally)) (slots : List (Option Held)) (are : 
       (read : List (Option Held)) (fills : Fills) (order : OrderKey) (tally : Tally) → held_by slots ≡ fills → read ≡ slots → tally ≡ tally_at cells order
       → line_in read tally ≡ line_of (fills_of (fills_put fills) order)
   line-read read fills order tally view same is =
-      let covers = are.covers order in
-      (λ i. line_in (same i) (is i))
-      ∙ (λ i. option_map (line_with (covers.totals i)) (option_and_then (put_under slots) (last_or None (covers.numbers i))))
+      let tallies : tally ≡ tally_of slots order = is ∙ are.tallies order in
+      (λ i. line_in (same i) (tallies i))
       ∙ ap (option_map (line_by (fills_of (fills_in_slots slots) order))) (sym (last_fill-is order slots))
       ∙ ap (λ shown. line_of (fills_of shown order)) (sym (fills_put-held_by slots) ∙ ap fills_put view)
 
@@ -112,7 +100,7 @@ module _ (cells : List (OrderKey × Tally)) (slots : List (Option Held)) (are : 
       subst (HoldsOrders cells) (sym is) (record {
         few = few-reaching n (EVENTS_MAX + 1) slots (omega arith) are.few;
         fits = λ k. subst (λ slot. IfSome (option_and_then fill_put slot) Fits) (sym (slot_at-reaching n k slots)) (are.fits k);
-        covers = λ order. subst (λ tally. Covers tally (tally_at cells order)) (sym (tally-reaching order n slots)) (are.covers order);
+        tallies = λ order. are.tallies order ∙ sym (tally-reaching order n slots);
       })
 
   -- other cells with the same tallies
@@ -120,16 +108,16 @@ module _ (cells : List (OrderKey × Tally)) (slots : List (Option Held)) (are : 
   holds-same new key same = record {
     few = are.few;
     fits = are.fits;
-    covers = λ order. subst (Covers (tally_of slots order)) (sym (same order ∙ either_way (same_order key order) (tally_at cells order))) (are.covers order);
+    tallies = λ order. same order ∙ either_way (same_order key order) (tally_at cells order) ∙ are.tallies order;
   }
 
   -- ---- one slot changed
 
   module _ (new : List (OrderKey × Tally)) (n : ℕ) (within : n < length slots) where
     holds-set :
-        (held : Held) → IfSome (fill_put held) Fits → ((order : OrderKey) → Covers (tally_of (set slots n (Some held)) order) (tally_at new order))
+        (held : Held) → IfSome (fill_put held) Fits → ((order : OrderKey) → tally_at new order ≡ tally_of (set slots n (Some held)) order)
         → HoldsOrders new (set slots n (Some held))
-    holds-set held fits covers =
+    holds-set held fits tallies =
         let after = set slots n (Some held) in
         record {
           few = omega (arith, are.few, length-set slots n (Some held));
@@ -140,7 +128,7 @@ module _ (cells : List (OrderKey × Tally)) (slots : List (Option Held)) (are : 
             | inr other ↦
                 subst (λ slot. IfSome (option_and_then fill_put slot) Fits) (sym (get_or-set_other slots n k (Some held) None (eqb-false k n other))) (are.fits k)
           ];
-          covers = covers;
+          tallies = tallies;
         }
 
     -- where none is put, nothing has to fit
@@ -153,9 +141,9 @@ module _ (cells : List (OrderKey × Tally)) (slots : List (Option Held)) (are : 
         → HoldsOrders new (set slots n (Some (Put fill)))
     holds-put fill fits is changes =
         holds-set (Put fill) fits
-        (λ order. subst (Covers (tally_of (set slots n (Some (Put fill))) order)) (sym (changes order))
-        (covers-changed (same_order fill.order order) (with_fill_put n fill) (tally_of slots order) (tally_at cells order) (tally_of (set slots n (Some (Put fill))) order)
-        (covers-put n fill) (tally-put order n slots within fill is) (are.covers order)))
+        (λ order. changes order
+        ∙ ap (λ tally. if same_order fill.order order then with_fill_put n fill tally else tally) (are.tallies order)
+        ∙ sym (tally-put order n slots within fill is))
 
     -- a fill that is put is taken and kept
     pub holds-taken :
@@ -163,15 +151,36 @@ module _ (cells : List (OrderKey × Tally)) (slots : List (Option Held)) (are : 
         → HoldsOrders new (set slots n (Some (Kept fill)))
     holds-taken fill is changes =
         holds-set (Kept fill) (kept_fits fill)
-        (λ order. subst (Covers (tally_of (set slots n (Some (Kept fill))) order)) (sym (changes order))
-        (covers-changed (same_order fill.order order) (with_fill_taken n fill) (tally_of slots order) (tally_at cells order) (tally_of (set slots n (Some (Kept fill))) order)
-        (covers-taken n fill) (tally-taken order n slots within fill is) (are.covers order)))
+        (λ order. changes order
+        ∙ ap (λ tally. if same_order fill.order order then with_fill_taken n fill tally else tally) (are.tallies order)
+        ∙ sym (tally-taken order n slots within fill is))
 
-    -- a fill is kept where none is put: its order has room for one more
+    -- a fill is kept where none is put: its order has one more, and then that of the fill that was kept there has one less
     pub holds-kept :
-        (fill : Fill) → put_under slots n ≡ None → Changes fill.order with_more_room cells new
+        (counted : List (OrderKey × Tally)) (fill : Fill) → put_under slots n ≡ None → Changes fill.order with_one_kept cells counted
+        → (read : List (Option Held)) → read ≡ slots
+        → ChangesWhere (keeps_under read n) without_one_kept counted new
         → HoldsOrders new (set slots n (Some (Kept fill)))
-    holds-kept fill unput more =
+    holds-kept counted fill unput one_more read same one_less =
         holds-set (Kept fill) (kept_fits fill)
-        (λ order. subst (Covers (tally_of (set slots n (Some (Kept fill))) order)) (sym (more order))
-        (covers-kept order n slots within fill (tally_at cells order) unput (are.covers order)))
+        (λ order. one_less order
+        ∙ ap (λ these. if keeps order (slot_at these n) then without_one_kept (tally_at counted order) else tally_at counted order) same
+        ∙ ap (λ tally. if keeps order (slot_at slots n) then without_one_kept tally else tally)
+        (one_more order ∙ ap (λ tally. if same_order fill.order order then with_one_kept tally else tally) (are.tallies order))
+        ∙ sym (tally-kept order n slots within fill unput))
+
+  -- the order of a fill that is kept has one, also once one more is counted of some order
+  one-counted :
+      (counted : List (OrderKey × Tally)) (key : OrderKey) (n : ℕ) → Changes key with_one_kept cells counted → (slot : Option Held) → slot_at slots n ≡ slot
+      → CountsKept counted (option_and_then fill_kept slot)
+  one-counted counted key n changes None is = search
+  one-counted counted key n changes (Some (Put fill)) is = search
+  one-counted counted key n changes (Some (Kept fill)) is =
+      let one : 0 < (tally_at counted fill.order).kept =
+      subst (λ (t : Tally). 0 < t.kept) (sym (changes fill.order)) (still_one (same_order key fill.order) (tally_at cells fill.order) (has_kept n fill is)) in
+      search
+
+  pub has_one-counted :
+      (counted : List (OrderKey × Tally)) (key : OrderKey) (n : ℕ) (read : List (Option Held)) → read ≡ slots → Changes key with_one_kept cells counted
+      → CountsKept counted (kept_under read n)
+  has_one-counted counted key n read same changes = one-counted counted key n changes (slot_at read n) (ap (λ these. slot_at these n) (sym same))

@@ -1,6 +1,6 @@
 -- The slots of an order book and the fills by number that they stand for.
 use Rattle.std.proofs.Common.{◌≡◌, ℕ, zero, suc, ◌+◌, ◌-◌, ◌<◌, ◌≤◌, List, [], ◌∷◌, ◌++◌, length, get_or, set, replicate, map, Option, Some, None, Bool, true, false, refl, sym, ap, ◌∙◌, arith, inl, inr}
-use Rattle.std.specs.Prelude.{◌==◌, nat_lt, if◌then◌else◌}
+use Rattle.std.specs.Prelude.{◌==◌, nat_lt, IsSome, if◌then◌else◌}
 use Rattle.std.specs.Bool.{passes}
 use Rattle.std.specs.Cmp.{nat_cmp_total, unsigned_tied}
 use Rattle.std.specs.FinMap as finite
@@ -15,7 +15,7 @@ use Rattle.blot_types.specs.declared.fill.Fill.{Fill}
 use Rattle.blot_order.specs.declared.held.Held.{Held}
 use Rattle.blot_order.specs.declared.held.Held.TheVariants.{Kept, Put}
 use Rattle.blot_order.specs.Fills.{Fills, fill_put, fill_kept, put_at, kept_at, fills_put}
-use Rattle.blot_order.specs.Slots.{held_from, held_by, marked, slot_at, put_under, fills_in_slots, reaching}
+use Rattle.blot_order.specs.Slots.{held_from, held_by, kept_under, marked, slot_at, put_under, fills_in_slots, reaching}
 use Rattle.blot_order.proofs.FillLemmas.{get-insert}
 
 -- ---- what the slots stand for, number by number
@@ -140,10 +140,14 @@ put_is_there None fill is = cc
 put_is_there (Some (Kept kept)) fill is = cc
 put_is_there (Some (Put put)) fill is = cc
 
-pub kept_is_there : (slot : Option Held) (fill : Fill) → option_and_then fill_kept slot ≡ Some fill → slot ≡ Some (Kept fill)
-kept_is_there None fill is = cc
-kept_is_there (Some (Kept kept)) fill is = cc
-kept_is_there (Some (Put put)) fill is = cc
+-- where a fill is kept, it is some fill
+kept_there : (slot : Option Held) → IsSome (option_and_then fill_kept slot) → (fill : Fill) × (slot ≡ Some (Kept fill))
+kept_there None some = absurd (cc some)
+kept_there (Some (Kept fill)) some = (fill, refl)
+kept_there (Some (Put fill)) some = absurd (cc some)
+
+pub kept-fill : (slots : List (Option Held)) (n : ℕ) → IsSome (kept_under slots n) → (fill : Fill) × (slot_at slots n ≡ Some (Kept fill))
+kept-fill slots n some = kept_there (slot_at slots n) some
 
 -- what a slot holds, whatever is said of a number without a slot
 slot-there : (slots : List (Option Held)) (n : ℕ) (held : Held) (other : Option Held) → slot_at slots n ≡ Some held → get_or slots n other ≡ Some held
@@ -156,7 +160,21 @@ pub slot-marked : (slots : List (Option Held)) (n : ℕ) (held : Held) (is_put :
     → slot_at slots n ≡ Some held → old ≡ get_or slots n old → new ≡ option_map (marked is_put) old → new ≡ Some (marked is_put held)
 slot-marked slots n held is_put old new there read marks = marks ∙ ap (option_map (marked is_put)) (read ∙ slot-there slots n held old there)
 
--- the slot of a number under which a fill is put
+-- the fill that is found in a slot that is marked as put
+some-same : (a b : Fill) → Some a ≡ Some b → a ≡ b
+some-same a b same = cc same
+
+pub found-put : (slots these : List (Option Held)) (n : ℕ) (fill found : Fill) (slot : Option Held)
+    → slot_at slots n ≡ Some (Kept fill) → slot ≡ Some (Put fill) → these ≡ set slots n slot → Some found ≡ put_under these n → found ≡ fill
+found-put slots these n fill found slot kept put changed is =
+    some-same found fill (is ∙ ap (λ (list : List (Option Held)). put_under list n) changed ∙ ap (λ (it : Option Held). put_under (set slots n it) n) put
+    ∙ ap (option_and_then fill_put) (get_or-set_same slots n (Some (Put fill)) None (slot_within n slots (Kept fill) kept)))
+
+-- the fill that is kept in a slot is the one that is kept under its number
+pub found-kept : (slots : List (Option Held)) (n : ℕ) (fill found : Fill) → slot_at slots n ≡ Some (Kept fill) → kept_under slots n ≡ Some found → found ≡ fill
+found-kept slots n fill found kept is = some-same found fill (sym is ∙ ap (option_and_then fill_kept) kept)
+
+-- the slot of a number under which a fill is put, and of one under which it is kept
 pub slot_at-put : (n : ℕ) (slots : List (Option Held)) (fills : Fills) (fill : Fill) → held_by slots ≡ fills → put_at fills n ≡ Some fill → slot_at slots n ≡ Some (Put fill)
 slot_at-put n slots fills fill view is =
     put_is_there (slot_at slots n) fill

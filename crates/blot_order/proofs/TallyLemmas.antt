@@ -11,7 +11,7 @@ use Rattle.blot_types.specs.Keys.{same_order}
 use Rattle.blot_types.specs.Order.{fills_of, cum_of, value_of}
 use Rattle.blot_order.specs.declared.held.Held.{Held}
 use Rattle.blot_order.specs.declared.held.Held.TheVariants.{Kept, Put}
-use Rattle.blot_order.specs.Cells.{Tally, tally_of, with_more_room, with_fill_put, with_fill_taken, Covers}
+use Rattle.blot_order.specs.Cells.{Tally, tally_of, with_one_kept, without_one_kept, with_fill_put, with_fill_taken}
 use Rattle.blot_order.specs.Fills.{fill_put}
 use Rattle.blot_order.specs.Numbers.{Rise, with_number, without_number}
 use Rattle.blot_order.specs.Slots.{fills_in_slots, slot_at, is_of, put_under, puts, keeps, numbers_from, count_kept, reaching}
@@ -168,6 +168,16 @@ module _ (order : OrderKey) where
       let rest = count-set n slots slot (omega (arith, within)) in
       omega (arith, new, old, rest)
 
+  pub count-few : (slots : List (Option Held)) → count_kept order slots ≤ length slots
+  count-few [] = omega arith
+  count-few (slot ∷ slots) =
+      let one = count-first slot slots in
+      let rest = count-few slots in
+      elim (cases_Bool (keeps order slot)) [
+        | inl one_more ↦ let is : count (keeps order slot) ≡ 1 = ap count one_more in omega (arith, one, rest, is)
+        | inr other ↦ let is : count (keeps order slot) ≡ 0 = ap count other in omega (arith, one, rest, is)
+      ]
+
   pub count-some : (n : ℕ) (slots : List (Option Held)) → n < length slots → keeps order (slot_at slots n) ≡ true → 0 < count_kept order slots
   count-some n slots within kept =
       let one : count (keeps order (slot_at slots n)) ≡ 1 = ap count kept in
@@ -202,10 +212,19 @@ module _ (order : OrderKey) where
       λ i. record {
         totals = record { cum = cum_of (fills_of (fills i) order); value = value_of (fills_of (fills i) order) };
         numbers = numbers-reaching 0 (n + 1 - length slots) slots i;
-        room = count-reaching (n + 1 - length slots) slots i;
+        kept = count-reaching (n + 1 - length slots) slots i;
       }
 
 -- ---- one slot changed
+
+-- a tally with the same fills put, and with a fill kept that wasn't, or not any more
+recounted :
+    (old new : Tally) (before now : Bool) → new.totals ≡ old.totals → new.numbers ≡ old.numbers → new.kept + count before ≡ old.kept + count now
+    → new ≡ (if before then without_one_kept (if now then with_one_kept old else old) else (if now then with_one_kept old else old))
+recounted old new true true totals numbers counts = let kept : new.kept ≡ (old.kept + 1) - 1 = omega (arith, counts) in λ i. record { totals = totals i; numbers = numbers i; kept = kept i }
+recounted old new true false totals numbers counts = let kept : new.kept ≡ old.kept - 1 = omega (arith, counts) in λ i. record { totals = totals i; numbers = numbers i; kept = kept i }
+recounted old new false true totals numbers counts = let kept : new.kept ≡ old.kept + 1 = omega (arith, counts) in λ i. record { totals = totals i; numbers = numbers i; kept = kept i }
+recounted old new false false totals numbers counts = let kept : new.kept ≡ old.kept = omega (arith, counts) in λ i. record { totals = totals i; numbers = numbers i; kept = kept i }
 
 module _ (order : OrderKey) (n : ℕ) (slots : List (Option Held)) (within : n < length slots) where
   -- the slots after the change
@@ -227,25 +246,18 @@ module _ (order : OrderKey) (n : ℕ) (slots : List (Option Held)) (within : n <
       λ amount. (let sums = sum_in-set amount order slots n (Some held) within in let is = same amount in omega (arith, ints, sums, is)) in
       λ i. record { cum = each (λ f. pos f.qty) i; value = each (λ f. pos f.qty *ℤ f.price) i }
 
-  -- a fill that is kept where none is put: there is room for it where its order has room for one more
-  pub covers-kept :
-      (fill : Fill) (cell : Tally) → put_under slots n ≡ None → Covers (tally_of slots order) cell
-      → Covers (tally_of (after (Kept fill)) order) (if same_order fill.order order then with_more_room cell else cell)
-  covers-kept fill cell unput covers =
-      let totals = totals-same (Kept fill) (λ amount. ap (counted amount order) unput) in
-      let numbers = numbers-same order 0 n slots (Some (Kept fill)) within (sym (ap (is_of order) unput)) in
-      let counts = count-set order n slots (Some (Kept fill)) within in
-      let room : count_kept order slots ≤ cell.room = covers.room in
-      elim (cases_Bool (same_order fill.order order)) [
-        | inl own ↦
-            let one : count (keeps order (Some (Kept fill))) ≡ 1 = ap count own in
-            let more : count_kept order (after (Kept fill)) ≤ cell.room + 1 = omega (arith, room, counts, one) in
-            rw own (record { totals = covers.totals ∙ sym totals; numbers = covers.numbers ∙ sym numbers; room = more })
-        | inr other ↦
-            let none : count (keeps order (Some (Kept fill))) ≡ 0 = ap count other in
-            let same : count_kept order (after (Kept fill)) ≤ cell.room = omega (arith, room, counts, none) in
-            rw other (record { totals = covers.totals ∙ sym totals; numbers = covers.numbers ∙ sym numbers; room = same })
-      ]
+  -- a fill that is kept where none is put
+  pub tally-kept :
+      (fill : Fill) → put_under slots n ≡ None
+      → tally_of (after (Kept fill)) order
+      ≡ (if keeps order (slot_at slots n)
+      then without_one_kept (if same_order fill.order order then with_one_kept (tally_of slots order) else tally_of slots order)
+      else (if same_order fill.order order then with_one_kept (tally_of slots order) else tally_of slots order))
+  tally-kept fill unput =
+      recounted (tally_of slots order) (tally_of (after (Kept fill)) order) (keeps order (slot_at slots n)) (same_order fill.order order)
+      (totals-same (Kept fill) (λ amount. ap (counted amount order) unput))
+      (numbers-same order 0 n slots (Some (Kept fill)) within (sym (ap (is_of order) unput)))
+      (count-set order n slots (Some (Kept fill)) within)
 
   -- a fill that is kept is put
   pub tally-put :
@@ -267,14 +279,14 @@ module _ (order : OrderKey) (n : ℕ) (slots : List (Option Held)) (within : n <
             rw own (λ i. record {
               totals = record { cum = sum (λ f. pos f.qty) i; value = sum (λ f. pos f.qty *ℤ f.price) i };
               numbers = numbers i;
-              room = kept i;
+              kept = kept i;
             })
         | inr other ↦
             let totals = totals-same (Put fill) (λ amount. ap (counted amount order) unput ∙ sym (ap (λ t. if t then amount fill else pos 0) other)) in
             let numbers = numbers-same order 0 n slots (Some (Put fill)) within (other ∙ sym before) in
             let none : count (keeps order (slot_at slots n)) ≡ 0 = ap count (was ∙ other) in
             let kept : count_kept order (after (Put fill)) ≡ count_kept order slots = omega (arith, counts, none) in
-            rw other (λ i. record { totals = totals i; numbers = numbers i; room = kept i })
+            rw other (λ i. record { totals = totals i; numbers = numbers i; kept = kept i })
       ]
 
   -- a fill that is put is taken and kept
@@ -297,12 +309,12 @@ module _ (order : OrderKey) (n : ℕ) (slots : List (Option Held)) (within : n <
             rw own (λ i. record {
               totals = record { cum = sum (λ f. pos f.qty) i; value = sum (λ f. pos f.qty *ℤ f.price) i };
               numbers = numbers i;
-              room = kept i;
+              kept = kept i;
             })
         | inr other ↦
             let totals = totals-same (Kept fill) (λ amount. ap (counted amount order) put ∙ ap (λ t. if t then amount fill else pos 0) other) in
             let numbers = numbers-same order 0 n slots (Some (Kept fill)) within (sym (before ∙ other)) in
             let zero : count (keeps order (Some (Kept fill))) ≡ 0 = ap count other in
             let kept : count_kept order (after (Kept fill)) ≡ count_kept order slots = omega (arith, counts, none, zero) in
-            rw other (λ i. record { totals = totals i; numbers = numbers i; room = kept i })
+            rw other (λ i. record { totals = totals i; numbers = numbers i; kept = kept i })
       ]

@@ -1,5 +1,5 @@
 -- The cells of the orders: what the fills of an order come to, those that are put and those that are kept.
-use Rattle.std.specs.Prelude.{◌≡◌, ℕ, ◌+◌, ◌-◌, ◌<◌, ◌≤◌, List, [], length, Contains, Option, None, IfSome, if◌then◌else◌}
+use Rattle.std.specs.Prelude.{◌≡◌, ℕ, ◌+◌, ◌-◌, ◌<◌, ◌≤◌, Bool, List, [], length, Contains, Option, None, IfSome, if◌then◌else◌}
 use Rattle.std.specs.List.{last_or}
 use Rattle.std.specs.Map.{lookup}
 use Rattle.std.specs.Option.{option_and_then, option_map, unwrap_or}
@@ -15,46 +15,49 @@ use Rattle.blot_order.specs.Numbers.{Rise, with_number, without_number}
 use Rattle.blot_order.specs.Slots.{fills_in_slots, put_under, numbers_from, count_kept}
 use Rattle.blot_order.specs.Totals.{no_fills, with_one, without_one, line_with, Fits, AreSmall}
 
--- what the fills of an order come to: the sums of those that are put, their numbers, and for how many numbers more there is room
+-- what the fills of an order come to: the sums of those that are put, their numbers, and how many are kept
 pub record Tally : Type 0 where
   pub totals : Totals
   pub numbers : List ℕ
-  pub room : ℕ
+  pub kept : ℕ
 
 -- the tally of no fills
 abbrev pub no_tally : Tally
-no_tally = record { totals = no_fills; numbers = []; room = 0 }
+no_tally = record { totals = no_fills; numbers = []; kept = 0 }
 
--- the tally of an order, by the fills in slots: there is room for each that is kept
+-- the tally of an order, by the fills in slots
 abbrev pub tally_of : List (Option Held) → OrderKey → Tally
 tally_of slots order = record {
   totals = record { cum = cum_of (fills_of (fills_in_slots slots) order); value = value_of (fills_of (fills_in_slots slots) order) };
   numbers = numbers_from 0 order slots;
-  room = count_kept order slots;
+  kept = count_kept order slots;
 }
 
--- a tally with room for one number more
-abbrev pub with_more_room : Tally → Tally
-with_more_room tally = record { totals = tally.totals; numbers = tally.numbers; room = tally.room + 1 }
+-- a tally with one more fill that is kept, and with one less
+abbrev pub with_one_kept : Tally → Tally
+with_one_kept tally = record { totals = tally.totals; numbers = tally.numbers; kept = tally.kept + 1 }
 
--- a tally once a fill is put under its number, and once one that is put is taken
+abbrev pub without_one_kept : Tally → Tally
+without_one_kept tally = record { totals = tally.totals; numbers = tally.numbers; kept = tally.kept - 1 }
+
+-- a tally once a fill that is kept is put under its number, and once one that is put is taken and kept
 abbrev pub with_fill_put : ℕ → Fill → Tally → Tally
-with_fill_put number fill tally = record { totals = with_one fill tally.totals; numbers = with_number number tally.numbers; room = tally.room - 1 }
+with_fill_put number fill tally = record { totals = with_one fill tally.totals; numbers = with_number number tally.numbers; kept = tally.kept - 1 }
 
 abbrev pub with_fill_taken : ℕ → Fill → Tally → Tally
-with_fill_taken number fill tally = record { totals = without_one fill tally.totals; numbers = without_number number tally.numbers; room = tally.room + 1 }
+with_fill_taken number fill tally = record { totals = without_one fill tally.totals; numbers = without_number number tally.numbers; kept = tally.kept + 1 }
 
 -- the line of a tally whose fills are in slots: its sums, and what the fill under its last number says; none where no fill is put
 abbrev pub line_in : List (Option Held) → Tally → Option OrderLine
 line_in slots tally = option_map (line_with tally.totals) (option_and_then (put_under slots) (last_or None tally.numbers))
 
--- a fill can be put: there is room for its number, the numbers rise, and the sums are small
+-- a fill that is kept can be put: one is counted, the numbers rise, and the sums are small
 pub record CanPut (tally : Tally) : Type 0 where
-  pub room : 0 < tally.room
+  pub kept : 0 < tally.kept
   pub rise : Rise tally.numbers
   pub small : AreSmall tally.totals
 
--- a fill can be taken: its number is listed, the numbers rise, and the sums are small
+-- a fill that is put can be taken: its number is listed, the numbers rise, and the sums are small
 pub record CanTake (number : ℕ) (tally : Tally) : Type 0 where
   pub listed : Contains tally.numbers number
   pub rise : Rise tally.numbers
@@ -64,19 +67,22 @@ pub record CanTake (number : ℕ) (tally : Tally) : Type 0 where
 abbrev pub tally_at : List (OrderKey × Tally) → OrderKey → Tally
 tally_at cells order = unwrap_or (lookup (same_order order) cells) no_tally
 
--- the tally of one order is changed, and those of the others are as they were
+-- the tallies of the orders that pass a test are changed, and those of the others are as they were
+abbrev pub ChangesWhere : (OrderKey → Bool) → (Tally → Tally) → List (OrderKey × Tally) → List (OrderKey × Tally) → Type 0
+ChangesWhere test change old new = (order : OrderKey) → tally_at new order ≡ (if test order then change (tally_at old order) else tally_at old order)
+
+-- the same of one order
 abbrev pub Changes : OrderKey → (Tally → Tally) → List (OrderKey × Tally) → List (OrderKey × Tally) → Type 0
-Changes key change old new = (order : OrderKey) → tally_at new order ≡ (if same_order key order then change (tally_at old order) else tally_at old order)
+Changes order = ChangesWhere (same_order order)
 
--- a cell has the sums and the numbers of a tally, and as much room, or more: a room that was made stays
-pub record Covers (tally cell : Tally) : Type 0 where
-  pub totals : cell.totals ≡ tally.totals
-  pub numbers : cell.numbers ≡ tally.numbers
-  pub room : tally.room ≤ cell.room
+-- a fill that is kept is counted as one of its order, if there is one
+abbrev pub CountsKept : List (OrderKey × Tally) → Option Fill → Type 0
+CountsKept cells kept = IfSome kept (λ fill. 0 < (tally_at cells fill.order).kept)
 
--- The cells are those of the fills in slots: the cell of each order has the sums of its fills that are put, their numbers, and
--- room for each that is kept. What is put is small, and there are few slots, so no sum is large.
+-- The cells are those of the fills in slots: the cell of each order has the sums of its fills that are put, their numbers, and the
+-- count of those that are kept, for which it has room (that is the invariant of `Cell`). What is put is small, and there are few
+-- slots, so no sum is large.
 pub record HoldsOrders (cells : List (OrderKey × Tally)) (slots : List (Option Held)) : Type 0 where
   pub few : length slots ≤ EVENTS_MAX + 1
   pub fits : (number : ℕ) → IfSome (put_under slots number) Fits
-  pub covers : (order : OrderKey) → Covers (tally_of slots order) (tally_at cells order)
+  pub tallies : (order : OrderKey) → tally_at cells order ≡ tally_of slots order

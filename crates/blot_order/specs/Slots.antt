@@ -1,6 +1,6 @@
 -- The slots in which an order book stores its fills: slot n is that of number n, and the numbers past the
 -- last slot hold nothing.
-use Rattle.std.specs.Prelude.{ℕ, Bool, true, false, ◌+◌, ◌-◌, List, [], ◌∷◌, ◌++◌, length, get_or, replicate, Option, Some, None, if◌then◌else◌}
+use Rattle.std.specs.Prelude.{◌≡◌, refl, ℕ, Bool, true, false, ◌+◌, ◌-◌, List, [], ◌∷◌, ◌++◌, length, get_or, replicate, Option, Some, None, if◌then◌else◌}
 use Rattle.std.specs.FinMap as map
 use Rattle.std.specs.List.{filter, filter_map}
 use Rattle.std.specs.Option.{option_and_then}
@@ -30,6 +30,15 @@ held_as false fill = Kept fill
 abbrev pub is_put_in : Held → Bool
 is_put_in (Kept fill) = false
 is_put_in (Put fill) = true
+
+-- both tell what is held
+pub fill_held-as : (is_put : Bool) (fill : Fill) → fill_held (held_as is_put fill) ≡ fill
+fill_held-as true fill = refl
+fill_held-as false fill = refl
+
+pub is_put_in-as : (is_put : Bool) (fill : Fill) → is_put_in (held_as is_put fill) ≡ is_put
+is_put_in-as true fill = refl
+is_put_in-as false fill = refl
 
 -- what is held, put or kept from now on
 abbrev pub marked : Bool → Held → Held
@@ -66,6 +75,10 @@ puts order slot = is_of order (option_and_then fill_put slot)
 
 abbrev pub keeps : OrderKey → Option Held → Bool
 keeps order slot = is_of order (option_and_then fill_kept slot)
+
+-- whether a fill of an order is kept under a number
+abbrev pub keeps_under : List (Option Held) → ℕ → OrderKey → Bool
+keeps_under slots number order = is_of order (kept_under slots number)
 
 -- the numbers under which a fill of an order is put, from that of the first slot on
 abbrev pub numbers_from : ℕ → OrderKey → List (Option Held) → List ℕ

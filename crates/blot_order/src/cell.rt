@@ -1,6 +1,7 @@
 //! The cell of one order.
-ghost use Rattle.std.specs.Prelude.{◌≡◌, pos, ◌≤ℤ◌, OnOk, OnErr};
-ghost use Rattle.blot_order.specs.Cells.{no_tally, line_in, with_more_room, with_fill_put, with_fill_taken, CanPut, CanTake};
+ghost use Rattle.std.specs.Prelude.{◌≡◌, ◌+◌, ◌<◌, ◌≤◌, pos, ◌≤ℤ◌, OnOk, OnErr};
+ghost use Rattle.blot_types.specs.declared.TheConstants.{EVENTS_MAX};
+ghost use Rattle.blot_order.specs.Cells.{no_tally, line_in, with_one_kept, without_one_kept, with_fill_put, with_fill_taken, CanPut, CanTake};
 ghost use Rattle.blot_order.specs.Totals.{Fits};
 
 use crate::held::HeldFill;
@@ -11,13 +12,13 @@ use blot_types::{Fill, OrderLine};
 use std::alloc::{AllocError as NoMemory, Global};
 use std::marker::Model;
 
-/// What the fills of an order come to: the sums of those that are put, their numbers, rising, and for how many numbers more
-/// there is room.
+/// What the fills of an order come to: the sums of those that are put, their numbers, rising, and how many are
+/// kept. There is room for the number of each that is kept.
 #[derive(Drop)]
 pub(crate) struct Cell {
     totals: Totals,
     numbers: Vec<u64>,
-    room: usize,
+    kept: usize,
 }
 
 impl Model for Cell {
@@ -26,9 +27,9 @@ impl Model for Cell {
 
     ghost Value = { Tally };
 
-    ghost view = { λ cell. record { totals = cell.totals; numbers = cell.numbers.items; room = cell.room } };
+    ghost view = { λ cell. record { totals = cell.totals; numbers = cell.numbers.items; kept = cell.kept } };
 
-    ghost invariant = { λ cell. length cell.numbers.items + cell.room ≤ vec_capacity cell.numbers };
+    ghost invariant = { λ cell. length cell.numbers.items + cell.kept ≤ vec_capacity cell.numbers };
 }
 
 impl Cell {
@@ -39,24 +40,30 @@ impl Cell {
         Cell {
             totals: Totals::none(),
             numbers: Vec::new(alloc),
-            room: 0,
+            kept: 0,
         }
     }
 
-    /// Makes room for one number more. An error leaves the cell as it was.
-    pub(crate) fn add_room(&mut self) -> Result<(), NoMemory>
-        ensures ok { OnOk result (self.new ≡ with_more_room self.old) }
+    /// Counts one more fill that is kept, with room for its number. An error leaves the cell as it was.
+    pub(crate) fn add_kept(&mut self) -> Result<(), NoMemory>
+        requires { self.old.kept ≤ EVENTS_MAX + 1 }
+        ensures ok { OnOk result (self.new ≡ with_one_kept self.old) }
         ensures err { OnErr result (self.new ≡ self.old) }
     {
-        let Some(room) = self.room.checked_add(1) else {
-            return Err(NoMemory);
-        };
-        self.numbers.reserve(room)?;
-        self.room = room;
+        self.numbers.reserve(self.kept + 1)?;
+        self.kept += 1;
         Ok(())
     }
 
-    /// Puts a fill under its number, for which there is room. It needs no memory.
+    /// Counts one fill less that is kept.
+    pub(crate) fn sub_kept(&mut self)
+        requires { 0 < self.old.kept }
+        ensures { self.new ≡ without_one_kept self.old }
+    {
+        self.kept -= 1;
+    }
+
+    /// Puts a fill that is kept under its number. It needs no memory.
     pub(crate) fn put(&mut self, number: u64, fill: &Fill)
         requires { CanPut self.old }
         ensures tally { self.new ≡ with_fill_put number fill.now self.old }
@@ -64,17 +71,17 @@ impl Cell {
     {
         self.totals = self.totals.with_one(fill);
         insert_number(&mut self.numbers, number);
-        self.room -= 1;
+        self.kept -= 1;
     }
 
-    /// Takes a fill that is put under a number. The room of its number stays, so that it is put again without memory.
+    /// Takes a fill that is put under a number, and keeps it. It needs no memory.
     pub(crate) fn take(&mut self, number: u64, fill: &Fill)
         requires { CanTake number self.old }
         ensures { self.new ≡ with_fill_taken number fill.now self.old }
     {
         self.totals = self.totals.without_one(fill);
         remove_number(&mut self.numbers, number);
-        self.room += 1;
+        self.kept += 1;
     }
 
     /// The line of the order; none where no fill is put.
@@ -83,7 +90,7 @@ impl Cell {
         ensures { result ≡ line_in slots.now self.now }
     {
         match put_at(slots, self.numbers.last().copied()) {
-            Some(last) => Some(last.line(self.totals)),
+            Some(last) => Some(self.totals.line_with(last)),
             None => None,
         }
     }

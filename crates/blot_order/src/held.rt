@@ -1,14 +1,11 @@
 //! What an order book holds under one number.
-ghost use Rattle.std.specs.Prelude.{◌≡◌, pos, ◌≤ℤ◌};
+ghost use Rattle.std.specs.Prelude.{◌≡◌};
+ghost use Rattle.std.specs.Option.{option_copied};
 ghost use Rattle.blot_order.specs.declared.held.Held.TheVariants.{Kept};
-ghost use Rattle.blot_order.specs.Fills.{fill_held};
-ghost use Rattle.blot_order.specs.Slots.{is_put_in, marked};
-ghost use Rattle.blot_order.specs.Totals.{line_with};
+ghost use Rattle.blot_order.specs.Fills.{fill_kept, fill_put};
+ghost use Rattle.blot_order.specs.Slots.{marked};
 
-use crate::totals::Totals;
-use blot_decimal::{QtySum, Value};
-use blot_places::Remembered;
-use blot_types::{Fill, OrderLine, Sign, Text64};
+use blot_types::Fill;
 use std::marker::Model;
 
 /// What an order book holds under one number. A contract sees the fills of an order book as the finite map
@@ -21,27 +18,28 @@ pub enum Held {
     Put(Fill),
 }
 
-/// What is stored of a fill: what the line of its order shows of its last fill, and whether it is put. The whole fill stands in the
-/// entry that brought it. A contract sees what is held.
-#[derive(Drop)]
+/// A fill with a mark that says whether it is put, so that it isn't moved where it is put or taken. A contract sees what is held.
+#[derive(Clone, Copy)]
 pub(crate) struct HeldFill {
-    symbol: Text64,
-    sign: Sign,
-    size: QtySum,
+    fill: Fill,
     is_put: bool,
-    was: Remembered<Fill>,
 }
 
 impl Model for HeldFill {
-    ghost use Rattle.std.specs.Prelude.{◌≡◌};
     ghost use Rattle.blot_order.specs.declared.held.Held.{Held};
-    ghost use Rattle.blot_order.specs.Slots.{held_as};
+    ghost use Rattle.blot_order.specs.Fills.{fill_held};
+    ghost use Rattle.blot_order.specs.Slots.{fill_held-as, held_as, is_put_in, is_put_in-as};
 
     ghost Value = { Held };
 
-    ghost view = { λ held. held_as held.is_put held.was.value };
+    ghost view = { λ held. held_as held.is_put held.fill };
 
-    ghost invariant = { λ held. (held.symbol ≡ held.was.value.symbol) × (held.sign ≡ held.was.value.sign) × (held.size ≡ held.was.value.size) };
+    ghost inverse = { λ held. record { fill = fill_held held; is_put = is_put_in held } };
+
+    ghost inverse_ok = { λ held holds i. record {
+      fill = fill_held-as held.is_put held.fill i;
+      is_put = is_put_in-as held.is_put held.fill i;
+    } };
 }
 
 impl HeldFill {
@@ -49,21 +47,24 @@ impl HeldFill {
     pub(crate) fn kept(fill: &Fill) -> HeldFill
         ensures { result ≡ Kept fill.now }
     {
-        let was = Remembered::of(fill);
         HeldFill {
-            symbol: fill.symbol,
-            sign: fill.sign,
-            size: fill.size,
+            fill: *fill,
             is_put: false,
-            was,
         }
     }
 
-    /// Whether the fill is put.
-    pub(crate) fn is_put(&self) -> bool
-        ensures { result ≡ is_put_in self.now }
+    /// The fill, where it is put.
+    pub(crate) fn fill_put(&self) -> Option<&Fill>
+        ensures { option_copied result ≡ fill_put self.now }
     {
-        self.is_put
+        if self.is_put { Some(&self.fill) } else { None }
+    }
+
+    /// The fill, where it is kept.
+    pub(crate) fn fill_kept(&self) -> Option<&Fill>
+        ensures { option_copied result ≡ fill_kept self.now }
+    {
+        if self.is_put { None } else { Some(&self.fill) }
     }
 
     /// Marks the fill as put, or as kept.
@@ -71,19 +72,5 @@ impl HeldFill {
         ensures { self.new ≡ marked is_put self.old }
     {
         self.is_put = is_put;
-    }
-
-    /// The line of an order with these totals, whose last fill this is.
-    pub(crate) fn line(&self, totals: Totals) -> OrderLine
-        requires { pos 0 ≤ℤ totals.cum }
-        ensures { result ≡ line_with totals (fill_held self.now) }
-    {
-        OrderLine {
-            cum: QtySum::from_units(totals.cum),
-            leaves: totals.leaves(self.size),
-            value: Value::from_units(totals.value),
-            symbol: self.symbol,
-            sign: self.sign,
-        }
     }
 }

@@ -1,14 +1,15 @@
 //! The fills by their number.
-ghost use Rattle.std.specs.Prelude.{◌≡◌, ◌≤◌, Some, None, OnOk, OnErr};
+ghost use Rattle.std.specs.Prelude.{◌≡◌, ◌≤◌, Some, None, OnOk, OnErr, IsSome};
+ghost use Rattle.std.specs.Option.{ForSome};
 ghost use Rattle.std.specs.FinMap as map;
 ghost use Rattle.blot_types.specs.Order.{line_of, fills_of};
-ghost use Rattle.blot_order.specs.Cells.{HoldsOrders};
+ghost use Rattle.blot_order.specs.Cells.{without_one_kept, ChangesWhere, CountsKept, HoldsOrders};
 ghost use Rattle.blot_order.specs.Fills.{put_at, kept_at, with_put, with_kept, fills_put};
-ghost use Rattle.blot_order.specs.Slots.{held_by, kept_under};
+ghost use Rattle.blot_order.specs.Slots.{held_by, kept_under, keeps_under};
 
-use crate::cells::{Cells, add_room, put_fill, take_fill};
+use crate::cells::{Cells, add_kept, put_fill, sub_kept, take_fill};
 use crate::held::HeldFill;
-use crate::slots::{mark, reach};
+use crate::slots::{kept_at, mark, put_at, reach};
 use blot_types::{EVENTS_MAX, Fill, OrderKey, OrderLine};
 use indexmap::IndexMap;
 use std::alloc::{AllocError as NoMemory, Global};
@@ -60,7 +61,7 @@ impl Orders {
         ensures err { OnErr result (self.new ≡ self.old) }
     {
         keep_fill(&mut self.slots, &mut self.cells, self.alloc, number, fill)?;
-        put_kept(&mut self.slots, &mut self.cells, number, fill);
+        put_kept(&mut self.slots, &mut self.cells, number);
         Ok(())
     }
 
@@ -85,11 +86,11 @@ impl Orders {
     }
 
     /// Puts the fill that is kept under a number again. It needs no memory.
-    pub fn un_take(&mut self, number: u64, fill: &Fill)
-        requires { kept_at self.old number ≡ Some fill.now }
-        ensures { self.new ≡ with_put number fill.now self.old }
+    pub fn un_take(&mut self, number: u64)
+        requires { IsSome (kept_at self.old number) }
+        ensures { ForSome (kept_at self.old number) (λ fill. self.new ≡ with_put number fill self.old) }
     {
-        put_kept(&mut self.slots, &mut self.cells, number, fill);
+        put_kept(&mut self.slots, &mut self.cells, number);
     }
 
     /// The line of an order from its fills that are put, or none without one: the sums of all, what is left
@@ -122,18 +123,32 @@ fn keep_fill(
 {
     let index = number as usize;
     reach(slots, index)?;
-    add_room(cells, alloc, &fill.order)?;
+    add_kept(cells, alloc, &fill.order)?;
+    forget_kept(cells, slots, number);
     slots[index] = Some(HeldFill::kept(fill));
     Ok(())
 }
 
+// Counts one less of the order whose fill is kept under a number, if one is.
+fn forget_kept(cells: &mut Cells, slots: &[Option<HeldFill>], number: u64)
+    requires { CountsKept cells.old.entries (kept_under slots.now number) }
+    ensures { ChangesWhere (keeps_under slots.now number) without_one_kept cells.old.entries cells.new.entries }
+{
+    if let Some(fill) = kept_at(slots, number) {
+        sub_kept(cells, &fill.order);
+    }
+}
+
 // Puts the fill that is kept under a number.
-fn put_kept(slots: &mut Vec<Option<HeldFill>>, cells: &mut Cells, number: u64, fill: &Fill)
+fn put_kept(slots: &mut Vec<Option<HeldFill>>, cells: &mut Cells, number: u64)
     requires holds { HoldsOrders cells.old.entries slots.old.items }
-    requires kept { kept_under slots.old.items number ≡ Some fill.now }
+    requires kept { IsSome (kept_under slots.old.items number) }
     ensures holds { HoldsOrders cells.new.entries slots.new.items }
-    ensures fills { held_by slots.new.items ≡ with_put number fill.now (held_by slots.old.items) }
+    ensures fills { ForSome (kept_under slots.old.items number) (λ fill. held_by slots.new.items ≡ with_put number fill (held_by slots.old.items)) }
 {
     mark(&mut slots[number as usize], true);
-    put_fill(cells, number, fill);
+    match put_at(slots, Some(number)) {
+        Some(fill) => put_fill(cells, number, fill),
+        None => unreachable!(),
+    }
 }

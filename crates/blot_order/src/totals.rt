@@ -1,10 +1,9 @@
 //! What the fills of an order that are put come to.
 ghost use Rattle.std.specs.Prelude.{◌≡◌, pos, ◌+ℤ◌, ◌-ℤ◌, ◌≤ℤ◌};
-ghost use Rattle.std.specs.Int.{int_max};
-ghost use Rattle.blot_order.specs.Totals.{no_fills, with_one, without_one, Fits, FitsSum, AreSmall};
+ghost use Rattle.blot_order.specs.Totals.{no_fills, with_one, without_one, line_with, Fits, FitsSum, AreSmall};
 
-use blot_decimal::QtySum;
-use blot_types::Fill;
+use blot_decimal::{QtySum, Value};
+use blot_types::{Fill, OrderLine};
 
 /// What the fills of an order that are put come to.
 #[derive(Clone, Copy)]
@@ -46,13 +45,20 @@ impl Totals {
         }
     }
 
-    /// What they leave of the size of an order, never below 0.
-    pub(crate) fn leaves(self, size: QtySum) -> QtySum
+    /// The line of an order with these totals, whose last fill is this one.
+    pub(crate) fn line_with(self, last: &Fill) -> OrderLine
         requires { pos 0 ≤ℤ self.cum }
-        ensures { result ≡ int_max (pos 0) (size -ℤ self.cum) }
+        ensures { result ≡ line_with self last.now }
     {
-        let size = size.units();
-        QtySum::from_units(if self.cum < size { size - self.cum } else { 0 })
+        let size = last.size.units();
+        let leaves = if self.cum < size { size - self.cum } else { 0 };
+        OrderLine {
+            cum: QtySum::from_units(self.cum),
+            leaves: QtySum::from_units(leaves),
+            value: Value::from_units(self.value),
+            symbol: last.symbol,
+            sign: last.sign,
+        }
     }
 }
 

@@ -137,8 +137,6 @@ has_cell-stays_without_part a s a' s' qty value cells has =
 pub has_cell-own_with_cell : (a s : List ℕ) (cells : Cells) → has_cell (with_cell a s cells) a s ≡ true
 has_cell-own_with_cell a s cells = has_cell-with_cell a s a s cells ∙ ap (λ test. test || has_cell cells a s) (same_position-refl a s)
 
--- ---- changes one after the other
-
 -- maps that answer alike are equal
 pub same_cells : (one two : Cells) → ((a s : List ℕ) → finite.get one (position_at a s) ≡ finite.get two (position_at a s)) → one ≡ two
 same_cells one two same = finite.same_map position_cmp-total position_cmp-exact one two (λ key. same key.account key.symbol)

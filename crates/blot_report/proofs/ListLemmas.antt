@@ -3,7 +3,7 @@ use Rattle.std.proofs.Common.{◌≡◌, ℕ, zero, suc, arith, ◌+◌, ◌<◌
 use Rattle.std.specs.Prelude.{All, IfOk}
 use Rattle.std.specs.List.{cons_option, filter_map, flat_map, list_any}
 use Rattle.std.proofs.lemmas.List.{append-nil, append_assoc, drop_all, take_more}
-use Rattle.std.proofs.lemmas.List.Elements.{All-push, filter_map-append}
+use Rattle.std.proofs.lemmas.List.Elements.{All-nil, All-cons, All-head, All-tail, All-push, filter_map-append}
 
 -- what an Ok says, said in another way
 pub if_ok : {T E : Type 0} (r : Result T E) (P Q : T → Type 0) → ((x : T) → P x → Q x) → IfOk r P → IfOk r Q
@@ -80,5 +80,28 @@ pub any-mapped : {A B : Type 0} (p : B → Bool) (f : A → B) (xs : List A) →
 any-mapped p f [] = refl
 any-mapped p f (x ∷ xs) = ap (λ any. p (f x) || any) (any-mapped p f xs)
 
+-- ---- what holds of all
+
 pub All-item : {A : Type 0} (P : A → Type 0) (items : List A) (index : ℕ) (item : A) → index < length items → item ≡ get_or items index item → All P (take index items) → P item → All P (take (index + 1) items)
 All-item P items index item within is all one = subst (All P) (sym (more items index item within is)) (All-push P (take index items) item all one)
+
+-- what holds of all that was found, holds with one item more
+pub all-found :
+    {A B : Type 0} (P : B → Type 0) (f : A → Option B) (items : List A) (index : ℕ) (item : A) (b : B) → index < length items → item ≡ get_or items index item
+    → All P (filter_map f (take index items)) → f item ≡ Some b → P b → All P (filter_map f (take (index + 1) items))
+all-found P f items index item b within is all brought one =
+    subst (All P) (sym (found-one f items index item b within is brought)) (All-push P (filter_map f (take index items)) b all one)
+
+pub all-passed :
+    {A B : Type 0} (P : B → Type 0) (f : A → Option B) (items : List A) (index : ℕ) (item : A) → index < length items → item ≡ get_or items index item
+    → All P (filter_map f (take index items)) → f item ≡ None → All P (filter_map f (take (index + 1) items))
+all-passed P f items index item within is all none = subst (All P) (sym (found-none f items index item within is none)) all
+
+-- of all of a front, and of all that is mapped
+pub All-front : {A : Type 0} (P : A → Type 0) (front back : List A) → All P (front ++ back) → All P front
+All-front P [] back all = All-nil P
+All-front P (x ∷ front) back all = All-cons P x front (All-head P x (front ++ back) all) (All-front P front back (All-tail P x (front ++ back) all))
+
+pub all-mapped : {A B : Type 0} (P : B → Type 0) (f : A → B) (xs : List A) → All (λ x. P (f x)) xs → All P (map f xs)
+all-mapped P f [] all = All-nil P
+all-mapped P f (x ∷ xs) all = All-cons P (f x) (map f xs) (All-head (λ y. P (f y)) x xs all) (all-mapped P f xs (All-tail (λ y. P (f y)) x xs all))

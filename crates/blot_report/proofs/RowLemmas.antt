@@ -18,9 +18,9 @@ use Rattle.blot_command.proofs.ReachLemmas.{sizes}
 use Rattle.blot_command.proofs.WeightLemmas.{Light-list}
 use Rattle.blot_types.specs.declared.keys.PositionKey.{PositionKey}
 use Rattle.blot_report.specs.Lines.{position_row}
-use Rattle.blot_report.specs.Sums.{IsLight, MadeOf, cell_row, cell_rows}
+use Rattle.blot_report.specs.Sums.{MadeOf, cell_row, cell_rows}
 use Rattle.blot_report.proofs.KeyLemmas.{cells-more, cells-none}
-use Rattle.blot_report.proofs.WeightLemmas.{weight-sizes}
+use Rattle.blot_report.proofs.WeightLemmas.{IsLight}
 
 -- ---- parts added
 
@@ -33,10 +33,9 @@ one-more done part f =
 
 light-whole : (parts : List Part) → IsLight parts → Light (BOOK_PARTS + 1) BOOK_QTY (λ f. total f parts)
 light-whole parts light =
-    let weighed = weight-sizes parts in
     let few = light.few in
     let limit = light.light in
-    Light-weaker (λ f. total f parts) (length parts) (BOOK_PARTS + 1) (sizes parts) BOOK_QTY (omega (arith, few)) (omega (arith, weighed, limit)) (Light-list parts light.small)
+    Light-weaker (λ f. total f parts) (length parts) (BOOK_PARTS + 1) (sizes parts) BOOK_QTY (omega (arith, few)) (omega (arith, limit)) (Light-list parts light.small)
 
 -- there is room for it where all are light
 pub room-more : (done : List Part) (part : Part) (cells : Cells) → IsLight (done ++ part ∷ []) → MadeOf done cells → HasRoom (sums_at cells part.account part.symbol) part.qty part.value

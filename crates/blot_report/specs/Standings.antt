@@ -64,10 +64,3 @@ fills_among list day entries = filter_map (λ entry. fill_on day (standing_of li
 
 abbrev pub parts_among : List Entry → ℤ → List Entry → List Part
 parts_among list day entries = filter_map (λ entry. part_on day (standing_of list entry) entry) entries
-
-abbrev pub terms_among : List Entry → ℤ → List Entry → List Terms
-terms_among list day entries = filter_map (λ entry. terms_on day (standing_of list entry) entry) entries
-
--- what the lines of these move
-abbrev pub moves_among : List Entry → ℤ → List Entry → List Part
-moves_among list day entries = flat_map moves_of (terms_among list day entries)

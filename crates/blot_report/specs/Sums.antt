@@ -13,16 +13,6 @@ use Rattle.blot_types.specs.declared.keys.PositionKey.{PositionKey}
 use Rattle.blot_report.specs.declared.lines.PositionRow.{PositionRow}
 use Rattle.blot_report.specs.Lines.{position_key, positions_among}
 
--- the quantities of parts in all, whatever their sign
-abbrev pub weight : List Part → ℕ
-weight parts = sum_by (λ part. unsigned_abs part.qty) parts
-
--- parts are small, few, and of a bounded quantity in all, so that no sum of theirs leaves an `i128`
-pub record IsLight (parts : List Part) : Type 0 where
-  pub small : All IsSmall parts
-  pub few : length parts ≤ BOOK_PARTS
-  pub light : weight parts ≤ BOOK_QTY
-
 -- the row of a position whose sums stand in a cell; none without a part
 abbrev pub cell_row : Cells → PositionKey → Option PositionRow
 cell_row cells position = option_map (λ line. record { position = position; line = line }) (line_by (sums_at cells position.account position.symbol))

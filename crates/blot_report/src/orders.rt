@@ -99,8 +99,14 @@ fn add_fill(lines: &mut Lines, fill: &Fill) -> Result<(), NoMemory>
     ensures lines { OnOk result (AddsFill fill.now lines.old.entries lines.new.entries) }
     ensures grows { GrowsByOne fill.now lines.old.entries }
 {
-    let line = OrderLine::with_fill(line_of(lines, &fill.order), fill);
-    lines.insert(fill.order, line)?;
+    match lines.get_mut(&fill.order) {
+        Some(line) => {
+            *line = OrderLine::with_fill(Some(*line), fill);
+        }
+        None => {
+            lines.insert(fill.order, OrderLine::with_fill(None, fill))?;
+        }
+    }
     Ok(())
 }
 

@@ -2,7 +2,7 @@
 ghost use Rattle.std.specs.Prelude.{◌≡◌, [], ◌++◌, All, IfOk, OnOk};
 ghost use Rattle.blot_types.specs.Position.{moves_of, IsSmall, TermsFit};
 ghost use Rattle.blot_report.specs.Day.{day_parts_of};
-ghost use Rattle.blot_report.specs.Standings.{AreStandings, moves_among, parts_among, terms_among};
+ghost use Rattle.blot_report.specs.Standings.{AreStandings, parts_among};
 ghost use Rattle.blot_report.specs.Sums.{MadeOf};
 
 use crate::standing::{part_on, standing_at, terms_on};
@@ -25,10 +25,7 @@ pub(crate) fn positions_on(
 {
     let mut positions = Positions::new(alloc);
     add_fills(&mut positions, entries, standings, day)?;
-    let moves = moves_on(alloc, entries, standings, day)?;
-    for part in &moves {
-        positions.add(&part.account, &part.symbol, part.qty, part.value)?;
-    }
+    add_moves(&mut positions, alloc, entries, standings, day)?;
     Ok(positions)
 }
 
@@ -53,25 +50,32 @@ fn add_fills(
     Ok(())
 }
 
-// What the lines of the live allocations move.
-fn moves_on(
+// Adds what the lines of the live allocations move, to the positions of the executions. That the moves of an allocation fit is known once
+// all its lines are read, so they are put into a list first.
+fn add_moves(
+    positions: &mut Positions,
     alloc: Global,
     entries: &[Entry],
     standings: &[Standing],
     day: Day,
-) -> Result<Vec<Part>, NoMemory>
-    requires { AreStandings entries.now standings.now }
-    ensures moves { IfOk result (λ moves. moves.items ≡ moves_among entries.now day entries.now) }
-    ensures fit { IfOk result (λ moves. All TermsFit (terms_among entries.now day entries.now)) }
+) -> Result<(), NoMemory>
+    requires standings { AreStandings entries.now standings.now }
+    requires made { MadeOf (parts_among entries.now day entries.now) positions.old }
+    requires small { All IsSmall (parts_among entries.now day entries.now) }
+    ensures { OnOk result (MadeOf (day_parts_of entries.now day) positions.new) }
 {
     let mut moves = Vec::new(alloc);
     for (place, entry) in entries.iter().enumerate() {
         let standing = standing_at(entries, standings, place, entry);
         if let Some(terms) = terms_on(entry, standing, day) {
+            moves.clear();
             put_moves(&mut moves, terms)?;
+            for part in &moves {
+                positions.add(&part.account, &part.symbol, part.qty, part.value)?;
+            }
         }
     }
-    Ok(moves)
+    Ok(())
 }
 
 // Puts what the lines of terms move after other parts.

@@ -18,7 +18,7 @@ use Rattle.blot_session.specs.declared.row.Sends.{Sends}
 use Rattle.blot_session.specs.declared.row.Sends.TheVariants.{Nothing, One, Two}
 use Rattle.blot_session.specs.declared.state.State.{State}
 use Rattle.blot_session.specs.declared.carrying.TheConstants.{LAST_NUMBER}
-use Rattle.blot_session.specs.Calls.{Outcome, behind, behind_all, sent, carried_out, is_spent, spent, outcome_of, command_said, on_frame, row_of_reply}
+use Rattle.blot_session.specs.Calls.{Outcome, behind, behind_all, carried_out, is_spent, spent, outcome_of, command_said, on_frame, row_of_reply}
 use Rattle.blot_session.specs.Rows.{frame_row, tick_row}
 use Rattle.blot_session.specs.Runs.{Call, Numbered, outcome, said_by, quiet, behind_calls, delivered_by, taken_by, taken_behind, AreMet, is_reset, HasNoReset, RiseFrom, AreBelow, CoversBy, Covers, Bears, Passes, IsPassed, IsTaken, IsInOrder}
 use Rattle.blot_session.specs.Runs.Call.{Frame, Reply, Tick, Closing, WaitAgain}
@@ -27,7 +27,7 @@ use Rattle.blot_session.specs.Table.{acts, messages_of}
 use Rattle.blot_session.proofs.RowLemmas.{Names, NamesBy, Steps, GoesOn, HandsOn, frame-moves}
 use Rattle.blot_session.proofs.StateLemmas.{spoken-awaited, steps-grow, unspent-last, idle-none, Rests, tick-rests, settles}
 
--- ---- what is sent changes no expected number, and delivers nothing
+-- ---- what is sent changes no expected number, and nothing that is awaited
 
 behind_all-expected : (messages : List Outbound) (state : State) (now : ℤ) → (behind_all state messages now).expected ≡ state.expected
 behind_all-expected [] state now = refl

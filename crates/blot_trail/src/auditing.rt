@@ -1,10 +1,11 @@
 //! `audit`: a capture taken into an empty desk, and the trail of what became of each message.
-ghost use Rattle.std.specs.Prelude.{◌≡◌, ◌≢◌, List, ℕ, Err, IfErr, IfOk, OnOk};
+ghost use Rattle.std.specs.Prelude.{◌≡◌, ◌≢◌, ◌≤◌, List, ℕ, length, Err, IfErr, IfOk, OnOk};
 ghost use Rattle.std.specs.Io.KnownBytes.{IsAtEnd};
 ghost use Rattle.std.specs.List.{IsDistinct};
+ghost use Rattle.blot_types.specs.declared.TheConstants.{EVENTS_MAX};
 ghost use Rattle.blot_types.specs.Keys.{same_text};
 ghost use Rattle.blot_stream.specs.Texts.{AppendsFrontOf, AppendsOf, IsTextOf, KeepsUnlessWrite};
-ghost use Rattle.blot_capture.specs.Replay.{Overfills, StoppedOf, TakenOf};
+ghost use Rattle.blot_capture.specs.Replay.{Fits, Overfills, StoppedOf, TakenOf};
 ghost use Rattle.blot_capture.specs.Sessions.{taking_of};
 ghost use Rattle.blot_capture.specs.Trace.{IsReplayed};
 ghost use Rattle.blot_trail.specs.Audit.{trail_from, trail_of};
@@ -39,7 +40,8 @@ pub fn audit<R: Read, W: Write>(
     // live list that its report is made of.
     ensures replayed { (bytes : List ℕ) → IsReplayed own peers.now bytes }
 
-    // Full comes only where more commands come than a day has events.
+    // Ok only where no more commands come than a day has events, and Full only where more come.
+    ensures few { OnOk result (Fits own peers.now (R.remaining input.old)) }
     ensures full { result ≡ Err ReplayFault.Full → Overfills own peers.now (R.remaining input.old) }
 
     // A write fault leaves a front of the trail, every other fault nothing.
@@ -63,6 +65,7 @@ fn captured_trail<R: Read>(
     requires { IsDistinct same_text peers.now }
     ensures text { IfOk result (λ text. IsTextOf (trail_of own peers.now) (R.remaining input.old) text.items) }
     ensures read_to_the_end { OnOk result (IsAtEnd (R.remaining input.new)) }
+    ensures few { OnOk result (Fits own peers.now (R.remaining input.old)) }
     ensures full { result ≡ Err ReplayFault.Full → Overfills own peers.now (R.remaining input.old) }
     ensures no_write { result ≢ Err ReplayFault.Write }
 {
@@ -83,6 +86,7 @@ fn tell_all<R: Read>(
     ensures text { IfOk result (λ text. IsTextOf (trail_from none_yet (taking_of sessions.old held.old))
         (R.remaining input.old) text.items) }
     ensures taken { OnOk result (TakenOf (R.remaining input.old) (taking_of sessions.old held.old) held.new) }
+    ensures few { OnOk result (length held.new.history ≤ EVENTS_MAX) }
     ensures read_to_the_end { OnOk result (IsAtEnd (R.remaining input.new)) }
     ensures stopped { IfErr result (StoppedOf (R.remaining input.old) (taking_of sessions.old held.old) held.new) }
     ensures no_write { result ≢ Err ReplayFault.Write }
@@ -93,6 +97,8 @@ fn tell_all<R: Read>(
     let mut total = 0;
     for _ in 0..READS_MAX {
         let Some(count) = read_piece(input, &mut buffer)? else {
+            // A desk tells that it has recorded no more than a day has events.
+            let _recorded = held.history();
             let rest = total - trail.offset();
             return Ok(trail.finish(alloc, rest)?);
         };

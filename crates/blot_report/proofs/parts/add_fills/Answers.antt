@@ -7,9 +7,10 @@ use Rattle.blot_types.specs.Position.{IsSmall}
 use Rattle.blot_command.specs.declared.standing.Standing.{Standing}
 use Rattle.blot_command.specs.Standings.{standing_of}
 use Rattle.blot_report.specs.Standings.{part_on}
-use Rattle.blot_report.specs.Sums.{IsLight, MadeOf}
-use Rattle.blot_report.proofs.ListLemmas.{found-one, found-none}
-use Rattle.blot_report.proofs.PartLemmas.{all-found, all-passed, light-fills}
+use Rattle.blot_report.specs.Sums.{MadeOf}
+use Rattle.blot_report.proofs.ListLemmas.{all-found, all-passed, found-one, found-none}
+use Rattle.blot_report.proofs.PartLemmas.{light-fills}
+use Rattle.blot_report.proofs.WeightLemmas.{IsLight}
 use Rattle.blot_report.proofs.RowLemmas.{made-more, room-more}
 use Rattle.blot_report.proofs.parts.add_fills.Goals as goal
 use Rattle.blot_report.proofs.parts.add_fills.Goals.{in-Some+in_ok-add, in_default}

@@ -1,14 +1,14 @@
-use Rattle.std.proofs.Common.{◌≡◌, ◌<◌, List, ℕ, length, ap, subst, ◌∙◌}
-use Rattle.std.specs.Prelude.{IfOk, IfSome}
+use Rattle.std.proofs.Common.{◌≡◌, ◌<◌, ◌≤◌, List, ℕ, length, Result, Ok, Err, ap, subst, arith, ◌∙◌}
+use Rattle.std.specs.Prelude.{IfOk, IfSome, OnOk}
 use Rattle.blot_types.specs.declared.TheConstants.{EVENTS_MAX}
 use Rattle.blot_tag.specs.Walking.{frames_of}
 use Rattle.blot_stream.specs.declared.outcome.ReplayFault.TheVariants.{Full}
 use Rattle.blot_stream.proofs.ResultLemmas.{err-says, if-some}
 use Rattle.blot_capture.specs.Capture.{Sessions, commands_of, commands_over, first_sessions}
-use Rattle.blot_capture.specs.Replay.{Stopped, Taking}
+use Rattle.blot_capture.specs.Replay.{Stopped, Taking, submitted}
 use Rattle.blot_capture.specs.Sessions.{sessions_of, taking_of}
 use Rattle.blot_capture.specs.Trace.{first_taking}
-use Rattle.blot_capture.proofs.DeskLemmas.{stopped-over}
+use Rattle.blot_capture.proofs.DeskLemmas.{stopped-over, submitted-count}
 use Rattle.blot_trail.specs.Audit.{trail_from}
 use Rattle.blot_trail.specs.TrailText.{none_yet}
 use Rattle.blot_trail.proofs.auditing.captured_trail.Goals as goal
@@ -30,3 +30,22 @@ returns-in-Ok-clause-full g c = λ full.
     c.tell_all.result Full full c.tell_all.ensures.stopped)
     (λ bytes stopped. stopped-over c.new-held.result c.tell_all.new.held (commands_of c.args.own c.args.peers.now bytes) c.new-held.ensures
     (subst (λ (sessions : Sessions). Stopped c.new-held.result c.tell_all.new.held (commands_over sessions (frames_of bytes)) Full) c.in-Ok.ensures stopped))
+
+-- what two clauses say of an Ok together
+both : {T E P Q R : Type 0} (result : Result T E) → OnOk result P → OnOk result Q → (P → Q → R) → OnOk result R
+both (Ok x) p q more = more p q
+both (Err e) p q more = search
+
+pub returns-in-Ok-clause-few : goal.returns-in-Ok-clause-few
+returns-in-Ok-clause-few g c =
+    let known = g.R.Read.remaining c.args.input.now in
+    let own = c.args.own in
+    let peers = c.args.peers.now in
+    let held = c.tell_all.new.held in
+    both c.tell_all.result c.tell_all.ensures.taken c.tell_all.ensures.few (λ taken few.
+    if-some (λ (bytes : List ℕ). held ≡ submitted c.new-held.result (commands_over (sessions_of c.in-Ok.sessions) (frames_of bytes)))
+    (λ (bytes : List ℕ). length (commands_of own peers bytes) ≤ EVENTS_MAX) known taken
+    (λ bytes is.
+    (let all = subst (λ (sessions : Sessions). held ≡ submitted c.new-held.result (commands_over sessions (frames_of bytes))) c.in-Ok.ensures is in
+    let count = submitted-count c.new-held.result held (commands_of own peers bytes) c.new-held.ensures all in
+    omega (arith, count, few))))

@@ -1,0 +1,105 @@
+use Rattle.std.proofs.Common.{◌≡◌, ◌+◌, List, [], ◌∷◌, ◌++◌, Option, Some, take, sym, ap, subst, ◌∙◌}
+use Rattle.std.specs.List.{flat_map}
+use Rattle.std.specs.Option.{option_copied}
+use Rattle.std.proofs.lemmas.List.{append_assoc, take_all}
+use Rattle.blot_types.specs.declared.allocation.Terms.{Terms}
+use Rattle.blot_types.specs.declared.command.Entry.{Entry}
+use Rattle.blot_types.specs.declared.part.Part.{Part}
+use Rattle.blot_types.specs.Position.{moves_of, TermsFit}
+use Rattle.blot_command.specs.declared.standing.Standing.{Standing}
+use Rattle.blot_command.specs.Standings.{standing_of}
+use Rattle.blot_position.specs.Positions.{with_part}
+use Rattle.blot_report.specs.Standings.{parts_among, terms_on}
+use Rattle.blot_report.proofs.StandingLemmas.{moves_among}
+use Rattle.blot_report.specs.Sums.{MadeOf}
+use Rattle.blot_report.proofs.ListLemmas.{all-found, all-passed, found-none, more}
+use Rattle.blot_report.proofs.PartLemmas.{day_parts-told, light-moves, light-told, moved-more}
+use Rattle.blot_report.proofs.WeightLemmas.{IsLight}
+use Rattle.blot_report.proofs.RowLemmas.{made-more, room-more}
+use Rattle.blot_report.proofs.parts.add_moves.Goals as goal
+use Rattle.blot_report.proofs.parts.add_moves.Goals.{in-Some+in_ok-put_moves+else-loop-part-test, in_default}
+
+-- what was put into an empty list
+put : (moves from : List Part) (terms : Terms) → from ≡ [] → moves ≡ from ++ moves_of terms → moves ≡ moves_of terms
+put moves from terms empty is = is ∙ ap (λ front. front ++ moves_of terms) empty
+
+pub add-requires : goal.add-requires
+add-requires c =
+    let list = c.args.entries.now in
+    let day = c.args.day in
+    let f : Entry → Option Terms = λ e. terms_on day (standing_of list e) e in
+    let place = c.loop-place.place in
+    let entry = c.index-entries-place.result in
+    let terms = c.in-Some.terms.now in
+    let within = c.loop-place-test.true in
+    let told = c.terms_on.ensures ∙ ap (λ (s : Standing). terms_on day s entry) c.standing_at-standing.ensures in
+    let brought : f entry ≡ Some terms = sym told ∙ ap option_copied c.in-Some.is in
+    let fit = all-found TermsFit f list place entry terms within c.index-entries-place.is c.loop-place.invariant.fit brought c.in_ok-put_moves.ensures.fit in
+    let fills = parts_among list day list in
+    let before = moves_among list day (take place list) in
+    let moves = c.deref-part-items.result.now in
+    let own : moves ≡ moves_of terms = put moves c.clear.new.self.items terms c.clear.ensures.items (c.deref-part-items.ensures.value ∙ c.in_ok-put_moves.ensures.parts) in
+    let whole : fills ++ moves_among list day (take (place + 1) list) ≡ (fills ++ before) ++ moves =
+    ap (λ back. fills ++ back) (moved-more list day place entry terms within c.index-entries-place.is brought)
+    ∙ sym (append_assoc fills before (moves_of terms)) ∙ ap (λ back. (fills ++ before) ++ back) (sym own) in
+    let light = subst IsLight whole (light-told list day (place + 1) c.requires.standings.book c.requires.small fit) in
+    record {
+      room = room-more ((fills ++ before) ++ take c.loop-part.part-index moves) c.part-item.result c.loop-part.positions
+          (light-moves (fills ++ before) moves c.loop-part.part-index c.part-item.result light c.loop-part-test.true c.part-item.is) c.loop-part.invariant;
+    }
+
+pub loop-part-preserved : goal.loop-part-preserved
+loop-part-preserved c =
+    let list = c.args.entries.now in
+    let done = parts_among list c.args.day list ++ moves_among list c.args.day (take c.loop-place.place list) in
+    let moves = c.deref-part-items.result.now in
+    let index = c.loop-part.part-index in
+    let part = c.part-item.result in
+    let next : (done ++ take index moves) ++ part ∷ [] ≡ done ++ take (index + 1) moves =
+    append_assoc done (take index moves) (part ∷ []) ∙ ap (λ back. done ++ back) (sym (more moves index part c.loop-part-test.true c.part-item.is)) in
+    let made = made-more (done ++ take index moves) part c.loop-part.positions c.loop-part.invariant in
+    subst (MadeOf (done ++ take (index + 1) moves)) (sym c.in_ok-add.ensures.ok)
+    (subst (λ parts. MadeOf parts (with_part part.account part.symbol part.qty part.value c.loop-part.positions)) next made)
+
+pub loop-place-preserved : goal.loop-place-preserved
+loop-place-preserved c =
+    let list = c.args.entries.now in
+    let day = c.args.day in
+    let f : Entry → Option Terms = λ e. terms_on day (standing_of list e) e in
+    let place = c.loop-place.place in
+    let entry = c.index-entries-place.result in
+    let within = c.loop-place-test.true in
+    let told = c.terms_on.ensures ∙ ap (λ (s : Standing). terms_on day s entry) c.standing_at-standing.ensures in
+    let fills = parts_among list day list in
+    let before = moves_among list day (take place list) in
+    let positions = c.match-terms_on.positions in
+    elim c.match-terms_on.branch [
+      | in-Some+in_ok-put_moves+else-loop-part-test w ↦
+          let terms = w.in-Some.terms.now in
+          let brought = sym told ∙ ap option_copied w.in-Some.is in
+          let moves = w.deref-part-items.result.now in
+          let own : moves ≡ moves_of terms = put moves w.clear.new.self.items terms w.clear.ensures.items (w.deref-part-items.ensures.value ∙ w.in_ok-put_moves.ensures.parts) in
+          let all : (fills ++ before) ++ take w.loop-part.part-index moves ≡ fills ++ moves_among list day (take (place + 1) list) =
+          ap (λ back. (fills ++ before) ++ back) (take_all w.loop-part.part-index moves w.loop-part-test.false ∙ own) ∙ append_assoc fills before (moves_of terms)
+          ∙ ap (λ back. fills ++ back) (sym (moved-more list day place entry terms within c.index-entries-place.is brought)) in
+          record {
+            made = subst (λ parts. MadeOf parts positions) all
+                (subst (MadeOf ((fills ++ before) ++ take w.loop-part.part-index moves)) (sym w.positions-is) w.loop-part.invariant);
+            fit = all-found TermsFit f list place entry terms within c.index-entries-place.is c.loop-place.invariant.fit brought w.in_ok-put_moves.ensures.fit;
+          }
+      | in_default w ↦
+          let none = sym told ∙ ap option_copied w.in_default.is in
+          record {
+            made = subst (λ parts. MadeOf parts positions) (ap (λ found. fills ++ flat_map moves_of found) (sym (found-none f list place entry within c.index-entries-place.is none)))
+                (subst (MadeOf (fills ++ before)) (sym w.positions-is) c.loop-place.invariant.made);
+            fit = all-passed TermsFit f list place entry within c.index-entries-place.is c.loop-place.invariant.fit none;
+          }
+    ]
+
+pub returns : goal.returns
+returns c =
+    let list = c.args.entries.now in
+    let day = c.args.day in
+    subst (λ parts. MadeOf parts c.loop-place.positions)
+    (ap (λ entries. parts_among list day list ++ moves_among list day entries) (take_all c.loop-place.place list c.loop-place-test.false) ∙ day_parts-told list day)
+    c.loop-place.invariant.made
