@@ -1,6 +1,6 @@
 -- What stands on a day, as the standing of each entry tells it.
 use Rattle.std.specs.Prelude.{◌≡◌, ℤ, true, List, Option, Some, None, if◌then◌else◌}
-use Rattle.std.specs.List.{filter_map, flat_map}
+use Rattle.std.specs.List.{filter_map}
 use Rattle.std.specs.Option.{option_map}
 use Rattle.blot_types.specs.declared.allocation.Terms.{Terms}
 use Rattle.blot_types.specs.declared.command.Entry.{Entry}
@@ -9,7 +9,7 @@ use Rattle.blot_types.specs.declared.part.Part.{Part}
 use Rattle.blot_types.specs.declared.lines.Version.{Version}
 use Rattle.blot_types.specs.Allocations.{Allocation, allocation_of}
 use Rattle.blot_types.specs.Legal.{is_book}
-use Rattle.blot_types.specs.Position.{moves_of, part_of_fill}
+use Rattle.blot_types.specs.Position.{part_of_fill}
 use Rattle.blot_types.specs.Survivors.{version_of}
 use Rattle.blot_command.specs.declared.standing.Standing.{Standing}
 use Rattle.blot_command.specs.declared.standing.Standing.TheVariants.{Stands, Live, Neither}

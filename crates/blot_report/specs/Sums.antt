@@ -1,14 +1,12 @@
 -- How the parts of a day are summed, and how much they come to.
-use Rattle.std.specs.Prelude.{◌≡◌, ℕ, ◌≤◌, List, length, map, All, Option, unsigned_abs}
-use Rattle.std.specs.List.{filter_map, list_any, sum_by}
+use Rattle.std.specs.Prelude.{◌≡◌, List, map, Option}
+use Rattle.std.specs.List.{filter_map, list_any}
 use Rattle.std.specs.Option.{option_map}
 use Rattle.blot_types.specs.declared.part.Part.{Part}
 use Rattle.blot_position.specs.Positions.{Cells, has_cell, same_key, sums_at}
 use Rattle.blot_position.specs.Carried.{Carries}
 use Rattle.blot_position.specs.Sums.{line_by}
-use Rattle.blot_types.specs.Bounds.{BOOK_PARTS, BOOK_QTY}
 use Rattle.blot_types.specs.Order.{total}
-use Rattle.blot_types.specs.Position.{IsSmall}
 use Rattle.blot_types.specs.declared.keys.PositionKey.{PositionKey}
 use Rattle.blot_report.specs.declared.lines.PositionRow.{PositionRow}
 use Rattle.blot_report.specs.Lines.{position_key, positions_among}
