@@ -1,4 +1,4 @@
--- How the parts of a day are summed, and how much they come to.
+-- How the parts of a day are summed, and the rows that come of them.
 use Rattle.std.specs.Prelude.{◌≡◌, List, map, Option}
 use Rattle.std.specs.List.{filter_map, list_any}
 use Rattle.std.specs.Option.{option_map}
