@@ -4,13 +4,18 @@
   below(crate, crates)     all that a crate stands on, each once, lower ones first
   copy_to(room, ...)       the crate in a repository of its own, over its libraries as they are proved in out/
   copy_libraries(room, ..) libraries alone, and add_line(room, line) for a crate of one's own over them
+  is_program(crate)        whether a crate is a program, and no library
+  words_of(crate, ..)      what `rattle` is told of a crate, over the statements of its libraries
+  stamp(crate, ..)         a sum of all that the proof of a crate reads
 """
+import hashlib
 import os
 import pathlib
 import shutil
 
 TOP = pathlib.Path(__file__).resolve().parent.parent
 CRATES = TOP / 'crates'
+KIT = pathlib.Path(shutil.which('rattle') or '/opt/rattle/bin/rattle').resolve().parent.parent
 
 
 def lines():
@@ -63,3 +68,33 @@ def copy_to(room, crate, libraries):
     add_line(room, lines()[crate])
     shutil.copytree(CRATES / crate, room / 'crates' / crate, ignore=shutil.ignore_patterns('out', 'must-fail'))
     return room / 'crates' / crate
+
+
+def statements_of(crate):
+    """The folder of what other crates can cite of a crate: its statements, without its proofs, as the gate builds it."""
+    return CRATES / crate / 'out' / 'statements' / f'{crate}.rlib'
+
+
+def is_program(crate):
+    return (CRATES / crate / 'src' / 'main.rt').is_file()
+
+
+def words_of(crate, libraries):
+    """What `rattle` is told of a crate that stands on these of the repository's libraries, as statements_of() has them."""
+    named = lines()[crate].partition(':')[2].split()
+    words = ['--crate-name', crate, 'src/main.rt' if is_program(crate) else 'src/lib.rt', '-L', f'dependency={KIT}/rlibs']
+    for name in ['std', *named]:
+        words += ['--extern', f'{name}={statements_of(name) if name in libraries else KIT / "rlibs" / f"{name}.rlib"}']
+    for name in libraries:
+        words += ['-L', f'dependency={statements_of(name).parent}']
+    return [*words, '--antt-project', f'{KIT}/rattle/logic/antt-project.json', '--logic-built', f'{KIT}/logic_built', '--links', f'{crate}=']
+
+
+def stamp(crate, libraries):
+    """A sum of all that the proof of a crate over its libraries reads: the toolchain, their lines of crates.txt, and their sources."""
+    found = hashlib.sha256((KIT / 'KIT-ID').read_bytes())
+    for name in [*libraries, crate]:
+        found.update(lines()[name].encode())
+        for file in sorted(it for part in ['src', 'specs', 'proofs'] for it in (CRATES / name / part).rglob('*') if it.is_file()):
+            found.update(f'{file.relative_to(CRATES)} {file.stat().st_size} '.encode() + file.read_bytes())
+    return found.hexdigest()

@@ -1,11 +1,12 @@
 //! `replay`: a capture taken into an empty desk, and the report of its day.
-ghost use Rattle.std.specs.Prelude.{◌≡◌, ◌≢◌, ◌≤◌, length, Err, IfErr, IfOk, OnOk};
+ghost use Rattle.std.specs.Prelude.{◌≡◌, ◌≢◌, ◌≤◌, List, ℕ, length, Err, IfErr, IfOk, OnOk};
 ghost use Rattle.std.specs.Io.KnownBytes.{IsAtEnd};
 ghost use Rattle.std.specs.List.{IsDistinct};
 ghost use Rattle.blot_types.specs.Keys.{same_text};
 ghost use Rattle.blot_desk.specs.Desk.{events_of, run_of};
 ghost use Rattle.blot_stream.specs.Texts.{AppendsFrontOf, AppendsOf, IsTextOf, KeepsUnlessWrite};
 ghost use Rattle.blot_capture.specs.Replay.{Fits, Overfills, replay_of, report_of};
+ghost use Rattle.blot_capture.specs.Trace.{IsReplayed};
 
 use crate::capturing::capture_within;
 use blot_desk::Held;
@@ -32,6 +33,9 @@ pub fn replay<R: Read, W: Write>(
     ensures wrote { OnOk result (AppendsOf (replay_of own peers.now day) (R.remaining input.old)
         (W.contents output.old) (W.contents output.new)) }
     ensures read_to_the_end { OnOk result (IsAtEnd (R.remaining input.new)) }
+
+    // The list that it reports on is what the messages put into the book, one by one, as an audit trail tells them.
+    ensures traced { (bytes : List ℕ) → IsReplayed own peers.now bytes }
 
     // Ok only where no more commands come than a day has events, and Full only where more come.
     ensures few { OnOk result (Fits own peers.now (R.remaining input.old)) }

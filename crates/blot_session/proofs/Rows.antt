@@ -7,12 +7,15 @@ use Rattle.blot_fields.specs.declared.fault.FieldFault.{FieldFault}
 use Rattle.blot_fields.specs.declared.head.Head.{Head}
 use Rattle.blot_fields.specs.declared.message.Body.TheVariants as bodies
 use Rattle.blot_fields.specs.declared.message.Message.{Message}
+use Rattle.blot_session.specs.declared.action.CloseReason.TheVariants as reasons
+use Rattle.blot_session.specs.declared.met.Met.TheVariants as met
 use Rattle.blot_session.specs.declared.outbound.Outbound.TheVariants.{Heartbeat, TestRequest, ResendRequest, GapFill, Logout}
 use Rattle.blot_session.specs.declared.state.Live.{Live}
 use Rattle.blot_session.specs.declared.state.Link.TheVariants as links
 use Rattle.blot_session.specs.declared.state.State.{State}
 use Rattle.blot_session.specs.Calls.{is_spent, on_frame, on_tick, spent}
-use Rattle.blot_session.specs.Rows.{frame_row, logon_row, on_row, head_row, peer_row, message_row, number_row, high_row, high_body_row, expected_row, body_row, admin_row, resend_row, gap_fill_row, reset_row, tick_row, beat_row, quiet_row, heartbeat_row}
+use Rattle.blot_session.specs.Met.{met_of}
+use Rattle.blot_session.specs.Rows.{frame_row, logon_row, on_row, head_row, peer_row, message_row, number_row, high_row, high_body_row, low_row, expected_row, body_row, admin_row, resend_row, gap_fill_row, reset_row, tick_row, beat_row, quiet_row, heartbeat_row}
 use Rattle.blot_session.specs.States.{expecting, counted, heard, asking}
 use Rattle.blot_session.specs.Table.{silent, sends}
 
@@ -88,3 +91,35 @@ spent_silent = refl
 -- and one number before, an answer is sent
 last_answer : is_spent (session 5 999_999_990) (sends Logout (session 5 999_999_990)) ≡ false
 last_answer = refl
+
+-- ---- what became of a message, by the row that it meets
+
+met_taken : met_of (session 5 2) (message 5 admin.Heartbeat) (pos 1) ≡ met.Taken
+unfolding on_row head_row peer_row message_row number_row expected_row body_row admin_row
+met_taken = refl
+
+met_early : met_of (session 5 2) (message 7 admin.Heartbeat) (pos 1) ≡ met.Early 5
+unfolding on_row head_row peer_row message_row number_row high_row high_body_row
+met_early = refl
+
+-- a number below the expected one closes the session, unless the message is a duplicate
+met_low : met_of (session 5 2) (message 3 admin.Heartbeat) (pos 1) ≡ met.Closed reasons.TooLow
+unfolding on_row head_row peer_row message_row number_row low_row
+met_low = refl
+
+met_late : met_of (session 5 2) (Ok (record { head = record (head 3) { dup = true }; body = bodies.Admin admin.Heartbeat })) (pos 1) ≡ met.Late 5
+unfolding on_row head_row peer_row message_row number_row low_row
+met_late = refl
+
+met_rejected : met_of (session 9 2) (message 1 (admin.SequenceReset 7 false)) (pos 1) ≡ met.Rejected 36 5
+unfolding on_row head_row peer_row message_row reset_row
+met_rejected = refl
+
+-- the numbers to send are used up: the connection ends where an answer was due, and only there
+met_spent : met_of (session 5 999_999_991) (message 5 (admin.TestRequest (codes "T1"))) (pos 1) ≡ met.Closed reasons.Spent
+unfolding on_row head_row peer_row message_row number_row expected_row body_row admin_row
+met_spent = refl
+
+met_unspent : met_of (session 5 999_999_991) (message 5 admin.Heartbeat) (pos 1) ≡ met.Taken
+unfolding on_row head_row peer_row message_row number_row expected_row body_row admin_row
+met_unspent = refl

@@ -1,10 +1,18 @@
 -- What holds of a result.
 use Rattle.std.proofs.Common.{◌≡◌, ap, subst, Result, Option, Ok, Err, Some, None}
-use Rattle.std.specs.Prelude.{IsOk, OnOk, OnErr, IfErr, IfSome}
+use Rattle.std.specs.Prelude.{IsOk, OnOk, OnErr, IfOk, IfErr, IfSome}
 
 pub on-ok : {T E P Q : Type 0} (result : Result T E) → OnOk result P → (P → Q) → OnOk result Q
 on-ok (Ok x) p more = more p
 on-ok (Err e) p more = tt
+
+pub both-ok : {T E P Q R : Type 0} (result : Result T E) → OnOk result P → OnOk result Q → (P → Q → R) → OnOk result R
+both-ok (Ok x) p q more = more p q
+both-ok (Err e) p q more = tt
+
+pub if-both-ok : {T E P : Type 0} (Q R : T → Type 0) (result : Result T E) → OnOk result P → IfOk result Q → ((x : T) → P → Q x → R x) → IfOk result R
+if-both-ok Q R (Ok x) p q more = more x p q
+if-both-ok Q R (Err e) p q more = tt
 
 pub ok-says : {T E P : Type 0} (result : Result T E) → IsOk result → OnOk result P → P
 ok-says (Ok x) is p = p

@@ -13,3 +13,4 @@ pub mod PlaceLemmas
 mod WritingLemmas
 mod FindLemmas
 mod ReadingLemmas
+mod Rows

@@ -1,31 +1,32 @@
 -- The trail of a stream, told as its frames are taken one by one, and its pieces one after the other.
 use Rattle.std.proofs.Common.{◌≡◌, ℕ, ◌+◌, ◌-◌, ◌^◌, ◌<◌, ◌≤◌, List, [], ◌∷◌, ◌++◌, length, fold, min, Option, Some, None, refl, sym, ap, subst, ◌∙◌, arith}
-use Rattle.std.specs.Prelude.{Bool, true, false, is_some}
+use Rattle.std.specs.Prelude.{Bool, true, false, is_some, Result, Ok, Err, IfOk, IfSome, codes}
 use Rattle.std.proofs.lemmas.Bool.{false≢true}
 use Rattle.std.specs.Io.KnownBytes.{Consumes}
-use Rattle.std.proofs.lemmas.List.{append_assoc, length-append, length-drop}
+use Rattle.std.proofs.lemmas.List.{append-nil, append_assoc, length-append, length-drop}
 use Rattle.std.proofs.lemmas.List.Sums.{sum_by-cons}
-use Rattle.blot_tag.specs.Places.{Placed, placed_of, after_bytes, passed_by}
+use Rattle.blot_tag.specs.Places.{Placed, placed_of, after_bytes, passed_by, passed_last}
 use Rattle.blot_tag.specs.Reading.{Reading, FindsNone, TakesFirst}
 use Rattle.blot_tag.specs.Walking.{Walk, frames_of, rest_of, skipped_of, stops_at, walk_of}
 use Rattle.blot_tag.proofs.FrameLemmas.{look_of-prefix}
 use Rattle.blot_tag.proofs.WalkLemmas.{look_of-nil, walk_of-prefix}
-use Rattle.blot_tag.proofs.PlaceLemmas.{passed-within, passed_by-after, placed-none, placed-taken, walk-none, walk-taken}
+use Rattle.blot_tag.proofs.PlaceLemmas.{are_placed, passed-within, passed_by-after, placed-none, placed-taken, walk-none, walk-taken}
 use Rattle.blot_stream.specs.declared.outcome.ReplayFault.TheVariants.{NoMemory}
 use Rattle.blot_capture.specs.Replay.{Came, CameOn, StoppedOn, Taking}
-use Rattle.blot_capture.specs.Trace.{taking_after, trace_over, turn_of}
+use Rattle.blot_capture.specs.Trace.{Turn, taking_after, trace_over, turn_of}
 use Rattle.blot_capture.proofs.StreamLemmas.{came-first, stopped-here, taken-frame, taken-none}
-use Rattle.blot_trail.specs.Audit.{FindsNoFrame, IsInStep, Notes, TakesNoted, Telling, TellsNext, ToldOf, ToldOn, behind_turn, line_of, size_of, told_by, trail_from}
-use Rattle.blot_trail.specs.TrailText.{Line, Making, behind_bytes, behind_line, finished, untold}
+use Rattle.blot_stream.proofs.ResultLemmas.{if-some}
+use Rattle.blot_trail.specs.declared.word.Word.{Word}
+use Rattle.blot_trail.specs.Audit.{end_of, line_of, lines_of, trail_over, words_of}
+use Rattle.blot_trail.specs.Making.{FindsNoFrame, IsInStep, Making, Notes, TakesNoted, Telling, TellsNext, ToldOf, ToldOn, behind_bytes, behind_line, behind_turn, finished, none_yet, offset_of, size_of, told_by, trail_from, untold}
+use Rattle.blot_trail.specs.TrailText.{Line, bytes_text, last_text, message_text, word_of}
 
 -- ---- bytes that are passed over
 
 bytes-add : (first second : ℕ) (trail : Making) → behind_bytes second (behind_bytes first trail) ≡ behind_bytes (first + second) trail
 bytes-add first second trail =
-    let offset : trail.offset + first + second ≡ trail.offset + (first + second) = omega arith in
     let passed : trail.passed + first + second ≡ trail.passed + (first + second) = omega arith in
-    ap (λ o. record trail { offset = o; passed = trail.passed + first + second }) offset
-    ∙ ap (λ p. record trail { offset = trail.offset + (first + second); passed = p }) passed
+    ap (λ p. record trail { passed = p }) passed
 
 -- how many a call passed over, by the count of all
 pub counted-bytes : (unread skipped after passed offset : ℕ) → after ≡ min (skipped + passed) (2 ^ 64 - 1) → passed ≤ unread → skipped ≤ offset → offset + unread < 2 ^ 63
@@ -66,6 +67,77 @@ text-passed trail taking passed (frame ∷ placed) skipped rest =
     ap (λ count. finished (behind_bytes count (fold behind_turn (behind_line line (behind_bytes (passed + frame.passed) trail)) more)) rest) last
     ∙ ap (λ before. finished (behind_bytes (skipped - passed_by (frame ∷ placed)) (fold behind_turn (behind_line line before) more)) rest)
     (sym (bytes-add passed frame.passed trail))
+
+-- ---- all that is told from the first byte on
+
+-- so far these lines are told, the last of which ends here, and so many bytes are passed over before it
+abbrev made : List ℕ → List Word → ℕ → ℕ → Making
+made text words end skipped = record { text = text; words = words; end = end; passed = 0; skipped = skipped }
+
+-- one message more is told
+made-line : (text : List ℕ) (words : List Word) (end skipped : ℕ) (turn : Turn)
+    → behind_turn (made text words end skipped) turn
+    ≡ made (text ++ (bytes_text (codes "skipped") end turn.placed.passed ++ message_text (length words + 1) (end + turn.placed.passed) (line_of turn).tail))
+    (words ++ word_of turn.became ∷ []) (end + turn.placed.passed + length turn.placed.text) (skipped + turn.placed.passed)
+made-line text words end skipped turn =
+    let none : 0 + turn.placed.passed ≡ turn.placed.passed = omega arith in
+    ap (λ passed. made (text ++ (bytes_text (codes "skipped") end passed ++ message_text (length words + 1) (end + passed) (line_of turn).tail))
+    (words ++ word_of turn.became ∷ []) (end + passed + length turn.placed.text) (skipped + passed)) none
+
+-- message by message the lines of all are told
+made-lines : (text : List ℕ) (words : List Word) (end skipped : ℕ) (taking : Taking) (placed : List Placed)
+    → fold behind_turn (made text words end skipped) (trace_over taking placed)
+    ≡ made (text ++ lines_of (length words + 1) end (trace_over taking placed)) (words ++ words_of (trace_over taking placed))
+    (end + end_of (trace_over taking placed)) (skipped + passed_by placed)
+made-lines text words end skipped taking [] =
+    ap (λ text. made text words end skipped) (sym (append-nil text))
+    ∙ ap (λ words. made (text ++ []) words end skipped) (sym (append-nil words))
+    ∙ ap (λ e. made (text ++ []) (words ++ []) e skipped) (omega arith)
+    ∙ ap (λ k. made (text ++ []) (words ++ []) (end + 0) k) (omega arith)
+made-lines text words end skipped taking (first ∷ more) =
+    let turn = turn_of taking first in
+    let turns = trace_over (taking_after taking first.text) more in
+    let line = line_of turn in
+    let place = length words + 1 in
+    let front = bytes_text (codes "skipped") end first.passed in
+    let own = message_text place (end + first.passed) line.tail in
+    let next = end + first.passed + length first.text in
+    let all = words ++ line.word ∷ [] in
+    let counted : length all + 1 ≡ place + 1 = omega (arith, length-append words (line.word ∷ [])) in
+    let ends : next + end_of turns ≡ end + end_of (turn ∷ turns) =
+    omega (arith, sum_by-cons (λ (turn : Turn). turn.placed.passed + length turn.placed.text) turn turns) in
+    let passes : skipped + first.passed + passed_by more ≡ skipped + passed_by (first ∷ more) = omega (arith, sum_by-cons (λ (placed : Placed). placed.passed) first more) in
+    ap (λ trail. fold behind_turn trail turns) (made-line text words end skipped turn)
+    ∙ made-lines (text ++ (front ++ own)) all next (skipped + first.passed) (taking_after taking first.text) more
+    ∙ ap (λ k. made ((text ++ (front ++ own)) ++ lines_of k next turns) (all ++ words_of turns) (next + end_of turns) (skipped + first.passed + passed_by more)) counted
+    ∙ ap (λ text. made text (all ++ words_of turns) (next + end_of turns) (skipped + first.passed + passed_by more))
+    (append_assoc text (front ++ own) (lines_of (place + 1) next turns))
+    ∙ ap (λ words. made (text ++ (front ++ own ++ lines_of (place + 1) next turns)) words (next + end_of turns) (skipped + first.passed + passed_by more))
+    (append_assoc words (line.word ∷ []) (words_of turns))
+    ∙ ap (λ e. made (text ++ (front ++ own ++ lines_of (place + 1) next turns)) (words ++ line.word ∷ words_of turns) e (skipped + first.passed + passed_by more)) ends
+    ∙ ap (λ k. made (text ++ (front ++ own ++ lines_of (place + 1) next turns)) (words ++ line.word ∷ words_of turns) (end + end_of (turn ∷ turns)) k) passes
+
+-- so what is told of a stream is its trail
+trail-whole : (taking : Taking) (bytes : List ℕ) → trail_from none_yet taking bytes ≡ trail_over taking bytes
+trail-whole taking bytes =
+    let turns = trace_over taking (placed_of bytes) in
+    let rest = length (rest_of bytes) in
+    let last = passed_last bytes in
+    let skipped = 0 + passed_by (placed_of bytes) in
+    let ends : 0 + end_of turns ≡ end_of turns = omega arith in
+    let passes : 0 + last ≡ last = omega arith in
+    let all : skipped + (0 + last) ≡ skipped_of bytes = omega (arith, (are_placed bytes).passed) in
+    ap (λ trail. finished (behind_bytes last trail) rest) (made-lines [] [] 0 0 taking (placed_of bytes))
+    ∙ ap (λ all. lines_of 1 0 turns ++ last_text (words_of turns) (0 + end_of turns) (0 + last) all rest) all
+    ∙ ap (λ last. lines_of 1 0 turns ++ last_text (words_of turns) (0 + end_of turns) last (skipped_of bytes) rest) passes
+    ∙ ap (λ end. lines_of 1 0 turns ++ last_text (words_of turns) end last (skipped_of bytes) rest) ends
+
+pub told-whole : {T E : Type 0} (items : T → List ℕ) (known : Option (List ℕ)) (taking : Taking) (result : Result T E)
+    → IfOk result (λ x. IfSome known (λ bytes. items x ≡ trail_from none_yet taking bytes))
+    → IfOk result (λ x. IfSome known (λ bytes. items x ≡ trail_over taking bytes))
+told-whole items known taking (Ok x) is =
+    if-some (λ bytes. items x ≡ trail_from none_yet taking bytes) (λ bytes. items x ≡ trail_over taking bytes) known is (λ bytes same. same ∙ trail-whole taking bytes)
+told-whole items known taking (Err e) is = tt
 
 -- ---- a call of the reader
 
@@ -125,34 +197,34 @@ stops-nil unread none = subst (λ unread. walk_of unread ≡ stops_at unread) (s
 -- ---- one call of the reader, told
 
 -- how many bytes it passed over and took
-noted-counts : (old new : Reading) (from now : Taking) (found : Option Line) (trail : Making) → IsInStep old trail → trail.offset + length old.unread < 2 ^ 63
+noted-counts : (old new : Reading) (from now : Taking) (found : Option Line) (trail : Making) → IsInStep old trail → offset_of trail + length old.unread < 2 ^ 63
     → Notes found old from new now → Counts old new (new.skipped - old.skipped) (size_of found)
 noted-counts old new from now None trail step within notes =
-    let counts = counts-none old new trail.offset notes.none step.low within in
+    let counts = counts-none old new (offset_of trail) notes.none step.low within in
     let passed : new.skipped - old.skipped ≡ notes.none.passed = omega (arith, counts.skipped) in
     subst (λ passed. Counts old new passed 0) (sym passed) counts
 noted-counts old new from now (Some line) trail step within notes =
-    let counts = counts-taken old new notes.frame trail.offset notes.taken step.low within in
+    let counts = counts-taken old new notes.frame (offset_of trail) notes.taken step.low within in
     let passed : new.skipped - old.skipped ≡ notes.taken.passed = omega (arith, counts.skipped) in
     let size : length notes.frame ≡ line.length_of = sym (ap (λ (line : Line). line.length_of) notes.told) in
     subst (λ passed. Counts old new passed line.length_of) (sym passed) (subst (λ size. Counts old new notes.taken.passed size) size counts)
 
-pub room-within : (old new : Reading) (from now : Taking) (found : Option Line) (trail : Making) → IsInStep old trail → trail.offset + length old.unread < 2 ^ 63
-    → Notes found old from new now → trail.offset + untold new.skipped trail + size_of found < 2 ^ 63
+pub room-within : (old new : Reading) (from now : Taking) (found : Option Line) (trail : Making) → IsInStep old trail → offset_of trail + length old.unread < 2 ^ 63
+    → Notes found old from new now → offset_of trail + untold new.skipped trail + size_of found < 2 ^ 63
 room-within old new from now found trail step within notes =
     let counts = noted-counts old new from now found trail step within notes in
     omega (arith, counts.unread, step.skipped, within)
 
 -- the whole trail stays the same
-noted-same : (old new : Reading) (from now : Taking) (found : Option Line) (trail : Making) → IsInStep old trail → trail.offset + length old.unread < 2 ^ 63
+noted-same : (old new : Reading) (from now : Taking) (found : Option Line) (trail : Making) → IsInStep old trail → offset_of trail + length old.unread < 2 ^ 63
     → Notes found old from new now → (more : List ℕ)
     → trail_from trail from (old.unread ++ more) ≡ trail_from (told_by (untold new.skipped trail) found trail) now (new.unread ++ more)
 noted-same old new from now None trail step within notes more =
-    let counts = counts-none old new trail.offset notes.none step.low within in
+    let counts = counts-none old new (offset_of trail) notes.none step.low within in
     let passed : notes.none.passed ≡ untold new.skipped trail = omega (arith, counts.skipped, step.skipped) in
     told-none old new from now trail more notes ∙ ap (λ passed. trail_from (behind_bytes passed trail) now (new.unread ++ more)) passed
 noted-same old new from now (Some line) trail step within notes more =
-    let counts = counts-taken old new notes.frame trail.offset notes.taken step.low within in
+    let counts = counts-taken old new notes.frame (offset_of trail) notes.taken step.low within in
     let passed : notes.taken.passed ≡ untold new.skipped trail = omega (arith, counts.skipped, step.skipped) in
     told-taken old new from now line trail more notes ∙ ap (λ passed. trail_from (behind_line line (behind_bytes passed trail)) now (new.unread ++ more)) passed
 
@@ -184,11 +256,11 @@ noted-step old new None trail passed counts step = record { skipped = omega (ari
 noted-step old new (Some line) trail passed counts step = record { skipped = omega (arith, counts.skipped, step.skipped); low = omega (arith, counts.skipped, step.low) }
 
 noted-read : (old new : Reading) (found : Option Line) (trail : Making) (passed : ℕ) → Counts old new passed (size_of found)
-    → (told_by passed found trail).offset + length new.unread ≡ trail.offset + length old.unread
+    → offset_of (told_by passed found trail) + length new.unread ≡ offset_of trail + length old.unread
 noted-read old new None trail passed counts = omega (arith, counts.unread)
 noted-read old new (Some line) trail passed counts = omega (arith, counts.unread)
 
-pub tells-next : (told : Bool) (old new : Reading) (from now : Taking) (found : Option Line) (trail after : Making) (skipped : ℕ) → IsInStep old trail → trail.offset + length old.unread < 2 ^ 63
+pub tells-next : (told : Bool) (old new : Reading) (from now : Taking) (found : Option Line) (trail after : Making) (skipped : ℕ) → IsInStep old trail → offset_of trail + length old.unread < 2 ^ 63
     → Notes found old from new now → skipped ≡ new.skipped → told ≡ is_some found → after ≡ told_by (untold skipped trail) found trail
     → TellsNext told old (record { trail = trail; taking = from }) new (record { trail = after; taking = now })
 tells-next told old new from now found trail after skipped step within notes all is gives =

@@ -1,2 +1,3 @@
 mod AuditLemmas
+mod Rows
 mod TurnLemmas

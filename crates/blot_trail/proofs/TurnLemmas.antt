@@ -1,6 +1,5 @@
 -- What is told of a message.
-use Rattle.std.proofs.Common.{◌≡◌, ℕ, List, [], ◌∷◌, ◌++◌, length, Option, Some, None, Result, Ok, Err, sym, ap, subst, ◌∙◌}
-use Rattle.std.specs.Prelude.{IfOk, OnOk}
+use Rattle.std.proofs.Common.{◌≡◌, ℕ, List, [], ◌∷◌, ◌++◌, length, Option, Some, None, sym, ap, subst, ◌∙◌}
 use Rattle.std.specs.List.{flat_map}
 use Rattle.blot_tag.specs.Fields.{fields_of}
 use Rattle.blot_fields.specs.Numbers.{head_in}
@@ -22,7 +21,7 @@ use Rattle.blot_capture.specs.Capture.{Sessions, moment_at, taken_by}
 use Rattle.blot_capture.specs.Handling.{IsHandled, IsHandledBy, Wants, met_in, wanted_of}
 use Rattle.blot_capture.specs.Replay.{Taking}
 use Rattle.blot_capture.specs.Trace.{actions_in, became_in, became_of, session_for}
-use Rattle.blot_trail.specs.Audit.{IsTurnOf, line_at}
+use Rattle.blot_trail.specs.Making.{IsTurnOf, line_at}
 use Rattle.blot_trail.specs.TrailText.{IsToldOf, Line, action_text, became_text, head_text, line_for, word_of, word_or_dash}
 
 -- what is sent is told, and nothing else that a session wants done
@@ -77,8 +76,3 @@ pub told-taken : (taking : Taking) (text : List ℕ) (met : Option Met) (handled
     → IsTurnOf text met handled line → line ≡ line_at taking text
 told-taken taking text met handled line of is =
     told-turn text met handled line (became_in (session_for taking.sessions text) taking.journal text) (actions_in (session_for taking.sessions text) taking.journal text) is of
-
--- a fact of what is there where a result is Ok, and of its value
-pub if-ok-both : {T E P : Type 0} (Q R : T → Type 0) (result : Result T E) → OnOk result P → IfOk result Q → ((x : T) → P → Q x → R x) → IfOk result R
-if-ok-both Q R (Ok x) p q more = more x p q
-if-ok-both Q R (Err e) p q more = tt

@@ -1,5 +1,5 @@
 -- The text of an audit trail. Words are divided by tabs, and each line ends with LF. Source: this project's rule.
-use Rattle.std.specs.Prelude.{ℕ, zero, suc, ◌+◌, ◌-◌, ◌≤◌, ◌==◌, List, [], ◌∷◌, ◌++◌, length, map, filter, codes, Option, Some, None, if◌then◌else◌}
+use Rattle.std.specs.Prelude.{ℕ, zero, suc, ◌+◌, ◌==◌, List, [], ◌∷◌, ◌++◌, length, map, filter, codes, Option, Some, None, if◌then◌else◌}
 use Rattle.std.specs.List.{flat_map}
 use Rattle.blot_tag.specs.Fields.{Item, fields_of}
 use Rattle.blot_types.specs.Keys.{same_text}
@@ -158,39 +158,7 @@ word_sums all =
 
 -- ---- a trail
 
--- the last lines: what is passed over after the last message, up to this place, and the rest that begins there; the sums; and how
--- many messages there are
-abbrev pub last_text : List Word → ℕ → ℕ → ℕ → ℕ → List ℕ
-last_text all offset passed skipped rest =
-    bytes_text (codes "skipped") (offset - passed) passed
-    ++ bytes_text (codes "rest") offset rest
-    ++ word_sums all
-    ++ sum_text (codes "skipped") (skipped + passed)
-    ++ sum_text (codes "rest") rest
-    ++ number_line (codes "end") (length all)
-
--- a trail in the making: its lines, and what became of each message; where the first unread byte stands; how many bytes before that are
--- passed over since the last message, and how many were before it
-pub record Making : Type 0 where
-  pub text : List ℕ
-  pub words : List Word
-  pub offset : ℕ
-  pub passed : ℕ
-  pub skipped : ℕ
-
--- no message
-abbrev pub none_yet : Making
-none_yet = record { text = []; words = []; offset = 0; passed = 0; skipped = 0 }
-
--- so many bytes are passed over
-abbrev pub behind_bytes : ℕ → Making → Making
-behind_bytes count trail = record trail { offset = trail.offset + count; passed = trail.passed + count }
-
--- of the bytes that are passed over by now, so many in all, those that are yet to be told
-abbrev pub untold : ℕ → Making → ℕ
-untold all trail = all - (trail.skipped + trail.passed)
-
--- what is told of a message, except its place and where it begins
+-- what is told of a message, except its place and where it begins; how long it is
 pub record Line : Type 0 where
   pub tail : List ℕ
   pub word : Word
@@ -200,25 +168,16 @@ pub record Line : Type 0 where
 abbrev pub line_for : List ℕ → Became → List Action → Line
 line_for text became actions = record { tail = tail_text text became actions; word = word_of became; length_of = length text }
 
--- one more message
-abbrev pub behind_line : Line → Making → Making
-behind_line line trail = record {
-  text = trail.text ++ (bytes_text (codes "skipped") (trail.offset - trail.passed) trail.passed
-      ++ message_text (length trail.words + 1) trail.offset line.tail);
-  words = trail.words ++ line.word ∷ [];
-  offset = trail.offset + line.length_of;
-  passed = 0;
-  skipped = trail.skipped + trail.passed;
-}
-
--- the whole text, with so many bytes of an unfinished rest
-abbrev pub finished : Making → ℕ → List ℕ
-finished trail rest = trail.text ++ last_text trail.words trail.offset trail.passed trail.skipped rest
-
--- where a trail stands: within what an input of any length has
-pub record IsMaking (trail : Making) : Type 0 where
-  pub passed : trail.passed ≤ trail.offset
-  pub skipped : trail.skipped + trail.passed ≤ trail.offset
+-- the last lines: what is passed over after the last message, which ends at this place, and the rest after it; the sums, of which the
+-- last but one is all that is passed over; and how many messages there are
+abbrev pub last_text : List Word → ℕ → ℕ → ℕ → ℕ → List ℕ
+last_text all end passed skipped rest =
+    bytes_text (codes "skipped") end passed
+    ++ bytes_text (codes "rest") (end + passed) rest
+    ++ word_sums all
+    ++ sum_text (codes "skipped") skipped
+    ++ sum_text (codes "rest") rest
+    ++ number_line (codes "end") (length all)
 
 -- ---- what can be told
 

@@ -8,8 +8,8 @@ ghost use Rattle.blot_stream.specs.Texts.{AppendsFrontOf, AppendsOf, IsTextOf, K
 ghost use Rattle.blot_capture.specs.Replay.{Fits, Overfills, StoppedOf, TakenOf};
 ghost use Rattle.blot_capture.specs.Sessions.{taking_of};
 ghost use Rattle.blot_capture.specs.Trace.{IsReplayed};
-ghost use Rattle.blot_trail.specs.Audit.{trail_from, trail_of};
-ghost use Rattle.blot_trail.specs.TrailText.{none_yet};
+ghost use Rattle.blot_trail.specs.Audit.{trail_of};
+ghost use Rattle.blot_trail.specs.Making.{none_yet, trail_from};
 
 use crate::telling::tell_piece;
 use crate::trail::Trail;

@@ -6,7 +6,7 @@ ghost use Rattle.blot_capture.specs.Capture.{commands_in, sessions_behind};
 ghost use Rattle.blot_capture.specs.Handling.{became_by};
 ghost use Rattle.blot_capture.specs.Replay.{submitted, Stopped};
 ghost use Rattle.blot_capture.specs.Sessions.{sessions_of, taking_of};
-ghost use Rattle.blot_trail.specs.Audit.{IsTurnOf, line_at};
+ghost use Rattle.blot_trail.specs.Making.{IsTurnOf, line_at};
 ghost use Rattle.blot_trail.specs.TrailText.{IsToldOf};
 
 use crate::trail::Noted;

@@ -3,8 +3,7 @@ ghost use Rattle.std.specs.Prelude.{◌≡◌, ◌≢◌, ◌+◌, ◌<◌, ◌�
 ghost use Rattle.blot_tag.specs.Walking.{stops_at, walk_of};
 ghost use Rattle.blot_capture.specs.Replay.{CameOn, StoppedOn};
 ghost use Rattle.blot_capture.specs.Sessions.{taking_of};
-ghost use Rattle.blot_trail.specs.Audit.{IsInStep, Notes, TellsNext, ToldOn, size_of, telling_of, told_by};
-ghost use Rattle.blot_trail.specs.TrailText.{untold};
+ghost use Rattle.blot_trail.specs.Making.{IsInStep, Notes, TellsNext, ToldOn, offset_of, size_of, telling_of, told_by, untold};
 
 use crate::noting::take_noted;
 use crate::trail::{Noted, Trail};
@@ -24,9 +23,9 @@ pub(crate) fn tell_piece(
     piece: &[u8],
 ) -> Result<(), ReplayFault>
     requires step { IsInStep reader.old trail.old }
-    requires within { trail.old.offset + length (reader.old.unread ++ piece.now) < 2 ^ 63 }
+    requires within { offset_of trail.old + length (reader.old.unread ++ piece.now) < 2 ^ 63 }
     ensures step { OnOk result (IsInStep reader.new trail.new) }
-    ensures read { OnOk result (trail.new.offset + length reader.new.unread ≡ trail.old.offset + length (reader.old.unread ++ piece.now)) }
+    ensures read { OnOk result (offset_of trail.new + length reader.new.unread ≡ offset_of trail.old + length (reader.old.unread ++ piece.now)) }
     ensures drained { OnOk result (walk_of reader.new.unread ≡ stops_at reader.new.unread) }
     ensures told { OnOk result (ToldOn (telling_of trail.old sessions.old held.old) (reader.old.unread ++ piece.now)
         (telling_of trail.new sessions.new held.new) reader.new.unread) }
@@ -50,9 +49,9 @@ fn tell_frames(
     trail: &mut Trail,
 ) -> Result<(), ReplayFault>
     requires step { IsInStep reader.old trail.old }
-    requires within { trail.old.offset + length reader.old.unread < 2 ^ 63 }
+    requires within { offset_of trail.old + length reader.old.unread < 2 ^ 63 }
     ensures step { OnOk result (IsInStep reader.new trail.new) }
-    ensures read { OnOk result (trail.new.offset + length reader.new.unread ≡ trail.old.offset + length reader.old.unread) }
+    ensures read { OnOk result (offset_of trail.new + length reader.new.unread ≡ offset_of trail.old + length reader.old.unread) }
     ensures drained { OnOk result (walk_of reader.new.unread ≡ stops_at reader.new.unread) }
     ensures told { OnOk result (ToldOn (telling_of trail.old sessions.old held.old) reader.old.unread
         (telling_of trail.new sessions.new held.new) reader.new.unread) }
@@ -79,7 +78,7 @@ fn tell_next(
     trail: &mut Trail,
 ) -> Result<bool, ReplayFault>
     requires step { IsInStep reader.old trail.old }
-    requires within { trail.old.offset + length reader.old.unread < 2 ^ 63 }
+    requires within { offset_of trail.old + length reader.old.unread < 2 ^ 63 }
     ensures ok { IfOk result (λ told. TellsNext told reader.old (telling_of trail.old sessions.old held.old)
         reader.new (telling_of trail.new sessions.new held.new)) }
     ensures err { IfErr result (StoppedOn (taking_of sessions.old held.old) reader.old.unread held.new) }
@@ -99,7 +98,7 @@ fn tell(
     noted: Option<Noted>,
 ) -> Result<bool, ReplayFault>
     requires more { trail.old.skipped + trail.old.passed ≤ skipped }
-    requires within { trail.old.offset + untold skipped trail.old + size_of noted < 2 ^ 63 }
+    requires within { offset_of trail.old + untold skipped trail.old + size_of noted < 2 ^ 63 }
     ensures trail { OnOk result (trail.new ≡ told_by (untold skipped trail.old) noted trail.old) }
     ensures some { IfOk result (λ told. told ≡ is_some noted) }
     ensures memory { IfErr result (λ fault. fault ≡ ReplayFault.NoMemory) }

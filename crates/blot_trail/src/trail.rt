@@ -3,7 +3,8 @@ ghost use Rattle.std.specs.Prelude.{◌≡◌, ◌+◌, ◌-◌, ◌<◌, ◌≤
 ghost use Rattle.std.specs.List.{flat_map};
 ghost use Rattle.blot_tag.specs.Views.{text_of};
 ghost use Rattle.blot_session.specs.Runs.{said_by};
-ghost use Rattle.blot_trail.specs.TrailText.{IsToldOf, action_text, behind_bytes, behind_line, finished, line_for, none_yet, times, untold, word_sum, word_sums};
+ghost use Rattle.blot_trail.specs.Making.{behind_bytes, behind_line, finished, none_yet, offset_of, untold};
+ghost use Rattle.blot_trail.specs.TrailText.{IsToldOf, action_text, line_for, times, word_sum, word_sums};
 
 use crate::word::Word;
 use crate::wording::{put_became, put_bytes, put_head, put_number, put_sender, put_sent, put_sum};
@@ -62,20 +63,20 @@ impl Noted {
 pub struct Trail {
     text: Vec<u8>,
     words: Vec<Word>,
-    offset: u64,
+    end: u64,
     passed: u64,
     skipped: u64,
 }
 
 impl Model for Trail {
-    ghost use Rattle.blot_trail.specs.TrailText.{IsMaking, Making};
+    ghost use Rattle.blot_trail.specs.Making.{IsMaking, Making};
 
     ghost Value = { Making };
 
     ghost view = { λ trail. record {
       text = trail.text.items;
       words = trail.words.items;
-      offset = trail.offset;
+      end = trail.end;
       passed = trail.passed;
       skipped = trail.skipped;
     } };
@@ -83,7 +84,7 @@ impl Model for Trail {
     ghost invariant = { λ trail. IsMaking (record {
       text = trail.text.items;
       words = trail.words.items;
-      offset = trail.offset;
+      end = trail.end;
       passed = trail.passed;
       skipped = trail.skipped;
     }) };
@@ -97,7 +98,7 @@ impl Trail {
         Trail {
             text: Vec::new(alloc),
             words: Vec::new(alloc),
-            offset: 0,
+            end: 0,
             passed: 0,
             skipped: 0,
         }
@@ -106,40 +107,40 @@ impl Trail {
     /// So many bytes are passed over by now. It takes no memory.
     pub fn pass(&mut self, all: u64)
         requires more { self.old.skipped + self.old.passed ≤ all }
-        requires within { self.old.offset + untold all self.old < 2 ^ 63 }
+        requires within { offset_of self.old + untold all self.old < 2 ^ 63 }
         ensures { self.new ≡ behind_bytes (untold all self.old) self.old }
     {
-        let count = all - (self.skipped + self.passed);
-        self.offset += count;
-        self.passed += count;
+        self.passed = all - self.skipped;
     }
 
     /// Where the first byte stands that is neither told nor passed over.
     pub fn offset(&self) -> u64
-        ensures { result ≡ self.now.offset }
+        requires { offset_of self.now < 2 ^ 63 }
+        ensures { result ≡ offset_of self.now }
     {
-        self.offset
+        self.end + self.passed
     }
 
     /// A message comes, after what is passed over. An error is out of memory, and what the trail is then isn't said.
     pub fn put(&mut self, alloc: Global, noted: &Noted) -> Result<(), NoMemory>
-        requires { self.old.offset + noted.now.length_of < 2 ^ 63 }
+        requires { offset_of self.old + noted.now.length_of < 2 ^ 63 }
         ensures { OnOk result (self.new ≡ behind_line noted.now self.old) }
     {
         let Trail {
             text,
             words,
-            offset,
+            end,
             passed,
             skipped,
         } = self;
-        put_bytes(alloc, text, b"skipped", *offset - *passed, *passed)?;
+        let offset = *end + *passed;
+        put_bytes(alloc, text, b"skipped", *end, *passed)?;
         text.extend_from_slice(b"message")?;
         put_number(alloc, text, words.len() as u64 + 1)?;
-        put_number(alloc, text, *offset)?;
+        put_number(alloc, text, offset)?;
         text.extend_from_slice(&noted.tail)?;
         words.push(noted.word)?;
-        *offset += noted.length;
+        *end = offset + noted.length;
         *skipped += *passed;
         *passed = 0;
         Ok(())
@@ -147,19 +148,19 @@ impl Trail {
 
     /// The whole text, where so many bytes of an unfinished rest are left. An error is out of memory.
     pub fn finish(self, alloc: Global, rest: u64) -> Result<Vec<u8>, NoMemory>
-        requires { self.offset < 2 ^ 63 }
+        requires { offset_of self < 2 ^ 63 }
         ensures { IfOk result (λ text. text.items ≡ finished self rest) }
     {
         let Trail {
             text,
             words,
-            offset,
+            end,
             passed,
             skipped,
         } = self;
         let mut text = text;
-        put_bytes(alloc, &mut text, b"skipped", offset - passed, passed)?;
-        put_bytes(alloc, &mut text, b"rest", offset, rest)?;
+        put_bytes(alloc, &mut text, b"skipped", end, passed)?;
+        put_bytes(alloc, &mut text, b"rest", end + passed, rest)?;
         put_word_sums(alloc, &mut text, &words)?;
         put_sum(alloc, &mut text, b"skipped", skipped + passed)?;
         put_sum(alloc, &mut text, b"rest", rest)?;

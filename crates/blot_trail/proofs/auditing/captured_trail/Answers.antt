@@ -1,16 +1,16 @@
-use Rattle.std.proofs.Common.{◌≡◌, ◌<◌, ◌≤◌, List, ℕ, length, Result, Ok, Err, ap, subst, arith, ◌∙◌}
-use Rattle.std.specs.Prelude.{IfOk, IfSome, OnOk}
+use Rattle.std.proofs.Common.{◌≡◌, ◌<◌, ◌≤◌, List, ℕ, length, ap, subst, arith, ◌∙◌}
+use Rattle.std.specs.Prelude.{IfOk, IfSome}
 use Rattle.blot_types.specs.declared.TheConstants.{EVENTS_MAX}
 use Rattle.blot_tag.specs.Walking.{frames_of}
 use Rattle.blot_stream.specs.declared.outcome.ReplayFault.TheVariants.{Full}
-use Rattle.blot_stream.proofs.ResultLemmas.{err-says, if-some}
+use Rattle.blot_stream.proofs.ResultLemmas.{both-ok, err-says, if-some}
 use Rattle.blot_capture.specs.Capture.{Sessions, commands_of, commands_over, first_sessions}
 use Rattle.blot_capture.specs.Replay.{Stopped, Taking, submitted}
 use Rattle.blot_capture.specs.Sessions.{sessions_of, taking_of}
 use Rattle.blot_capture.specs.Trace.{first_taking}
 use Rattle.blot_capture.proofs.DeskLemmas.{stopped-over, submitted-count}
-use Rattle.blot_trail.specs.Audit.{trail_from}
-use Rattle.blot_trail.specs.TrailText.{none_yet}
+use Rattle.blot_trail.specs.Making.{none_yet, trail_from}
+use Rattle.blot_trail.proofs.AuditLemmas.{told-whole}
 use Rattle.blot_trail.proofs.auditing.captured_trail.Goals as goal
 
 pub returns-in-Ok-clause-text : goal.returns-in-Ok-clause-text
@@ -18,8 +18,9 @@ returns-in-Ok-clause-text g c =
     let first : taking_of c.in-Ok.sessions c.new-held.result ≡ first_taking c.args.own c.args.peers.now =
     ap (λ (sessions : Sessions). record { sessions = sessions; journal = c.new-held.result }) c.in-Ok.ensures
     ∙ ap (λ journal. record { sessions = first_sessions c.args.own c.args.peers.now; journal = journal }) c.new-held.ensures in
-    subst (λ (taking : Taking). IfOk c.tell_all.result (λ text. IfSome (g.R.Read.remaining c.args.input.now) (λ bytes. text.items ≡ trail_from none_yet taking bytes)))
-    first c.tell_all.ensures.text
+    told-whole (λ text. text.items) (g.R.Read.remaining c.args.input.now) (first_taking c.args.own c.args.peers.now) c.tell_all.result
+    (subst (λ (taking : Taking). IfOk c.tell_all.result (λ text. IfSome (g.R.Read.remaining c.args.input.now) (λ bytes. text.items ≡ trail_from none_yet taking bytes)))
+    first c.tell_all.ensures.text)
 
 pub returns-in-Ok-clause-full : goal.returns-in-Ok-clause-full
 returns-in-Ok-clause-full g c = λ full.
@@ -31,18 +32,13 @@ returns-in-Ok-clause-full g c = λ full.
     (λ bytes stopped. stopped-over c.new-held.result c.tell_all.new.held (commands_of c.args.own c.args.peers.now bytes) c.new-held.ensures
     (subst (λ (sessions : Sessions). Stopped c.new-held.result c.tell_all.new.held (commands_over sessions (frames_of bytes)) Full) c.in-Ok.ensures stopped))
 
--- what two clauses say of an Ok together
-both : {T E P Q R : Type 0} (result : Result T E) → OnOk result P → OnOk result Q → (P → Q → R) → OnOk result R
-both (Ok x) p q more = more p q
-both (Err e) p q more = search
-
 pub returns-in-Ok-clause-few : goal.returns-in-Ok-clause-few
 returns-in-Ok-clause-few g c =
     let known = g.R.Read.remaining c.args.input.now in
     let own = c.args.own in
     let peers = c.args.peers.now in
     let held = c.tell_all.new.held in
-    both c.tell_all.result c.tell_all.ensures.taken c.tell_all.ensures.few (λ taken few.
+    both-ok c.tell_all.result c.tell_all.ensures.taken c.tell_all.ensures.few (λ taken few.
     if-some (λ (bytes : List ℕ). held ≡ submitted c.new-held.result (commands_over (sessions_of c.in-Ok.sessions) (frames_of bytes)))
     (λ (bytes : List ℕ). length (commands_of own peers bytes) ≤ EVENTS_MAX) known taken
     (λ bytes is.

@@ -3,8 +3,7 @@ use Rattle.std.proofs.lemmas.List.{length-append, length-take-le}
 use Rattle.blot_capture.specs.Sessions.{taking_of}
 use Rattle.blot_stream.proofs.PieceLemmas.{front_of_buffer}
 use Rattle.blot_capture.proofs.StreamLemmas.{CameOf-first, CameOf-piece, CameOf-stopped}
-use Rattle.blot_trail.specs.Audit.{Telling}
-use Rattle.blot_trail.specs.TrailText.{Making, none_yet}
+use Rattle.blot_trail.specs.Making.{Making, Telling, none_yet, offset_of}
 use Rattle.blot_trail.proofs.AuditLemmas.{ToldOf-first, ToldOf-piece, stops-nil}
 use Rattle.blot_trail.proofs.auditing.tell_all.Goals as goal
 
@@ -14,7 +13,7 @@ loop-init g c =
     let empty : c.new-trail.result ≡ none_yet = c.new-trail.ensures in
     let skipped = ap (λ (trail : Making). trail.skipped) empty in
     let passed = ap (λ (trail : Making). trail.passed) empty in
-    let offset = ap (λ (trail : Making). trail.offset) empty in
+    let offset = ap offset_of empty in
     let none = ap length c.new-reader.ensures.unread in (
       ToldOf-first (g.R.Read.remaining c.args.input.now) (record { trail = none_yet; taking = taking }) (record { trail = c.new-trail.result; taking = taking })
           c.new-reader.result.unread c.new-reader.ensures.unread (ap (λ (trail : Making). record { trail = trail; taking = taking }) (sym empty)),

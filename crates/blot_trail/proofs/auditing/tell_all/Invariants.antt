@@ -3,8 +3,7 @@ use Rattle.blot_tag.specs.Walking.{stops_at, walk_of}
 use Rattle.blot_capture.specs.Replay.{CameOf}
 use Rattle.blot_capture.specs.Sessions.{taking_of}
 use Rattle.blot_gateway.specs.declared.piece.TheConstants.{PIECE}
-use Rattle.blot_trail.specs.Audit.{IsInStep, ToldOf, telling_of}
-use Rattle.blot_trail.specs.TrailText.{none_yet}
+use Rattle.blot_trail.specs.Making.{IsInStep, ToldOf, none_yet, offset_of, telling_of}
 use Rattle.blot_trail.proofs.auditing.tell_all.Given as goal
 
 abbrev pub invariant-loop : goal.invariant-loop
@@ -14,7 +13,7 @@ invariant-loop g l =
     × CameOf (g.R.Read.remaining l.initial.input) (taking_of l.initial.sessions l.initial.held) (g.R.Read.remaining l.input) l.reader.unread
     (taking_of l.sessions l.held)
     × IsInStep l.reader l.trail
-    × (l.trail.offset + length l.reader.unread ≡ l.total)
+    × (offset_of l.trail + length l.reader.unread ≡ l.total)
     × (l.total ≤ l.counter * PIECE)
     × (walk_of l.reader.unread ≡ stops_at l.reader.unread)
     × (vec_len l.buffer ≡ PIECE)

@@ -1,12 +1,11 @@
 use Rattle.std.proofs.Common.{◌≡◌, arith, sym, subst}
 use Rattle.std.specs.Prelude.{is_some}
 use Rattle.blot_stream.specs.declared.outcome.ReplayFault.TheVariants.{NoMemory}
-use Rattle.blot_stream.proofs.ResultLemmas.{if-err}
+use Rattle.blot_stream.proofs.ResultLemmas.{if-both-ok, if-err}
 use Rattle.blot_capture.specs.Replay.{StoppedOn}
 use Rattle.blot_capture.specs.Sessions.{taking_of}
-use Rattle.blot_trail.specs.Audit.{TellsNext, telling_of}
+use Rattle.blot_trail.specs.Making.{TellsNext, telling_of}
 use Rattle.blot_trail.proofs.AuditLemmas.{noted-stopped, room-within, tells-next}
-use Rattle.blot_trail.proofs.TurnLemmas.{if-ok-both}
 use Rattle.blot_trail.proofs.telling.tell_next.Goals as goal
 
 pub tell-requires-clause-within : goal.tell-requires-clause-within
@@ -23,7 +22,7 @@ pub returns-in-Ok-clause-ok : goal.returns-in-Ok-clause-ok
 returns-in-Ok-clause-ok c =
     let from = taking_of c.args.sessions.now c.args.held.now in
     let now = taking_of c.next_noted.new.sessions c.next_noted.new.held in
-    if-ok-both (λ told. told ≡ is_some c.in-Ok.noted)
+    if-both-ok (λ told. told ≡ is_some c.in-Ok.noted)
     (λ told. TellsNext told c.args.reader.now (telling_of c.args.trail.now c.args.sessions.now c.args.held.now) c.next_noted.new.reader
     (telling_of c.tell.new.trail c.next_noted.new.sessions c.next_noted.new.held))
     c.tell.result c.tell.ensures.trail c.tell.ensures.some (λ told gives is.
