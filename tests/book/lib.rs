@@ -28,5 +28,4 @@ mod steps;
 mod tally;
 mod withdrawal_rows;
 mod withdrawal_runs;
-mod withdrawals;
 mod words;

@@ -76,10 +76,6 @@ pub fn report_of_two() -> &'static [Told] {
     &ROWS
 }
 
-/// Behind the first trade, 50 of 250 at 11.
-pub const OTHER_TRADE: &str =
-    "35=8|49=BRKA|56=MO|34=3|52=20240105-10:00:00|37=O1|17=E2|150=F|39=1|1=A1|55=XYZ|54=1|38=250|32=50|31=11|151=200|14=150|6=10.666667|75=20240105|";
-
 /// The reports of a desk that took nothing yet, the trade of `booked`, and its allocation too.
 pub fn reports_of_booked() -> &'static [Told] {
     static ROWS: [Told; 3] = [

@@ -2,15 +2,13 @@
 
 use crate::calls::check_taken;
 use crate::capture_rows::TRADE;
-use crate::desk_rows::{OTHER_TRADE, morning, report_of_two};
-use crate::dialogues::{Told, captured, desk, spell};
-use crate::frames::frame;
+use crate::desk_rows::{morning, report_of_two};
+use crate::dialogues::{Told, captured, desk, spell, two_trades};
 use crate::memory::{
     AT_ONCE, BY_BYTES, BY_LINES, INTERRUPTED, Manner, cut_at, failing, reader, writer,
 };
 use blot_desk::Held;
 use blotter::{ReplayFault, desk_lines};
-use std::alloc::{AllocError, Global};
 use std::process::Abort;
 use std::test::Fail;
 
@@ -53,13 +51,6 @@ fn a_morning_in_pieces(rt: HostRuntime) -> Result<(), Fail> {
         check_morning(&rt, &bytes, manner, 1)?;
     }
     Ok(())
-}
-
-// The Logon of BRKA, the first trade, and another of 50 at 11.
-fn two_trades(alloc: Global) -> Result<Vec<u8>, AllocError> {
-    let mut bytes = captured(alloc, TRADE)?;
-    bytes.extend_from_slice(frame(alloc, OTHER_TRADE)?.as_slice())?;
-    Ok(bytes)
 }
 
 // A read that fails leaves the commands taken that came before. Each capture has sessions of its own.

@@ -1,7 +1,7 @@
 //! Scripts as bytes, and desks that took a capture.
 
 use crate::calls::{push_words, taken};
-use crate::capture_rows::LOGON;
+use crate::capture_rows::{LOGON, OTHER_TRADE, TRADE};
 use crate::frames::{frame, stream};
 use crate::memory::{AT_ONCE, reader};
 use blot_desk::Held;
@@ -61,5 +61,12 @@ pub fn desk(alloc: Global, bytes: &[u8]) -> Result<Held, Fail> {
 pub fn captured(alloc: Global, messages: &str) -> Result<Vec<u8>, AllocError> {
     let mut bytes = frame(alloc, LOGON)?;
     bytes.extend_from_slice(stream(alloc, messages)?.as_slice())?;
+    Ok(bytes)
+}
+
+/// The capture of BRKA's Logon, the first trade, and another of 50 at 11.
+pub fn two_trades(alloc: Global) -> Result<Vec<u8>, AllocError> {
+    let mut bytes = captured(alloc, TRADE)?;
+    bytes.extend_from_slice(frame(alloc, OTHER_TRADE)?.as_slice())?;
     Ok(bytes)
 }

@@ -1,12 +1,14 @@
 //! `replay`, `audit` and `capture` over captures in memory.
 
 use crate::calls::{Call, called, check_taken, replayed_within, spelled};
-use crate::capture_rows::{MIXED, MIXED_REPORT, REPORT, TRADE, TRAIL};
-use crate::dialogues::captured;
+use crate::capture_rows::{REPORT, TRADE, TRAIL};
+use crate::desk_rows::report_of_two;
+use crate::dialogues::{captured, spell, two_trades};
 use crate::frames::stream;
 use crate::memory::{AT_ONCE, BY_BYTES, INTERRUPTED, Manner, cut_at, failing, reader, writer};
 use blot_desk::Held;
 use blotter::ReplayFault;
+use std::alloc::{AllocError, Global};
 use std::process::Abort;
 use std::test::Fail;
 
@@ -26,18 +28,25 @@ fn check_written(
     Ok(())
 }
 
-// So many of its commands come to a desk, and so many entries are live then.
+// Noise, the Logon of BRKA, and two trades.
+fn noise_and_trades(alloc: Global) -> Result<Vec<u8>, AllocError> {
+    let mut bytes = stream(alloc, "!noise")?;
+    bytes.extend_from_slice(two_trades(alloc)?.as_slice())?;
+    Ok(bytes)
+}
+
+// Two commands come to a desk, and two entries are live then.
 fn check_desk(rt: &(impl Abort + AllocGlobal), bytes: &[u8], manner: Manner) -> Result<(), Fail> {
     let mut held = Held::new(rt.alloc());
-    check_taken(rt, &mut held, &mut reader(bytes, manner), (Ok(()), 8, 7))
+    check_taken(rt, &mut held, &mut reader(bytes, manner), (Ok(()), 2, 2))
 }
 
 #[test]
 fn a_capture_in_pieces(rt: HostRuntime) -> Result<(), Fail> {
-    let bytes = stream(rt.alloc(), MIXED)?;
-    let expected = spelled(rt.alloc(), MIXED_REPORT)?;
+    let bytes = noise_and_trades(rt.alloc())?;
+    let report = spell(rt.alloc(), report_of_two(), u64::MAX)?;
     for manner in [AT_ONCE, BY_BYTES, INTERRUPTED] {
-        check_written(&rt, Call::Replay, &bytes, &expected, manner)?;
+        check_written(&rt, Call::Replay, &bytes, &report.answers, manner)?;
         check_desk(&rt, &bytes, manner)?;
     }
     Ok(())
