@@ -5,14 +5,12 @@
   spelled(text, mark, byte)  the bytes of a text in which a mark stands for a byte
   lines_of(text)             the lines that one line of a case stands for
 """
-import pathlib
 import re
 
 OWN, PEER, DAY = 'MO', 'BRKA', '20240105'
 SOH = b'\x01'
 HEADER = ['49', '56', '34', '43', '52']  # after MsgType(35), in this order
-TYPES = pathlib.Path(__file__).resolve().parent.parent / 'crates' / 'blot_types' / 'src' / 'lib.rt'
-EVENTS_MAX = int(re.search(r'EVENTS_MAX: u64 = ([\d_]+);', TYPES.read_text())[1])
+EVENTS_MAX = 250_000  # events that a day may have
 LIMIT = re.compile(r'EVENTS_MAX([+-]\d+)?')
 TIMES = re.compile(r'\{(\d+) times ([^}]*)\}')
 TIMES_LINE = re.compile(r'( *)(\d+) times (.*)')

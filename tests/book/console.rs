@@ -16,17 +16,17 @@ fn expect_answer(alloc: Global, answer: &Answer, wanted: &str) -> Result<(), Fai
 
 // The greatest number of a step is told.
 fn expect_greatest(alloc: Global) -> Result<(), Fail> {
-    let (accepted, undone) = (Reply::Accepted(100_000), Reply::Undone(100_000));
-    expect_answer(alloc, &Answer::Replied(accepted), "accepted\t100000\n")?;
-    expect_answer(alloc, &Answer::Replied(undone), "undone\t100000\n")?;
-    let redone = Reply::Redone(100_000);
-    expect_answer(alloc, &Answer::Replied(redone), "redone\t100000\n")
+    let (accepted, undone) = (Reply::Accepted(250_000), Reply::Undone(250_000));
+    expect_answer(alloc, &Answer::Replied(accepted), "accepted\t250000\n")?;
+    expect_answer(alloc, &Answer::Replied(undone), "undone\t250000\n")?;
+    let redone = Reply::Redone(250_000);
+    expect_answer(alloc, &Answer::Replied(redone), "redone\t250000\n")
 }
 
 // So is it as the value of a refusal; and that there was no memory.
 fn expect_refused(alloc: Global) -> Result<(), Fail> {
-    let taken = Reply::Refused(Refused::ExecTaken(100_000));
-    let text = "refused\t8\tExecTaken\t100000\n";
+    let taken = Reply::Refused(Refused::ExecTaken(250_000));
+    let text = "refused\t8\tExecTaken\t250000\n";
     expect_answer(alloc, &Answer::Replied(taken), text)?;
     expect_answer(alloc, &Answer::Bad(LineFault::NoMemory), "bad\t5\n")
 }

@@ -17,9 +17,9 @@ use Rattle.blot_capture.specs.Trace.{Turn, taking_after, trace_over, turn_of}
 use Rattle.blot_capture.proofs.StreamLemmas.{came-first, stopped-here, taken-frame, taken-none}
 use Rattle.blot_stream.proofs.ResultLemmas.{if-some}
 use Rattle.blot_trail.specs.declared.word.Word.{Word}
-use Rattle.blot_trail.specs.Audit.{end_of, line_of, lines_of, trail_over, words_of}
-use Rattle.blot_trail.specs.Making.{FindsNoFrame, IsInStep, Making, Notes, TakesNoted, Telling, TellsNext, ToldOf, ToldOn, behind_bytes, behind_line, behind_turn, finished, none_yet, offset_of, size_of, told_by, trail_from, untold}
-use Rattle.blot_trail.specs.TrailText.{Line, bytes_text, last_text, message_text, word_of}
+use Rattle.blot_trail.specs.Audit.{end_of, lines_of, tail_of, trail_over, words_of}
+use Rattle.blot_trail.specs.Making.{FindsNoFrame, IsInStep, Line, Making, Notes, TakesNoted, Telling, TellsNext, ToldOf, ToldOn, behind_bytes, behind_line, behind_turn, finished, line_of, none_yet, offset_of, size_of, told_by, trail_from, untold}
+use Rattle.blot_trail.specs.TrailText.{bytes_text, last_text, message_text, word_of}
 
 -- ---- bytes that are passed over
 
@@ -77,11 +77,11 @@ made text words end skipped = record { text = text; words = words; end = end; pa
 -- one message more is told
 made-line : (text : List ℕ) (words : List Word) (end skipped : ℕ) (turn : Turn)
     → behind_turn (made text words end skipped) turn
-    ≡ made (text ++ (bytes_text (codes "skipped") end turn.placed.passed ++ message_text (length words + 1) (end + turn.placed.passed) (line_of turn).tail))
+    ≡ made (text ++ (bytes_text (codes "skipped") end turn.placed.passed ++ message_text (length words + 1) (end + turn.placed.passed) (tail_of turn)))
     (words ++ word_of turn.became ∷ []) (end + turn.placed.passed + length turn.placed.text) (skipped + turn.placed.passed)
 made-line text words end skipped turn =
     let none : 0 + turn.placed.passed ≡ turn.placed.passed = omega arith in
-    ap (λ passed. made (text ++ (bytes_text (codes "skipped") end passed ++ message_text (length words + 1) (end + passed) (line_of turn).tail))
+    ap (λ passed. made (text ++ (bytes_text (codes "skipped") end passed ++ message_text (length words + 1) (end + passed) (tail_of turn)))
     (words ++ word_of turn.became ∷ []) (end + passed + length turn.placed.text) (skipped + passed)) none
 
 -- message by message the lines of all are told
@@ -97,13 +97,13 @@ made-lines text words end skipped taking [] =
 made-lines text words end skipped taking (first ∷ more) =
     let turn = turn_of taking first in
     let turns = trace_over (taking_after taking first.text) more in
-    let line = line_of turn in
+    let word = word_of turn.became in
     let place = length words + 1 in
     let front = bytes_text (codes "skipped") end first.passed in
-    let own = message_text place (end + first.passed) line.tail in
+    let own = message_text place (end + first.passed) (tail_of turn) in
     let next = end + first.passed + length first.text in
-    let all = words ++ line.word ∷ [] in
-    let counted : length all + 1 ≡ place + 1 = omega (arith, length-append words (line.word ∷ [])) in
+    let all = words ++ word ∷ [] in
+    let counted : length all + 1 ≡ place + 1 = omega (arith, length-append words (word ∷ [])) in
     let ends : next + end_of turns ≡ end + end_of (turn ∷ turns) =
     omega (arith, sum_by-cons (λ (turn : Turn). turn.placed.passed + length turn.placed.text) turn turns) in
     let passes : skipped + first.passed + passed_by more ≡ skipped + passed_by (first ∷ more) = omega (arith, sum_by-cons (λ (placed : Placed). placed.passed) first more) in
@@ -113,9 +113,9 @@ made-lines text words end skipped taking (first ∷ more) =
     ∙ ap (λ text. made text (all ++ words_of turns) (next + end_of turns) (skipped + first.passed + passed_by more))
     (append_assoc text (front ++ own) (lines_of (place + 1) next turns))
     ∙ ap (λ words. made (text ++ (front ++ own ++ lines_of (place + 1) next turns)) words (next + end_of turns) (skipped + first.passed + passed_by more))
-    (append_assoc words (line.word ∷ []) (words_of turns))
-    ∙ ap (λ e. made (text ++ (front ++ own ++ lines_of (place + 1) next turns)) (words ++ line.word ∷ words_of turns) e (skipped + first.passed + passed_by more)) ends
-    ∙ ap (λ k. made (text ++ (front ++ own ++ lines_of (place + 1) next turns)) (words ++ line.word ∷ words_of turns) (end + end_of (turn ∷ turns)) k) passes
+    (append_assoc words (word ∷ []) (words_of turns))
+    ∙ ap (λ e. made (text ++ (front ++ own ++ lines_of (place + 1) next turns)) (words ++ word ∷ words_of turns) e (skipped + first.passed + passed_by more)) ends
+    ∙ ap (λ k. made (text ++ (front ++ own ++ lines_of (place + 1) next turns)) (words ++ word ∷ words_of turns) (end + end_of (turn ∷ turns)) k) passes
 
 -- so what is told of a stream is its trail
 trail-whole : (taking : Taking) (bytes : List ℕ) → trail_from none_yet taking bytes ≡ trail_over taking bytes

@@ -9,7 +9,7 @@ use Rattle.blot_desk.specs.declared.event.Reply.TheVariants.{Accepted}
 use Rattle.blot_capture.specs.declared.became.Became.TheVariants as became
 use Rattle.blot_capture.specs.Trace.{Turn}
 use Rattle.blot_trail.specs.declared.word.Word.TheVariants as words
-use Rattle.blot_trail.specs.Audit.{end_of, line_of, lines_of, words_of}
+use Rattle.blot_trail.specs.Audit.{end_of, lines_of, tail_of, words_of}
 use Rattle.blot_trail.specs.TrailText.{action_text, became_text, bytes_text, head_text, last_text, message_text, sum_text, times, word_sums}
 
 -- what became of a message
@@ -43,7 +43,7 @@ abbrev second : Turn
 second = record { placed = record { passed = 0; text = codes "de" }; commands = []; became = became.Passed; actions = [] }
 
 two_lines : lines_of 1 0 (first ∷ second ∷ [])
-    ≡ (codes "skipped" ++ number_text 0 ++ number_text 2 ++ codes "\n") ++ message_text 1 2 (line_of first).tail ++ (message_text 2 5 (line_of second).tail ++ [])
+    ≡ (codes "skipped" ++ number_text 0 ++ number_text 2 ++ codes "\n") ++ message_text 1 2 (tail_of first) ++ (message_text 2 5 (tail_of second) ++ [])
 unfolding bytes_text
 two_lines = refl
 

@@ -21,8 +21,8 @@ use Rattle.blot_capture.specs.Capture.{Sessions, moment_at, taken_by}
 use Rattle.blot_capture.specs.Handling.{IsHandled, IsHandledBy, Wants, met_in, wanted_of}
 use Rattle.blot_capture.specs.Replay.{Taking}
 use Rattle.blot_capture.specs.Trace.{actions_in, became_in, became_of, session_for}
-use Rattle.blot_trail.specs.Making.{IsTurnOf, line_at}
-use Rattle.blot_trail.specs.TrailText.{IsToldOf, Line, action_text, became_text, head_text, line_for, word_of, word_or_dash}
+use Rattle.blot_trail.specs.Making.{IsTurnOf, Line, line_at, line_for}
+use Rattle.blot_trail.specs.TrailText.{IsToldOf, action_text, became_text, head_text, word_of, word_or_dash}
 
 -- what is sent is told, and nothing else that a session wants done
 sent-wanted : (actions : List Action) (handled : Handled) → Wants actions handled → flat_map action_text (wanted_of handled) ≡ flat_map action_text actions

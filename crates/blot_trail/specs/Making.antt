@@ -3,16 +3,30 @@ use Rattle.std.specs.Prelude.{◌≡◌, ℕ, ◌+◌, ◌-◌, ◌<◌, ◌≤�
 use Rattle.blot_tag.specs.Places.{placed_of, passed_last}
 use Rattle.blot_tag.specs.Reading.{Reading, FindsNone, TakesFirst}
 use Rattle.blot_tag.specs.Walking.{rest_of, stops_at, walk_of}
+use Rattle.blot_session.specs.declared.action.Action.{Action}
 use Rattle.blot_session.specs.declared.met.Met.{Met}
 use Rattle.blot_desk.specs.Desk.{Journal}
+use Rattle.blot_capture.specs.declared.became.Became.{Became}
 use Rattle.blot_capture.specs.declared.handled.Handled.{Handled}
 use Rattle.blot_capture.specs.Handling.{became_by, wanted_of}
 use Rattle.blot_capture.specs.Replay.{CameOn, Taking}
 use Rattle.blot_capture.specs.Sessions.{Parts, taking_of}
 use Rattle.blot_capture.specs.Trace.{Turn, taking_after, trace_over, turn_of}
 use Rattle.blot_trail.specs.declared.word.Word.{Word}
-use Rattle.blot_trail.specs.Audit.{line_of}
-use Rattle.blot_trail.specs.TrailText.{Line, bytes_text, last_text, line_for, message_text}
+use Rattle.blot_trail.specs.TrailText.{bytes_text, last_text, message_text, tail_text, word_of}
+
+-- what is told of a message, except its place and where it begins; how long it is
+pub record Line : Type 0 where
+  pub tail : List ℕ
+  pub word : Word
+  pub length_of : ℕ
+
+-- what is told of a frame that became this, and whose session wants these actions done
+abbrev pub line_for : List ℕ → Became → List Action → Line
+line_for text became actions = record { tail = tail_text text became actions; word = word_of became; length_of = length text }
+
+abbrev pub line_of : Turn → Line
+line_of turn = line_for turn.placed.text turn.became turn.actions
 
 -- a trail in the making: its lines, and what became of each message; where the last message ends; how many bytes are passed over
 -- since then, and how many were before it

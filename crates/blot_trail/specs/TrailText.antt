@@ -158,16 +158,6 @@ word_sums all =
 
 -- ---- a trail
 
--- what is told of a message, except its place and where it begins; how long it is
-pub record Line : Type 0 where
-  pub tail : List ℕ
-  pub word : Word
-  pub length_of : ℕ
-
--- what is told of a frame that became this, and whose session wants these actions done
-abbrev pub line_for : List ℕ → Became → List Action → Line
-line_for text became actions = record { tail = tail_text text became actions; word = word_of became; length_of = length text }
-
 -- the last lines: what is passed over after the last message, which ends at this place, and the rest after it; the sums, of which the
 -- last but one is all that is passed over; and how many messages there are
 abbrev pub last_text : List Word → ℕ → ℕ → ℕ → ℕ → List ℕ

@@ -3,8 +3,8 @@ ghost use Rattle.std.specs.Prelude.{◌≡◌, ◌+◌, ◌-◌, ◌<◌, ◌≤
 ghost use Rattle.std.specs.List.{flat_map};
 ghost use Rattle.blot_tag.specs.Views.{text_of};
 ghost use Rattle.blot_session.specs.Runs.{said_by};
-ghost use Rattle.blot_trail.specs.Making.{behind_bytes, behind_line, finished, none_yet, offset_of, untold};
-ghost use Rattle.blot_trail.specs.TrailText.{IsToldOf, action_text, line_for, times, word_sum, word_sums};
+ghost use Rattle.blot_trail.specs.Making.{behind_bytes, behind_line, finished, line_for, none_yet, offset_of, untold};
+ghost use Rattle.blot_trail.specs.TrailText.{IsToldOf, action_text, times, word_sum, word_sums};
 
 use crate::word::Word;
 use crate::wording::{put_became, put_bytes, put_head, put_number, put_sender, put_sent, put_sum};
@@ -24,7 +24,7 @@ pub struct Noted {
 }
 
 impl Model for Noted {
-    ghost use Rattle.blot_trail.specs.TrailText.{Line};
+    ghost use Rattle.blot_trail.specs.Making.{Line};
 
     ghost Value = { Line };
 
