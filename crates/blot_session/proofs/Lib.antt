@@ -1,6 +1,7 @@
 pub mod ActionLemmas
 mod DeliveryLemmas
 mod InTurnLemmas
+mod NumberLemmas
 pub mod OneLemmas
 mod RowLemmas
 mod Rows

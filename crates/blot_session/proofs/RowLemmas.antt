@@ -142,7 +142,7 @@ body-moves s live head (bodies.Allocation allocation) idle bears =
     inr (record { of_peer = refl; next_same = refl; awaits = refl; sends = refl; end = refl; same = refl; bears = ap Some bears; command = λ peer. refl })
 body-moves s live head bodies.Other idle bears = other-moves s live head head.number head.kind idle bears
 
-some_same : {A : Type 0} (a b : A) → Some a ≡ Some b → a ≡ b
+pub some_same : {A : Type 0} (a b : A) → Some a ≡ Some b → a ≡ b
 some_same a b same = ap (λ found. unwrap_or found a) same
 
 expected-moves : (s : State) (live : Live) (head : Head) (said : Result Message FieldFault) → live.awaited ≡ None → head_in said ≡ Some head → head.number ≡ s.expected

@@ -1,5 +1,5 @@
 -- What becomes of a frame at its session, by the row of the table that it meets. Source: this project's rule.
-use Rattle.std.specs.Prelude.{ℤ, Bool, true, false, ◌&&◌, not, nat_lt, Option, Some, None, Result, Ok, Err, if◌then◌else◌}
+use Rattle.std.specs.Prelude.{◌≡◌, ◌≢◌, ◌⊎◌, ◌<◌, ℕ, ℤ, Bool, true, false, ◌&&◌, not, nat_lt, Option, Some, None, Result, Ok, Err, MatchOption, if◌then◌else◌}
 use Rattle.std.specs.Option.{option_map_or, option_or, unwrap_or}
 use Rattle.blot_fields.specs.declared.admin.Admin.TheVariants as admin
 use Rattle.blot_fields.specs.declared.fault.FieldFault.{FieldFault}
@@ -20,6 +20,7 @@ use Rattle.blot_session.specs.declared.row.Sends.TheVariants.{Nothing, One, Two}
 use Rattle.blot_session.specs.declared.state.State.{State}
 use Rattle.blot_session.specs.Calls.{is_spent}
 use Rattle.blot_session.specs.Rows.{frame_row}
+use Rattle.blot_session.specs.Runs.{is_reset_said}
 
 -- a Sequence Reset that isn't a gap fill is looked at before its number
 abbrev pub goes_before : Body → Bool
@@ -66,3 +67,20 @@ met_by_row state said row =
 -- what becomes of a frame that says this
 abbrev pub met_of : State → Result Message FieldFault → ℤ → Met
 met_of state said now = met_by_row state said (frame_row state said now)
+
+-- ---- the law: what becomes of a message says the truth about its number
+
+-- a message bears a number, of which this holds
+abbrev pub BearsThat : (ℕ → Type 0) → Result Message FieldFault → Type 0
+BearsThat P said = MatchOption (head_in said) ⊥ (λ head. P head.number)
+
+-- a number is above the expected one; a Logon that resets the numbers is expected under 1, and bears another
+abbrev pub IsAbove : State → Result Message FieldFault → ℕ → ℕ → Type 0
+IsAbove state said expected number =
+    ((expected ≡ state.expected) × (expected < number)) ⊎ ((is_reset_said said ≡ true) × (expected ≡ 1) × (number ≢ 1))
+
+-- one that is early is above the expected number, and one that is late is below it
+abbrev pub IsOfNumber : State → Result Message FieldFault → Met → Type 0
+IsOfNumber state said (met.Early expected) = BearsThat (IsAbove state said expected) said
+IsOfNumber state said (met.Late expected) = (expected ≡ state.expected) × BearsThat (λ number. number < expected) said
+IsOfNumber state said other = Unit {0}

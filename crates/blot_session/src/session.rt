@@ -4,7 +4,7 @@ ghost use Rattle.blot_tag.specs.Views.{text_of};
 ghost use Rattle.blot_fields.specs.declared.TheConstants.{SEQUENCE_MAX};
 ghost use Rattle.blot_fields.specs.Numbers.{HasNumber, IsNumbered};
 ghost use Rattle.blot_session.specs.Calls.{Awaits, DeliversAlone, Gives, on_frame, on_tick, on_reply, row_of_reply};
-ghost use Rattle.blot_session.specs.Met.{met_of};
+ghost use Rattle.blot_session.specs.Met.{IsOfNumber, met_of};
 ghost use Rattle.blot_session.specs.Runs.{Call, AreMet, HasNoReset, IsInOrder, said_by};
 ghost use Rattle.blot_session.specs.States.{awaited_of, fresh, waiting_again, closed, phase_of, IsIdle, IsAwaiting, IsState};
 
@@ -104,9 +104,13 @@ impl Session {
     }
 
     /// What becomes of a frame that says this, if it comes now.
+    #[tactic(auto, using(crate::proofs::NumberLemmas::of_number))]
     pub fn meets(&self, said: &Result<Message, FieldFault>, now: Moment) -> Met
         requires { HasNumber said.now }
-        ensures { result ≡ met_of self.now said.now now }
+        ensures met { result ≡ met_of self.now said.now now }
+
+        // One that is early is above the number that was expected, and one that is late is below it.
+        ensures number { IsOfNumber self.now said.now result }
     {
         met_of(&self.state, said, now)
     }
