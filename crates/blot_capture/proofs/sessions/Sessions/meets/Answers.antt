@@ -20,7 +20,7 @@ returns-clause-met c =
           let found : session_for (session_in c.place_for.new.out.items c.place_for.new.table) text ≡ Some w.index.result.now =
           session-for at.peer c.place_for.new.out.items c.place_for.new.table w.in-Some.place w.index.result.now text at.at w.index.ensures at.sent in
           subst (λ result. IfOk result (λ met. met ≡ met_in (sessions_of c.args.self.now) text)) (sym w.result-is)
-          (ap Some (w.meets.ensures ∙ ap (λ said. met_of w.index.result.now said w.sending_of.result) c.requires.said
+          (ap Some (w.meets.ensures.met ∙ ap (λ said. met_of w.index.result.now said w.sending_of.result) c.requires.said
           ∙ ap (met_of w.index.result.now (said_by text)) w.sending_of.ensures)
           ∙ ap (λ session. met_at session text) (sym found) ∙ ap (λ sessions. met_in sessions text) same)
       | in-None w ↦
