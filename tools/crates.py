@@ -53,7 +53,7 @@ def copy_libraries(room, libraries):
         folder = room / 'crates' / name
         shutil.copytree(CRATES / name, folder, ignore=shutil.ignore_patterns('out', 'must-fail'))
         if (CRATES / name / 'out' / 'rlib').is_dir():
-            shutil.copytree(CRATES / name / 'out' / 'rlib', folder / 'out' / 'rlib', copy_function=linked)
+            shutil.copytree(CRATES / name / 'out' / 'rlib', folder / 'out' / 'rlib', ignore=shutil.ignore_patterns('statements'), copy_function=linked)
 
 
 def add_line(room, line):
@@ -71,8 +71,8 @@ def copy_to(room, crate, libraries):
 
 
 def statements_of(crate):
-    """The folder of what other crates can cite of a crate: its statements, without its proofs, as the gate builds it."""
-    return CRATES / crate / 'out' / 'statements' / f'{crate}.rlib'
+    """The folder of what other crates can cite of a crate: its statements, without its proofs, as the gate builds it. `rt` looks into out/rlib alone."""
+    return CRATES / crate / 'out' / 'rlib' / 'statements' / f'{crate}.rlib'
 
 
 def is_program(crate):
