@@ -71,7 +71,8 @@ def copy_to(room, crate, libraries):
 
 
 def statements_of(crate):
-    """The folder of what other crates can cite of a crate: its statements, without its proofs, as the gate builds it. `rt` looks into out/rlib alone."""
+    """The folder of what other crates can cite of a crate: its statements, without its proofs, as the gate builds it. In another place below out/
+    than out/rlib `rt` would take its files for sources that nothing reads, and stop."""
     return CRATES / crate / 'out' / 'rlib' / 'statements' / f'{crate}.rlib'
 
 
