@@ -1,5 +1,6 @@
 mod DayLawLemmas
 mod DayRows
+mod HalfLemmas
 mod KeyLemmas
 mod ListLemmas
 mod OrderLemmas

@@ -2,7 +2,7 @@
 use Rattle.std.proofs.Common.{◌≡◌, ℕ, zero, suc, arith, ◌+◌, ◌<◌, ◌≤◌, Bool, ◌||◌, List, [], ◌∷◌, ◌++◌, length, map, take, drop, get_or, Option, Some, None, Result, Ok, Err, refl, sym, ap, subst, ◌∙◌}
 use Rattle.std.specs.Prelude.{All, IfOk}
 use Rattle.std.specs.List.{cons_option, filter_map, flat_map, list_any}
-use Rattle.std.proofs.lemmas.List.{append-nil, append_assoc, drop_all, take_more}
+use Rattle.std.proofs.lemmas.List.{append-nil, append_assoc, drop-append-le, drop_all, length-append, length-drop, length-take-le, take-append-drop, take_more}
 use Rattle.std.proofs.lemmas.List.Elements.{All-nil, All-cons, All-head, All-tail, All-push, filter_map-append}
 
 -- what an Ok says, said in another way
@@ -39,41 +39,57 @@ flat-push f (y ∷ xs) x = ap (λ rest. f y ++ rest) (flat-push f xs x) ∙ sym 
 pub flat-more : {A B : Type 0} (f : A → List B) (items : List A) (index : ℕ) (item : A) → index < length items → item ≡ get_or items index item → flat_map f (take (index + 1) items) ≡ flat_map f (take index items) ++ f item
 flat-more f items index item within is = ap (flat_map f) (more items index item within is) ∙ flat-push f (take index items) item
 
-pub found-more : {A B : Type 0} (f : A → Option B) (items : List A) (index : ℕ) (item : A) → index < length items → item ≡ get_or items index item → filter_map f (take (index + 1) items) ≡ filter_map f (take index items) ++ cons_option (f item) []
-found-more f items index item within is = ap (filter_map f) (more items index item within is) ∙ filter_map-append f (take index items) (item ∷ [])
+-- the items from one place to before another: none yet, one more, and no more than there are
+pub between-none : {A : Type 0} (items : List A) (first : ℕ) → drop first (take first items) ≡ []
+between-none [] zero = refl
+between-none [] (suc first) = refl
+between-none (item ∷ items) zero = refl
+between-none (item ∷ items) (suc first) = between-none items first
+
+pub between-more :
+    {A : Type 0} (items : List A) (first index : ℕ) (item : A) → first ≤ index → index < length items → item ≡ get_or items index item
+    → drop first (take (index + 1) items) ≡ drop first (take index items) ++ item ∷ []
+between-more items first index item low within is =
+    let long : length (take index items) ≡ index = length-take-le index items (omega (arith, within)) in
+    ap (drop first) (more items index item within is) ∙ drop-append-le first (take index items) (item ∷ []) (omega (arith, low, long))
+
+pub between-few : {A : Type 0} (items : List A) (first after : ℕ) → length (drop first (take after items)) ≤ length items
+between-few items first after =
+    let left = length-drop first (take after items) in
+    let both = length-append (take after items) (drop after items) in
+    let whole = ap length (take-append-drop after items) in
+    omega (arith, left, both, whole)
+
+-- what is found with one item more
+pub found-more : {A B : Type 0} (f : A → Option B) (before after : List A) (item : A) → after ≡ before ++ item ∷ [] → filter_map f after ≡ filter_map f before ++ cons_option (f item) []
+found-more f before after item next = ap (filter_map f) next ∙ filter_map-append f before (item ∷ [])
 
 -- where the item brings something, and where it brings nothing
 pub found-one :
-    {A B : Type 0} (f : A → Option B) (items : List A) (index : ℕ) (item : A) (b : B) → index < length items → item ≡ get_or items index item → f item ≡ Some b
-    → filter_map f (take (index + 1) items) ≡ filter_map f (take index items) ++ b ∷ []
-found-one f items index item b within is brought =
-    found-more f items index item within is ∙ ap (λ o. filter_map f (take index items) ++ cons_option o []) brought
+    {A B : Type 0} (f : A → Option B) (before after : List A) (item : A) (b : B) → after ≡ before ++ item ∷ [] → f item ≡ Some b → filter_map f after ≡ filter_map f before ++ b ∷ []
+found-one f before after item b next brought = found-more f before after item next ∙ ap (λ o. filter_map f before ++ cons_option o []) brought
 
-pub found-none :
-    {A B : Type 0} (f : A → Option B) (items : List A) (index : ℕ) (item : A) → index < length items → item ≡ get_or items index item → f item ≡ None
-    → filter_map f (take (index + 1) items) ≡ filter_map f (take index items)
-found-none f items index item within is none =
-    found-more f items index item within is ∙ ap (λ o. filter_map f (take index items) ++ cons_option o []) none ∙ append-nil (filter_map f (take index items))
+pub found-none : {A B : Type 0} (f : A → Option B) (before after : List A) (item : A) → after ≡ before ++ item ∷ [] → f item ≡ None → filter_map f after ≡ filter_map f before
+found-none f before after item next none =
+    found-more f before after item next ∙ ap (λ o. filter_map f before ++ cons_option o []) none ∙ append-nil (filter_map f before)
 
 -- no more are found than there are
-pub found-few : {A B : Type 0} (f : A → Option B) (items : List A) (index : ℕ) → length (filter_map f (take index items)) ≤ length items
-found-few f [] zero = omega arith
-found-few f [] (suc index) = omega arith
-found-few f (item ∷ items) zero = omega arith
-found-few f (item ∷ items) (suc index) = elim (f item) as (λ found. length (cons_option found (filter_map f (take index items))) ≤ length (item ∷ items)) [
-  | None ↦ let rest = found-few f items index in omega (arith, rest)
-  | Some b ↦ let rest = found-few f items index in omega (arith, rest)
+pub found-few : {A B : Type 0} (f : A → Option B) (items : List A) → length (filter_map f items) ≤ length items
+found-few f [] = omega arith
+found-few f (item ∷ items) = elim (f item) as (λ found. length (cons_option found (filter_map f items)) ≤ length (item ∷ items)) [
+  | None ↦ let rest = found-few f items in omega (arith, rest)
+  | Some b ↦ let rest = found-few f items in omega (arith, rest)
 ]
 
-flat-append : {A B : Type 0} (f : A → List B) (xs ys : List A) → flat_map f (xs ++ ys) ≡ flat_map f xs ++ flat_map f ys
+pub flat-append : {A B : Type 0} (f : A → List B) (xs ys : List A) → flat_map f (xs ++ ys) ≡ flat_map f xs ++ flat_map f ys
 flat-append f [] ys = refl
 flat-append f (x ∷ xs) ys = ap (λ rest. f x ++ rest) (flat-append f xs ys) ∙ sym (append_assoc (f x) (flat_map f xs) (flat_map f ys))
 
 -- what the items found hold, with what one item more holds
 pub flat_found-more :
-    {A B C : Type 0} (g : B → List C) (f : A → Option B) (items : List A) (index : ℕ) (item : A) → index < length items → item ≡ get_or items index item
-    → flat_map g (filter_map f (take (index + 1) items)) ≡ flat_map g (filter_map f (take index items)) ++ flat_map g (cons_option (f item) [])
-flat_found-more g f items index item within is = ap (flat_map g) (found-more f items index item within is) ∙ flat-append g (filter_map f (take index items)) (cons_option (f item) [])
+    {A B C : Type 0} (g : B → List C) (f : A → Option B) (before after : List A) (item : A) → after ≡ before ++ item ∷ []
+    → flat_map g (filter_map f after) ≡ flat_map g (filter_map f before) ++ flat_map g (cons_option (f item) [])
+flat_found-more g f before after item next = ap (flat_map g) (found-more f before after item next) ∙ flat-append g (filter_map f before) (cons_option (f item) [])
 
 -- a test that some item passes, through a function
 pub any-mapped : {A B : Type 0} (p : B → Bool) (f : A → B) (xs : List A) → list_any p (map f xs) ≡ list_any (λ x. p (f x)) xs
@@ -87,20 +103,31 @@ All-item P items index item within is all one = subst (All P) (sym (more items i
 
 -- what holds of all that was found, holds with one item more
 pub all-found :
-    {A B : Type 0} (P : B → Type 0) (f : A → Option B) (items : List A) (index : ℕ) (item : A) (b : B) → index < length items → item ≡ get_or items index item
-    → All P (filter_map f (take index items)) → f item ≡ Some b → P b → All P (filter_map f (take (index + 1) items))
-all-found P f items index item b within is all brought one =
-    subst (All P) (sym (found-one f items index item b within is brought)) (All-push P (filter_map f (take index items)) b all one)
+    {A B : Type 0} (P : B → Type 0) (f : A → Option B) (before after : List A) (item : A) (b : B) → after ≡ before ++ item ∷ [] → All P (filter_map f before) → f item ≡ Some b → P b
+    → All P (filter_map f after)
+all-found P f before after item b next all brought one = subst (All P) (sym (found-one f before after item b next brought)) (All-push P (filter_map f before) b all one)
 
 pub all-passed :
-    {A B : Type 0} (P : B → Type 0) (f : A → Option B) (items : List A) (index : ℕ) (item : A) → index < length items → item ≡ get_or items index item
-    → All P (filter_map f (take index items)) → f item ≡ None → All P (filter_map f (take (index + 1) items))
-all-passed P f items index item within is all none = subst (All P) (sym (found-none f items index item within is none)) all
+    {A B : Type 0} (P : B → Type 0) (f : A → Option B) (before after : List A) (item : A) → after ≡ before ++ item ∷ [] → All P (filter_map f before) → f item ≡ None
+    → All P (filter_map f after)
+all-passed P f before after item next all none = subst (All P) (sym (found-none f before after item next none)) all
 
--- of all of a front, and of all that is mapped
+-- of all of a front and of a back, of what is found from one place to before another, and of all that is mapped
 pub All-front : {A : Type 0} (P : A → Type 0) (front back : List A) → All P (front ++ back) → All P front
 All-front P [] back all = All-nil P
 All-front P (x ∷ front) back all = All-cons P x front (All-head P x (front ++ back) all) (All-front P front back (All-tail P x (front ++ back) all))
+
+All-back : {A : Type 0} (P : A → Type 0) (front back : List A) → All P (front ++ back) → All P back
+All-back P [] back all = all
+All-back P (x ∷ front) back all = All-back P front back (All-tail P x (front ++ back) all)
+
+pub All-between : {A B : Type 0} (P : B → Type 0) (f : A → Option B) (items : List A) (first after : ℕ) → All P (filter_map f items) → All P (filter_map f (drop first (take after items)))
+All-between {A} P f items first after all =
+    let cut : (i : ℕ) (xs : List A) → filter_map f xs ≡ filter_map f (take i xs) ++ filter_map f (drop i xs) =
+    λ i xs. ap (filter_map f) (sym (take-append-drop i xs)) ∙ filter_map-append f (take i xs) (drop i xs) in
+    let front = take after items in
+    All-back P (filter_map f (take first front)) (filter_map f (drop first front))
+    (subst (All P) (cut first front) (All-front P (filter_map f front) (filter_map f (drop after items)) (subst (All P) (cut after items) all)))
 
 pub all-mapped : {A B : Type 0} (P : B → Type 0) (f : A → B) (xs : List A) → All (λ x. P (f x)) xs → All P (map f xs)
 all-mapped P f [] all = All-nil P

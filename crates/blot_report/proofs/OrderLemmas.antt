@@ -17,7 +17,7 @@ use Rattle.blot_types.specs.Order.{line_of, fills_of, with_fill, IsWithin}
 use Rattle.blot_types.proofs.OrderLemmas.{line_of-push, IsWithin-weaker}
 use Rattle.blot_report.specs.Lines.{order_row}
 use Rattle.blot_report.specs.Orders.{line_at, with_line, AddsFill, AreLinesOf, GrowsByOne, line_rows}
-use Rattle.blot_report.proofs.ListLemmas.{found-more}
+use Rattle.blot_report.proofs.ListLemmas.{found-more, more}
 
 -- orders that the test calls one are equal
 same_order-true : (a b : OrderKey) → same_order a b ≡ true → a ≡ b
@@ -79,7 +79,7 @@ pub holds-more :
     → HoldsFirst f new entries (index + 1)
 holds-more f old new entries index entry fill holds within is brought written grows =
     let fills : filter_map f (take (index + 1) entries) ≡ filter_map f (take index entries) ++ fill ∷ [] =
-    found-more f entries index entry within is ∙ ap (λ o. filter_map f (take index entries) ++ cons_option o []) brought in
+    found-more f (take index entries) (take (index + 1) entries) entry (more entries index entry within is) ∙ ap (λ o. filter_map f (take index entries) ++ cons_option o []) brought in
     record {
       are = λ order. written order ∙ line-more old (filter_map f (take index entries)) fill order holds.are ∙ sym (ap (λ own. line_of (fills_of own order)) fills);
       few = λ order. subst (IsWithin (index + 1)) (sym (written order)) (few-more old fill index order holds.few grows);
@@ -91,7 +91,7 @@ pub holds-on :
     → HoldsFirst f old entries index → index < length entries → entry ≡ get_or entries index entry → f entry ≡ None → new ≡ old → HoldsFirst f new entries (index + 1)
 holds-on f old new entries index entry holds within is none kept =
     let fills : filter_map f (take (index + 1) entries) ≡ filter_map f (take index entries) =
-    found-more f entries index entry within is ∙ ap (λ o. filter_map f (take index entries) ++ cons_option o []) none ∙ append-nil (filter_map f (take index entries)) in
+    found-more f (take index entries) (take (index + 1) entries) entry (more entries index entry within is) ∙ ap (λ o. filter_map f (take index entries) ++ cons_option o []) none ∙ append-nil (filter_map f (take index entries)) in
     subst (λ lines. HoldsFirst f lines entries (index + 1)) (sym kept) (record {
       are = λ order. holds.are order ∙ sym (ap (λ own. line_of (fills_of own order)) fills);
       few = λ order. IsWithin-weaker index (index + 1) (line_at old order) (omega arith) (holds.few order);

@@ -2,8 +2,8 @@
 use Rattle.std.proofs.Common.{◌≡◌, ℕ, ℤ, ◌+◌, ◌<◌, arith, true, List, [], ◌∷◌, ◌++◌, length, take, drop, get_or, Option, Some, sym, ap, subst, ◌∙◌}
 use Rattle.std.specs.Prelude.{All}
 use Rattle.std.specs.List.{cons_option, filter_map, flat_map}
-use Rattle.std.proofs.lemmas.List.{append-nil, append_assoc, take-append-drop, take_all}
-use Rattle.std.proofs.lemmas.List.Elements.{All-nil, filter_map-append}
+use Rattle.std.proofs.lemmas.List.{append-nil, append_assoc, take-append-drop}
+use Rattle.std.proofs.lemmas.List.Elements.{All-nil}
 use Rattle.blot_types.specs.declared.allocation.Line.{Line}
 use Rattle.blot_types.specs.declared.allocation.Terms.{Terms}
 use Rattle.blot_types.specs.declared.command.Entry.{Entry}
@@ -13,9 +13,9 @@ use Rattle.blot_types.specs.Legal.{is_book}
 use Rattle.blot_types.specs.Position.{part_of_line, from_house, moves_of_line, moves_of, IsSmall, TermsFit}
 use Rattle.blot_command.specs.Standings.{standing_of}
 use Rattle.blot_report.specs.Day.{survivor_parts_on, allocations_on, day_parts_of}
-use Rattle.blot_report.specs.Standings.{part_on, parts_among, terms_on}
-use Rattle.blot_report.proofs.StandingLemmas.{moves_among, terms_among, flat-mapped, parts-told, terms-told}
-use Rattle.blot_report.proofs.ListLemmas.{behind, flat-more, found-few, flat_found-more, more, All-front, all-mapped}
+use Rattle.blot_report.specs.Standings.{between, moves_among, part_on, parts_among, terms_among, terms_on}
+use Rattle.blot_report.proofs.StandingLemmas.{flat-mapped, parts-told, terms-told}
+use Rattle.blot_report.proofs.ListLemmas.{behind, between-few, between-none, flat-more, found-few, flat_found-more, more, All-between, all-mapped}
 use Rattle.blot_report.proofs.WeightLemmas.{Books, IsLight, books-on, few-entries, light-front, light-with}
 
 -- ---- the moves of lines
@@ -39,34 +39,32 @@ day_parts-told list day =
     (λ i. parts-told list day i ++ flat_map moves_of (terms-told list day i))
     ∙ ap (λ moves. survivor_parts_on list day ++ moves) (flat-mapped moves_of (λ (a : Allocation). a.terms) (allocations_on list day))
 
--- the terms of the first entries book their blocks
-books-told : (list : List Entry) (day : ℤ) (index : ℕ) → is_book list ≡ true → All Books (terms_among list day (take index list))
-books-told list day index book =
-    let f : Entry → Option Terms = λ e. terms_on day (standing_of list e) e in
-    let all : All Books (terms_among list day list) =
-    subst (All Books) (sym (terms-told list day)) (all-mapped Books (λ (a : Allocation). a.terms) (allocations_on list day) (books-on list day book)) in
-    All-front Books (filter_map f (take index list)) (filter_map f (drop index list))
-    (subst (All Books) (ap (filter_map f) (sym (take-append-drop index list)) ∙ filter_map-append f (take index list) (drop index list)) all)
+-- the terms of some entries book their blocks
+books-told : (list : List Entry) (day : ℤ) (first after : ℕ) → is_book list ≡ true → All Books (terms_among list day (between list first after))
+books-told list day first after book =
+    All-between Books (λ e. terms_on day (standing_of list e) e) list first after
+    (subst (All Books) (sym (terms-told list day)) (all-mapped Books (λ (a : Allocation). a.terms) (allocations_on list day) (books-on list day book)))
 
--- what the first fills add is light
-pub light-fills :
-    (list : List Entry) (day : ℤ) (index : ℕ) → is_book list ≡ true → All IsSmall (parts_among list day (take index list)) → IsLight (parts_among list day (take index list))
-light-fills list day index book small =
-    let few = found-few (λ e. part_on day (standing_of list e) e) list index in
-    let entries = few-entries list book in
-    subst IsLight (append-nil (parts_among list day (take index list)))
-    (light-with (parts_among list day (take index list)) [] small (omega (arith, few, entries)) (All-nil TermsFit) (All-nil Books) (omega arith))
-
--- and so is what all fills add, with what the first allocations move
+-- what the fills of some entries add is light, with what the allocations of some move
 pub light-told :
-    (list : List Entry) (day : ℤ) (index : ℕ) → is_book list ≡ true → All IsSmall (parts_among list day list) → All TermsFit (terms_among list day (take index list))
-    → IsLight (parts_among list day list ++ moves_among list day (take index list))
-light-told list day index book small fit =
-    let fills = found-few (λ e. part_on day (standing_of list e) e) list (length list) in
-    let whole = ap (λ entries. length (parts_among list day entries)) (take_all (length list) list (omega arith)) in
-    let terms = found-few (λ e. terms_on day (standing_of list e) e) list index in
+    (list : List Entry) (day : ℤ) (first after place : ℕ) → is_book list ≡ true → All IsSmall (parts_among list day (between list first after))
+    → All TermsFit (terms_among list day (between list first place))
+    → IsLight (parts_among list day (between list first after) ++ moves_among list day (between list first place))
+light-told list day first after place book small fit =
+    let fills = found-few (λ e. part_on day (standing_of list e) e) (between list first after) in
+    let terms = found-few (λ e. terms_on day (standing_of list e) e) (between list first place) in
+    let some = between-few list first after in
+    let others = between-few list first place in
     let entries = few-entries list book in
-    light-with (parts_among list day list) (terms_among list day (take index list)) small (omega (arith, fills, whole, entries)) fit (books-told list day index book) (omega (arith, terms, entries))
+    light-with (parts_among list day (between list first after)) (terms_among list day (between list first place)) small (omega (arith, fills, some, entries)) fit
+    (books-told list day first place book) (omega (arith, terms, others, entries))
+
+-- and so are the fills alone
+pub light-fills : (list : List Entry) (day : ℤ) (first after : ℕ) → is_book list ≡ true → All IsSmall (parts_among list day (between list first after)) → IsLight (parts_among list day (between list first after))
+light-fills list day first after book small =
+    let none : terms_among list day (between list first first) ≡ [] = ap (filter_map (λ e. terms_on day (standing_of list e) e)) (between-none list first) in
+    light-front (parts_among list day (between list first after)) (moves_among list day (between list first first))
+    (light-told list day first after first book small (subst (All TermsFit) (sym none) (All-nil TermsFit)))
 
 -- the first of some moves after other parts are light where all are
 pub light-moves : (done moves : List Part) (index : ℕ) (part : Part) → IsLight (done ++ moves) → index < length moves → part ≡ get_or moves index part
@@ -78,11 +76,11 @@ light-moves done moves index part light within is =
     subst IsLight (ap (λ front. done ++ front) next ∙ sym (append_assoc done (take index moves) (part ∷ [])))
     (light-front (done ++ take (index + 1) moves) (drop (index + 1) moves) (subst IsLight whole light))
 
--- what the allocations up to one move, where it brings terms
+-- what the allocations of some entries move, with one more that brings terms
 pub moved-more :
-    (list : List Entry) (day : ℤ) (index : ℕ) (entry : Entry) (terms : Terms) → index < length list → entry ≡ get_or list index entry
-    → terms_on day (standing_of list entry) entry ≡ Some terms → moves_among list day (take (index + 1) list) ≡ moves_among list day (take index list) ++ moves_of terms
-moved-more list day index entry terms within is brought =
+    (list : List Entry) (day : ℤ) (before after : List Entry) (entry : Entry) (terms : Terms) → after ≡ before ++ entry ∷ [] → terms_on day (standing_of list entry) entry ≡ Some terms
+    → moves_among list day after ≡ moves_among list day before ++ moves_of terms
+moved-more list day before after entry terms next brought =
     let f : Entry → Option Terms = λ e. terms_on day (standing_of list e) e in
-    flat_found-more moves_of f list index entry within is
-    ∙ ap (λ back. flat_map moves_of (filter_map f (take index list)) ++ back) (ap (λ o. flat_map moves_of (cons_option o [])) brought ∙ append-nil (moves_of terms))
+    flat_found-more moves_of f before after entry next
+    ∙ ap (λ back. flat_map moves_of (filter_map f before) ++ back) (ap (λ o. flat_map moves_of (cons_option o [])) brought ∙ append-nil (moves_of terms))

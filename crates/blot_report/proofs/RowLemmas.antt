@@ -18,7 +18,7 @@ use Rattle.blot_command.proofs.ReachLemmas.{sizes}
 use Rattle.blot_command.proofs.WeightLemmas.{Light-list}
 use Rattle.blot_types.specs.declared.keys.PositionKey.{PositionKey}
 use Rattle.blot_report.specs.Lines.{position_row}
-use Rattle.blot_report.specs.Sums.{MadeOf, cell_row, cell_rows}
+use Rattle.blot_report.specs.Sums.{MadeOf, ShowsParts, cell_row, cell_rows}
 use Rattle.blot_report.proofs.KeyLemmas.{cells-more, cells-none}
 use Rattle.blot_report.proofs.WeightLemmas.{IsLight}
 
@@ -31,7 +31,7 @@ one-more done part f =
     let both = total-append f done (part ∷ []) in
     omega (arith, ints, one, both)
 
-light-whole : (parts : List Part) → IsLight parts → Light (BOOK_PARTS + 1) BOOK_QTY (λ f. total f parts)
+pub light-whole : (parts : List Part) → IsLight parts → Light (BOOK_PARTS + 1) BOOK_QTY (λ f. total f parts)
 light-whole parts light =
     let few = light.few in
     let limit = light.light in
@@ -60,7 +60,10 @@ mapped-same : {A B : Type 0} (f g : A → Option B) (xs : List A) → ((x : A) �
 mapped-same f g [] same = refl
 mapped-same f g (x ∷ xs) same = λ i. cons_option (same x i) (mapped-same f g xs same i)
 
-pub rows-carried : (parts : List Part) (cells : Cells) (keys : List PositionKey) → Carries (λ f. total f parts) cells → cell_rows cells keys ≡ filter_map (position_row parts) keys
-rows-carried parts cells keys carried =
+pub shows-made : (parts : List Part) (cells : Cells) → MadeOf parts cells → ShowsParts parts cells
+shows-made parts cells made = record { lines = λ a s. line-carried parts cells a s made.sums; cells = made.cells }
+
+pub rows-shown : (parts : List Part) (cells : Cells) (keys : List PositionKey) → ShowsParts parts cells → cell_rows cells keys ≡ filter_map (position_row parts) keys
+rows-shown parts cells keys shows =
     mapped-same (cell_row cells) (position_row parts) keys
-    (λ key. ap (option_map (λ line. record { position = key; line = line })) (line-carried parts cells key.account key.symbol carried))
+    (λ key. ap (option_map (λ line. record { position = key; line = line })) (shows.lines key.account key.symbol))

@@ -13,21 +13,13 @@ use Rattle.blot_types.specs.declared.link.Link.{Link}
 use Rattle.blot_types.specs.declared.part.Part.{Part}
 use Rattle.blot_types.specs.Allocations.{Allocation, allocation_of, instructions_of}
 use Rattle.blot_types.specs.Instructions.{ended_in}
-use Rattle.blot_types.specs.Position.{moves_of, part_of_fill}
+use Rattle.blot_types.specs.Position.{part_of_fill}
 use Rattle.blot_types.specs.Survivors.{links_of, stands_in, version_by, version_of}
 use Rattle.blot_command.specs.declared.standing.Standing.{Standing}
 use Rattle.blot_command.specs.declared.standing.Standing.TheVariants.{Stands, Live, Neither}
-use Rattle.blot_command.specs.Standings.{standing_of, allocation_standing, is_named_in, standing_by, standing_in}
+use Rattle.blot_command.specs.Standings.{allocation_standing, is_named_in, standing_by, standing_in}
 use Rattle.blot_report.specs.Day.{is_on, is_allocated_on, survivor_parts_on, allocations_on, fills_on}
-use Rattle.blot_report.specs.Standings.{day_terms, fill_by, fills_among, part_by, parts_among, terms_by, terms_on}
-
--- ---- the terms of the live allocations of a day among some entries of a list, in their order, and what their lines move
-
-abbrev pub terms_among : List Entry → ℤ → List Entry → List Terms
-terms_among list day entries = filter_map (λ entry. terms_on day (standing_of list entry) entry) entries
-
-abbrev pub moves_among : List Entry → ℤ → List Entry → List Part
-moves_among list day entries = flat_map moves_of (terms_among list day entries)
+use Rattle.blot_report.specs.Standings.{day_terms, fill_by, fills_among, part_by, parts_among, terms_among, terms_by}
 
 -- ---- the survivors of a day
 

@@ -1,6 +1,6 @@
 -- What stands on a day, as the standing of each entry tells it.
-use Rattle.std.specs.Prelude.{◌≡◌, ℤ, true, List, Option, Some, None, if◌then◌else◌}
-use Rattle.std.specs.List.{filter_map}
+use Rattle.std.specs.Prelude.{◌≡◌, ℕ, ℤ, true, List, ◌++◌, take, drop, Option, Some, None, if◌then◌else◌}
+use Rattle.std.specs.List.{filter_map, flat_map}
 use Rattle.std.specs.Option.{option_map}
 use Rattle.blot_types.specs.declared.allocation.Terms.{Terms}
 use Rattle.blot_types.specs.declared.command.Entry.{Entry}
@@ -9,7 +9,7 @@ use Rattle.blot_types.specs.declared.part.Part.{Part}
 use Rattle.blot_types.specs.declared.lines.Version.{Version}
 use Rattle.blot_types.specs.Allocations.{Allocation, allocation_of}
 use Rattle.blot_types.specs.Legal.{is_book}
-use Rattle.blot_types.specs.Position.{part_of_fill}
+use Rattle.blot_types.specs.Position.{moves_of, part_of_fill}
 use Rattle.blot_types.specs.Survivors.{version_of}
 use Rattle.blot_command.specs.declared.standing.Standing.{Standing}
 use Rattle.blot_command.specs.declared.standing.Standing.TheVariants.{Stands, Live, Neither}
@@ -64,3 +64,17 @@ fills_among list day entries = filter_map (λ entry. fill_on day (standing_of li
 
 abbrev pub parts_among : List Entry → ℤ → List Entry → List Part
 parts_among list day entries = filter_map (λ entry. part_on day (standing_of list entry) entry) entries
+
+-- the terms of the live allocations, and what their lines move
+abbrev pub terms_among : List Entry → ℤ → List Entry → List Terms
+terms_among list day entries = filter_map (λ entry. terms_on day (standing_of list entry) entry) entries
+
+abbrev pub moves_among : List Entry → ℤ → List Entry → List Part
+moves_among list day entries = flat_map moves_of (terms_among list day entries)
+
+-- the entries from one place to before another, and all parts that they bring
+abbrev pub between : List Entry → ℕ → ℕ → List Entry
+between list first after = drop first (take after list)
+
+abbrev pub parts_between : List Entry → ℤ → ℕ → ℕ → List Part
+parts_between list day first after = parts_among list day (between list first after) ++ moves_among list day (between list first after)

@@ -1,11 +1,14 @@
 -- How the parts of a day are summed, and the rows that come of them.
-use Rattle.std.specs.Prelude.{◌≡◌, List, map, Option}
+use Rattle.std.specs.Prelude.{◌≡◌, ℕ, ◌<◌, ◌^◌, ◌==◌, ◌||◌, List, map, filter, not, Option, unsigned_abs, if◌then◌else◌}
 use Rattle.std.specs.List.{filter_map, list_any}
 use Rattle.std.specs.Option.{option_map}
 use Rattle.blot_types.specs.declared.part.Part.{Part}
 use Rattle.blot_position.specs.Positions.{Cells, has_cell, same_key, sums_at}
 use Rattle.blot_position.specs.Carried.{Carries}
-use Rattle.blot_position.specs.Sums.{line_by}
+use Rattle.blot_position.specs.declared.sums.Sums.{Sums}
+use Rattle.blot_position.specs.declared.TheConstants.{PARTS_MAX}
+use Rattle.blot_position.specs.Sums.{line_by, with_one}
+use Rattle.blot_types.specs.Position.{is_at, position_by}
 use Rattle.blot_types.specs.Order.{total}
 use Rattle.blot_types.specs.declared.keys.PositionKey.{PositionKey}
 use Rattle.blot_report.specs.declared.lines.PositionRow.{PositionRow}
@@ -27,6 +30,31 @@ HasCells parts cells = (key : PositionKey) → has_cell cells key.account key.sy
 pub record MadeOf (parts : List Part) (positions : Cells) : Type 0 where
   pub sums : Carries (λ amount. total amount parts) positions
   pub cells : HasCells parts positions
+
+-- positions show parts: the line of each is that of the parts at it, and a cell was made for each position that the parts are of
+pub record ShowsParts (parts : List Part) (positions : Cells) : Type 0 where
+  pub lines : (account symbol : List ℕ) → line_by (sums_at positions account symbol) ≡ position_by (filter (is_at account symbol) parts)
+  pub cells : HasCells parts positions
+
+-- no sum comes to 2^126, half of what an `i128` holds: two of such positions can be added
+pub record LeavesHalf (positions : Cells) : Type 0 where
+  pub parts : (account symbol : List ℕ) → (sums_at positions account symbol).parts < PARTS_MAX
+  pub qty : (account symbol : List ℕ) → unsigned_abs (sums_at positions account symbol).qty < 2 ^ 126
+  pub value : (account symbol : List ℕ) → unsigned_abs (sums_at positions account symbol).value < 2 ^ 126
+
+-- positions that were made of parts, and leave room for as much again
+pub record IsOfParts (parts : List Part) (positions : Cells) : Type 0 where
+  pub made : MadeOf parts positions
+  pub half : LeavesHalf positions
+
+-- sums with others added as one part; as they were, where those have none
+abbrev pub with_sums : Sums → Sums → Sums
+with_sums others own = if others.parts == 0 then own else with_one others.qty others.value own
+
+-- positions to which others were added: the sums of each to its own, and a cell for each that has a part
+pub record AddsSums (own : Cells) (others : PositionKey → Sums) (both : Cells) : Type 0 where
+  pub sums : (key : PositionKey) → sums_at both key.account key.symbol ≡ with_sums (others key) (sums_at own key.account key.symbol)
+  pub cells : (key : PositionKey) → has_cell both key.account key.symbol ≡ (has_cell own key.account key.symbol || not ((others key).parts == 0))
 
 -- some positions are those of any parts that the cells were made for, sorted
 abbrev pub ArePositionsOf : Cells → List PositionKey → Type 0

@@ -1,9 +1,10 @@
 //! What the executions and the allocations of a day add to the positions.
-ghost use Rattle.std.specs.Prelude.{◌≡◌, [], ◌++◌, All, IfOk, OnOk};
+ghost use Rattle.std.specs.Prelude.{◌≡◌, ◌≤◌, [], ◌++◌, length, All, IfOk, OnOk};
 ghost use Rattle.blot_types.specs.Position.{moves_of, IsSmall, TermsFit};
+ghost use Rattle.blot_position.specs.Positions.{sums_at};
 ghost use Rattle.blot_report.specs.Day.{day_parts_of};
-ghost use Rattle.blot_report.specs.Standings.{AreStandings, parts_among};
-ghost use Rattle.blot_report.specs.Sums.{MadeOf};
+ghost use Rattle.blot_report.specs.Standings.{AreStandings, between, parts_among, parts_between};
+ghost use Rattle.blot_report.specs.Sums.{AddsSums, IsOfParts, LeavesHalf, MadeOf, ShowsParts};
 
 use crate::standing::{part_on, standing_at, terms_on};
 use blot_command::Standing;
@@ -11,6 +12,7 @@ use blot_position::Positions;
 use blot_time::Day;
 use blot_types::{Entry, Part, Terms};
 use std::alloc::{AllocError as NoMemory, Global};
+use std::thread::{Threads, join};
 
 /// The positions of a day: what its executions that stand add, and then what the lines of its live allocations move. An error is out
 /// of memory.
@@ -21,27 +23,79 @@ pub(crate) fn positions_on(
     day: Day,
 ) -> Result<Positions, NoMemory>
     requires { AreStandings entries.now standings.now }
-    ensures { IfOk result (MadeOf (day_parts_of entries.now day)) }
+    ensures { IfOk result (ShowsParts (day_parts_of entries.now day)) }
 {
-    let mut positions = Positions::new(alloc);
-    add_fills(&mut positions, entries, standings, day)?;
-    add_moves(&mut positions, alloc, entries, standings, day)?;
+    positions_between(alloc, entries, standings, day, 0, entries.len())
+}
+
+/// The same, where each half of the entries is a thread's.
+pub(crate) fn positions_in_halves<R: Threads + Sync>(
+    rt: &R,
+    alloc: Global,
+    entries: &[Entry],
+    standings: &[Standing],
+    day: Day,
+) -> Result<Positions, NoMemory>
+    requires { AreStandings entries.now standings.now }
+    ensures { IfOk result (ShowsParts (day_parts_of entries.now day)) }
+{
+    let after = entries.len();
+    let middle = after / 2;
+    let (first, second) = join(
+        rt,
+        || -> Result<Positions, NoMemory>
+            requires { AreStandings entries.now standings.now × (middle ≤ length entries.now) }
+            ensures { IfOk result (IsOfParts (parts_between entries.entry.now day 0 middle)) }
+        { positions_between(alloc, entries, standings, day, 0, middle) },
+        || -> Result<Positions, NoMemory>
+            requires { AreStandings entries.now standings.now × (middle ≤ after) × (after ≤ length entries.now) }
+            ensures { IfOk result (IsOfParts (parts_between entries.entry.now day middle after)) }
+        { positions_between(alloc, entries, standings, day, middle, after) },
+    );
+    let mut positions = first?;
+    let others = second?;
+    add_positions(&mut positions, alloc, &others)?;
     Ok(positions)
 }
 
-// Adds what the executions that stand add, to positions without a part.
+// The positions of the entries from one place to before another, by the standings of all.
+fn positions_between(
+    alloc: Global,
+    entries: &[Entry],
+    standings: &[Standing],
+    day: Day,
+    first: usize,
+    after: usize,
+) -> Result<Positions, NoMemory>
+    requires standings { AreStandings entries.now standings.now }
+    requires rising { first ≤ after }
+    requires within { after ≤ length entries.now }
+    ensures { IfOk result (IsOfParts (parts_between entries.now day first after)) }
+{
+    let mut positions = Positions::new(alloc);
+    add_fills(&mut positions, entries, standings, day, first, after)?;
+    add_moves(&mut positions, alloc, entries, standings, day, first, after)?;
+    Ok(positions)
+}
+
+// Adds what the executions among these entries that stand add, to positions without a part.
 fn add_fills(
     positions: &mut Positions,
     entries: &[Entry],
     standings: &[Standing],
     day: Day,
+    first: usize,
+    after: usize,
 ) -> Result<(), NoMemory>
     requires standings { AreStandings entries.now standings.now }
+    requires rising { first ≤ after }
+    requires within { after ≤ length entries.now }
     requires none { MadeOf [] positions.old }
-    ensures made { OnOk result (MadeOf (parts_among entries.now day entries.now) positions.new) }
-    ensures small { OnOk result (All IsSmall (parts_among entries.now day entries.now)) }
+    ensures made { OnOk result (MadeOf (parts_among entries.now day (between entries.now first after)) positions.new) }
+    ensures small { OnOk result (All IsSmall (parts_among entries.now day (between entries.now first after))) }
 {
-    for (place, entry) in entries.iter().enumerate() {
+    for place in first..after {
+        let entry = &entries[place];
         let standing = standing_at(entries, standings, place, entry);
         if let Some(part) = part_on(entry, standing, day) {
             positions.add(&part.account, &part.symbol, part.qty, part.value)?;
@@ -50,22 +104,27 @@ fn add_fills(
     Ok(())
 }
 
-// Adds what the lines of the live allocations move, to the positions of the executions. That the moves of an allocation fit is known once
-// all its lines are read, so they are put into a list first.
+// Adds what the lines of the live allocations among these entries move, to the positions of their executions. That the moves of an
+// allocation fit is known once all its lines are read, so they are put into a list first.
 fn add_moves(
     positions: &mut Positions,
     alloc: Global,
     entries: &[Entry],
     standings: &[Standing],
     day: Day,
+    first: usize,
+    after: usize,
 ) -> Result<(), NoMemory>
     requires standings { AreStandings entries.now standings.now }
-    requires made { MadeOf (parts_among entries.now day entries.now) positions.old }
-    requires small { All IsSmall (parts_among entries.now day entries.now) }
-    ensures { OnOk result (MadeOf (day_parts_of entries.now day) positions.new) }
+    requires rising { first ≤ after }
+    requires within { after ≤ length entries.now }
+    requires made { MadeOf (parts_among entries.now day (between entries.now first after)) positions.old }
+    requires small { All IsSmall (parts_among entries.now day (between entries.now first after)) }
+    ensures { OnOk result (IsOfParts (parts_between entries.now day first after) positions.new) }
 {
     let mut moves = Vec::new(alloc);
-    for (place, entry) in entries.iter().enumerate() {
+    for place in first..after {
+        let entry = &entries[place];
         let standing = standing_at(entries, standings, place, entry);
         if let Some(terms) = terms_on(entry, standing, day) {
             moves.clear();
@@ -73,6 +132,25 @@ fn add_moves(
             for part in &moves {
                 positions.add(&part.account, &part.symbol, part.qty, part.value)?;
             }
+        }
+    }
+    Ok(())
+}
+
+// Adds the sums of other positions, those of each as one part.
+fn add_positions(
+    positions: &mut Positions,
+    alloc: Global,
+    others: &Positions,
+) -> Result<(), NoMemory>
+    requires own { LeavesHalf positions.old }
+    requires others { LeavesHalf others.now }
+    ensures { OnOk result (AddsSums positions.old (λ key. sums_at others.now key.account key.symbol) positions.new) }
+{
+    let keys = others.keys(alloc)?;
+    for key in &keys {
+        if let Some(line) = others.get(&key.account, &key.symbol) {
+            positions.add(&key.account, &key.symbol, line.qty, line.value)?;
         }
     }
     Ok(())

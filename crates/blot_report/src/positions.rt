@@ -6,7 +6,7 @@ ghost use Rattle.blot_report.specs.Standings.{AreStandings};
 ghost use Rattle.blot_report.specs.Sums.{ArePositionsOf, cell_row, cell_rows};
 
 use crate::PositionRow;
-use crate::parts::positions_on;
+use crate::parts::{positions_in_halves, positions_on};
 use crate::pieces::in_pieces;
 use blot_command::Standing;
 use blot_position::Positions;
@@ -30,7 +30,7 @@ pub(crate) fn position_rows(
     rows_of(alloc, &positions, &keys)
 }
 
-/// The same, where each piece of the positions is a worker's.
+/// The same, where each half of the entries is a thread's, and each piece of the positions a worker's.
 pub(crate) fn position_rows_in_pieces<R: Threads + Sync>(
     rt: &R,
     alloc: Global,
@@ -41,7 +41,7 @@ pub(crate) fn position_rows_in_pieces<R: Threads + Sync>(
     requires { AreStandings entries.now standings.now }
     ensures { IfOk result (λ rows. rows.items ≡ position_rows (day_parts_of entries.now day)) }
 {
-    let positions = positions_on(alloc, entries, standings, day)?;
+    let positions = positions_in_halves(rt, alloc, entries, standings, day)?;
     let keys = sorted_positions(alloc, &positions)?;
     rows_in_pieces(rt, alloc, &positions, &keys)
 }

@@ -1,4 +1,4 @@
-use Rattle.std.proofs.Common.{◌≡◌, ◌+◌, ◌∷◌, [], ◌++◌, Option, Some, take, sym, ap, subst, ◌∙◌}
+use Rattle.std.proofs.Common.{◌≡◌, ◌+◌, arith, ◌∷◌, [], ◌++◌, Option, Some, sym, ap, subst, ◌∙◌}
 use Rattle.std.specs.Prelude.{IfSome}
 use Rattle.std.specs.List.{filter_map}
 use Rattle.blot_types.specs.declared.command.Entry.{Entry}
@@ -6,9 +6,9 @@ use Rattle.blot_types.specs.declared.part.Part.{Part}
 use Rattle.blot_types.specs.Position.{IsSmall}
 use Rattle.blot_command.specs.declared.standing.Standing.{Standing}
 use Rattle.blot_command.specs.Standings.{standing_of}
-use Rattle.blot_report.specs.Standings.{part_on}
+use Rattle.blot_report.specs.Standings.{between, part_on}
 use Rattle.blot_report.specs.Sums.{MadeOf}
-use Rattle.blot_report.proofs.ListLemmas.{all-found, all-passed, found-one, found-none}
+use Rattle.blot_report.proofs.ListLemmas.{between-more, all-found, all-passed, found-one, found-none}
 use Rattle.blot_report.proofs.PartLemmas.{light-fills}
 use Rattle.blot_report.proofs.WeightLemmas.{IsLight}
 use Rattle.blot_report.proofs.RowLemmas.{made-more, room-more}
@@ -19,42 +19,46 @@ pub add-requires : goal.add-requires
 add-requires c =
     let list = c.args.entries.now in
     let f : Entry → Option Part = λ e. part_on c.args.day (standing_of list e) e in
-    let index = c.loop-place.place in
     let entry = c.index-entries-place.result in
     let part = c.in-Some.part in
-    let within = c.loop-place-test.true in
+    let before = between list c.args.first c.loop-place.place in
+    let after = between list c.args.first (c.loop-place.place + 1) in
+    let next = between-more list c.args.first c.loop-place.place entry c.loop-place.invariant.low (omega (arith, c.loop-place-test.true, c.requires.within)) c.index-entries-place.is in
     let told = c.part_on.ensures.part ∙ ap (λ (s : Standing). part_on c.args.day s entry) c.standing_at-standing.ensures in
     let brought : f entry ≡ Some part = sym told ∙ c.in-Some.is in
-    let small = all-found IsSmall f list index entry part within c.index-entries-place.is c.loop-place.invariant.small brought
+    let small = all-found IsSmall f before after entry part next c.loop-place.invariant.small brought
     (subst (λ found. IfSome found IsSmall) c.in-Some.is c.part_on.ensures.small) in
-    let light = subst IsLight (found-one f list index entry part within c.index-entries-place.is brought)
-    (light-fills list c.args.day (index + 1) c.requires.standings.book small) in
-    record { room = room-more (filter_map f (take index list)) part c.loop-place.positions light c.loop-place.invariant.made }
+    let light = subst IsLight (found-one f before after entry part next brought)
+    (light-fills list c.args.day c.args.first (c.loop-place.place + 1) c.requires.standings.book small) in
+    record { room = room-more (filter_map f before) part c.loop-place.positions light c.loop-place.invariant.made }
 
 pub loop-place-preserved : goal.loop-place-preserved
 loop-place-preserved c =
     let list = c.args.entries.now in
     let f : Entry → Option Part = λ e. part_on c.args.day (standing_of list e) e in
-    let index = c.loop-place.place in
     let entry = c.index-entries-place.result in
-    let within = c.loop-place-test.true in
+    let before = between list c.args.first c.loop-place.place in
+    let after = between list c.args.first (c.loop-place.place + 1) in
+    let next = between-more list c.args.first c.loop-place.place entry c.loop-place.invariant.low (omega (arith, c.loop-place-test.true, c.requires.within)) c.index-entries-place.is in
     let told = c.part_on.ensures.part ∙ ap (λ (s : Standing). part_on c.args.day s entry) c.standing_at-standing.ensures in
     elim c.match-part_on.branch [
       | in-Some+in_ok-add w ↦
           let part = w.in-Some.part in
           let brought = sym told ∙ w.in-Some.is in
-          let made = made-more (filter_map f (take index list)) part c.loop-place.positions c.loop-place.invariant.made in
+          let made = made-more (filter_map f before) part c.loop-place.positions c.loop-place.invariant.made in
           record {
-            made = subst (λ parts. MadeOf parts c.match-part_on.positions) (sym (found-one f list index entry part within c.index-entries-place.is brought))
-                (subst (MadeOf (filter_map f (take index list) ++ part ∷ [])) (sym (w.positions-is ∙ w.in_ok-add.ensures.ok)) made);
-            small = all-found IsSmall f list index entry part within c.index-entries-place.is c.loop-place.invariant.small brought
+            low = omega (arith, c.loop-place.invariant.low);
+            made = subst (λ parts. MadeOf parts c.match-part_on.positions) (sym (found-one f before after entry part next brought))
+                (subst (MadeOf (filter_map f before ++ part ∷ [])) (sym (w.positions-is ∙ w.in_ok-add.ensures.ok)) made);
+            small = all-found IsSmall f before after entry part next c.loop-place.invariant.small brought
                 (subst (λ found. IfSome found IsSmall) w.in-Some.is c.part_on.ensures.small);
           }
       | in_default w ↦
           let none = sym told ∙ w.in_default.is in
           record {
-            made = subst (λ parts. MadeOf parts c.match-part_on.positions) (sym (found-none f list index entry within c.index-entries-place.is none))
-                (subst (MadeOf (filter_map f (take index list))) (sym w.positions-is) c.loop-place.invariant.made);
-            small = all-passed IsSmall f list index entry within c.index-entries-place.is c.loop-place.invariant.small none;
+            low = omega (arith, c.loop-place.invariant.low);
+            made = subst (λ parts. MadeOf parts c.match-part_on.positions) (sym (found-none f before after entry next none))
+                (subst (MadeOf (filter_map f before)) (sym w.positions-is) c.loop-place.invariant.made);
+            small = all-passed IsSmall f before after entry next c.loop-place.invariant.small none;
           }
     ]

@@ -1,4 +1,5 @@
-use Rattle.std.proofs.Common.{◌≡◌, ◌+◌, List, [], ◌∷◌, ◌++◌, Option, Some, take, sym, ap, subst, ◌∙◌}
+use Rattle.std.proofs.Common.{◌≡◌, ◌+◌, arith, List, [], ◌∷◌, ◌++◌, Option, Some, take, sym, ap, subst, ◌∙◌}
+use Rattle.std.specs.Prelude.{All}
 use Rattle.std.specs.List.{flat_map}
 use Rattle.std.specs.Option.{option_copied}
 use Rattle.std.proofs.lemmas.List.{append_assoc, take_all}
@@ -9,11 +10,11 @@ use Rattle.blot_types.specs.Position.{moves_of, TermsFit}
 use Rattle.blot_command.specs.declared.standing.Standing.{Standing}
 use Rattle.blot_command.specs.Standings.{standing_of}
 use Rattle.blot_position.specs.Positions.{with_part}
-use Rattle.blot_report.specs.Standings.{parts_among, terms_on}
-use Rattle.blot_report.proofs.StandingLemmas.{moves_among}
+use Rattle.blot_report.specs.Standings.{between, moves_among, parts_among, parts_between, terms_among, terms_on}
 use Rattle.blot_report.specs.Sums.{MadeOf}
-use Rattle.blot_report.proofs.ListLemmas.{all-found, all-passed, found-none, more}
-use Rattle.blot_report.proofs.PartLemmas.{day_parts-told, light-moves, light-told, moved-more}
+use Rattle.blot_report.proofs.ListLemmas.{between-more, all-found, all-passed, found-none, more}
+use Rattle.blot_report.proofs.HalfLemmas.{half-light}
+use Rattle.blot_report.proofs.PartLemmas.{light-moves, light-told, moved-more}
 use Rattle.blot_report.proofs.WeightLemmas.{IsLight}
 use Rattle.blot_report.proofs.RowLemmas.{made-more, room-more}
 use Rattle.blot_report.proofs.parts.add_moves.Goals as goal
@@ -28,30 +29,31 @@ add-requires c =
     let list = c.args.entries.now in
     let day = c.args.day in
     let f : Entry → Option Terms = λ e. terms_on day (standing_of list e) e in
-    let place = c.loop-place.place in
     let entry = c.index-entries-place.result in
     let terms = c.in-Some.terms.now in
-    let within = c.loop-place-test.true in
+    let before = between list c.args.first c.loop-place.place in
+    let after = between list c.args.first (c.loop-place.place + 1) in
+    let next = between-more list c.args.first c.loop-place.place entry c.loop-place.invariant.low (omega (arith, c.loop-place-test.true, c.requires.within)) c.index-entries-place.is in
     let told = c.terms_on.ensures ∙ ap (λ (s : Standing). terms_on day s entry) c.standing_at-standing.ensures in
     let brought : f entry ≡ Some terms = sym told ∙ ap option_copied c.in-Some.is in
-    let fit = all-found TermsFit f list place entry terms within c.index-entries-place.is c.loop-place.invariant.fit brought c.in_ok-put_moves.ensures.fit in
-    let fills = parts_among list day list in
-    let before = moves_among list day (take place list) in
+    let fit = all-found TermsFit f before after entry terms next c.loop-place.invariant.fit brought c.in_ok-put_moves.ensures.fit in
+    let fills = parts_among list day (between list c.args.first c.args.after) in
+    let moved = moves_among list day before in
     let moves = c.deref-part-items.result.now in
     let own : moves ≡ moves_of terms = put moves c.clear.new.self.items terms c.clear.ensures.items (c.deref-part-items.ensures.value ∙ c.in_ok-put_moves.ensures.parts) in
-    let whole : fills ++ moves_among list day (take (place + 1) list) ≡ (fills ++ before) ++ moves =
-    ap (λ back. fills ++ back) (moved-more list day place entry terms within c.index-entries-place.is brought)
-    ∙ sym (append_assoc fills before (moves_of terms)) ∙ ap (λ back. (fills ++ before) ++ back) (sym own) in
-    let light = subst IsLight whole (light-told list day (place + 1) c.requires.standings.book c.requires.small fit) in
+    let whole : fills ++ moves_among list day after ≡ (fills ++ moved) ++ moves =
+    ap (λ back. fills ++ back) (moved-more list day before after entry terms next brought)
+    ∙ sym (append_assoc fills moved (moves_of terms)) ∙ ap (λ back. (fills ++ moved) ++ back) (sym own) in
+    let light = subst IsLight whole (light-told list day c.args.first c.args.after (c.loop-place.place + 1) c.requires.standings.book c.requires.small fit) in
     record {
-      room = room-more ((fills ++ before) ++ take c.loop-part.part-index moves) c.part-item.result c.loop-part.positions
-          (light-moves (fills ++ before) moves c.loop-part.part-index c.part-item.result light c.loop-part-test.true c.part-item.is) c.loop-part.invariant;
+      room = room-more ((fills ++ moved) ++ take c.loop-part.part-index moves) c.part-item.result c.loop-part.positions
+          (light-moves (fills ++ moved) moves c.loop-part.part-index c.part-item.result light c.loop-part-test.true c.part-item.is) c.loop-part.invariant;
     }
 
 pub loop-part-preserved : goal.loop-part-preserved
 loop-part-preserved c =
     let list = c.args.entries.now in
-    let done = parts_among list c.args.day list ++ moves_among list c.args.day (take c.loop-place.place list) in
+    let done = parts_among list c.args.day (between list c.args.first c.args.after) ++ moves_among list c.args.day (between list c.args.first c.loop-place.place) in
     let moves = c.deref-part-items.result.now in
     let index = c.loop-part.part-index in
     let part = c.part-item.result in
@@ -66,12 +68,13 @@ loop-place-preserved c =
     let list = c.args.entries.now in
     let day = c.args.day in
     let f : Entry → Option Terms = λ e. terms_on day (standing_of list e) e in
-    let place = c.loop-place.place in
     let entry = c.index-entries-place.result in
-    let within = c.loop-place-test.true in
+    let before = between list c.args.first c.loop-place.place in
+    let after = between list c.args.first (c.loop-place.place + 1) in
+    let next = between-more list c.args.first c.loop-place.place entry c.loop-place.invariant.low (omega (arith, c.loop-place-test.true, c.requires.within)) c.index-entries-place.is in
     let told = c.terms_on.ensures ∙ ap (λ (s : Standing). terms_on day s entry) c.standing_at-standing.ensures in
-    let fills = parts_among list day list in
-    let before = moves_among list day (take place list) in
+    let fills = parts_among list day (between list c.args.first c.args.after) in
+    let moved = moves_among list day before in
     let positions = c.match-terms_on.positions in
     elim c.match-terms_on.branch [
       | in-Some+in_ok-put_moves+else-loop-part-test w ↦
@@ -79,20 +82,22 @@ loop-place-preserved c =
           let brought = sym told ∙ ap option_copied w.in-Some.is in
           let moves = w.deref-part-items.result.now in
           let own : moves ≡ moves_of terms = put moves w.clear.new.self.items terms w.clear.ensures.items (w.deref-part-items.ensures.value ∙ w.in_ok-put_moves.ensures.parts) in
-          let all : (fills ++ before) ++ take w.loop-part.part-index moves ≡ fills ++ moves_among list day (take (place + 1) list) =
-          ap (λ back. (fills ++ before) ++ back) (take_all w.loop-part.part-index moves w.loop-part-test.false ∙ own) ∙ append_assoc fills before (moves_of terms)
-          ∙ ap (λ back. fills ++ back) (sym (moved-more list day place entry terms within c.index-entries-place.is brought)) in
+          let all : (fills ++ moved) ++ take w.loop-part.part-index moves ≡ fills ++ moves_among list day after =
+          ap (λ back. (fills ++ moved) ++ back) (take_all w.loop-part.part-index moves w.loop-part-test.false ∙ own) ∙ append_assoc fills moved (moves_of terms)
+          ∙ ap (λ back. fills ++ back) (sym (moved-more list day before after entry terms next brought)) in
           record {
+            low = omega (arith, c.loop-place.invariant.low);
             made = subst (λ parts. MadeOf parts positions) all
-                (subst (MadeOf ((fills ++ before) ++ take w.loop-part.part-index moves)) (sym w.positions-is) w.loop-part.invariant);
-            fit = all-found TermsFit f list place entry terms within c.index-entries-place.is c.loop-place.invariant.fit brought w.in_ok-put_moves.ensures.fit;
+                (subst (MadeOf ((fills ++ moved) ++ take w.loop-part.part-index moves)) (sym w.positions-is) w.loop-part.invariant);
+            fit = all-found TermsFit f before after entry terms next c.loop-place.invariant.fit brought w.in_ok-put_moves.ensures.fit;
           }
       | in_default w ↦
           let none = sym told ∙ ap option_copied w.in_default.is in
           record {
-            made = subst (λ parts. MadeOf parts positions) (ap (λ found. fills ++ flat_map moves_of found) (sym (found-none f list place entry within c.index-entries-place.is none)))
-                (subst (MadeOf (fills ++ before)) (sym w.positions-is) c.loop-place.invariant.made);
-            fit = all-passed TermsFit f list place entry within c.index-entries-place.is c.loop-place.invariant.fit none;
+            low = omega (arith, c.loop-place.invariant.low);
+            made = subst (λ parts. MadeOf parts positions) (ap (λ found. fills ++ flat_map moves_of found) (sym (found-none f before after entry next none)))
+                (subst (MadeOf (fills ++ moved)) (sym w.positions-is) c.loop-place.invariant.made);
+            fit = all-passed TermsFit f before after entry next c.loop-place.invariant.fit none;
           }
     ]
 
@@ -100,6 +105,10 @@ pub returns : goal.returns
 returns c =
     let list = c.args.entries.now in
     let day = c.args.day in
-    subst (λ parts. MadeOf parts c.loop-place.positions)
-    (ap (λ entries. parts_among list day list ++ moves_among list day entries) (take_all c.loop-place.place list c.loop-place-test.false) ∙ day_parts-told list day)
-    c.loop-place.invariant.made
+    let first = c.args.first in
+    let after = c.args.after in
+    let all : c.loop-place.place ≡ after = omega (arith, c.loop-place-test.false, c.loop-place.auto.place-end, c.requires.rising) in
+    let fills = parts_among list day (between list first after) in
+    let made = subst (λ place. MadeOf (fills ++ moves_among list day (between list first place)) c.loop-place.positions) all c.loop-place.invariant.made in
+    let fit = subst (λ place. All TermsFit (terms_among list day (between list first place))) all c.loop-place.invariant.fit in
+    record { made = made; half = half-light (parts_between list day first after) c.loop-place.positions (light-told list day first after after c.requires.standings.book c.requires.small fit) made }

@@ -1,5 +1,14 @@
-use Rattle.blot_report.proofs.RowLemmas.{made-none}
+use Rattle.std.proofs.Common.{length, subst}
+use Rattle.blot_report.specs.Sums.{ShowsParts}
+use Rattle.blot_report.specs.Standings.{parts_between}
+use Rattle.blot_report.proofs.HalfLemmas.{parts-whole}
+use Rattle.blot_report.proofs.ListLemmas.{if_ok}
+use Rattle.blot_report.proofs.RowLemmas.{shows-made}
 use Rattle.blot_report.proofs.parts.positions_on.Goals as goal
 
-pub add_fills-requires-clause-none : goal.add_fills-requires-clause-none
-add_fills-requires-clause-none c = made-none c.new-positions.result c.new-positions.ensures
+pub returns : goal.returns
+returns c =
+    let list = c.args.entries.now in
+    let day = c.args.day in
+    if_ok c.positions_between.result _ _
+    (λ positions own. subst (λ parts. ShowsParts parts positions) (parts-whole list day) (shows-made (parts_between list day 0 (length list)) positions own.made)) c.positions_between.ensures
