@@ -1,4 +1,4 @@
--- What a desk comes to by a capture, and the report of a day.
+-- What a desk comes to by a capture, and the report of its day.
 use Rattle.std.specs.Prelude.{◌≡◌, ℕ, ℤ, ◌<◌, ◌≤◌, ⊤, List, ◌++◌, length, map, fold, Option, Some, None, IfSome}
 use Rattle.blot_types.specs.declared.command.Command.{Command}
 use Rattle.blot_types.specs.declared.command.Entry.{Entry}
@@ -8,8 +8,7 @@ use Rattle.blot_desk.specs.declared.event.Event.TheVariants.{Submit}
 use Rattle.blot_desk.specs.declared.fault.DeskFault.{DeskFault}
 use Rattle.blot_desk.specs.declared.fault.DeskFault.TheVariants as desk
 use Rattle.blot_desk.specs.Desk.{Journal, empty_journal, recorded_of, run_of}
-use Rattle.blot_report.specs.Lines.{day_lines_of}
-use Rattle.blot_report.specs.Text.{report_text}
+use Rattle.blot_report.specs.Text.{report_of}
 use Rattle.blot_capture.specs.Capture.{Sessions, commands_over, commands_of, first_sessions}
 use Rattle.blot_stream.specs.declared.outcome.ReplayFault.{ReplayFault}
 use Rattle.blot_stream.specs.declared.outcome.ReplayFault.TheVariants.{Full, NoMemory}
@@ -40,10 +39,6 @@ captured_by own peers bytes = submitted empty_journal (commands_of own peers byt
 -- the live list that a capture leads to: that of the run of its commands, each submitted, from the empty book
 abbrev pub list_of : List ℕ → List (List ℕ) → List ℕ → List Entry
 list_of own peers bytes = (run_of (map Submit (commands_of own peers bytes))).book.list
-
--- the report of a day of a list
-abbrev pub report_of : List Entry → ℤ → List ℕ
-report_of list day = report_text (day_lines_of list day)
 
 -- the report of a day of a byte stream
 abbrev pub replay_of : List ℕ → List (List ℕ) → ℤ → List ℕ → List ℕ

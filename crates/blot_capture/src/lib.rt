@@ -14,5 +14,5 @@ mod sessions;
 pub use became::Became;
 pub use capturing::capture;
 pub use handled::Handled;
-pub use replaying::{day_report, day_report_parallel, replay, replay_within};
+pub use replaying::{replay, replay_within};
 pub use sessions::Sessions;

@@ -5,19 +5,19 @@ ghost use Rattle.std.specs.List.{IsDistinct};
 ghost use Rattle.blot_types.specs.Keys.{same_text};
 ghost use Rattle.blot_desk.specs.Desk.{events_of, run_of};
 ghost use Rattle.blot_stream.specs.Texts.{AppendsFrontOf, AppendsOf, IsTextOf, KeepsUnlessWrite};
-ghost use Rattle.blot_capture.specs.Replay.{Fits, Overfills, replay_of, report_of};
+ghost use Rattle.blot_report.specs.Text.{report_of};
+ghost use Rattle.blot_capture.specs.Replay.{Fits, Overfills, replay_of};
 ghost use Rattle.blot_capture.specs.Trace.{IsReplayed};
 
 use crate::capturing::capture_within;
 use blot_desk::Held;
 use blot_gateway::READS_MAX;
-use blot_report::{day_lines, day_lines_parallel, report_text};
+use blot_report::{day_lines, report_text};
 use blot_stream::{ReplayFault, write_text};
 use blot_time::Day;
 use blot_types::{EVENTS_MAX, Text64};
 use std::alloc::{AllocError as NoMemory, Global};
 use std::io::{Read, Write};
-use std::thread::Threads;
 
 /// Takes a capture to its end, as `capture` does into an empty desk, and writes the report of a day. Nothing is written
 /// before the end of the input. No peer may be listed twice.
@@ -94,6 +94,7 @@ fn captured_report<R: Read>(
 {
     let mut held = Held::new(alloc);
     if let Err(fault) = capture_within(alloc, input, own, peers, &mut held, reads) {
+        drop(held);
         return Err(fault);
     }
     match day_report(alloc, held, day) {
@@ -102,27 +103,12 @@ fn captured_report<R: Read>(
     }
 }
 
-/// The report of a day of a desk. The desk goes first, so that the report takes its room.
-pub fn day_report(alloc: Global, held: Held, day: Day) -> Result<Vec<u8>, NoMemory>
+// The report of a day of a desk. The desk goes first, so that the report takes its room.
+fn day_report(alloc: Global, held: Held, day: Day) -> Result<Vec<u8>, NoMemory>
     ensures text { IfOk result (λ text. text.items ≡ report_of (run_of (events_of held.history)).book.list day) }
     ensures few { length held.history ≤ EVENTS_MAX }
 {
     let snapshot = held.into_snapshot()?;
     let lines = day_lines(alloc, &snapshot, day)?;
-    report_text(alloc, &lines)
-}
-
-/// The same report, made by several threads.
-pub fn day_report_parallel<R: Threads + Sync>(
-    rt: &R,
-    alloc: Global,
-    held: Held,
-    day: Day,
-) -> Result<Vec<u8>, NoMemory>
-    ensures text { IfOk result (λ text. text.items ≡ report_of (run_of (events_of held.history)).book.list day) }
-    ensures few { length held.history ≤ EVENTS_MAX }
-{
-    let snapshot = held.into_snapshot()?;
-    let lines = day_lines_parallel(rt, alloc, &snapshot, day)?;
     report_text(alloc, &lines)
 }

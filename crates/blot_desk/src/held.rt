@@ -63,14 +63,19 @@ impl Held {
         ensures err { OnErr result (self.new ≡ self.old) }
     {
         if self.history.len() as u64 == EVENTS_MAX {
+            drop(event);
             return Err(DeskFault::Full);
         }
         let Ok(()) = self.history.reserve(1) else {
+            drop(event);
             return Err(DeskFault::NoMemory);
         };
         let reply = match take(&mut self.steps, self.alloc, &event) {
             Ok(reply) => reply,
-            Err(_) => return Err(DeskFault::NoMemory),
+            Err(_) => {
+                drop(event);
+                return Err(DeskFault::NoMemory);
+            }
         };
         record(&mut self.history, event, &reply);
         Ok(reply)

@@ -63,17 +63,23 @@ impl<L: Ledger> Seat<L> {
         let Counted { held, book } = counted;
         let place = held.history().len() as u64;
         if place == EVENTS_MAX {
+            drop(event);
             return Err(DeskFault::Full);
         }
         let Ok(()) = self.receipts.reserve(1) else {
+            drop(event);
             return Err(DeskFault::NoMemory);
         };
         let Ok(copy) = event.try_copy(alloc) else {
+            drop(event);
             return Err(DeskFault::NoMemory);
         };
         let reply = match held.step(event) {
             Ok(reply) => reply,
-            Err(fault) => return Err(fault),
+            Err(fault) => {
+                drop(copy);
+                return Err(fault);
+            }
         };
         book.add(&mut self.share, 1);
         keep(&mut self.receipts, place, copy, &reply);

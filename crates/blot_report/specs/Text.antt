@@ -4,6 +4,7 @@ use Rattle.std.specs.Fmt.{decimal}
 use Rattle.std.specs.List.{flat_map}
 use Rattle.blot_decimal.specs.Printed.{printed}
 use Rattle.blot_time.specs.Day.{day_text}
+use Rattle.blot_types.specs.declared.command.Entry.{Entry}
 use Rattle.blot_types.specs.declared.fill.Sign.{Sign}
 use Rattle.blot_types.specs.declared.fill.Sign.TheVariants.{Buy, Sell}
 use Rattle.blot_types.specs.declared.keys.OrderKey.{OrderKey}
@@ -12,6 +13,7 @@ use Rattle.blot_types.specs.declared.lines.PositionLine.{PositionLine}
 use Rattle.blot_report.specs.declared.lines.DayLines.{DayLines}
 use Rattle.blot_report.specs.declared.lines.OrderRow.{OrderRow}
 use Rattle.blot_report.specs.declared.lines.PositionRow.{PositionRow}
+use Rattle.blot_report.specs.Lines.{day_lines_of}
 
 -- a word and the tab after it
 abbrev pub word : List ℕ → List ℕ
@@ -63,3 +65,7 @@ position_lines_text rows = flat_map (λ row. position_text row.position.account 
 abbrev pub report_text : DayLines → List ℕ
 report_text lines =
     first_text lines.day ++ order_lines_text lines.orders ++ position_lines_text lines.positions ++ last_text lines
+
+-- the report of a day of a list
+abbrev pub report_of : List Entry → ℤ → List ℕ
+report_of list day = report_text (day_lines_of list day)

@@ -71,8 +71,15 @@ fn captured_trail<R: Read>(
 {
     let mut held = Held::new(alloc);
     match Sessions::new(alloc, own, peers) {
-        Ok(mut sessions) => tell_all(alloc, input, &mut sessions, &mut held),
-        Err(_) => Err(ReplayFault::NoMemory),
+        Ok(mut sessions) => {
+            let told = tell_all(alloc, input, &mut sessions, &mut held);
+            drop(held);
+            told
+        }
+        Err(_) => {
+            drop(held);
+            Err(ReplayFault::NoMemory)
+        }
     }
 }
 

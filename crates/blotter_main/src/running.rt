@@ -8,20 +8,24 @@ ghost use Rattle.blot_stream.specs.Texts.{AppendsOf};
 ghost use Rattle.blot_operator.specs.Operating.{answers_of};
 ghost use Rattle.blot_capture.specs.Replay.{captured_by};
 ghost use Rattle.blot_rounds.specs.Rounds.{ServesRound};
-ghost use Rattle.blotter.specs.Serving.{DayServed};
+ghost use Rattle.blot_serving.specs.Serving.{DayServed};
 ghost use Rattle.blot_stream.specs.declared.outcome.Outcome.TheVariants.{BadWords, Done, NoMemory};
 ghost use Rattle.blot_words.specs.Words.{IsPeerList, is_written_last, peers_of};
 ghost use Rattle.blotter_main.specs.Failure.{outcome_of};
 ghost use Rattle.blotter_main.specs.Running.{Did};
 
 use crate::failure::{Failure, system_words};
+use blot_capture::{capture, replay};
 use blot_desk::Held;
+use blot_operator::desk_lines;
+use blot_rounds::Rounds;
+use blot_serving::serve_day;
 use blot_slots::Slots;
+use blot_stream::{Outcome, ReplayFault};
 use blot_time::Day;
 use blot_trail::audit;
 use blot_types::Text64;
 use blot_words::{Refusal, Words, given, parse};
-use blotter::{Outcome, ReplayFault, Rounds, capture, desk_lines, replay, serve_day};
 use log::Log;
 use std::alloc::Global;
 use std::env::Env;
@@ -206,7 +210,9 @@ fn keep_desk<C: Read, R: Read, W: Write>(
     ensures words { IfErr result (λ failure. outcome_of failure ≢ BadWords) }
 {
     let mut held = captured_desk(alloc, captured, path, own, peers)?;
-    answer(alloc, &mut held, input, output)
+    let answered = answer(alloc, &mut held, input, output);
+    drop(held);
+    answered
 }
 
 // The desk that a capture leads to.
@@ -224,8 +230,20 @@ fn captured_desk<C: Read>(
     let mut held = Held::new(alloc);
     match capture(alloc, captured, own, peers, &mut held) {
         Ok(()) => Ok(held),
-        Err(ReplayFault::Read) => Err(Failure::Unreadable(path)),
-        Err(fault) => Err(Failure::Stopped(fault)),
+        Err(fault) => {
+            drop(held);
+            Err(untaken(fault, path))
+        }
+    }
+}
+
+// Why the capture in a file isn't taken.
+fn untaken(fault: ReplayFault, path: String) -> Failure
+    ensures words { outcome_of result ≢ BadWords }
+{
+    match fault {
+        ReplayFault::Read => Failure::Unreadable(path),
+        _ => Failure::Stopped(fault),
     }
 }
 

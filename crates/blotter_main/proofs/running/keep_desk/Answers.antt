@@ -5,12 +5,12 @@ use Rattle.blotter_main.proofs.ResultLemmas.{on-ok, led-to}
 use Rattle.blotter_main.proofs.running.keep_desk.Goals as goal
 
 pub returns-clause-told : goal.returns-clause-told
-returns-clause-told g c = on-ok c.answer.result c.answer.ensures.told (λ told. (c.in_ok-held.held, told))
+returns-clause-told g c = on-ok c.answer-answered.result c.answer-answered.ensures.told (λ told. (c.in_ok-held.held, told))
 
 pub returns-clause-captured : goal.returns-clause-captured
 returns-clause-captured g c =
-    on-ok c.answer.result c.answer.ensures.told (λ told.
+    on-ok c.answer-answered.result c.answer-answered.ensures.told (λ told.
     led-to (g.C.Read.remaining c.args.captured.now) c.in_ok-held.held
     (λ frames. captured_by c.args.own c.args.peers.now frames)
-    (λ journal. AppendsOf (answers_of journal) (g.R.Read.remaining c.args.input.now) (g.W.Write.contents c.args.output.now) (g.W.Write.contents c.answer.new.output))
+    (λ journal. AppendsOf (answers_of journal) (g.R.Read.remaining c.args.input.now) (g.W.Write.contents c.args.output.now) (g.W.Write.contents c.answer-answered.new.output))
     c.in_ok-held.ensures.captured told)

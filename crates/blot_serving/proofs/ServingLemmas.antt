@@ -1,6 +1,6 @@
 -- What a day that is served comes to.
-use Rattle.std.proofs.Common.{◌≡◌, ℕ, ◌+◌, ◌<◌, List, [], ◌∷◌, ◌++◌, length, replicate, refl, sym, ap, subst, ◌∙◌, arith, zero, suc}
-use Rattle.std.specs.Prelude.{ℤ, true, ◌&&◌, ◌≢◌, Option, IfErr, IsOk, OnOk, Result, Err}
+use Rattle.std.proofs.Common.{◌≡◌, ℕ, ◌<◌, List, [], ◌∷◌, ◌++◌, length, replicate, refl, sym, ap, subst, ◌∙◌, arith, zero, suc}
+use Rattle.std.specs.Prelude.{ℤ, true, ◌&&◌, Option, IfErr, IsOk, OnOk, Result, Err}
 use Rattle.std.specs.Io.KnownBytes.{IsAtEnd}
 use Rattle.std.specs.List.{All, list_all}
 use Rattle.blot_desk.specs.declared.receipt.Receipt.{Receipt}
@@ -10,9 +10,9 @@ use Rattle.blot_stream.proofs.ResultLemmas.{err-says, ok-says}
 use Rattle.blot_operator.specs.Dialogue.{TellsOf, seat_ways}
 use Rattle.blot_rounds.specs.Rounds.{FewerLead, RoundsLead, ServesRound}
 use Rattle.blot_rounds.specs.Sockets.{ClockTicks, SocketDoes}
-use Rattle.blotter.specs.Serving.{DayServed, Reported, are_submits}
+use Rattle.blot_serving.specs.Serving.{DayServed, Reported, are_submits}
 use Rattle.blot_stream.specs.declared.outcome.ServeFault.{ServeFault}
-use Rattle.blot_stream.specs.declared.outcome.ServeFault.TheVariants.{Connection, NoMemory}
+use Rattle.blot_stream.specs.declared.outcome.ServeFault.TheVariants.{Connection}
 
 -- ---- what rounds add
 

@@ -4,13 +4,13 @@ ghost use Rattle.std.specs.List.{All};
 ghost use Rattle.std.specs.Io.KnownBytes.{Appends, IsAtEnd};
 ghost use Rattle.blot_desk.specs.Desk.{IsRun, list_after};
 ghost use Rattle.blot_desk.specs.Receipts.{IsSettled};
-ghost use Rattle.blot_capture.specs.Replay.{report_of};
+ghost use Rattle.blot_report.specs.Text.{report_of};
 ghost use Rattle.blot_rounds.specs.Rounds.{FewerLead, RoundsLead, ServesRound};
-ghost use Rattle.blotter.specs.Serving.{DayCutShort, DayServed, Reported};
+ghost use Rattle.blot_serving.specs.Serving.{DayCutShort, DayServed, Reported};
 
 use crate::meanwhile::{Lines, Task, take_back};
-use blot_capture::day_report_parallel;
-use blot_desk::{Desk, DeskFault, Held, Seat};
+use blot_desk::{Closed, Desk, DeskFault, Held, Seat, Settled};
+use blot_report::{day_lines_parallel, report_text};
 use blot_rounds::{Rounds, serve_rounds};
 use blot_slots::Slots;
 use blot_stream::{ReplayFault, ServeFault, write_text};
@@ -194,12 +194,40 @@ fn settled<L: Ledger>(
     ensures run { IfOk result IsRun }
     ensures connected { result ≢ Err ServeFault.Connection }
 {
-    let mut seats = brokers;
-    seats.push(operator)?;
+    let seats = all_seats(brokers, operator)?;
     match desk.close().settle(seats) {
-        Ok(settled) => Ok(settled.held),
-        Err((DeskFault::Unsettled, _, _)) => Err(ServeFault::Unsettled),
-        Err(_) => Err(ServeFault::NoMemory),
+        Ok(settled) => Ok(held_of(settled)),
+        Err(refused) => Err(unsettled(refused)),
+    }
+}
+
+// The seats of the brokers, and after them the operator's.
+fn all_seats<L: Ledger>(brokers: Vec<Seat<L>>, operator: Seat<L>) -> Result<Vec<Seat<L>>, NoMemory>
+    ensures { IfOk result (λ seats. seats.items ≡ brokers.items ++ (operator ∷ [])) }
+{
+    let mut seats = brokers;
+    match seats.push(operator) {
+        Ok(()) => Ok(seats),
+        Err(_) => Err(NoMemory),
+    }
+}
+
+// What a settled desk held.
+fn held_of<L: Ledger>(settled: Settled<L>) -> Held
+    ensures { result ≡ settled.held }
+{
+    settled.held
+}
+
+// Why a desk that is handed back isn't settled.
+fn unsettled<L: Ledger>(refused: (DeskFault, Closed<L>, Vec<Seat<L>>)) -> ServeFault
+    ensures { result ≢ ServeFault.Connection }
+{
+    let fault = refused.0;
+    drop(refused);
+    match fault {
+        DeskFault::Unsettled => ServeFault::Unsettled,
+        DeskFault::Full | DeskFault::NoMemory => ServeFault::NoMemory,
     }
 }
 
@@ -214,9 +242,23 @@ fn write_report<R: Threads + Sync, O: Write>(
     ensures written { OnOk result (Appends (O.contents output.old) (O.contents output.new) (report_of (list_after held.history) day)) }
     ensures connected { result ≢ Err ServeFault.Connection }
 {
-    let text = day_report_parallel(rt, alloc, held, day)?;
+    let text = day_report(rt, alloc, held, day)?;
     match write_text(output, &text) {
         Ok(()) => Ok(()),
         Err(fault) => Err(ServeFault::Lines(fault)),
     }
+}
+
+// The report of a day of a desk, made by several threads. The desk goes first, so that the report takes its room.
+fn day_report<R: Threads + Sync>(
+    rt: &R,
+    alloc: Global,
+    held: Held,
+    day: Day,
+) -> Result<Vec<u8>, NoMemory>
+    ensures { IfOk result (λ text. text.items ≡ report_of (list_after held.history) day) }
+{
+    let snapshot = held.into_snapshot()?;
+    let lines = day_lines_parallel(rt, alloc, &snapshot, day)?;
+    report_text(alloc, &lines)
 }

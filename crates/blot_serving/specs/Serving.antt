@@ -8,7 +8,7 @@ use Rattle.blot_desk.specs.Desk.{events_of, replies_of, run_of}
 use Rattle.blot_desk.specs.Receipts.{IsSettled}
 use Rattle.blot_gateway.specs.AtOnce.{is_submit}
 use Rattle.blot_operator.specs.Dialogue.{TellsOf, seat_ways}
-use Rattle.blot_capture.specs.Replay.{report_of}
+use Rattle.blot_report.specs.Text.{report_of}
 use Rattle.blot_rounds.specs.Rounds.{RoundsLead}
 
 -- whether all these receipts are of submits
