@@ -7,7 +7,7 @@ use Rattle.blot_stream.specs.Texts.{AppendsOf}
 use Rattle.blot_capture.specs.Replay.{replay_of}
 use Rattle.blot_operator.specs.Operating.{answers_of}
 use Rattle.blot_trail.specs.Audit.{trail_of}
-use Rattle.blot_serving.specs.Serving.{DayServed}
+use Rattle.blotter.specs.Serving.{DayServed}
 use Rattle.blot_words.specs.declared.words.Words.{Words}
 use Rattle.blot_words.specs.declared.words.Words.TheVariants.{Replay, Desk, Audit, Serve}
 

@@ -2,8 +2,8 @@
 ghost use Rattle.std.specs.Prelude.{◌≡◌, option_map};
 ghost use Rattle.blotter_main.specs.Failure.{has_sentence, outcome_of, text_of};
 
-use blot_stream::{Outcome, ReplayFault, ServeFault};
 use blot_words::Refusal;
+use blotter::{Outcome, ReplayFault, ServeFault};
 use std::alloc::{AllocError, Global};
 use std::io;
 use thiserror::Error;

@@ -1,5 +1,5 @@
-//! The program `blotter`, thin: it asks `blot_words` what its command line wants, hands its streams to the call for
-//! that, and ends with the status of the run. What a run does is proved in the crates of these calls; here stand
+//! The program `blotter`, thin: it asks `blot_words` what its command line wants, hands its streams to the library
+//! of its own name, and ends with the status of the run. What a run does is proved in that library; here stand
 //! what is told on standard error, the file, the port, and `main`.
 #![tactic(auto)]
 

@@ -6,7 +6,7 @@ ghost use Rattle.blot_desk.specs.Desk.{IsRun, list_after};
 ghost use Rattle.blot_desk.specs.Receipts.{IsSettled};
 ghost use Rattle.blot_report.specs.Text.{report_of};
 ghost use Rattle.blot_rounds.specs.Rounds.{FewerLead, RoundsLead, ServesRound};
-ghost use Rattle.blot_serving.specs.Serving.{DayCutShort, DayServed, Reported};
+ghost use Rattle.blotter.specs.Serving.{DayCutShort, DayServed, Reported};
 
 use crate::meanwhile::{Lines, Task, take_back};
 use blot_desk::{Closed, Desk, DeskFault, Held, Seat, Settled};

@@ -1,8 +1,8 @@
 use Rattle.std.proofs.Common.{rules}
 use Rattle.blot_rounds.specs.Rounds.{ServesRound}
 use Rattle.blot_stream.proofs.ResultLemmas.{on-ok, ok-says}
-use Rattle.blot_serving.proofs.ServingLemmas.{at-end, is-served, round-adds, tells-all, were-fewer}
-use Rattle.blot_serving.proofs.serving.serve_day.Goals as goal
+use Rattle.blotter.proofs.ServingLemmas.{at-end, is-served, round-adds, tells-all, were-fewer}
+use Rattle.blotter.proofs.serving.serve_day.Goals as goal
 
 pub returns-clause-served : goal.returns-clause-served
 returns-clause-served g c =

@@ -10,7 +10,7 @@ use Rattle.blot_stream.proofs.ResultLemmas.{err-says, ok-says}
 use Rattle.blot_operator.specs.Dialogue.{TellsOf, seat_ways}
 use Rattle.blot_rounds.specs.Rounds.{FewerLead, RoundsLead, ServesRound}
 use Rattle.blot_rounds.specs.Sockets.{ClockTicks, SocketDoes}
-use Rattle.blot_serving.specs.Serving.{DayServed, Reported, are_submits}
+use Rattle.blotter.specs.Serving.{DayServed, Reported, are_submits}
 use Rattle.blot_stream.specs.declared.outcome.ServeFault.{ServeFault}
 use Rattle.blot_stream.specs.declared.outcome.ServeFault.TheVariants.{Connection}
 
