@@ -47,10 +47,13 @@ pub(crate) fn take_frame(
     ensures no_write { result ≢ Err ReplayFault.Write }
 {
     let said = decode(alloc, frame);
-    if is_out_of_memory(&said) {
-        return Err(ReplayFault::NoMemory);
-    }
-    take_said(alloc, session, frame, &said, held)
+    let taken = if is_out_of_memory(&said) {
+        Err(ReplayFault::NoMemory)
+    } else {
+        take_said(alloc, session, frame, &said, held)
+    };
+    drop(said);
+    taken
 }
 
 // The same, where the frame says this.

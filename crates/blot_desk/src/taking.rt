@@ -41,11 +41,19 @@ fn submit(steps: &mut Steps<Command>, alloc: Global, command: &Command) -> Resul
         return Ok(Reply::Refused(reason));
     }
     let own = command.try_copy(alloc)?;
-    let outcome = steps.apply(own);
-    match &outcome {
-        Ok(number) => Ok(Reply::Accepted(*number)),
-        Err(StepFault::Refused(_, ApplyFault::Refused(reason))) => Ok(Reply::Refused(*reason)),
-        Err(_) => Err(NoMemory),
+    match steps.apply(own) {
+        Ok(number) => Ok(Reply::Accepted(number)),
+        Err(StepFault::Refused(back, fault)) => {
+            drop(back);
+            match fault {
+                ApplyFault::Refused(reason) => Ok(Reply::Refused(reason)),
+                ApplyFault::NoMemory => Err(NoMemory),
+            }
+        }
+        Err(StepFault::NoMemory(back)) => {
+            drop(back);
+            Err(NoMemory)
+        }
     }
 }
 

@@ -59,13 +59,13 @@ fn peek(alloc: Global, reader: &mut Reader, own: Text64) -> Option<Result<Text64
         return None;
     };
     let said = decode(alloc, &frame);
-    if is_out_of_memory(&said) {
-        return Some(Err(Ended::NoMemory));
-    }
-    match sender_by(&said, own) {
-        Ok(sender) => Some(Ok(sender)),
-        Err(reason) => Some(Err(Ended::Closed(reason))),
-    }
+    let answer = if is_out_of_memory(&said) {
+        Err(Ended::NoMemory)
+    } else {
+        sender_by(&said, own).map_err(Ended::Closed)
+    };
+    drop(said);
+    Some(answer)
 }
 
 // Passes over what can't become a frame.

@@ -35,17 +35,31 @@ pub const PEER: &str = "peer";
 
 /// The whole command line. Help that nobody asked for is the answer to no words at all.
 pub fn command<'a>(alloc: Global) -> Result<Command<'a>, AllocError> {
-    Command::new(alloc, "blotter")
+    let blotter = Command::new(alloc, "blotter")
         .bin_name("blotter")?
         .about(
             "Keeps a middle office's record of a trading day from its brokers' FIX 4.4 drop copies.",
         )
         .subcommand_required(true)
-        .arg_required_else_help(true)
-        .subcommand(replay_command(alloc)?)?
-        .subcommand(desk_command(alloc)?)?
-        .subcommand(audit_command(alloc)?)?
-        .subcommand(serve_command(alloc)?)
+        .arg_required_else_help(true);
+    let blotter = with_subcommand(blotter, replay_command(alloc))?;
+    let blotter = with_subcommand(blotter, desk_command(alloc))?;
+    let blotter = with_subcommand(blotter, audit_command(alloc))?;
+    with_subcommand(blotter, serve_command(alloc))
+}
+
+// A command with a further subcommand, or out of memory.
+fn with_subcommand<'a>(
+    command: Command<'a>,
+    subcommand: Result<Command<'a>, AllocError>,
+) -> Result<Command<'a>, AllocError> {
+    match subcommand {
+        Ok(subcommand) => command.subcommand(subcommand),
+        Err(fault) => {
+            drop(command);
+            Err(fault)
+        }
+    }
 }
 
 // The subcommand that replays a capture, with its options and its help.

@@ -65,6 +65,15 @@ pub fn parse<S: AsStr>(alloc: Global, words: &[S]) -> Result<Words, Refusal>
         Ok(matches) => matches,
         Err(error) => return Err(refusal_of(alloc, error)),
     };
+    let asked = words_of(alloc, &matches);
+    drop(matches);
+    asked
+}
+
+// What the words ask for, as `clap` found them.
+fn words_of(alloc: Global, matches: &ArgMatches<'_>) -> Result<Words, Refusal>
+    ensures peers { IfOk result (λ words. IsPeerList (peers_of words)) }
+{
     if let Some(matches) = matches.subcommand_matches(REPLAY) {
         return read_replay(alloc, matches);
     }

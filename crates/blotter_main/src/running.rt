@@ -55,9 +55,9 @@ where
     match words_of(system) {
         Ok(words) => match perform(system.alloc(), files, rt, words, input, output) {
             Ok(()) => Outcome::Done,
-            Err(failure) => tell(errors, &failure),
+            Err(failure) => tell(errors, failure),
         },
-        Err(refusal) => tell(errors, &Failure::Words(refusal)),
+        Err(refusal) => tell(errors, Failure::Words(refusal)),
     }
 }
 
@@ -258,8 +258,8 @@ fn answer<R: Read, W: Write>(
 }
 
 // Tells why a run failed, and says how it ends. A fault in telling is ignored.
-fn tell<E: Write>(errors: &mut E, failure: &Failure) -> Outcome
-    ensures { result ≡ outcome_of failure.now }
+fn tell<E: Write>(errors: &mut E, failure: Failure) -> Outcome
+    ensures { result ≡ outcome_of failure }
 {
     if failure.has_sentence() {
         let _ = writeln!(errors, "blotter: {failure}");
@@ -267,5 +267,7 @@ fn tell<E: Write>(errors: &mut E, failure: &Failure) -> Outcome
     if let Some(text) = failure.text() {
         let _ = writeln!(errors, "{text}");
     }
-    failure.outcome()
+    let outcome = failure.outcome();
+    drop(failure);
+    outcome
 }
