@@ -65,13 +65,13 @@ pub fn parse<S: AsStr>(alloc: Global, words: &[S]) -> Result<Words, Refusal>
         Ok(matches) => matches,
         Err(error) => return Err(refusal_of(alloc, error)),
     };
-    let asked = words_of(alloc, &matches);
+    let asked = read_words(alloc, &matches);
     drop(matches);
     asked
 }
 
-// What the words ask for, as `clap` found them.
-fn words_of(alloc: Global, matches: &ArgMatches<'_>) -> Result<Words, Refusal>
+// The words of the command line, as `clap` found them.
+fn read_words(alloc: Global, matches: &ArgMatches<'_>) -> Result<Words, Refusal>
     ensures peers { IfOk result (λ words. IsPeerList (peers_of words)) }
 {
     if let Some(matches) = matches.subcommand_matches(REPLAY) {
