@@ -2,7 +2,7 @@
 //! plain slow program.
 
 use crate::draws::{Draws, drawn_orders};
-use crate::model::compare;
+use crate::model::{compare_lines, live};
 use crate::tally::Tally;
 use blot_command::{ApplyFault, Tables};
 use blot_model::accepts;
@@ -28,13 +28,17 @@ enum Undone {
     Withdrawal(u64, u64),
 }
 
-// A live list, the done steps, the newest last, the undone ones, the one undone last last, and the next number.
+// A live list, the done steps, the newest last, the undone ones, the one undone last last, and the next number; and how long the list
+// ever was, and how many steps were undone and redone.
 #[derive(Drop)]
 struct Stack {
     list: Vec<Entry>,
     done: Vec<Done>,
     undone: Vec<Undone>,
     next: u64,
+    longest: usize,
+    steps_back: u32,
+    steps_forth: u32,
 }
 
 // The place of a number in a list, or that of the first one above it.
@@ -68,6 +72,7 @@ fn take(stack: &mut Stack, command: Command) -> Result<u64, Fail> {
     }
     stack.undone.clear();
     stack.next = number.saturating_add(1);
+    stack.longest = stack.longest.max(stack.list.len());
     Ok(number)
 }
 
@@ -76,6 +81,7 @@ fn undo(stack: &mut Stack) -> Result<Option<u64>, Fail> {
     let Some(step) = stack.done.pop() else {
         return Ok(None);
     };
+    stack.steps_back = stack.steps_back.saturating_add(1);
     match step {
         Done::Entered(number) => {
             let entry = stack.list.pop().ok_or("no entry")?;
@@ -96,6 +102,7 @@ fn redo(stack: &mut Stack) -> Result<Option<u64>, Fail> {
     let Some(step) = stack.undone.pop() else {
         return Ok(None);
     };
+    stack.steps_forth = stack.steps_forth.saturating_add(1);
     match step {
         Undone::Entry(entry) => {
             let number = entry.number;
@@ -119,15 +126,16 @@ fn expect_number(found: Option<u64>, wanted: Option<u64>) -> Result<(), Fail> {
     Ok(())
 }
 
-// The book has the plain stack's live list, and shows what the plain program says of it.
+// The book has the plain stack's live list, whole and by number, and shows what the plain program says of it. That it is legal isn't asked
+// at each step, since the plain program said so of each command that was taken.
 fn examine(alloc: Global, tables: &Tables, stack: &Stack, orders: &[OrderKey]) -> Result<(), Fail> {
-    if tables.entries(alloc)? != stack.list {
+    if tables.entries(alloc)? != stack.list || live(alloc, tables, stack.next)? != stack.list {
         return Err(Fail::new("the live list isn't that of the plain stack"));
     }
     if stack.next > EVENTS_MAX {
         return Err(Fail::new("no room"));
     }
-    compare(alloc, tables, stack.next, orders)
+    compare_lines(alloc, tables, &stack.list, orders)
 }
 
 // Undoes up to three steps, and then redoes one or none. The book is examined after each.
@@ -194,7 +202,7 @@ fn send(
     Ok(())
 }
 
-// Sends all commands, with steps undone and redone before every other one.
+// Sends all commands, with steps undone and redone before one in four.
 fn run(
     alloc: Global,
     steps: &mut Steps<Command>,
@@ -204,11 +212,24 @@ fn run(
     let orders = drawn_orders()?;
     let mut draws = Draws::new(2);
     for _ in 0..COMMANDS {
-        if draws.draw() & 1 == 0 {
+        if draws.draw() & 3 == 0 {
             go_back(alloc, steps, stack, &mut draws, &orders)?;
         }
         send(alloc, steps, stack, &mut draws, tally)?;
         examine(alloc, steps.state(), stack, &orders)?;
+    }
+    Ok(())
+}
+
+// The run was worth it: each kind of command was taken, each refusal came, the list grew long, and many steps were undone and redone.
+fn expect_much(stack: &Stack, tally: &Tally) -> Result<(), Fail> {
+    tally.expect_of_each_kind(15)?;
+    tally.expect_each_refusal(12)?;
+    if stack.longest < 18 || stack.steps_back < 500 || stack.steps_forth < 150 {
+        return Err(Fail::new(format_args!(
+            "at most {} entries, {} steps undone, {} redone",
+            stack.longest, stack.steps_back, stack.steps_forth
+        )));
     }
     Ok(())
 }
@@ -221,8 +242,11 @@ fn two_thousand_commands_with_steps_undone_and_redone(rt: HostRuntime) -> Result
         done: Vec::new(rt.alloc()),
         undone: Vec::new(rt.alloc()),
         next: 1,
+        longest: 0,
+        steps_back: 0,
+        steps_forth: 0,
     };
     let mut steps = Steps::new(rt.alloc(), Tables::new(rt.alloc()));
     run(rt.alloc(), &mut steps, &mut stack, &mut tally)?;
-    tally.expect_each_kind()
+    expect_much(&stack, &tally)
 }

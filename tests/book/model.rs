@@ -123,12 +123,22 @@ pub fn compare(alloc: Global, tables: &Tables, next: u64, orders: &[OrderKey]) -
     if !legal(alloc, &list)? {
         return Err(Fail::new("the live list isn't legal"));
     }
-    let versions = survivors(alloc, &list)?;
+    compare_lines(alloc, tables, &list, orders)
+}
+
+/// The lines of the book are what the plain program says of a live list, for these orders and for all accounts and symbols.
+pub fn compare_lines(
+    alloc: Global,
+    tables: &Tables,
+    list: &[Entry],
+    orders: &[OrderKey],
+) -> Result<(), Fail> {
+    let versions = survivors(alloc, list)?;
     for order in orders {
-        compare_order(alloc, tables, &list, &versions, order)?;
+        compare_order(alloc, tables, list, &versions, order)?;
     }
     for symbol in &symbols()? {
-        expect_conserved(alloc, tables, &list, &versions, &accounts()?, symbol)?;
+        expect_conserved(alloc, tables, list, &versions, &accounts()?, symbol)?;
     }
     Ok(())
 }

@@ -73,9 +73,9 @@ impl Tally {
         self.refused[place] = self.refused[place].saturating_add(1);
     }
 
-    /// Each kind of command was taken.
-    pub fn expect_each_kind(&self) -> Result<(), Fail> {
-        expect_each(&self.taken, "kind")
+    /// Each kind of command was taken this often at least.
+    pub fn expect_of_each_kind(&self, least: u32) -> Result<(), Fail> {
+        expect_least(&self.taken, least, "kind")
     }
 
     /// Each kind of command that is an entry was taken.
@@ -94,9 +94,14 @@ impl Tally {
 
 /// Each of these came.
 pub fn expect_each(counts: &[u32], what: &str) -> Result<(), Fail> {
+    expect_least(counts, 1, what)
+}
+
+/// Each of these came this often at least.
+fn expect_least(counts: &[u32], least: u32, what: &str) -> Result<(), Fail> {
     for (place, count) in counts.iter().enumerate() {
-        if *count == 0 {
-            return Err(Fail::new(format_args!("no {what} {place} among {counts:?}")));
+        if *count < least {
+            return Err(Fail::new(format_args!("too few of {what} {place} among {counts:?}")));
         }
     }
     Ok(())

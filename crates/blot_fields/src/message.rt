@@ -2,7 +2,7 @@
 
 use crate::{Admin, Allocation, Head, Report};
 
-/// A message without a fault. Its texts stand in its frame; those of an allocation are its own.
+/// A message without a fault. Its texts stand in its frame; those of an allocation and of a TestRequest are its own.
 #[derive(Debug, Drop)]
 pub struct Message<'a> {
     pub head: Head<'a>,

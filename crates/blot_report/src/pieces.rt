@@ -10,8 +10,8 @@ use std::thread::Threads;
 /// How many items a piece has; the last may have fewer. A list of less than two pieces is one thread's work.
 pub(crate) const PIECE: usize = 1024;
 
-/// What work makes of the pieces of a list, in their order. Each piece is one worker's, and as many threads work as the
-/// system has processors and gives. An error is out of memory, a worker's too.
+/// What work makes of the pieces of a list, in their order. Each piece is one worker's, and up to two workers a processor work in
+/// the threads that the system gives. An error is out of memory, a worker's too.
 pub(crate) fn in_pieces<R, K, T, F>(
     rt: &R,
     alloc: Global,
