@@ -138,7 +138,7 @@ fn examine(alloc: Global, tables: &Tables, stack: &Stack, orders: &[OrderKey]) -
     compare_lines(alloc, tables, &stack.list, orders)
 }
 
-// Undoes up to three steps, and then redoes one or none. The book is examined after each.
+// Undoes up to three steps, and then redoes up to two. The book is examined after each.
 fn go_back(
     alloc: Global,
     steps: &mut Steps<Command>,
@@ -151,7 +151,7 @@ fn go_back(
         expect_number(steps.undo(), wanted)?;
         examine(alloc, steps.state(), stack, orders)?;
     }
-    for _ in 0..draws.draw() & 1 {
+    for _ in 0..(draws.draw() & 1) + (draws.draw() & 1) {
         let wanted = redo(stack)?;
         expect_number(steps.redo()?, wanted)?;
         examine(alloc, steps.state(), stack, orders)?;
@@ -202,7 +202,7 @@ fn send(
     Ok(())
 }
 
-// Sends all commands, with steps undone and redone before one in four.
+// Sends all commands, with steps undone and redone before every other one.
 fn run(
     alloc: Global,
     steps: &mut Steps<Command>,
@@ -212,7 +212,7 @@ fn run(
     let orders = drawn_orders()?;
     let mut draws = Draws::new(2);
     for _ in 0..COMMANDS {
-        if draws.draw() & 3 == 0 {
+        if draws.draw() & 1 == 0 {
             go_back(alloc, steps, stack, &mut draws, &orders)?;
         }
         send(alloc, steps, stack, &mut draws, tally)?;
@@ -223,9 +223,9 @@ fn run(
 
 // The run was worth it: each kind of command was taken, each refusal came, the list grew long, and many steps were undone and redone.
 fn expect_much(stack: &Stack, tally: &Tally) -> Result<(), Fail> {
-    tally.expect_of_each_kind(15)?;
+    tally.expect_of_each_kind(10)?;
     tally.expect_each_refusal(12)?;
-    if stack.longest < 18 || stack.steps_back < 500 || stack.steps_forth < 150 {
+    if stack.longest < 15 || stack.steps_back < 1_000 || stack.steps_forth < 500 {
         return Err(Fail::new(format_args!(
             "at most {} entries, {} steps undone, {} redone",
             stack.longest, stack.steps_back, stack.steps_forth
