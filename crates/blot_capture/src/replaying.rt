@@ -103,12 +103,12 @@ fn captured_report<R: Read>(
     }
 }
 
-// The report of a day of a desk. The desk goes first, so that the report takes its room.
+// The report of a day of a desk, whose record goes first, so that the report takes its room.
 fn day_report(alloc: Global, held: Held, day: Day) -> Result<Vec<u8>, NoMemory>
     ensures text { IfOk result (λ text. text.items ≡ report_of (run_of (events_of held.history)).book.list day) }
     ensures few { length held.history ≤ EVENTS_MAX }
 {
-    let snapshot = held.into_snapshot()?;
-    let lines = day_lines(alloc, &snapshot, day)?;
+    let book = held.into_book();
+    let lines = day_lines(alloc, &book, day)?;
     report_text(alloc, &lines)
 }

@@ -37,9 +37,21 @@ standing_by links instructions None None = Neither
 abbrev pub standing_in : List Link → List Instruction → Entry → Standing
 standing_in links instructions entry = standing_by links instructions (version_of entry) (allocation_of entry.command)
 
+-- an entry, with what it comes to
+pub record Told : Type 0 where
+  pub entry : Entry
+  pub standing : Standing
+
 -- what an entry comes to in a list, and what each of the list's own does, in list order
 abbrev pub standing_of : List Entry → Entry → Standing
 standing_of list entry = standing_in (links_of list) (instructions_of list) entry
 
 abbrev pub standings_of : List Entry → List Standing
 standings_of list = map (standing_of list) list
+
+-- an entry as a list tells it, and each of the list's own, in list order
+abbrev pub told_in : List Entry → Entry → Told
+told_in list entry = record { entry = entry; standing = standing_of list entry }
+
+abbrev pub told_of : List Entry → List Told
+told_of list = map (told_in list) list

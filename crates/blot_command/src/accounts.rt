@@ -55,13 +55,6 @@ impl Accounts {
         &self.live
     }
 
-    /// The live list; the positions go.
-    pub(crate) fn into_live(self) -> LiveList
-        ensures { result ≡ self }
-    {
-        self.live
-    }
-
     /// The position of an account in a symbol, or none where it has no part.
     pub(crate) fn position(&self, account: &Text64, symbol: &Text64) -> Option<PositionLine>
         ensures line { result ≡ position_of self.now.list account.now symbol.now }

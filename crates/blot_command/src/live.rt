@@ -11,7 +11,7 @@ ghost use Rattle.blot_types.specs.Survivors.{links_of};
 ghost use Rattle.blot_command.specs.Book.{has_number};
 ghost use Rattle.blot_command.specs.Shown.{version_replaced, terms_of_key, terms_keyed, roots_keyed};
 ghost use Rattle.blot_command.specs.Slots.{entries_in};
-ghost use Rattle.blot_command.specs.Standings.{standings_of};
+ghost use Rattle.blot_command.specs.Standings.{standings_of, told_of};
 ghost use Rattle.blot_command.specs.Withdrawing.{with_entry, HasLast, lifted, returned, CanReturn};
 
 use crate::blocked::blocked;
@@ -19,7 +19,7 @@ use crate::linking::{lift_entry, link_entry, un_lift_entry, unlink_entry};
 use crate::refusal::{current_version, refusal};
 use crate::slots::{EntrySlot, entry_numbered, newest_number, put_in, take_out, version_numbered};
 use crate::standing::standings_in;
-use crate::{BoxedEntry, Standing};
+use crate::{BoxedEntry, Standing, Told};
 use blot_alloc::Allocs;
 use blot_chain::Chains;
 use blot_types::{AllocKey, Command, Entry, ExecKey, Link, Refused, Role, Terms, Version};
@@ -90,18 +90,30 @@ impl LiveList {
     }
 
     /// What each entry comes to. An error is out of memory.
-    pub(crate) fn standings(&self) -> Result<Vec<Standing>, NoMemory>
+    pub(crate) fn standings(&self, alloc: Global) -> Result<Vec<Standing>, NoMemory>
         ensures { IfOk result (λ standings. standings.items ≡ standings_of self.now.list) }
     {
-        let alloc = *self.slots.allocator();
         standings_in(alloc, &self.slots, &self.chains, &self.allocs)
     }
 
-    /// The entries; the chains and the instructions go. An error is out of memory.
-    pub(crate) fn into_entries(self) -> Result<Vec<Entry>, NoMemory>
-        ensures { IfOk result (λ entries. entries.items ≡ self.list) }
+    /// The entries, each with what it comes to, where these are their standings. An error is out of memory.
+    pub(crate) fn told(
+        &self,
+        alloc: Global,
+        standings: &[Standing],
+    ) -> Result<Vec<Told<'_>>, NoMemory>
+        requires { standings.now ≡ standings_of self.now.list }
+        ensures told { IfOk result (λ told. told.items ≡ told_of self.now.list) }
+        ensures book { IsTrue (is_book self.now.list) }
     {
-        entries_of(self.slots)
+        let mut told = Vec::with_capacity(alloc, self.slots.len())?;
+        for slot in &self.slots {
+            if let Some(entry) = slot.entry() {
+                let standing = standings[told.len()];
+                told.push(Told::of(entry, standing))?;
+            }
+        }
+        Ok(told)
     }
 
     /// The last entry of a list that has one.
@@ -279,19 +291,6 @@ impl LiveList {
         un_lift_entry(&mut self.chains, &mut self.allocs, entry.as_entry());
         put_in(&mut self.slots, entry);
     }
-}
-
-// The entries of slots, one after the other. An error is out of memory.
-fn entries_of(slots: Vec<EntrySlot>) -> Result<Vec<Entry>, NoMemory>
-    ensures { IfOk result (λ entries. entries.items ≡ entries_in slots.items) }
-{
-    let mut entries = Vec::with_capacity(*slots.allocator(), slots.len())?;
-    for slot in slots {
-        if let Some(entry) = slot.into_entry() {
-            entries.push(entry)?;
-        }
-    }
-    Ok(entries)
 }
 
 // An equal entry.

@@ -3,8 +3,9 @@ ghost use Rattle.std.specs.Prelude.{◌≡◌, IsTrue};
 ghost use Rattle.blot_types.specs.Legal.{is_book};
 ghost use Rattle.blot_command.specs.Standings.{standings_of};
 
-use crate::Standing;
+use crate::{Reported, Standing, Told};
 use blot_types::Entry;
+use std::alloc::{AllocError as NoMemory, Global};
 use std::marker::Model;
 
 /// The live list of a book as it was when the snapshot was taken, and what each of its entries came to. A contract sees it as that
@@ -45,11 +46,23 @@ impl Snapshot {
     {
         &self.entries
     }
+}
 
-    /// What each of the live entries came to, in their order.
-    pub fn standings(&self) -> &[Standing]
-        ensures { result.now ≡ standings_of self.now }
-    {
-        &self.standings
+impl Reported for Snapshot {
+    ghost use Rattle.std.specs.Prelude.{List};
+    ghost use Rattle.blot_types.specs.declared.command.Entry.{Entry};
+
+    ghost list_of = { λ snapshot. snapshot };
+
+    fn standings(&self, alloc: Global) -> Result<Vec<Standing>, NoMemory> {
+        self.standings.iter().copied().collect(alloc)
+    }
+
+    fn told(&self, alloc: Global, standings: &[Standing]) -> Result<Vec<Told<'_>>, NoMemory> {
+        let mut told = Vec::with_capacity(alloc, self.entries.len())?;
+        for (place, entry) in self.entries.iter().enumerate() {
+            told.push(Told::of(entry, standings[place]))?;
+        }
+        Ok(told)
     }
 }

@@ -12,7 +12,7 @@ ghost use Rattle.blot_command.specs.Shown.{chain_numbered, with_put, with_kept, 
 ghost use Rattle.blot_command.specs.Withdrawing.{with_entry, HasLast, lifted, returned, CanReturn};
 
 use crate::accounts::Accounts;
-use crate::{BoxedEntry, Snapshot};
+use crate::{BoxedEntry, Reported, Snapshot, Standing, Told};
 use blot_order::Orders;
 use blot_types::{
     Command, Entry, ExecKey, OrderKey, OrderLine, PositionLine, Refused, Text64, Version,
@@ -113,19 +113,9 @@ impl Tables {
         ensures entries { IfOk result (λ snapshot. snapshot ≡ self.now.list) }
         ensures book { IsTrue (is_book self.now.list) }
     {
-        let standings = self.accounts.live().standings()?;
-        let entries = self.accounts.live().entries(alloc)?;
-        Ok(Snapshot::of(entries, standings))
-    }
-
-    /// The same, where the entries aren't copied; all else of the book goes. An error is out of memory.
-    pub fn into_snapshot(self) -> Result<Snapshot, NoMemory>
-        ensures entries { IfOk result (λ snapshot. snapshot ≡ self.list) }
-        ensures book { IsTrue (is_book self.list) }
-    {
-        let live = self.accounts.into_live();
-        let standings = live.standings()?;
-        let entries = live.into_entries()?;
+        let live = self.accounts.live();
+        let standings = live.standings(alloc)?;
+        let entries = live.entries(alloc)?;
         Ok(Snapshot::of(entries, standings))
     }
 
@@ -216,6 +206,21 @@ impl Tables {
             None => None,
             Some(entry) => self.accounts.live().chain_of(&entry.link()),
         }
+    }
+}
+
+impl Reported for Tables {
+    ghost use Rattle.std.specs.Prelude.{List};
+    ghost use Rattle.blot_types.specs.declared.command.Entry.{Entry};
+
+    ghost list_of = { λ tables. tables.list };
+
+    fn standings(&self, alloc: Global) -> Result<Vec<Standing>, NoMemory> {
+        self.accounts.live().standings(alloc)
+    }
+
+    fn told(&self, alloc: Global, standings: &[Standing]) -> Result<Vec<Told<'_>>, NoMemory> {
+        self.accounts.live().told(alloc, standings)
     }
 }
 

@@ -102,20 +102,12 @@ impl Held {
         self.steps.state().snapshot(self.alloc)
     }
 
-    /// The live list as it is at last, not copied; the history and the steps go, before the list takes room. An error is out of memory.
-    pub fn into_snapshot(self) -> Result<Snapshot, NoMemory>
-        ensures list { IfOk result (λ snapshot. snapshot ≡ self.book.list) }
-        ensures run { IfOk result (λ snapshot. snapshot ≡ list_after self.history) }
-        ensures book { IfOk result (λ snapshot. IsTrue (is_book snapshot)) }
-        ensures few { length self.history ≤ EVENTS_MAX }
-    {
-        self.into_tables().into_snapshot()
-    }
-
-    // The book at last; the history and the steps go.
-    fn into_tables(self) -> Tables
+    /// The book at last; the history and the steps go.
+    pub fn into_book(self) -> Tables
         ensures list { result.list ≡ self.book.list }
         ensures run { result.list ≡ list_after self.history }
+
+        // No more events were recorded than a day has.
         ensures few { length self.history ≤ EVENTS_MAX }
     {
         self.steps.into_state()

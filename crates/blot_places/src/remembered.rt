@@ -16,8 +16,9 @@ impl<T> Model for Remembered<T> {
     ghost also_owns = { λ _. ftrue };
 }
 
-// It owns nothing.
+// It owns nothing, and nothing of it can be reached.
 unsafe impl<T: Send> Send for Remembered<T> {}
+unsafe impl<T: Send + Sync> Sync for Remembered<T> {}
 
 impl<T> Remembered<T> {
     /// Remembers a value.

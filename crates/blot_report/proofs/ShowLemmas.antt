@@ -160,9 +160,6 @@ shows-day list day lines is = subst (ShowsDay list day) (sym is) (shows list day
 
 -- the rows of a day's fills and of its parts are the lines of the day
 pub lines-found :
-    (list entries : List Entry) (day : ℤ) (orders : List OrderRow) (positions : List PositionRow) → entries ≡ list → orders ≡ order_rows (fills_on entries day)
-    → positions ≡ position_rows (day_parts_of entries day) → record { day = day; orders = orders; positions = positions } ≡ day_lines_of list day
-lines-found list entries day orders positions same ordered placed =
-    let first : orders ≡ order_rows (fills_on list day) = ordered ∙ ap (λ l. order_rows (fills_on l day)) same in
-    let second : positions ≡ position_rows (day_parts_of list day) = placed ∙ ap (λ l. position_rows (day_parts_of l day)) same in
-    λ i. record { day = day; orders = first i; positions = second i }
+    (list : List Entry) (day : ℤ) (orders : List OrderRow) (positions : List PositionRow) → orders ≡ order_rows (fills_on list day)
+    → positions ≡ position_rows (day_parts_of list day) → record { day = day; orders = orders; positions = positions } ≡ day_lines_of list day
+lines-found list day orders positions ordered placed = λ i. record { day = day; orders = ordered i; positions = placed i }

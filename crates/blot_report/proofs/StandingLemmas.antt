@@ -1,8 +1,9 @@
 -- What the standings of a book tell of its entries on a day is what its definitions say.
-use Rattle.std.proofs.Common.{◌≡◌, ℕ, ℤ, List, [], ◌∷◌, ◌++◌, map, Option, Some, None, refl, ap, ◌∙◌, inl, inr}
+use Rattle.std.proofs.Common.{◌≡◌, ℕ, zero, suc, ◌<◌, arith, ℤ, true, List, [], ◌∷◌, ◌++◌, length, get_or, map, Option, Some, None, refl, sym, ap, ◌∙◌, inl, inr}
 use Rattle.std.specs.Prelude.{filter, is_none, if◌then◌else◌}
 use Rattle.std.specs.List.{cons_option, filter_map, flat_map}
 use Rattle.std.proofs.lemmas.Bool.{cases_Bool}
+use Rattle.std.proofs.lemmas.List.{length-map}
 use Rattle.blot_types.specs.declared.allocation.Instruction.{Instruction}
 use Rattle.blot_types.specs.declared.allocation.Terms.{Terms}
 use Rattle.blot_types.specs.declared.command.Command.{Command}
@@ -13,13 +14,14 @@ use Rattle.blot_types.specs.declared.link.Link.{Link}
 use Rattle.blot_types.specs.declared.part.Part.{Part}
 use Rattle.blot_types.specs.Allocations.{Allocation, allocation_of, instructions_of}
 use Rattle.blot_types.specs.Instructions.{ended_in}
+use Rattle.blot_types.specs.Legal.{is_book}
 use Rattle.blot_types.specs.Position.{part_of_fill}
 use Rattle.blot_types.specs.Survivors.{links_of, stands_in, version_by, version_of}
 use Rattle.blot_command.specs.declared.standing.Standing.{Standing}
 use Rattle.blot_command.specs.declared.standing.Standing.TheVariants.{Stands, Live, Neither}
-use Rattle.blot_command.specs.Standings.{allocation_standing, is_named_in, standing_by, standing_in}
+use Rattle.blot_command.specs.Standings.{Told, allocation_standing, is_named_in, standing_by, standing_in, standing_of, standings_of, told_in, told_of}
 use Rattle.blot_report.specs.Day.{is_on, is_allocated_on, survivor_parts_on, allocations_on, fills_on}
-use Rattle.blot_report.specs.Standings.{day_terms, fill_by, fills_among, part_by, parts_among, terms_among, terms_by}
+use Rattle.blot_report.specs.Standings.{AreTold, day_terms, entries_in, fill_by, fills_among, part_by, parts_among, terms_among, terms_by}
 
 -- ---- the survivors of a day
 
@@ -158,3 +160,35 @@ terms-told list day = terms-found (links_of list) (instructions_of list) day lis
 pub flat-mapped : {A B C : Type 0} (f : B → List C) (g : A → B) (xs : List A) → flat_map f (map g xs) ≡ flat_map (λ x. f (g x)) xs
 flat-mapped f g [] = refl
 flat-mapped f g (x ∷ xs) = ap (λ rest. f (g x) ++ rest) (flat-mapped f g xs)
+
+-- ---- the entries of a book, told
+
+entries-in : (all list : List Entry) → entries_in (map (told_in all) list) ≡ list
+entries-in all [] = refl
+entries-in all (entry ∷ list) = ap (λ rest. entry ∷ rest) (entries-in all list)
+
+pub entries-told : (told : List Told) (list : List Entry) → told ≡ told_of list → entries_in told ≡ list
+entries-told told list are = ap entries_in are ∙ entries-in list list
+
+pub are-told : (told : List Told) (list : List Entry) → is_book list ≡ true → told ≡ told_of list → AreTold told
+are-told told list book are =
+    let same = entries-told told list are in
+    record { book = ap is_book same ∙ book; each = are ∙ ap told_of (sym same) }
+
+-- they are as many
+pub as-many : (told : List Told) → length (entries_in told) ≡ length told
+as-many told = length-map told (λ (one : Told). one.entry)
+
+pub as-many-standings : (list : List Entry) (standings : List Standing) → standings ≡ standings_of list → length list ≡ length standings
+as-many-standings list standings are = sym (ap length are ∙ length-map list (standing_of list))
+
+-- one of them is told with what it comes to
+standing-at :
+    (all list : List Entry) (place : ℕ) (one : Told) → place < length list → one ≡ get_or (map (told_in all) list) place one
+    → one.standing ≡ standing_of all one.entry
+standing-at all [] place one within is = absurd (omega (arith, within))
+standing-at all (entry ∷ list) zero one within is = ap (λ (t : Told). t.standing) is ∙ sym (ap (λ (t : Told). standing_of all t.entry) is)
+standing-at all (entry ∷ list) (suc place) one within is = standing-at all list place one (omega (arith, within)) is
+
+pub standing-told : (told : List Told) (place : ℕ) (one : Told) → AreTold told → place < length (entries_in told) → one ≡ get_or told place one → one.standing ≡ standing_of (entries_in told) one.entry
+standing-told told place one are within is = standing-at (entries_in told) (entries_in told) place one within (is ∙ ap (λ t. get_or t place one) are.each)

@@ -1,5 +1,5 @@
 -- What stands on a day, as the standing of each entry tells it.
-use Rattle.std.specs.Prelude.{◌≡◌, ℕ, ℤ, true, List, ◌++◌, take, drop, Option, Some, None, if◌then◌else◌}
+use Rattle.std.specs.Prelude.{◌≡◌, ℕ, ℤ, true, List, map, ◌++◌, take, drop, Option, Some, None, if◌then◌else◌}
 use Rattle.std.specs.List.{filter_map, flat_map}
 use Rattle.std.specs.Option.{option_map}
 use Rattle.blot_types.specs.declared.allocation.Terms.{Terms}
@@ -13,13 +13,17 @@ use Rattle.blot_types.specs.Position.{moves_of, part_of_fill}
 use Rattle.blot_types.specs.Survivors.{version_of}
 use Rattle.blot_command.specs.declared.standing.Standing.{Standing}
 use Rattle.blot_command.specs.declared.standing.Standing.TheVariants.{Stands, Live, Neither}
-use Rattle.blot_command.specs.Standings.{standing_of, standings_of}
+use Rattle.blot_command.specs.Standings.{Told, standing_of, told_of}
 use Rattle.blot_report.specs.Day.{is_on, is_allocated_on}
 
--- entries are a book, and the standings are theirs
-pub record AreStandings (entries : List Entry) (standings : List Standing) : Type 0 where
-  pub book : is_book entries ≡ true
-  pub each : standings ≡ standings_of entries
+-- the entries that are told
+abbrev pub entries_in : List Told → List Entry
+entries_in told = map (λ one. one.entry) told
+
+-- they are a book, and each is told with what it comes to there
+pub record AreTold (told : List Told) : Type 0 where
+  pub book : is_book (entries_in told) ≡ true
+  pub each : told ≡ told_of (entries_in told)
 
 -- the fill of a version, if there is one and it is of a day
 abbrev pub day_fill : ℤ → Option Version → Option Fill

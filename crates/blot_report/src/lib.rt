@@ -1,5 +1,5 @@
-//! The report of a day: the lines of the orders and of the positions that stand on it, over a snapshot of a
-//! book, and the text of these lines.
+//! The report of a day: the lines of the orders and of the positions that stand on it, over a book or a
+//! snapshot of it, and the text of these lines.
 #![tactic(auto)]
 
 mod day;

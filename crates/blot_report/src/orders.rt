@@ -4,17 +4,18 @@ ghost use Rattle.std.specs.List.{IsDistinct};
 ghost use Rattle.std.specs.Map.{keys_of};
 ghost use Rattle.blot_types.specs.Keys.{same_order};
 ghost use Rattle.blot_types.specs.Order.{IsWithin};
+ghost use Rattle.blot_command.specs.Standings.{standings_of};
 ghost use Rattle.blot_report.specs.Lines.{order_rows};
 ghost use Rattle.blot_report.specs.Day.{fills_on};
 ghost use Rattle.blot_report.specs.Orders.{line_at, line_row, line_rows, AddsFill, AreLinesOf, AreOrdersOf, GrowsByOne};
-ghost use Rattle.blot_report.specs.Standings.{AreStandings};
+ghost use Rattle.blot_report.specs.Standings.{AreTold, entries_in};
 
 use crate::OrderRow;
 use crate::pieces::in_pieces;
-use crate::standing::{fill_on, standing_at};
-use blot_command::Standing;
+use crate::standing::{fill_on, told_at};
+use blot_command::{Reported, Standing, Told};
 use blot_time::Day;
-use blot_types::{EVENTS_MAX, Entry, Fill, OrderKey, OrderLine};
+use blot_types::{EVENTS_MAX, Fill, OrderKey, OrderLine};
 use indexmap::IndexMap;
 use std::alloc::{AllocError as NoMemory, Global};
 use std::thread::Threads;
@@ -26,30 +27,30 @@ type Lines = IndexMap<OrderKey, OrderLine>;
 /// memory.
 pub(crate) fn order_rows(
     alloc: Global,
-    entries: &[Entry],
-    standings: &[Standing],
+    told: &[Told],
     day: Day,
 ) -> Result<Vec<OrderRow>, NoMemory>
-    requires { AreStandings entries.now standings.now }
-    ensures { IfOk result (λ rows. rows.items ≡ order_rows (fills_on entries.now day)) }
+    requires { AreTold told.now }
+    ensures { IfOk result (λ rows. rows.items ≡ order_rows (fills_on (entries_in told.now) day)) }
 {
-    let lines = lines_of(alloc, entries, standings, day)?;
+    let lines = lines_of(alloc, told, day)?;
     let keys = sorted_orders(alloc, &lines)?;
     rows_of(alloc, &lines, &keys)
 }
 
-/// The same, where each piece of the orders is a worker's.
-pub(crate) fn order_rows_in_pieces<R: Threads + Sync>(
+/// The same of a book by its standings, where each piece of the orders is a worker's.
+pub(crate) fn order_rows_in_pieces<R: Threads + Sync, B: Reported>(
     rt: &R,
     alloc: Global,
-    entries: &[Entry],
+    book: &B,
     standings: &[Standing],
     day: Day,
 ) -> Result<Vec<OrderRow>, NoMemory>
-    requires { AreStandings entries.now standings.now }
-    ensures { IfOk result (λ rows. rows.items ≡ order_rows (fills_on entries.now day)) }
+    requires { standings.now ≡ standings_of (B.list_of book.now) }
+    ensures { IfOk result (λ rows. rows.items ≡ order_rows (fills_on (B.list_of book.now) day)) }
 {
-    let lines = lines_of(alloc, entries, standings, day)?;
+    let told = book.told(alloc, standings)?;
+    let lines = lines_of(alloc, &told, day)?;
     let keys = sorted_orders(alloc, &lines)?;
     rows_in_pieces(rt, alloc, &lines, &keys)
 }
@@ -76,17 +77,15 @@ fn rows_in_pieces<R: Threads + Sync>(
 // The lines of the orders that the executions of a day fill, of those that stand.
 fn lines_of(
     alloc: Global,
-    entries: &[Entry],
-    standings: &[Standing],
+    told: &[Told],
     day: Day,
 ) -> Result<Lines, NoMemory>
-    requires { AreStandings entries.now standings.now }
-    ensures { IfOk result (λ lines. AreLinesOf lines.entries (fills_on entries.now day)) }
+    requires { AreTold told.now }
+    ensures { IfOk result (λ lines. AreLinesOf lines.entries (fills_on (entries_in told.now) day)) }
 {
     let mut lines = IndexMap::new(alloc);
-    for (place, entry) in entries.iter().enumerate() {
-        let standing = standing_at(entries, standings, place, entry);
-        if let Some(fill) = fill_on(entry, standing, day) {
+    for place in 0..told.len() {
+        if let Some(fill) = fill_on(told_at(told, place), day) {
             add_fill(&mut lines, fill)?;
         }
     }

@@ -3,42 +3,42 @@ ghost use Rattle.std.specs.Prelude.{◌≡◌, IfOk};
 ghost use Rattle.blot_report.specs.Day.{day_parts_of, fills_on};
 ghost use Rattle.blot_report.specs.Laws.{IsOfOneDay, ShowsDay, ShowsBook};
 ghost use Rattle.blot_report.specs.Lines.{day_lines_of, order_rows, position_rows};
-ghost use Rattle.blot_report.specs.Standings.{AreStandings};
+ghost use Rattle.blot_command.specs.Standings.{standings_of};
 
 use crate::orders::order_rows_in_pieces;
 use crate::positions::position_rows_in_pieces;
 use crate::{DayLines, OrderRow, PositionRow, Rows};
-use blot_command::Snapshot;
+use blot_command::Reported;
 use blot_time::Day;
 use std::alloc::{AllocError as NoMemory, Global};
 use std::thread::{Threads, join};
 
 /// The lines of a day, as `day_lines` gives them, from several threads: orders and positions are made side by side, and the
 /// rows of each in pieces, which are joined in order. An error is out of memory, in any of them.
-pub fn day_lines_parallel<R: Threads + Sync>(
+pub fn day_lines_parallel<R: Threads + Sync, B: Reported + Sync>(
     rt: &R,
     alloc: Global,
-    snapshot: &Snapshot,
+    book: &B,
     day: Day,
 ) -> Result<DayLines, NoMemory>
-    ensures lines { IfOk result (λ lines. lines ≡ day_lines_of snapshot.now day) }
+    ensures lines { IfOk result (λ lines. lines ≡ day_lines_of (B.list_of book.now) day) }
 
     // As of `day_lines`: each order and each position of the day is found among the lines, and no other.
-    ensures shown { IfOk result (ShowsDay snapshot.now day) }
-    ensures whole { IfOk result (λ lines. IsOfOneDay snapshot.now day → ShowsBook snapshot.now lines) }
+    ensures shown { IfOk result (ShowsDay (B.list_of book.now) day) }
+    ensures whole { IfOk result (λ lines. IsOfOneDay (B.list_of book.now) day → ShowsBook (B.list_of book.now) lines) }
 {
-    let entries = snapshot.entries();
-    let standings = snapshot.standings();
+    let standings = book.standings(alloc)?;
+    let standings = standings.as_slice();
     let (orders, positions) = join(
         rt,
         || -> Result<Vec<OrderRow>, NoMemory>
-            requires { AreStandings entries.now standings.now }
-            ensures { IfOk result (λ rows. rows.items ≡ order_rows (fills_on entries.entry.now day)) }
-        { order_rows_in_pieces(rt, alloc, entries, standings, day) },
+            requires { standings.now ≡ standings_of (B.list_of book.now) }
+            ensures { IfOk result (λ rows. rows.items ≡ order_rows (fills_on (B.list_of book.entry.now) day)) }
+        { order_rows_in_pieces(rt, alloc, book, standings, day) },
         || -> Result<Vec<PositionRow>, NoMemory>
-            requires { AreStandings entries.now standings.now }
-            ensures { IfOk result (λ rows. rows.items ≡ position_rows (day_parts_of entries.entry.now day)) }
-        { position_rows_in_pieces(rt, alloc, entries, standings, day) },
+            requires { standings.now ≡ standings_of (B.list_of book.now) }
+            ensures { IfOk result (λ rows. rows.items ≡ position_rows (day_parts_of (B.list_of book.entry.now) day)) }
+        { position_rows_in_pieces(rt, alloc, book, standings, day) },
     );
     let orders = orders?;
     let positions = positions?;

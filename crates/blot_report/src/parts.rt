@@ -1,16 +1,17 @@
 //! What the executions and the allocations of a day add to the positions.
 ghost use Rattle.std.specs.Prelude.{◌≡◌, ◌≤◌, [], ◌++◌, length, All, IfOk, OnOk};
+ghost use Rattle.blot_command.specs.Standings.{standings_of};
 ghost use Rattle.blot_types.specs.Position.{moves_of, IsSmall, TermsFit};
 ghost use Rattle.blot_position.specs.Positions.{sums_at};
 ghost use Rattle.blot_report.specs.Day.{day_parts_of};
-ghost use Rattle.blot_report.specs.Standings.{AreStandings, between, parts_among, parts_between};
+ghost use Rattle.blot_report.specs.Standings.{AreTold, between, entries_in, parts_among, parts_between};
 ghost use Rattle.blot_report.specs.Sums.{AddsSums, IsOfParts, LeavesHalf, MadeOf, ShowsParts};
 
-use crate::standing::{part_on, standing_at, terms_on};
-use blot_command::Standing;
+use crate::standing::{part_on, terms_on, told_at};
+use blot_command::{Reported, Standing, Told};
 use blot_position::Positions;
 use blot_time::Day;
-use blot_types::{Entry, Part, Terms};
+use blot_types::{Part, Terms};
 use std::alloc::{AllocError as NoMemory, Global};
 use std::thread::{Threads, join};
 
@@ -18,39 +19,38 @@ use std::thread::{Threads, join};
 /// of memory.
 pub(crate) fn positions_on(
     alloc: Global,
-    entries: &[Entry],
-    standings: &[Standing],
+    told: &[Told],
     day: Day,
 ) -> Result<Positions, NoMemory>
-    requires { AreStandings entries.now standings.now }
-    ensures { IfOk result (ShowsParts (day_parts_of entries.now day)) }
+    requires { AreTold told.now }
+    ensures { IfOk result (ShowsParts (day_parts_of (entries_in told.now) day)) }
 {
-    positions_between(alloc, entries, standings, day, 0, entries.len())
+    positions_between(alloc, told, day, 0, told.len())
 }
 
-/// The same, where each half of the entries is a thread's.
-pub(crate) fn positions_in_halves<R: Threads + Sync>(
+/// The same of a book by its standings, where each half of the entries is a thread's.
+pub(crate) fn positions_in_halves<R: Threads + Sync, B: Reported + Sync>(
     rt: &R,
     alloc: Global,
-    entries: &[Entry],
+    book: &B,
     standings: &[Standing],
     day: Day,
 ) -> Result<Positions, NoMemory>
-    requires { AreStandings entries.now standings.now }
-    ensures { IfOk result (ShowsParts (day_parts_of entries.now day)) }
+    requires { standings.now ≡ standings_of (B.list_of book.now) }
+    ensures { IfOk result (ShowsParts (day_parts_of (B.list_of book.now) day)) }
 {
-    let after = entries.len();
+    let after = standings.len();
     let middle = after / 2;
     let (first, second) = join(
         rt,
         || -> Result<Positions, NoMemory>
-            requires { AreStandings entries.now standings.now × (middle ≤ length entries.now) }
-            ensures { IfOk result (IsOfParts (parts_between entries.entry.now day 0 middle)) }
-        { positions_between(alloc, entries, standings, day, 0, middle) },
+            requires { (standings.now ≡ standings_of (B.list_of book.now)) × (middle ≤ length standings.now) }
+            ensures { IfOk result (IsOfParts (parts_between (B.list_of book.entry.now) day 0 middle)) }
+        { positions_of(alloc, book, standings, day, 0, middle) },
         || -> Result<Positions, NoMemory>
-            requires { AreStandings entries.now standings.now × (middle ≤ after) × (after ≤ length entries.now) }
-            ensures { IfOk result (IsOfParts (parts_between entries.entry.now day middle after)) }
-        { positions_between(alloc, entries, standings, day, middle, after) },
+            requires { (standings.now ≡ standings_of (B.list_of book.now)) × (middle ≤ after) × (after ≤ length standings.now) }
+            ensures { IfOk result (IsOfParts (parts_between (B.list_of book.entry.now) day middle after)) }
+        { positions_of(alloc, book, standings, day, middle, after) },
     );
     let mut positions = first?;
     let others = second?;
@@ -58,46 +58,60 @@ pub(crate) fn positions_in_halves<R: Threads + Sync>(
     Ok(positions)
 }
 
-// The positions of the entries from one place to before another, by the standings of all.
-fn positions_between(
+// The positions of a book's entries from one place to before another.
+fn positions_of<B: Reported>(
     alloc: Global,
-    entries: &[Entry],
+    book: &B,
     standings: &[Standing],
     day: Day,
     first: usize,
     after: usize,
 ) -> Result<Positions, NoMemory>
-    requires standings { AreStandings entries.now standings.now }
+    requires standings { standings.now ≡ standings_of (B.list_of book.now) }
     requires rising { first ≤ after }
-    requires within { after ≤ length entries.now }
-    ensures { IfOk result (IsOfParts (parts_between entries.now day first after)) }
+    requires within { after ≤ length standings.now }
+    ensures { IfOk result (IsOfParts (parts_between (B.list_of book.now) day first after)) }
+{
+    let told = book.told(alloc, standings)?;
+    positions_between(alloc, &told, day, first, after)
+}
+
+// The positions of the entries from one place to before another, by what all of them come to.
+fn positions_between(
+    alloc: Global,
+    told: &[Told],
+    day: Day,
+    first: usize,
+    after: usize,
+) -> Result<Positions, NoMemory>
+    requires told { AreTold told.now }
+    requires rising { first ≤ after }
+    requires within { after ≤ length (entries_in told.now) }
+    ensures { IfOk result (IsOfParts (parts_between (entries_in told.now) day first after)) }
 {
     let mut positions = Positions::new(alloc);
-    add_fills(&mut positions, entries, standings, day, first, after)?;
-    add_moves(&mut positions, alloc, entries, standings, day, first, after)?;
+    add_fills(&mut positions, told, day, first, after)?;
+    add_moves(&mut positions, alloc, told, day, first, after)?;
     Ok(positions)
 }
 
 // Adds what the executions among these entries that stand add, to positions without a part.
 fn add_fills(
     positions: &mut Positions,
-    entries: &[Entry],
-    standings: &[Standing],
+    told: &[Told],
     day: Day,
     first: usize,
     after: usize,
 ) -> Result<(), NoMemory>
-    requires standings { AreStandings entries.now standings.now }
+    requires told { AreTold told.now }
     requires rising { first ≤ after }
-    requires within { after ≤ length entries.now }
+    requires within { after ≤ length (entries_in told.now) }
     requires none { MadeOf [] positions.old }
-    ensures made { OnOk result (MadeOf (parts_among entries.now day (between entries.now first after)) positions.new) }
-    ensures small { OnOk result (All IsSmall (parts_among entries.now day (between entries.now first after))) }
+    ensures made { OnOk result (MadeOf (parts_among (entries_in told.now) day (between (entries_in told.now) first after)) positions.new) }
+    ensures small { OnOk result (All IsSmall (parts_among (entries_in told.now) day (between (entries_in told.now) first after))) }
 {
     for place in first..after {
-        let entry = &entries[place];
-        let standing = standing_at(entries, standings, place, entry);
-        if let Some(part) = part_on(entry, standing, day) {
+        if let Some(part) = part_on(told_at(told, place), day) {
             positions.add(&part.account, &part.symbol, part.qty, part.value)?;
         }
     }
@@ -109,24 +123,21 @@ fn add_fills(
 fn add_moves(
     positions: &mut Positions,
     alloc: Global,
-    entries: &[Entry],
-    standings: &[Standing],
+    told: &[Told],
     day: Day,
     first: usize,
     after: usize,
 ) -> Result<(), NoMemory>
-    requires standings { AreStandings entries.now standings.now }
+    requires told { AreTold told.now }
     requires rising { first ≤ after }
-    requires within { after ≤ length entries.now }
-    requires made { MadeOf (parts_among entries.now day (between entries.now first after)) positions.old }
-    requires small { All IsSmall (parts_among entries.now day (between entries.now first after)) }
-    ensures { OnOk result (IsOfParts (parts_between entries.now day first after) positions.new) }
+    requires within { after ≤ length (entries_in told.now) }
+    requires made { MadeOf (parts_among (entries_in told.now) day (between (entries_in told.now) first after)) positions.old }
+    requires small { All IsSmall (parts_among (entries_in told.now) day (between (entries_in told.now) first after)) }
+    ensures { OnOk result (IsOfParts (parts_between (entries_in told.now) day first after) positions.new) }
 {
     let mut moves = Vec::new(alloc);
     for place in first..after {
-        let entry = &entries[place];
-        let standing = standing_at(entries, standings, place, entry);
-        if let Some(terms) = terms_on(entry, standing, day) {
+        if let Some(terms) = terms_on(told_at(told, place), day) {
             moves.clear();
             put_moves(&mut moves, terms)?;
             for part in &moves {

@@ -1,47 +1,47 @@
 //! The rows of positions.
 ghost use Rattle.std.specs.Prelude.{◌≡◌, IfOk};
+ghost use Rattle.blot_command.specs.Standings.{standings_of};
 ghost use Rattle.blot_report.specs.Day.{day_parts_of};
 ghost use Rattle.blot_report.specs.Lines.{position_rows};
-ghost use Rattle.blot_report.specs.Standings.{AreStandings};
+ghost use Rattle.blot_report.specs.Standings.{AreTold, entries_in};
 ghost use Rattle.blot_report.specs.Sums.{ArePositionsOf, cell_row, cell_rows};
 
 use crate::PositionRow;
 use crate::parts::{positions_in_halves, positions_on};
 use crate::pieces::in_pieces;
-use blot_command::Standing;
+use blot_command::{Reported, Standing, Told};
 use blot_position::Positions;
 use blot_time::Day;
-use blot_types::{Entry, PositionKey};
+use blot_types::PositionKey;
 use std::alloc::{AllocError as NoMemory, Global};
 use std::thread::Threads;
 
 /// The rows of the positions of a day, by account and then by symbol. An error is out of memory.
 pub(crate) fn position_rows(
     alloc: Global,
-    entries: &[Entry],
-    standings: &[Standing],
+    told: &[Told],
     day: Day,
 ) -> Result<Vec<PositionRow>, NoMemory>
-    requires { AreStandings entries.now standings.now }
-    ensures { IfOk result (λ rows. rows.items ≡ position_rows (day_parts_of entries.now day)) }
+    requires { AreTold told.now }
+    ensures { IfOk result (λ rows. rows.items ≡ position_rows (day_parts_of (entries_in told.now) day)) }
 {
-    let positions = positions_on(alloc, entries, standings, day)?;
+    let positions = positions_on(alloc, told, day)?;
     let keys = sorted_positions(alloc, &positions)?;
     rows_of(alloc, &positions, &keys)
 }
 
-/// The same, where each half of the entries is a thread's, and each piece of the positions a worker's.
-pub(crate) fn position_rows_in_pieces<R: Threads + Sync>(
+/// The same of a book by its standings, where each half of the entries is a thread's, and each piece of the positions a worker's.
+pub(crate) fn position_rows_in_pieces<R: Threads + Sync, B: Reported + Sync>(
     rt: &R,
     alloc: Global,
-    entries: &[Entry],
+    book: &B,
     standings: &[Standing],
     day: Day,
 ) -> Result<Vec<PositionRow>, NoMemory>
-    requires { AreStandings entries.now standings.now }
-    ensures { IfOk result (λ rows. rows.items ≡ position_rows (day_parts_of entries.now day)) }
+    requires { standings.now ≡ standings_of (B.list_of book.now) }
+    ensures { IfOk result (λ rows. rows.items ≡ position_rows (day_parts_of (B.list_of book.now) day)) }
 {
-    let positions = positions_in_halves(rt, alloc, entries, standings, day)?;
+    let positions = positions_in_halves(rt, alloc, book, standings, day)?;
     let keys = sorted_positions(alloc, &positions)?;
     rows_in_pieces(rt, alloc, &positions, &keys)
 }

@@ -1,62 +1,57 @@
-//! The executions and the allocations of a day, as the standings of their entries tell them.
+//! The executions and the allocations of a day, as their entries tell them.
 ghost use Rattle.std.specs.Prelude.{◌≡◌, ◌<◌, length, IfSome, get_or};
 ghost use Rattle.std.specs.Option.{option_copied};
 ghost use Rattle.blot_types.specs.Position.{IsSmall};
 ghost use Rattle.blot_types.specs.Survivors.{version_of};
 ghost use Rattle.blot_command.specs.Standings.{standing_of};
-ghost use Rattle.blot_report.specs.Standings.{AreStandings, day_fill, fill_on, part_on, terms_on};
+ghost use Rattle.blot_report.specs.Standings.{AreTold, day_fill, entries_in, fill_on, part_on, terms_on};
 
-use blot_command::Standing;
+use blot_command::{Standing, Told};
 use blot_time::Day;
 use blot_types::{Command, Entry, Fill, Part, Terms};
 
-/// The standing of an entry, which has this place among the others.
-pub(crate) fn standing_at(
-    entries: &[Entry],
-    standings: &[Standing],
-    place: usize,
-    entry: &Entry,
-) -> Standing
-    requires all { AreStandings entries.now standings.now }
-    requires within { place < length entries.now }
-    requires own { entry.now ≡ get_or entries.now place entry.now }
-    ensures { result ≡ standing_of entries.now entry.now }
+/// One of the entries, by its place.
+pub(crate) fn told_at<'a, 't>(told: &'t [Told<'a>], place: usize) -> &'t Told<'a>
+    requires all { AreTold told.now }
+    requires within { place < length (entries_in told.now) }
+    ensures own { result.now.entry ≡ get_or (entries_in told.now) place result.now.entry }
+    ensures standing { result.now.standing ≡ standing_of (entries_in told.now) result.now.entry }
 {
-    standings[place]
+    &told[place]
 }
 
 /// The fill that an entry brings, where it stands and is of a day.
-pub(crate) fn fill_on(entry: &Entry, standing: Standing, day: Day) -> Option<&Fill>
-    ensures { option_copied result ≡ fill_on day standing entry.now }
+pub(crate) fn fill_on<'a>(told: &Told<'a>, day: Day) -> Option<&'a Fill>
+    ensures { option_copied result ≡ fill_on day told.now.standing told.now.entry }
 {
-    match standing {
-        Standing::Stands { .. } => day_fill(entry, day),
+    match told.standing() {
+        Standing::Stands { .. } => day_fill(told.entry(), day),
         Standing::Live | Standing::Neither => None,
     }
 }
 
 /// What it adds to the positions.
-pub(crate) fn part_on(entry: &Entry, standing: Standing, day: Day) -> Option<Part>
-    ensures part { result ≡ part_on day standing entry.now }
+pub(crate) fn part_on(told: &Told, day: Day) -> Option<Part>
+    ensures part { result ≡ part_on day told.now.standing told.now.entry }
     ensures small { IfSome result IsSmall }
 {
-    let Standing::Stands { is_named } = standing else {
+    let Standing::Stands { is_named } = told.standing() else {
         return None;
     };
-    match day_fill(entry, day) {
+    match day_fill(told.entry(), day) {
         None => None,
         Some(fill) => Some(Part::of_fill(is_named, fill)),
     }
 }
 
 /// The terms of the allocation that an entry brings, where it is live and of a day.
-pub(crate) fn terms_on(entry: &Entry, standing: Standing, day: Day) -> Option<&Terms>
-    ensures { option_copied result ≡ terms_on day standing entry.now }
+pub(crate) fn terms_on<'a>(told: &Told<'a>, day: Day) -> Option<&'a Terms>
+    ensures { option_copied result ≡ terms_on day told.now.standing told.now.entry }
 {
-    if standing != Standing::Live {
+    if told.standing() != Standing::Live {
         return None;
     }
-    match &entry.command {
+    match &told.entry().command {
         Command::AllocNew(new) if new.terms.day == day => Some(&new.terms),
         Command::AllocReplace(replace) if replace.terms.day == day => Some(&replace.terms),
         Command::Trade(_)

@@ -249,7 +249,7 @@ fn write_report<R: Threads + Sync, O: Write>(
     }
 }
 
-// The report of a day of a desk, made by several threads. The desk goes first, so that the report takes its room.
+// The report of a day of a desk, made by several threads. The record goes first, so that the report takes its room.
 fn day_report<R: Threads + Sync>(
     rt: &R,
     alloc: Global,
@@ -258,7 +258,7 @@ fn day_report<R: Threads + Sync>(
 ) -> Result<Vec<u8>, NoMemory>
     ensures { IfOk result (λ text. text.items ≡ report_of (list_after held.history) day) }
 {
-    let snapshot = held.into_snapshot()?;
-    let lines = day_lines_parallel(rt, alloc, &snapshot, day)?;
+    let book = held.into_book();
+    let lines = day_lines_parallel(rt, alloc, &book, day)?;
     report_text(alloc, &lines)
 }

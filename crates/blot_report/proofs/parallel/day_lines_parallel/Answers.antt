@@ -6,19 +6,13 @@ use Rattle.blot_report.proofs.ListLemmas.{if_was}
 use Rattle.blot_report.proofs.ShowLemmas.{lines-found, shows-day}
 use Rattle.blot_report.proofs.parallel.day_lines_parallel.Goals as goal
 
-pub returns-clause-shown : goal.returns-clause-shown
-returns-clause-shown g c =
-    shows-day c.args.snapshot.now c.args.day _
-    (lines-found c.args.snapshot.now c.entries-entries.result.now c.args.day c.new.result c.new-2.result c.entries-entries.ensures.entries
-    (c.new.ensures ∙ if_was c.join-orders.result.0 c.in_ok-orders.orders (λ rows. rows.items ≡ order_rows (fills_on c.entries-entries.result.now c.args.day)) c.in_ok-orders.was c.join-orders.ensures.first)
-    (c.new-2.ensures
-    ∙ if_was c.join-orders.result.1 c.in_ok-positions.positions (λ rows. rows.items ≡ position_rows (day_parts_of c.entries-entries.result.now c.args.day)) c.in_ok-positions.was c.join-orders.ensures.second))
-
-pub returns-clause-whole : goal.returns-clause-whole
-returns-clause-whole g c =
-    shows-book c.args.snapshot.now c.args.day _
-    (shows-day c.args.snapshot.now c.args.day _
-    (lines-found c.args.snapshot.now c.entries-entries.result.now c.args.day c.new.result c.new-2.result c.entries-entries.ensures.entries
-    (c.new.ensures ∙ if_was c.join-orders.result.0 c.in_ok-orders.orders (λ rows. rows.items ≡ order_rows (fills_on c.entries-entries.result.now c.args.day)) c.in_ok-orders.was c.join-orders.ensures.first)
-    (c.new-2.ensures
-    ∙ if_was c.join-orders.result.1 c.in_ok-positions.positions (λ rows. rows.items ≡ position_rows (day_parts_of c.entries-entries.result.now c.args.day)) c.in_ok-positions.was c.join-orders.ensures.second)))
+pub returns : goal.returns
+returns g c =
+    let list = g.B.Reported.list_of c.args.book.now in
+    let day = c.args.day in
+    let ordered = c.new.ensures ∙ if_was c.join-orders.result.0 c.in_ok-orders.orders (λ rows. rows.items ≡ order_rows (fills_on list day)) c.in_ok-orders.was c.join-orders.ensures.first in
+    let placed = c.new-2.ensures
+    ∙ if_was c.join-orders.result.1 c.in_ok-positions.positions (λ rows. rows.items ≡ position_rows (day_parts_of list day)) c.in_ok-positions.was c.join-orders.ensures.second in
+    let lines = lines-found list day c.new.result c.new-2.result ordered placed in
+    let shown = shows-day list day _ lines in
+    record { lines = lines; shown = shown; whole = shows-book list day _ shown }

@@ -8,9 +8,9 @@ use Rattle.blot_types.specs.declared.command.Entry.{Entry}
 use Rattle.blot_types.specs.declared.part.Part.{Part}
 use Rattle.blot_types.specs.Position.{moves_of, TermsFit}
 use Rattle.blot_command.specs.declared.standing.Standing.{Standing}
-use Rattle.blot_command.specs.Standings.{standing_of}
 use Rattle.blot_position.specs.Positions.{with_part}
-use Rattle.blot_report.specs.Standings.{between, moves_among, parts_among, parts_between, terms_among, terms_on}
+use Rattle.blot_command.specs.Standings.{standing_of}
+use Rattle.blot_report.specs.Standings.{between, entries_in, moves_among, parts_among, parts_between, terms_among, terms_on}
 use Rattle.blot_report.specs.Sums.{MadeOf}
 use Rattle.blot_report.proofs.ListLemmas.{between-more, all-found, all-passed, found-none, more}
 use Rattle.blot_report.proofs.HalfLemmas.{half-light}
@@ -26,15 +26,15 @@ put moves from terms empty is = is ∙ ap (λ front. front ++ moves_of terms) em
 
 pub add-requires : goal.add-requires
 add-requires c =
-    let list = c.args.entries.now in
+    let list = entries_in c.args.told.now in
     let day = c.args.day in
     let f : Entry → Option Terms = λ e. terms_on day (standing_of list e) e in
-    let entry = c.index-entries-place.result in
+    let entry = c.told_at.result.now.entry in
     let terms = c.in-Some.terms.now in
     let before = between list c.args.first c.loop-place.place in
     let after = between list c.args.first (c.loop-place.place + 1) in
-    let next = between-more list c.args.first c.loop-place.place entry c.loop-place.invariant.low (omega (arith, c.loop-place-test.true, c.requires.within)) c.index-entries-place.is in
-    let told = c.terms_on.ensures ∙ ap (λ (s : Standing). terms_on day s entry) c.standing_at-standing.ensures in
+    let next = between-more list c.args.first c.loop-place.place entry c.loop-place.invariant.low (omega (arith, c.loop-place-test.true, c.requires.within)) c.told_at.ensures.own in
+    let told = c.terms_on.ensures ∙ ap (λ (s : Standing). terms_on day s entry) c.told_at.ensures.standing in
     let brought : f entry ≡ Some terms = sym told ∙ ap option_copied c.in-Some.is in
     let fit = all-found TermsFit f before after entry terms next c.loop-place.invariant.fit brought c.in_ok-put_moves.ensures.fit in
     let fills = parts_among list day (between list c.args.first c.args.after) in
@@ -44,7 +44,7 @@ add-requires c =
     let whole : fills ++ moves_among list day after ≡ (fills ++ moved) ++ moves =
     ap (λ back. fills ++ back) (moved-more list day before after entry terms next brought)
     ∙ sym (append_assoc fills moved (moves_of terms)) ∙ ap (λ back. (fills ++ moved) ++ back) (sym own) in
-    let light = subst IsLight whole (light-told list day c.args.first c.args.after (c.loop-place.place + 1) c.requires.standings.book c.requires.small fit) in
+    let light = subst IsLight whole (light-told list day c.args.first c.args.after (c.loop-place.place + 1) c.requires.told.book c.requires.small fit) in
     record {
       room = room-more ((fills ++ moved) ++ take c.loop-part.part-index moves) c.part-item.result c.loop-part.positions
           (light-moves (fills ++ moved) moves c.loop-part.part-index c.part-item.result light c.loop-part-test.true c.part-item.is) c.loop-part.invariant;
@@ -52,7 +52,7 @@ add-requires c =
 
 pub loop-part-preserved : goal.loop-part-preserved
 loop-part-preserved c =
-    let list = c.args.entries.now in
+    let list = entries_in c.args.told.now in
     let done = parts_among list c.args.day (between list c.args.first c.args.after) ++ moves_among list c.args.day (between list c.args.first c.loop-place.place) in
     let moves = c.deref-part-items.result.now in
     let index = c.loop-part.part-index in
@@ -65,14 +65,14 @@ loop-part-preserved c =
 
 pub loop-place-preserved : goal.loop-place-preserved
 loop-place-preserved c =
-    let list = c.args.entries.now in
+    let list = entries_in c.args.told.now in
     let day = c.args.day in
     let f : Entry → Option Terms = λ e. terms_on day (standing_of list e) e in
-    let entry = c.index-entries-place.result in
+    let entry = c.told_at.result.now.entry in
     let before = between list c.args.first c.loop-place.place in
     let after = between list c.args.first (c.loop-place.place + 1) in
-    let next = between-more list c.args.first c.loop-place.place entry c.loop-place.invariant.low (omega (arith, c.loop-place-test.true, c.requires.within)) c.index-entries-place.is in
-    let told = c.terms_on.ensures ∙ ap (λ (s : Standing). terms_on day s entry) c.standing_at-standing.ensures in
+    let next = between-more list c.args.first c.loop-place.place entry c.loop-place.invariant.low (omega (arith, c.loop-place-test.true, c.requires.within)) c.told_at.ensures.own in
+    let told = c.terms_on.ensures ∙ ap (λ (s : Standing). terms_on day s entry) c.told_at.ensures.standing in
     let fills = parts_among list day (between list c.args.first c.args.after) in
     let moved = moves_among list day before in
     let positions = c.match-terms_on.positions in
@@ -103,7 +103,7 @@ loop-place-preserved c =
 
 pub returns : goal.returns
 returns c =
-    let list = c.args.entries.now in
+    let list = entries_in c.args.told.now in
     let day = c.args.day in
     let first = c.args.first in
     let after = c.args.after in
@@ -111,4 +111,4 @@ returns c =
     let fills = parts_among list day (between list first after) in
     let made = subst (λ place. MadeOf (fills ++ moves_among list day (between list first place)) c.loop-place.positions) all c.loop-place.invariant.made in
     let fit = subst (λ place. All TermsFit (terms_among list day (between list first place))) all c.loop-place.invariant.fit in
-    record { made = made; half = half-light (parts_between list day first after) c.loop-place.positions (light-told list day first after after c.requires.standings.book c.requires.small fit) made }
+    record { made = made; half = half-light (parts_between list day first after) c.loop-place.positions (light-told list day first after after c.requires.told.book c.requires.small fit) made }

@@ -2,13 +2,14 @@ use Rattle.std.proofs.Common.{ap, ◌∙◌}
 use Rattle.std.specs.List.{filter_map}
 use Rattle.blot_report.specs.Day.{day_parts_of}
 use Rattle.blot_report.specs.Lines.{position_row}
+use Rattle.blot_report.specs.Standings.{entries_in}
 use Rattle.blot_report.proofs.ListLemmas.{if_ok}
 use Rattle.blot_report.proofs.RowLemmas.{rows-shown}
 use Rattle.blot_report.proofs.positions.position_rows.Goals as goal
 
 pub returns : goal.returns
 returns c =
-    let parts = day_parts_of c.args.entries.now c.args.day in
+    let parts = day_parts_of (entries_in c.args.told.now) c.args.day in
     let shows = c.in_ok-positions.ensures in
     let keys = c.deref.ensures.value ∙ c.in_ok-keys.ensures parts shows.cells in
     let rows = rows-shown parts c.in_ok-positions.positions c.deref.result.now shows ∙ ap (filter_map (position_row parts)) keys in
