@@ -1,9 +1,8 @@
 -- The cells of the fills in slots: what they say, and that they hold where room is made, and where a fill is kept, put or taken.
 use Rattle.std.proofs.Common.{◌≡◌, ℕ, ◌+◌, ◌<◌, ◌≤◌, true, false, List, length, set, Option, Some, None, refl, sym, ap, subst, ◌∙◌, arith, inl, inr, if◌then◌else◌}
-use Rattle.std.specs.Cmp.Lexicographic.{nat_list_eq_equiv}
 use Rattle.std.specs.Prelude.{◌==◌, Bool, Contains, IfSome}
 use Rattle.std.specs.Option.{option_and_then, option_map}
-use Rattle.std.proofs.lemmas.Bool.{cases_Bool, and_from, eqb-true, eqb-false}
+use Rattle.std.proofs.lemmas.Bool.{cases_Bool, eqb-true, eqb-false}
 use Rattle.std.proofs.lemmas.Int.{ints}
 use Rattle.std.proofs.lemmas.List.{get_or-set_same, get_or-set_other, length-set}
 use Rattle.blot_types.specs.declared.TheConstants.{EVENTS_MAX}
@@ -18,13 +17,10 @@ use Rattle.blot_order.specs.Fills.{Fills, fill_put, fill_kept, fills_put}
 use Rattle.blot_order.specs.Numbers.{Rise}
 use Rattle.blot_order.specs.Slots.{held_by, slot_at, fills_in_slots, put_under, kept_under, puts, keeps, keeps_under, numbers_from, reaching}
 use Rattle.blot_order.specs.Totals.{Fits, AreSmall}
+use Rattle.blot_order.proofs.PlaceLemmas.{same_order-refl}
 use Rattle.blot_order.proofs.SlotLemmas.{slot_at-reaching, few-reaching, fills_put-held_by, slot_within}
 use Rattle.blot_order.proofs.SumLemmas.{within_slots}
 use Rattle.blot_order.proofs.TallyLemmas.{rise-numbers, listed-number, last_fill-is, count-few, count-some, tally-reaching, tally-kept, tally-put, tally-taken}
-
--- an order is itself
-same_order-refl : (order : OrderKey) → same_order order order ≡ true
-same_order-refl order = and_from _ _ (nat_list_eq_equiv.refl order.peer) (nat_list_eq_equiv.refl order.id)
 
 -- one more fill that is kept, or none, leaves one
 still_one : (test : Bool) (tally : Tally) → 0 < tally.kept → 0 < (if test then with_one_kept tally else tally).kept

@@ -6,7 +6,7 @@ use Rattle.std.specs.Cmp.{nat_cmp_total, unsigned_tied}
 use Rattle.std.specs.FinMap as finite
 use Rattle.std.specs.FinMap.Entries.{below_all}
 use Rattle.std.specs.List.{filter_map}
-use Rattle.std.specs.Option.{option_and_then, option_map}
+use Rattle.std.specs.Option.{option_and_then}
 use Rattle.std.specs.Ordering.{nat_cmp, eq_by_cmp, is_lt}
 use Rattle.std.proofs.lemmas.Bool.{cases_Bool, and_from, ltb-true, ltb-false, lt-ltb, ne_eqb, eq-eqb, eqb-true, eqb-false}
 use Rattle.std.proofs.lemmas.List.{get_or-set_same, get_or-set_other, get_or_append_left, get_or-append_right, get_or_past, append-nil, length-append, length-replicate}
@@ -15,7 +15,7 @@ use Rattle.blot_types.specs.declared.fill.Fill.{Fill}
 use Rattle.blot_order.specs.declared.held.Held.{Held}
 use Rattle.blot_order.specs.declared.held.Held.TheVariants.{Kept, Put}
 use Rattle.blot_order.specs.Fills.{Fills, fill_put, fill_kept, put_at, kept_at, fills_put}
-use Rattle.blot_order.specs.Slots.{held_from, held_by, kept_under, marked, slot_at, put_under, fills_in_slots, reaching}
+use Rattle.blot_order.specs.Slots.{held_from, held_by, kept_under, slot_at, put_under, fills_in_slots, reaching}
 use Rattle.blot_order.proofs.FillLemmas.{get-insert}
 
 -- ---- what the slots stand for, number by number
@@ -90,13 +90,13 @@ held_by-set n held slots within =
     ])
 
 -- every slot of a list of empty ones is empty
-get_or-empties : (n k : ℕ) → slot_at (replicate n None) k ≡ None
+get_or-empties : {A : Type 0} (n k : ℕ) → get_or {A = Option A} (replicate n None) k None ≡ None
 get_or-empties zero k = get_or_past [] k None (omega arith)
 get_or-empties (suc n) zero = refl
 get_or-empties (suc n) (suc k) = get_or-empties n k
 
 -- filling up changes no slot
-pub slot_at-reaching : (n k : ℕ) (slots : List (Option Held)) → slot_at (reaching n slots) k ≡ slot_at slots k
+pub slot_at-reaching : {A : Type 0} (n k : ℕ) (slots : List (Option A)) → get_or (reaching n slots) k None ≡ get_or slots k None
 slot_at-reaching n k slots =
     elim (cases_Bool (nat_lt k (length slots))) [
       | inl less ↦ get_or_append_left slots _ None k (ltb-true _ _ less)
@@ -120,15 +120,15 @@ fills_in_slots-reaching n slots =
     ∙ ap (λ fills. fills_in_slots slots ++ fills) (fills-empties (n + 1 - length slots)) ∙ append-nil (fills_in_slots slots)
 
 -- a list that is filled up for a number has a slot for it
-pub length-reaching : (n : ℕ) (slots : List (Option Held)) → n < length (reaching n slots)
-length-reaching n slots = omega (arith, length-append slots (replicate (n + 1 - length slots) None), length-replicate {A = Option Held} (n + 1 - length slots) None)
+pub length-reaching : {A : Type 0} (n : ℕ) (slots : List (Option A)) → n < length (reaching n slots)
+length-reaching {A} n slots = omega (arith, length-append slots (replicate (n + 1 - length slots) None), length-replicate {A = Option A} (n + 1 - length slots) None)
 
 -- and no more than that, or than it had
 pub few-reaching : (n most : ℕ) (slots : List (Option Held)) → n < most → length slots ≤ most → length (reaching n slots) ≤ most
 few-reaching n most slots less few = omega (arith, length-append slots (replicate (n + 1 - length slots) None), length-replicate {A = Option Held} (n + 1 - length slots) None)
 
 -- something is held under a number only where there is a slot for it
-pub slot_within : (n : ℕ) (slots : List (Option Held)) (held : Held) → slot_at slots n ≡ Some held → n < length slots
+pub slot_within : {A : Type 0} (n : ℕ) (slots : List (Option A)) (held : A) → get_or slots n None ≡ Some held → n < length slots
 slot_within n slots held is =
     elim (cases_Bool (nat_lt n (length slots))) [
       | inl less ↦ ltb-true _ _ less
@@ -150,25 +150,13 @@ pub kept-fill : (slots : List (Option Held)) (n : ℕ) → IsSome (kept_under sl
 kept-fill slots n some = kept_there (slot_at slots n) some
 
 -- what a slot holds, whatever is said of a number without a slot
-slot-there : (slots : List (Option Held)) (n : ℕ) (held : Held) (other : Option Held) → slot_at slots n ≡ Some held → get_or slots n other ≡ Some held
+pub slot-there : {A : Type 0} (slots : List (Option A)) (n : ℕ) (held : A) (other : Option A) → get_or slots n None ≡ Some held → get_or slots n other ≡ Some held
 slot-there [] n held other is = let clash : None ≡ Some held = sym (get_or_past [] n None (omega arith)) ∙ is in absurd (cc clash)
 slot-there (slot ∷ slots) zero held other is = is
 slot-there (slot ∷ slots) (suc n) held other is = slot-there slots n held other is
 
--- a slot that is marked
-pub slot-marked : (slots : List (Option Held)) (n : ℕ) (held : Held) (is_put : Bool) (old new : Option Held)
-    → slot_at slots n ≡ Some held → old ≡ get_or slots n old → new ≡ option_map (marked is_put) old → new ≡ Some (marked is_put held)
-slot-marked slots n held is_put old new there read marks = marks ∙ ap (option_map (marked is_put)) (read ∙ slot-there slots n held old there)
-
--- the fill that is found in a slot that is marked as put
 some-same : (a b : Fill) → Some a ≡ Some b → a ≡ b
 some-same a b same = cc same
-
-pub found-put : (slots these : List (Option Held)) (n : ℕ) (fill found : Fill) (slot : Option Held)
-    → slot_at slots n ≡ Some (Kept fill) → slot ≡ Some (Put fill) → these ≡ set slots n slot → Some found ≡ put_under these n → found ≡ fill
-found-put slots these n fill found slot kept put changed is =
-    some-same found fill (is ∙ ap (λ (list : List (Option Held)). put_under list n) changed ∙ ap (λ (it : Option Held). put_under (set slots n it) n) put
-    ∙ ap (option_and_then fill_put) (get_or-set_same slots n (Some (Put fill)) None (slot_within n slots (Kept fill) kept)))
 
 -- the fill that is kept in a slot is the one that is kept under its number
 pub found-kept : (slots : List (Option Held)) (n : ℕ) (fill found : Fill) → slot_at slots n ≡ Some (Kept fill) → kept_under slots n ≡ Some found → found ≡ fill

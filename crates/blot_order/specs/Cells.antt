@@ -1,7 +1,7 @@
 -- The cells of the orders: what the fills of an order come to, those that are put and those that are kept.
-use Rattle.std.specs.Prelude.{◌≡◌, ℕ, ◌+◌, ◌-◌, ◌<◌, ◌≤◌, Bool, List, [], length, Contains, Option, None, IfSome, if◌then◌else◌}
+use Rattle.std.specs.Prelude.{◌≡◌, ℕ, ◌+◌, ◌-◌, ◌<◌, ◌≤◌, Bool, List, [], length, slice_get, Contains, Option, None, Some, IfSome, if◌then◌else◌}
 use Rattle.std.specs.List.{last_or}
-use Rattle.std.specs.Map.{lookup}
+use Rattle.std.specs.Map.{keys_of, lookup}
 use Rattle.std.specs.Option.{option_and_then, option_map, unwrap_or}
 use Rattle.blot_types.specs.declared.TheConstants.{EVENTS_MAX}
 use Rattle.blot_types.specs.declared.fill.Fill.{Fill}
@@ -12,7 +12,7 @@ use Rattle.blot_types.specs.Order.{fills_of, cum_of, value_of}
 use Rattle.blot_order.specs.declared.held.Held.{Held}
 use Rattle.blot_order.specs.declared.totals.Totals.{Totals}
 use Rattle.blot_order.specs.Numbers.{Rise, with_number, without_number}
-use Rattle.blot_order.specs.Slots.{fills_in_slots, put_under, numbers_from, count_kept}
+use Rattle.blot_order.specs.Slots.{Placed, held_in_slots, placed_at, fills_in_slots, put_under, numbers_from, count_kept}
 use Rattle.blot_order.specs.Totals.{no_fills, with_one, without_one, line_with, Fits, AreSmall}
 
 -- what the fills of an order come to: the sums of those that are put, their numbers, and how many are kept
@@ -67,6 +67,18 @@ pub record CanTake (number : ℕ) (tally : Tally) : Type 0 where
 abbrev pub tally_at : List (OrderKey × Tally) → OrderKey → Tally
 tally_at cells order = unwrap_or (lookup (same_order order) cells) no_tally
 
+-- the order whose cell is at a place
+abbrev pub order_at : List (OrderKey × Tally) → ℕ → Option OrderKey
+order_at cells place = slice_get (keys_of cells) place
+
+-- the cell of the order of a fill in a slot is at its place
+abbrev pub IsPlaced : List (OrderKey × Tally) → Placed → Type 0
+IsPlaced cells placed = order_at cells placed.place ≡ Some placed.fill.order
+
+-- a cell that was at a place is still there
+abbrev pub KeepsPlaces : List (OrderKey × Tally) → List (OrderKey × Tally) → Type 0
+KeepsPlaces old new = (place : ℕ) (order : OrderKey) → order_at old place ≡ Some order → order_at new place ≡ Some order
+
 -- the tallies of the orders that pass a test are changed, and those of the others are as they were
 abbrev pub ChangesWhere : (OrderKey → Bool) → (Tally → Tally) → List (OrderKey × Tally) → List (OrderKey × Tally) → Type 0
 ChangesWhere test change old new = (order : OrderKey) → tally_at new order ≡ (if test order then change (tally_at old order) else tally_at old order)
@@ -86,3 +98,8 @@ pub record HoldsOrders (cells : List (OrderKey × Tally)) (slots : List (Option 
   pub few : length slots ≤ EVENTS_MAX + 1
   pub fits : (number : ℕ) → IfSome (put_under slots number) Fits
   pub tallies : (order : OrderKey) → tally_at cells order ≡ tally_of slots order
+
+-- The cells are those of the fills in slots, wherever these have them, and each is where its fill has it.
+pub record HoldsSlots (cells : List (OrderKey × Tally)) (slots : List (Option Placed)) : Type 0 where
+  pub orders : HoldsOrders cells (held_in_slots slots)
+  pub places : (number : ℕ) → IfSome (placed_at slots number) (IsPlaced cells)

@@ -1,15 +1,15 @@
 -- The slots in which an order book stores its fills: slot n is that of number n, and the numbers past the
 -- last slot hold nothing.
-use Rattle.std.specs.Prelude.{◌≡◌, refl, ℕ, Bool, true, false, ◌+◌, ◌-◌, List, [], ◌∷◌, ◌++◌, length, get_or, replicate, Option, Some, None, if◌then◌else◌}
-use Rattle.std.specs.FinMap as map
+use Rattle.std.specs.Prelude.{ℕ, Bool, true, false, ◌+◌, ◌-◌, List, [], ◌∷◌, ◌++◌, length, map, get_or, replicate, Option, Some, None, if◌then◌else◌}
+use Rattle.std.specs.FinMap as finite
 use Rattle.std.specs.List.{filter, filter_map}
-use Rattle.std.specs.Option.{option_and_then}
+use Rattle.std.specs.Option.{option_and_then, option_map}
 use Rattle.blot_types.specs.declared.fill.Fill.{Fill}
 use Rattle.blot_types.specs.declared.keys.OrderKey.{OrderKey}
 use Rattle.blot_types.specs.Keys.{same_order}
 use Rattle.blot_order.specs.declared.held.Held.{Held}
 use Rattle.blot_order.specs.declared.held.Held.TheVariants.{Kept, Put}
-use Rattle.blot_order.specs.Fills.{Fills, fill_put, fill_kept, fill_held}
+use Rattle.blot_order.specs.Fills.{Fills, fill_put, fill_kept}
 
 -- what slots hold, under the numbers from that of the first slot on
 abbrev pub held_from : ℕ → List (Option Held) → List (ℕ × Held)
@@ -19,30 +19,34 @@ held_from number (Some held ∷ slots) = (number, held) ∷ held_from (number + 
 
 -- the fills by number
 unfoldable pub held_by : List (Option Held) → Fills
-held_by slots = map.from_sorted (held_from 0 slots)
+held_by slots = finite.from_sorted (held_from 0 slots)
 
 -- a fill that is put, or kept
 abbrev pub held_as : Bool → Fill → Held
 held_as true fill = Put fill
 held_as false fill = Kept fill
 
--- whether the fill that is held is put
-abbrev pub is_put_in : Held → Bool
-is_put_in (Kept fill) = false
-is_put_in (Put fill) = true
+-- a fill in its slot: whether it is put, and the place of the cell of its order among the cells
+pub record Placed : Type 0 where
+  pub fill : Fill
+  pub is_put : Bool
+  pub place : ℕ
 
--- both tell what is held
-pub fill_held-as : (is_put : Bool) (fill : Fill) → fill_held (held_as is_put fill) ≡ fill
-fill_held-as true fill = refl
-fill_held-as false fill = refl
+-- a fill in its slot, put or kept from now on
+abbrev pub marked : Bool → Placed → Placed
+marked is_put placed = record placed { is_put = is_put }
 
-pub is_put_in-as : (is_put : Bool) (fill : Fill) → is_put_in (held_as is_put fill) ≡ is_put
-is_put_in-as true fill = refl
-is_put_in-as false fill = refl
+-- what is held in a slot, wherever the cell is
+abbrev pub held_in : Placed → Held
+held_in placed = held_as placed.is_put placed.fill
 
--- what is held, put or kept from now on
-abbrev pub marked : Bool → Held → Held
-marked is_put held = held_as is_put (fill_held held)
+-- what slots hold, wherever the cells are
+abbrev pub held_in_slots : List (Option Placed) → List (Option Held)
+held_in_slots slots = map (option_map held_in) slots
+
+-- the fill in the slot of a number, with its place
+abbrev pub placed_at : List (Option Placed) → ℕ → Option Placed
+placed_at slots number = get_or slots number None
 
 -- the slot of a number
 abbrev pub slot_at : List (Option Held) → ℕ → Option Held
@@ -53,7 +57,7 @@ abbrev pub fills_in_slots : List (Option Held) → List Fill
 fills_in_slots slots = filter_map (option_and_then fill_put) slots
 
 -- the slots filled up with empty ones until there is one for a number
-abbrev pub reaching : ℕ → List (Option Held) → List (Option Held)
+abbrev pub reaching : {A : Type 0} → ℕ → List (Option A) → List (Option A)
 reaching number slots = slots ++ replicate (number + 1 - length slots) None
 
 -- the fill that is put under a number

@@ -2,13 +2,14 @@
 ghost use Rattle.std.specs.Prelude.{◌≡◌, ◌+◌, ◌<◌, ◌≤◌, pos, ◌≤ℤ◌, OnOk, OnErr};
 ghost use Rattle.blot_types.specs.declared.TheConstants.{EVENTS_MAX};
 ghost use Rattle.blot_order.specs.Cells.{no_tally, line_in, with_one_kept, without_one_kept, with_fill_put, with_fill_taken, CanPut, CanTake};
+ghost use Rattle.blot_order.specs.Slots.{held_in_slots};
 ghost use Rattle.blot_order.specs.Totals.{Fits};
 
 use crate::held::HeldFill;
 use crate::numbers::{insert_number, remove_number};
 use crate::slots::put_at;
 use crate::totals::Totals;
-use blot_types::{Fill, OrderLine};
+use blot_types::OrderLine;
 use std::alloc::{AllocError as NoMemory, Global};
 use std::marker::Model;
 
@@ -64,22 +65,22 @@ impl Cell {
     }
 
     /// Puts a fill that is kept under its number. It needs no memory.
-    pub(crate) fn put(&mut self, number: u64, fill: &Fill)
+    pub(crate) fn put(&mut self, number: u64, held: &HeldFill)
         requires { CanPut self.old }
-        ensures tally { self.new ≡ with_fill_put number fill.now self.old }
-        ensures fits { Fits fill.now }
+        ensures tally { self.new ≡ with_fill_put number held.now.fill self.old }
+        ensures fits { Fits held.now.fill }
     {
-        self.totals = self.totals.with_one(fill);
+        self.totals = self.totals.with_one(held);
         insert_number(&mut self.numbers, number);
         self.kept -= 1;
     }
 
     /// Takes a fill that is put under a number, and keeps it. It needs no memory.
-    pub(crate) fn take(&mut self, number: u64, fill: &Fill)
+    pub(crate) fn take(&mut self, number: u64, held: &HeldFill)
         requires { CanTake number self.old }
-        ensures { self.new ≡ with_fill_taken number fill.now self.old }
+        ensures { self.new ≡ with_fill_taken number held.now.fill self.old }
     {
-        self.totals = self.totals.without_one(fill);
+        self.totals = self.totals.without_one(held);
         remove_number(&mut self.numbers, number);
         self.kept += 1;
     }
@@ -87,7 +88,7 @@ impl Cell {
     /// The line of the order; none where no fill is put.
     pub(crate) fn line(&self, slots: &[Option<HeldFill>]) -> Option<OrderLine>
         requires { pos 0 ≤ℤ self.now.totals.cum }
-        ensures { result ≡ line_in slots.now self.now }
+        ensures { result ≡ line_in (held_in_slots slots.now) self.now }
     {
         match put_at(slots, self.numbers.last().copied()) {
             Some(last) => Some(self.totals.line_with(last)),

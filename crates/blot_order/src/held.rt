@@ -1,11 +1,10 @@
 //! What an order book holds under one number.
-ghost use Rattle.std.specs.Prelude.{◌≡◌};
-ghost use Rattle.std.specs.Option.{option_copied};
-ghost use Rattle.blot_order.specs.declared.held.Held.TheVariants.{Kept};
-ghost use Rattle.blot_order.specs.Fills.{fill_kept, fill_put};
+ghost use Rattle.std.specs.Prelude.{◌≡◌, false};
 ghost use Rattle.blot_order.specs.Slots.{marked};
 
-use blot_types::Fill;
+use blot_decimal::{Price, Qty, QtySum};
+use blot_places::Remembered;
+use blot_types::{Fill, Sign, Text64};
 use std::marker::Model;
 
 /// What an order book holds under one number. A contract sees the fills of an order book as the finite map
@@ -18,53 +17,96 @@ pub enum Held {
     Put(Fill),
 }
 
-/// A fill with a mark that says whether it is put, so that it isn't moved where it is put or taken. A contract sees what is held.
-#[derive(Clone, Copy)]
+/// A fill in its slot: what its order needs of it, a mark that says whether it is put, so that it isn't moved where it is put or
+/// taken, and the place of its order's cell among the cells. A contract sees the whole fill.
+#[derive(Drop)]
 pub(crate) struct HeldFill {
-    fill: Fill,
+    place: usize,
+    qty: Qty,
+    price: Price,
+    size: QtySum,
     is_put: bool,
+    sign: Sign,
+    symbol: Text64,
+    fill: Remembered<Fill>,
 }
 
 impl Model for HeldFill {
-    ghost use Rattle.blot_order.specs.declared.held.Held.{Held};
-    ghost use Rattle.blot_order.specs.Fills.{fill_held};
-    ghost use Rattle.blot_order.specs.Slots.{fill_held-as, held_as, is_put_in, is_put_in-as};
+    ghost use Rattle.std.specs.Prelude.{◌≡◌};
+    ghost use Rattle.blot_order.specs.Slots.{Placed};
 
-    ghost Value = { Held };
+    ghost Value = { Placed };
 
-    ghost view = { λ held. held_as held.is_put held.fill };
+    ghost view = { λ held. record { fill = held.fill.value; is_put = held.is_put; place = held.place } };
 
-    ghost inverse = { λ held. record { fill = fill_held held; is_put = is_put_in held } };
-
-    ghost inverse_ok = { λ held holds i. record {
-      fill = fill_held-as held.is_put held.fill i;
-      is_put = is_put_in-as held.is_put held.fill i;
-    } };
+    ghost invariant = { λ held. (held.qty ≡ held.fill.value.qty) × (held.price ≡ held.fill.value.price) × (held.size ≡ held.fill.value.size)
+        × (held.sign ≡ held.fill.value.sign) × (held.symbol ≡ held.fill.value.symbol) };
 }
 
 impl HeldFill {
-    /// A fill that is kept.
-    pub(crate) fn kept(fill: &Fill) -> HeldFill
-        ensures { result ≡ Kept fill.now }
+    /// A fill that is kept, whose order has its cell at a place.
+    pub(crate) fn kept(fill: &Fill, place: usize) -> HeldFill
+        ensures { result ≡ record { fill = fill.now; is_put = false; place = place } }
     {
         HeldFill {
-            fill: *fill,
+            place,
+            qty: fill.qty,
+            price: fill.price,
+            size: fill.size,
             is_put: false,
+            sign: fill.sign,
+            symbol: fill.symbol,
+            fill: Remembered::of(fill),
         }
     }
 
-    /// The fill, where it is put.
-    pub(crate) fn fill_put(&self) -> Option<&Fill>
-        ensures { option_copied result ≡ fill_put self.now }
+    /// The size of its order.
+    pub(crate) fn size(&self) -> QtySum
+        ensures { result ≡ self.now.fill.size }
     {
-        if self.is_put { Some(&self.fill) } else { None }
+        self.size
     }
 
-    /// The fill, where it is kept.
-    pub(crate) fn fill_kept(&self) -> Option<&Fill>
-        ensures { option_copied result ≡ fill_kept self.now }
+    /// Its quantity.
+    pub(crate) fn qty(&self) -> Qty
+        ensures { result ≡ self.now.fill.qty }
     {
-        if self.is_put { None } else { Some(&self.fill) }
+        self.qty
+    }
+
+    /// Its price.
+    pub(crate) fn price(&self) -> Price
+        ensures { result ≡ self.now.fill.price }
+    {
+        self.price
+    }
+
+    /// Its symbol.
+    pub(crate) fn symbol(&self) -> Text64
+        ensures { result ≡ self.now.fill.symbol }
+    {
+        self.symbol
+    }
+
+    /// Whether it is bought or sold.
+    pub(crate) fn sign(&self) -> Sign
+        ensures { result ≡ self.now.fill.sign }
+    {
+        self.sign
+    }
+
+    /// Whether it is put.
+    pub(crate) fn is_put(&self) -> bool
+        ensures { result ≡ self.now.is_put }
+    {
+        self.is_put
+    }
+
+    /// The place of its order's cell.
+    pub(crate) fn place(&self) -> usize
+        ensures { result ≡ self.now.place }
+    {
+        self.place
     }
 
     /// Marks the fill as put, or as kept.

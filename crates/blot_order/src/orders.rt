@@ -1,15 +1,15 @@
 //! The fills by their number.
-ghost use Rattle.std.specs.Prelude.{◌≡◌, ◌≤◌, Some, None, OnOk, OnErr, IsSome};
+ghost use Rattle.std.specs.Prelude.{◌≡◌, ◌≤◌, Some, None, OnOk, OnErr, IfSome, IsSome};
 ghost use Rattle.std.specs.Option.{ForSome};
 ghost use Rattle.std.specs.FinMap as map;
 ghost use Rattle.blot_types.specs.Order.{line_of, fills_of};
-ghost use Rattle.blot_order.specs.Cells.{without_one_kept, ChangesWhere, CountsKept, HoldsOrders};
+ghost use Rattle.blot_order.specs.Cells.{without_one_kept, ChangesWhere, CountsKept, HoldsSlots, IsPlaced, KeepsPlaces};
 ghost use Rattle.blot_order.specs.Fills.{put_at, kept_at, with_put, with_kept, fills_put};
-ghost use Rattle.blot_order.specs.Slots.{held_by, kept_under, keeps_under};
+ghost use Rattle.blot_order.specs.Slots.{held_by, held_in_slots, kept_under, keeps_under, placed_at, put_under};
 
 use crate::cells::{Cells, add_kept, put_fill, sub_kept, take_fill};
 use crate::held::HeldFill;
-use crate::slots::{kept_at, mark, put_at, reach};
+use crate::slots::{fill_at, mark, reach};
 use blot_types::{EVENTS_MAX, Fill, OrderKey, OrderLine};
 use indexmap::IndexMap;
 use std::alloc::{AllocError as NoMemory, Global};
@@ -27,17 +27,17 @@ pub struct Orders {
 }
 
 impl Model for Orders {
-    ghost use Rattle.blot_order.specs.Cells.{HoldsOrders};
+    ghost use Rattle.blot_order.specs.Cells.{HoldsSlots};
     ghost use Rattle.blot_order.specs.Fills.{Fills, fills_code};
-    ghost use Rattle.blot_order.specs.Slots.{held_by};
+    ghost use Rattle.blot_order.specs.Slots.{held_by, held_in_slots};
 
     ghost Value = { Fills };
 
     ghost coded = { fills_code };
 
-    ghost view = { λ orders. held_by orders.slots.items };
+    ghost view = { λ orders. held_by (held_in_slots orders.slots.items) };
 
-    ghost invariant = { λ orders. HoldsOrders orders.cells.entries orders.slots.items };
+    ghost invariant = { λ orders. HoldsSlots orders.cells.entries orders.slots.items };
 }
 
 impl Orders {
@@ -82,7 +82,10 @@ impl Orders {
         ensures { self.new ≡ with_kept number fill.now self.old }
     {
         mark(&mut self.slots[number as usize], false);
-        take_fill(&mut self.cells, number, fill);
+        match fill_at(&self.slots, number) {
+            Some(held) => take_fill(&mut self.cells, number, held),
+            None => unreachable!(),
+        }
     }
 
     /// Puts the fill that is kept under a number again. It needs no memory.
@@ -114,41 +117,44 @@ fn keep_fill(
     number: u64,
     fill: &Fill,
 ) -> Result<(), NoMemory>
-    requires holds { HoldsOrders cells.old.entries slots.old.items }
-    requires unput { put_at (held_by slots.old.items) number ≡ None }
+    requires holds { HoldsSlots cells.old.entries slots.old.items }
+    requires unput { put_at (held_by (held_in_slots slots.old.items)) number ≡ None }
     requires within { number ≤ EVENTS_MAX }
-    ensures holds { HoldsOrders cells.new.entries slots.new.items }
-    ensures ok { OnOk result (held_by slots.new.items ≡ with_kept number fill.now (held_by slots.old.items)) }
-    ensures err { OnErr result (held_by slots.new.items ≡ held_by slots.old.items) }
+    ensures holds { HoldsSlots cells.new.entries slots.new.items }
+    ensures ok { OnOk result (held_by (held_in_slots slots.new.items) ≡ with_kept number fill.now (held_by (held_in_slots slots.old.items))) }
+    ensures err { OnErr result (held_by (held_in_slots slots.new.items) ≡ held_by (held_in_slots slots.old.items)) }
 {
     let index = number as usize;
     reach(slots, index)?;
-    add_kept(cells, alloc, &fill.order)?;
+    let place = add_kept(cells, alloc, &fill.order)?;
     forget_kept(cells, slots, number);
-    slots[index] = Some(HeldFill::kept(fill));
+    slots[index] = Some(HeldFill::kept(fill, place));
     Ok(())
 }
 
-// Counts one less of the order whose fill is kept under a number, if one is.
+// Counts one less of the order whose fill is kept under a number that has none put, if one is.
 fn forget_kept(cells: &mut Cells, slots: &[Option<HeldFill>], number: u64)
-    requires { CountsKept cells.old.entries (kept_under slots.now number) }
-    ensures { ChangesWhere (keeps_under slots.now number) without_one_kept cells.old.entries cells.new.entries }
+    requires placed { IfSome (placed_at slots.now number) (IsPlaced cells.old.entries) }
+    requires unput { put_under (held_in_slots slots.now) number ≡ None }
+    requires kept { CountsKept cells.old.entries (kept_under (held_in_slots slots.now) number) }
+    ensures tallies { ChangesWhere (keeps_under (held_in_slots slots.now) number) without_one_kept cells.old.entries cells.new.entries }
+    ensures places { KeepsPlaces cells.old.entries cells.new.entries }
 {
-    if let Some(fill) = kept_at(slots, number) {
-        sub_kept(cells, &fill.order);
+    if let Some(held) = fill_at(slots, number) {
+        sub_kept(cells, held);
     }
 }
 
 // Puts the fill that is kept under a number.
 fn put_kept(slots: &mut Vec<Option<HeldFill>>, cells: &mut Cells, number: u64)
-    requires holds { HoldsOrders cells.old.entries slots.old.items }
-    requires kept { IsSome (kept_under slots.old.items number) }
-    ensures holds { HoldsOrders cells.new.entries slots.new.items }
-    ensures fills { ForSome (kept_under slots.old.items number) (λ fill. held_by slots.new.items ≡ with_put number fill (held_by slots.old.items)) }
+    requires holds { HoldsSlots cells.old.entries slots.old.items }
+    requires kept { IsSome (kept_under (held_in_slots slots.old.items) number) }
+    ensures holds { HoldsSlots cells.new.entries slots.new.items }
+    ensures fills { ForSome (kept_under (held_in_slots slots.old.items) number) (λ fill. held_by (held_in_slots slots.new.items) ≡ with_put number fill (held_by (held_in_slots slots.old.items))) }
 {
     mark(&mut slots[number as usize], true);
-    match put_at(slots, Some(number)) {
-        Some(fill) => put_fill(cells, number, fill),
+    match fill_at(slots, number) {
+        Some(held) => put_fill(cells, number, held),
         None => unreachable!(),
     }
 }

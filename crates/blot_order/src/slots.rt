@@ -1,10 +1,10 @@
 //! The slots of the fills: slot n is that of number n, and the numbers past the last slot hold nothing.
 ghost use Rattle.std.specs.Prelude.{◌≡◌, ◌≤◌, OnOk, OnErr};
 ghost use Rattle.std.specs.Option.{option_and_then, option_copied, option_map};
-ghost use Rattle.blot_order.specs.Slots.{put_under, kept_under, marked, reaching};
+ghost use Rattle.blot_order.specs.Slots.{held_in_slots, marked, placed_at, put_under, reaching};
 
 use crate::held::HeldFill;
-use blot_types::{EVENTS_MAX, Fill};
+use blot_types::EVENTS_MAX;
 use std::alloc::AllocError as NoMemory;
 
 /// Fills the slots up with empty ones until there is one at an index.
@@ -14,7 +14,7 @@ pub(crate) fn reach(slots: &mut Vec<Option<HeldFill>>, index: usize) -> Result<(
     ensures err { OnErr result (slots.new.items ≡ slots.old.items) }
 {
     if slots.len() <= index {
-        slots.resize(index + 1, None)?;
+        slots.resize_with(index + 1, || None)?;
     }
     Ok(())
 }
@@ -28,22 +28,20 @@ pub(crate) fn mark(slot: &mut Option<HeldFill>, is_put: bool)
     }
 }
 
-/// The fill that is kept under a number, if one is.
-pub(crate) fn kept_at(slots: &[Option<HeldFill>], number: u64) -> Option<&Fill>
-    ensures { option_copied result ≡ kept_under slots.now number }
+/// The fill in the slot of a number, if one is.
+pub(crate) fn fill_at(slots: &[Option<HeldFill>], number: u64) -> Option<&HeldFill>
+    ensures { option_copied result ≡ placed_at slots.now number }
 {
     match slots.get(number as usize) {
-        Some(Some(held)) => held.fill_kept(),
+        Some(Some(held)) => Some(held),
         _ => None,
     }
 }
 
 /// The fill that is put under a number, if there is a number.
-pub(crate) fn put_at(slots: &[Option<HeldFill>], number: Option<u64>) -> Option<&Fill>
-    ensures { option_copied result ≡ option_and_then (put_under slots.now) number }
+pub(crate) fn put_at(slots: &[Option<HeldFill>], number: Option<u64>) -> Option<&HeldFill>
+    ensures { option_map (λ placed. placed.fill) (option_copied result) ≡ option_and_then (put_under (held_in_slots slots.now)) number }
 {
-    match slots.get(number? as usize) {
-        Some(Some(held)) => held.fill_put(),
-        _ => None,
-    }
+    let held = fill_at(slots, number?)?;
+    if held.is_put() { Some(held) } else { None }
 }

@@ -1,9 +1,11 @@
 //! What the fills of an order that are put come to.
 ghost use Rattle.std.specs.Prelude.{◌≡◌, pos, ◌+ℤ◌, ◌-ℤ◌, ◌≤ℤ◌};
+ghost use Rattle.std.specs.Int.{int_max};
 ghost use Rattle.blot_order.specs.Totals.{no_fills, with_one, without_one, line_with, Fits, FitsSum, AreSmall};
 
+use crate::held::HeldFill;
 use blot_decimal::{QtySum, Value};
-use blot_types::{Fill, OrderLine};
+use blot_types::OrderLine;
 
 /// What the fills of an order that are put come to.
 #[derive(Clone, Copy)]
@@ -23,43 +25,49 @@ impl Totals {
     }
 
     /// The totals with one more fill.
-    pub(crate) fn with_one(self, fill: &Fill) -> Totals
+    pub(crate) fn with_one(self, held: &HeldFill) -> Totals
         requires { AreSmall self }
-        ensures totals { result ≡ with_one fill.now self }
-        ensures fits { Fits fill.now }
+        ensures totals { result ≡ with_one held.now.fill self }
+        ensures fits { Fits held.now.fill }
     {
         Totals {
-            cum: plus(self.cum, i128::from(fill.qty.units())),
-            value: plus(self.value, fill.qty.times(fill.price).units()),
+            cum: plus(self.cum, i128::from(held.qty().units())),
+            value: plus(self.value, held.qty().times(held.price()).units()),
         }
     }
 
     /// The totals with one fill less.
-    pub(crate) fn without_one(self, fill: &Fill) -> Totals
+    pub(crate) fn without_one(self, held: &HeldFill) -> Totals
         requires { AreSmall self }
-        ensures { result ≡ without_one fill.now self }
+        ensures { result ≡ without_one held.now.fill self }
     {
         Totals {
-            cum: minus(self.cum, i128::from(fill.qty.units())),
-            value: minus(self.value, fill.qty.times(fill.price).units()),
+            cum: minus(self.cum, i128::from(held.qty().units())),
+            value: minus(self.value, held.qty().times(held.price()).units()),
         }
     }
 
     /// The line of an order with these totals, whose last fill is this one.
-    pub(crate) fn line_with(self, last: &Fill) -> OrderLine
+    pub(crate) fn line_with(self, last: &HeldFill) -> OrderLine
         requires { pos 0 ≤ℤ self.cum }
-        ensures { result ≡ line_with self last.now }
+        ensures { result ≡ line_with self last.now.fill }
     {
-        let size = last.size.units();
-        let leaves = if self.cum < size { size - self.cum } else { 0 };
         OrderLine {
             cum: QtySum::from_units(self.cum),
-            leaves: QtySum::from_units(leaves),
+            leaves: QtySum::from_units(left_of(last.size().units(), self.cum)),
             value: Value::from_units(self.value),
-            symbol: last.symbol,
-            sign: last.sign,
+            symbol: last.symbol(),
+            sign: last.sign(),
         }
     }
+}
+
+// What is left of a size, never below 0.
+fn left_of(size: i128, cum: i128) -> i128
+    requires { pos 0 ≤ℤ cum }
+    ensures { result ≡ int_max (pos 0) (size -ℤ cum) }
+{
+    if cum < size { size - cum } else { 0 }
 }
 
 // A sum with one more amount.
