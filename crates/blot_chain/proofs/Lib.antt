@@ -5,3 +5,4 @@ pub mod HoldsLemmas
 mod IndexLemmas
 pub mod LiftLemmas
 pub mod RootedLemmas
+pub mod StandingLemmas

@@ -1,12 +1,13 @@
 -- Where the slots of a key, and of the chain of a root, are.
-use Rattle.std.specs.Prelude.{◌≡◌, ℕ, reverse, List, Option, Some, None, if◌then◌else◌}
+use Rattle.std.specs.Prelude.{◌≡◌, ℕ, reverse, List, Option, Some, None, is_none, if◌then◌else◌}
 use Rattle.std.specs.List.Sorted.{IsPartitionedBy}
-use Rattle.std.specs.Option.{option_and_then}
+use Rattle.std.specs.Option.{option_and_then, option_map}
 use Rattle.blot_places.specs.declared.slots.Slot.{Slot}
 use Rattle.blot_places.specs.Slots.{is_below, is_up_to, live_item, newest_live, places_above, places_below, places_by}
 use Rattle.blot_types.specs.declared.keys.ExecKey.{ExecKey}
 use Rattle.blot_types.specs.Keys.{same_exec}
 use Rattle.blot_types.specs.Refusals.{first_of}
+use Rattle.blot_chain.specs.declared.cell.Cell.{Cell}
 use Rattle.blot_chain.specs.declared.index.Index.{Index}
 use Rattle.blot_chain.specs.declared.rooted.Rooted.{Rooted}
 use Rattle.blot_chain.specs.Cells.{busts_in, takers_in, versions_in}
@@ -40,6 +41,11 @@ newest_below number slots stack = newest_live slots (reverse (places_below link_
 
 abbrev pub oldest_above : ℕ → List (Slot Rooted) → List ℕ → Option Rooted
 oldest_above number slots stack = newest_live slots (places_after number slots stack)
+
+-- the number of the last version of a root's chain, where no Bust ended it, as the root's cell tells
+abbrev pub standing_at : List (Slot Rooted) → Cell → Option ℕ
+standing_at slots cell =
+    if is_none (newest_live slots cell.busts.places) then option_map link_number (newest_live slots cell.versions.places) else None
 
 -- the number of the link at a place, if it is live and refers to a key
 abbrev pub number_if_referring : List (Slot Rooted) → ExecKey → ℕ → Option ℕ

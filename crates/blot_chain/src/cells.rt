@@ -1,5 +1,7 @@
 //! The cells of all keys.
 ghost use Rattle.std.specs.Prelude.{◌≡◌, [], false, reverse, OnOk, OnErr};
+ghost use Rattle.std.specs.Map.{lookup};
+ghost use Rattle.std.specs.Option.{option_copied};
 ghost use Rattle.blot_chain.specs.declared.cell.Part.TheVariants.{Taker};
 ghost use Rattle.blot_chain.specs.Cells.{HasTakerRoom, KeepsTakerRoom, PutsUnder, SameUnder, TakesUnder, busts_in, has_taker, takers_in, versions_in};
 
@@ -79,6 +81,13 @@ impl<K: Eq + Hash + Copy> Cells<K> {
             return;
         };
         cell.pop(part);
+    }
+
+    /// The cell of a key, if the key was there once.
+    pub(crate) fn get(&self, key: &K) -> Option<&Cell>
+        ensures { option_copied result ≡ lookup (K.eq key.now) self.now.cells }
+    {
+        self.cells.get(key)
     }
 
     /// The places of the links that take up a key, the newest last.

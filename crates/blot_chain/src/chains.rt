@@ -4,11 +4,14 @@ ghost use Rattle.blot_types.specs.declared.link.Role.TheVariants.{Begins, Correc
 ghost use Rattle.blot_types.specs.Chains.{root_in, current_in, bust_in, taker_in, link_refusal, is_above_links, is_chained, first_needing_link, version_after_in, version_before_in};
 ghost use Rattle.blot_types.specs.Laws.{IsOneTrade};
 ghost use Rattle.blot_chain.specs.Rooted.{chain_root};
+ghost use Rattle.blot_chain.specs.Standing.{standing_root_in, standing_version_in};
 ghost use Rattle.blot_chain.specs.Steps.{Adds, AddsOne, CanReturn, IsNewest, exec_refusal, lifted_out, link_at, put_back};
 
-use crate::index::{Index, number_above, number_below, number_on, referring_at, root_on};
+use crate::index::{
+    Index, number_above, number_below, number_on, referring_at, root_on, standing_at,
+};
 use crate::rooted::Rooted;
-use blot_places::{Slot, live_numbered, mark};
+use blot_places::{Slot, live_numbered, mark, newest_live};
 use blot_types::{ExecKey, Role, lesser};
 use std::alloc::{AllocError as NoMemory, Global};
 use std::marker::Model;
@@ -165,6 +168,29 @@ impl Chains {
         ensures { result ≡ current_in self.now.list root.now }
     {
         number_on(&self.slots, self.index.cells.versions(root))
+    }
+
+    /// The number of the last version of the chain of a root, where the chain isn't busted. This project's rule.
+    pub fn standing_version(&self, root: &ExecKey) -> Option<u64>
+        ensures { result ≡ standing_version_in self.now.list root.now }
+    {
+        standing_at(&self.slots, self.index.cells.get(root)?)
+    }
+
+    /// The root of the chain in which the version of a number and key stands: the chain isn't busted, and this is its last version.
+    /// None where it doesn't stand. A Trade's key is its root, so its cell tells all. This project's rule.
+    pub fn standing_root(&self, number: u64, key: &ExecKey) -> Option<ExecKey>
+        ensures { result ≡ standing_root_in self.now.list number key.now }
+    {
+        let cell = self.index.cells.get(key)?;
+        let item = newest_live(&self.slots, cell.takers.as_slice())?;
+        let root = item.own_root()?;
+        let standing = if item.begins() {
+            standing_at(&self.slots, cell)
+        } else {
+            self.standing_version(&root)
+        };
+        (standing == Some(number)).then_some(root)
     }
 
     /// The number of the last version of the chain of a root below a number, busted or not. This project's rule.

@@ -4,9 +4,9 @@ ghost use Rattle.std.specs.Option.{option_and_then, option_map};
 ghost use Rattle.blot_places.specs.Indexed.{NamesOneLess, NamesOneMore, NamesSame};
 ghost use Rattle.blot_types.specs.Refusals.{first_of};
 ghost use Rattle.blot_chain.specs.Rooted.{kept_root, link_number};
-ghost use Rattle.blot_chain.specs.Index.{BelowFirst, IsIndexed, UpToFirst, newest_below, newest_on, number_if_referring, oldest_above, referring_at};
+ghost use Rattle.blot_chain.specs.Index.{BelowFirst, IsIndexed, UpToFirst, newest_below, newest_on, number_if_referring, oldest_above, referring_at, standing_at};
 
-use crate::cell::Part;
+use crate::cell::{Cell, Part};
 use crate::cells::Cells;
 use crate::rooted::Rooted;
 use blot_places::{Slot, live_at, newest_live, oldest_live, places_above, places_below};
@@ -70,6 +70,16 @@ pub(crate) fn number_on(slots: &[Slot<Rooted>], stack: &[usize]) -> Option<u64>
     ensures { result ≡ option_map link_number (newest_on slots.now stack.now) }
 {
     newest_live(slots, stack).map(|item| item.number())
+}
+
+/// The number of the last version of a root's chain, where no Bust ended it, as the root's cell tells.
+pub(crate) fn standing_at(slots: &[Slot<Rooted>], cell: &Cell) -> Option<u64>
+    ensures { result ≡ standing_at slots.now cell.now }
+{
+    if newest_live(slots, cell.busts.as_slice()).is_some() {
+        return None;
+    }
+    number_on(slots, cell.versions.as_slice())
 }
 
 /// The number of the newest live link below a number, on a stack.

@@ -38,6 +38,7 @@ pub mod TakeOutLemmas
 pub mod TakenLemmas
 pub mod TermsLemmas
 pub mod TurnLemmas
+pub mod UnnamedLemmas
 pub mod UntilNeedLemmas
 pub mod WeightLemmas
 pub mod WithdrawalRows

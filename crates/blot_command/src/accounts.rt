@@ -1,5 +1,6 @@
 //! The live list with its positions.
-ghost use Rattle.std.specs.Prelude.{◌≡◌, [], ◌∷◌, ◌++◌, find, Some, IsSome, IsTrue, OnOk, OnErr, IfErr};
+ghost use Rattle.std.specs.Prelude.{◌≡◌, [], ◌∷◌, ◌++◌, find, None, Some, IsSome, IsTrue, OnOk, OnErr, IfErr};
+ghost use Rattle.std.specs.List.{last_or};
 ghost use Rattle.std.specs.Option.{option_map};
 ghost use Rattle.blot_types.specs.Laws.{HasBoundedTotals};
 ghost use Rattle.blot_types.specs.Legal.{is_above_entries, is_book, without};
@@ -164,12 +165,15 @@ fn part_of(live: &LiveList, version: &Option<Version>) -> Option<Part>
     }
 }
 
-// What the version adds that an entry brings, if it brings one.
+// What the version adds that the last entry brings, if it brings one. A Trade's chain is new, so no allocation names it, and nothing
+// is looked up.
 fn part_by(live: &LiveList, entry: &Entry) -> Option<Part>
+    requires last { last_or None live.now.list ≡ Some entry.now }
+    requires book { IsTrue (is_book live.now.list) }
     ensures { result ≡ option_map (part_of live.now.list) (version_of entry.now) }
 {
     match &entry.command {
-        Command::Trade(trade) => Some(part_in(live, &trade.key, &trade.fill)),
+        Command::Trade(trade) => Some(Part::of_fill(false, &trade.fill)),
         Command::Correct(correct) => Some(part_in(live, &correct.key, &correct.fill)),
         Command::Bust(_)
         | Command::AllocNew(_)

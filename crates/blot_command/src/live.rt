@@ -169,10 +169,7 @@ impl LiveList {
     pub(crate) fn standing(&self, root: &ExecKey) -> Option<Version>
         ensures { result ≡ standing self.now.list root.now }
     {
-        if self.chains.bust_of(root).is_some() {
-            return None;
-        }
-        let number = self.chains.current(root)?;
+        let number = self.chains.standing_version(root)?;
         version_numbered(&self.slots, number)
     }
 

@@ -1,8 +1,7 @@
 //! What an entry comes to in a book.
-ghost use Rattle.std.specs.Prelude.{◌≡◌, Some, map, IfOk};
+ghost use Rattle.std.specs.Prelude.{◌≡◌, map, IfOk};
 ghost use Rattle.blot_types.specs.Instructions.{named_in};
 ghost use Rattle.blot_types.specs.Keys.{is_among};
-ghost use Rattle.blot_types.specs.Survivors.{stands_under};
 ghost use Rattle.blot_command.specs.Slots.{entries_in};
 ghost use Rattle.blot_command.specs.Standings.{allocation_standing, execution_standing, standing_in};
 
@@ -54,27 +53,16 @@ fn standing_in(chains: &Chains, allocs: &Allocs, entry: &Entry) -> Standing
     }
 }
 
-// An execution of a number and a key stands, and its chain is named or isn't; or it doesn't stand. The root of its chain is looked
-// up once.
+// An execution of a number and a key stands, and its chain is named or isn't; or it doesn't stand.
 fn execution_standing(chains: &Chains, allocs: &Allocs, number: u64, key: &ExecKey) -> Standing
     ensures { result ≡ execution_standing chains.now.list allocs.now.list number key.now }
 {
-    let Some(root) = chains.root_of(key) else {
-        return Standing::Neither;
-    };
-    if !stands(chains, number, &root) {
-        return Standing::Neither;
+    match chains.standing_root(number, key) {
+        Some(root) => Standing::Stands {
+            is_named: is_named(allocs, &root),
+        },
+        None => Standing::Neither,
     }
-    Standing::Stands {
-        is_named: is_named(allocs, &root),
-    }
-}
-
-// Whether the version of a number stands under a root: the chain isn't busted, and this is its last version.
-fn stands(chains: &Chains, number: u64, root: &ExecKey) -> bool
-    ensures { result ≡ stands_under chains.now.list number (Some root.now) }
-{
-    chains.bust_of(root).is_none() && chains.current(root) == Some(number)
 }
 
 // Whether a live allocation names the chain of a root.

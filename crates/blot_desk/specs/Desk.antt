@@ -1,8 +1,9 @@
 -- What a desk does: one event on the book, and a run of events from the empty book.
-use Rattle.std.specs.Prelude.{◌≡◌, ℕ, ◌+◌, ◌≤◌, ◌==◌, List, [], ◌∷◌, ◌++◌, length, map, fold, Option, Some, None, if◌then◌else◌}
+use Rattle.std.specs.Prelude.{◌≡◌, ℕ, ◌+◌, ◌≤◌, ◌==◌, Bool, true, false, List, [], ◌∷◌, ◌++◌, length, map, fold, Option, Some, None, if◌then◌else◌}
 use Rattle.std.specs.List.{last_or}
 use Rattle.std.specs.Option.{option_map}
 use Rattle.blot_types.specs.declared.command.Command.{Command}
+use Rattle.blot_types.specs.declared.command.Command.TheVariants.{Trade, Correct, Bust, AllocNew, AllocReplace, AllocCancel, Withdraw}
 use Rattle.blot_types.specs.declared.command.Entry.{Entry}
 use Rattle.blot_types.specs.declared.refused.Refused.{Refused as Reason}
 use Rattle.blot_types.specs.declared.refused.Refused.TheVariants.{NothingToUndo, Moved, NothingToRedo}
@@ -57,6 +58,16 @@ submit_by book command (Some reason) = refused_by book reason
 -- a command: done where the list accepts it
 abbrev pub submit_of : DeskBook → Command → Outcome
 submit_of book command = submit_by book command (refusal_of book.list command)
+
+-- whether a command corrects or busts an execution
+abbrev pub corrects_or_busts : Command → Bool
+corrects_or_busts (Trade trade) = false
+corrects_or_busts (Correct correct) = true
+corrects_or_busts (Bust bust) = true
+corrects_or_busts (AllocNew new) = false
+corrects_or_busts (AllocReplace replace) = false
+corrects_or_busts (AllocCancel cancel) = false
+corrects_or_busts (Withdraw withdrawn) = false
 
 -- undo, by the number of the newest done step: only where it is the one that the caller believes to be newest
 abbrev pub undo_by : DeskBook → ℕ → Option ℕ → Outcome

@@ -1,8 +1,7 @@
 //! Each kind of event on the book.
-ghost use Rattle.std.specs.Prelude.{◌≡◌, ◌≤◌, None, IfOk, OnErr, is_some, if◌then◌else◌};
+ghost use Rattle.std.specs.Prelude.{◌≡◌, ◌≤◌, None, IfOk, OnErr, if◌then◌else◌};
 ghost use Rattle.blot_types.specs.Legal.{entry_refusal};
-ghost use Rattle.blot_types.specs.Refusals.{exec_key};
-ghost use Rattle.blot_desk.specs.Desk.{desk_book, outcome_in, step_of, submit_of, undo_of, redo_of};
+ghost use Rattle.blot_desk.specs.Desk.{corrects_or_busts, desk_book, outcome_in, step_of, submit_of, undo_of, redo_of};
 
 use crate::{Event, Reply};
 use blot_command::{ApplyFault, Tables};
@@ -31,13 +30,13 @@ pub(crate) fn take(
     }
 }
 
-// Takes a command, or refuses it; that of an execution before it is copied.
+// Takes a command, or refuses it; a Correct or a Bust before it is copied.
 fn submit(steps: &mut Steps<Command>, alloc: Global, command: &Command) -> Result<Reply, NoMemory>
     requires { steps.old.next ≤ EVENTS_MAX }
     ensures ok { IfOk result (λ reply. outcome_in steps.new reply ≡ submit_of (desk_book steps.old) command.now) }
     ensures err { OnErr result (desk_book steps.new ≡ desk_book steps.old) }
 {
-    if let Some(reason) = execution_refusal(steps.state(), command) {
+    if let Some(reason) = early_refusal(steps.state(), command) {
         return Ok(Reply::Refused(reason));
     }
     let own = command.try_copy(alloc)?;
@@ -57,14 +56,19 @@ fn submit(steps: &mut Steps<Command>, alloc: Global, command: &Command) -> Resul
     }
 }
 
-// Why the book refuses the command of an execution, which a few look-ups tell. What allocates or withdraws is refused by its own step.
-fn execution_refusal(tables: &Tables, command: &Command) -> Option<Refused>
-    ensures { result ≡ (if is_some (exec_key command.now) then entry_refusal tables.now.list command.now else None) }
+// Why the book refuses a Correct or a Bust, which a few look-ups tell. A Trade is hardly ever refused, and to ask of what allocates or
+// withdraws can cost more than its copy: those are refused by their own steps.
+fn early_refusal(tables: &Tables, command: &Command) -> Option<Refused>
+    ensures { result ≡ (if corrects_or_busts command.now then entry_refusal tables.now.list command.now else None) }
 {
-    if command.exec_key().is_none() {
-        return None;
+    match command {
+        Command::Correct(_) | Command::Bust(_) => tables.refusal(command),
+        Command::Trade(_)
+        | Command::AllocNew(_)
+        | Command::AllocReplace(_)
+        | Command::AllocCancel(_)
+        | Command::Withdraw(_) => None,
     }
-    tables.refusal(command)
 }
 
 // Undoes the newest step, where it has this number.

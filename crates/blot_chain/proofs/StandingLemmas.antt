@@ -1,0 +1,117 @@
+-- What the cell of a key tells: the root of the key, and which version of a root's chain stands.
+use Rattle.std.proofs.Common.{◌≡◌, ℕ, Bool, true, false, ◌&&◌, List, [], reverse, Option, Some, None, refl, sym, ap, ◌∙◌}
+use Rattle.std.specs.Prelude.{find, is_none, nat_eq, if◌then◌else◌}
+use Rattle.std.specs.Bool.{then_some}
+use Rattle.std.specs.Map.{lookup}
+use Rattle.std.specs.Option.{option_eq, option_map, option_map_or, option_and_then}
+use Rattle.std.proofs.lemmas.Option.{same_Some}
+use Rattle.blot_places.specs.declared.slots.Slot.{Slot}
+use Rattle.blot_places.specs.Shown.{Shown}
+use Rattle.blot_places.specs.Slots.{live, newest_live}
+use Rattle.blot_places.proofs.SlotLemmas.{newest_live-find}
+use Rattle.blot_types.specs.declared.keys.ExecKey.{ExecKey}
+use Rattle.blot_types.specs.declared.link.Link.{Link}
+use Rattle.blot_types.specs.Chains.{bust_in, current_in, root_in}
+use Rattle.blot_types.specs.Keys.{same_exec}
+use Rattle.blot_types.specs.Survivors.{is_number, stands_under}
+use Rattle.blot_types.proofs.KeyLemmas.{same_exec-true}
+use Rattle.blot_types.proofs.SurvivorLemmas.{find-passes}
+use Rattle.blot_chain.specs.declared.cell.Cell.{Cell}
+use Rattle.blot_chain.specs.declared.index.Index.{Index}
+use Rattle.blot_chain.specs.declared.rooted.Rooted.{Rooted}
+use Rattle.blot_chain.specs.Holds.{HoldsChains, shown_of}
+use Rattle.blot_chain.specs.Index.{standing_at}
+use Rattle.blot_chain.specs.Rooted.{has_key, kept_root, link_number}
+use Rattle.blot_chain.specs.RootedLink.{begun}
+use Rattle.blot_chain.specs.Standing.{standing_root_in, standing_version_in}
+use Rattle.blot_chain.proofs.HoldsLemmas.{bust-held, current-held, root-held}
+
+-- ---- by the cell, if the key has one
+
+abbrev number_found : Option Rooted → Option ℕ
+number_found found = option_map link_number found
+
+none-numbered : (found : Option Rooted) → is_none found ≡ is_none (number_found found)
+none-numbered None = refl
+none-numbered (Some item) = refl
+
+version-by_cell :
+    (slots : List (Slot Rooted)) (found : Option Cell)
+    → option_and_then (standing_at slots) found
+    ≡ (if is_none (number_found (newest_live slots (option_map_or (λ cell. cell.busts.places) found [])))
+    then number_found (newest_live slots (option_map_or (λ cell. cell.versions.places) found [])) else None)
+version-by_cell slots None = refl
+version-by_cell slots (Some cell) =
+    ap (λ none. if none then number_found (newest_live slots cell.versions.places) else None) (none-numbered (newest_live slots cell.busts.places))
+
+abbrev pub root_by_cell : List (Slot Rooted) → Option Cell → Option ExecKey
+root_by_cell slots found = option_and_then (λ cell. option_and_then kept_root (newest_live slots cell.takers.places)) found
+
+root-by_cell :
+    (slots : List (Slot Rooted)) (found : Option Cell)
+    → root_by_cell slots found ≡ option_and_then kept_root (newest_live slots (option_map_or (λ cell. cell.takers.places) found []))
+root-by_cell slots None = refl
+root-by_cell slots (Some cell) = refl
+
+-- a root that is the link's own key
+begun-root : (item : Rooted) (root : ExecKey) → item ≡ begun item.link.number item.link.key → kept_root item ≡ Some root → item.link.key ≡ root
+begun-root item root is kept = same_Some item.link.key root (sym (ap kept_root is) ∙ kept)
+
+module _ (index : Index) (slots : List (Slot Rooted)) (shown : Shown Link) (holds : HoldsChains index (reverse slots)) (is : shown_of (reverse slots) ≡ shown) where
+  -- the cell of a root tells which version stands, and that of a key tells the root
+  pub version-told :
+      (root : ExecKey) (found : Option Cell) → found ≡ lookup (same_exec root) index.cells.cells
+      → option_and_then (standing_at slots) found ≡ standing_version_in shown.list root
+  version-told root found there =
+      ap (option_and_then (standing_at slots)) there ∙ version-by_cell slots (lookup (same_exec root) index.cells.cells)
+      ∙ (λ i. if is_none (bust-held index slots root holds i) then current-held index slots root holds i else None)
+      ∙ ap (λ shown. standing_version_in shown.list root) is
+
+  pub root-told :
+      (key : ExecKey) (found : Option Cell) → found ≡ lookup (same_exec key) index.cells.cells → root_by_cell slots found ≡ root_in shown.list key
+  root-told key found there =
+      ap (root_by_cell slots) there ∙ root-by_cell slots (lookup (same_exec key) index.cells.cells) ∙ root-held index slots key holds
+      ∙ ap (λ shown. root_in shown.list key) is
+
+  -- where the newest link of a key begins its chain, the key is the root
+  pub version-beside :
+      (key : ExecKey) (cell : Cell) (item : Rooted) (root : ExecKey) → Some cell ≡ lookup (same_exec key) index.cells.cells
+      → newest_live slots cell.takers.places ≡ Some item → item ≡ begun item.link.number item.link.key → kept_root item ≡ Some root
+      → standing_at slots cell ≡ standing_version_in shown.list root
+  version-beside key cell item root there newest begins kept =
+      let places = ap (λ found. option_map_or (λ (cell : Cell). cell.takers.places) found []) there ∙ holds.indexed.takers key in
+      let found : find (has_key key) (live (reverse slots)) ≡ Some item =
+      sym (newest_live-find (has_key key) slots) ∙ ap (newest_live slots) (sym places) ∙ newest in
+      let its : item.link.key ≡ key = same_exec-true item.link.key key (find-passes (has_key key) (live (reverse slots)) item found) in
+      let one : key ≡ root = sym its ∙ begun-root item root begins kept in
+      version-told key (Some cell) there ∙ ap (standing_version_in shown.list) one
+
+-- ---- a version of a number and key
+
+pub rootless-stands : (links : List Link) (number : ℕ) (key : ExecKey) → root_in links key ≡ None → standing_root_in links number key ≡ None
+rootless-stands links number key none = rw none refl
+
+numbered :
+    (number : ℕ) (bust current : Option ℕ)
+    → (is_none bust && is_number number current) ≡ is_number number (if is_none bust then current else None)
+numbered number None current = refl
+numbered number (Some bust) current = refl
+
+is_numbered : (number : ℕ) (found : Option ℕ) → is_number number found ≡ option_eq nat_eq found (Some number)
+is_numbered number None = refl
+is_numbered number (Some found) = refl
+
+told-some : (stands : Bool) (root : ExecKey) → then_some stands root ≡ (if stands then Some root else None)
+told-some true root = refl
+told-some false root = refl
+
+-- under a root it stands where it is the one that stands there
+pub rooted-stands :
+    (links : List Link) (number : ℕ) (key root : ExecKey) (standing : Option ℕ) → root_in links key ≡ Some root → standing ≡ standing_version_in links root
+    → then_some (option_eq nat_eq standing (Some number)) root ≡ standing_root_in links number key
+rooted-stands links number key root standing is told =
+    let stands : option_eq nat_eq standing (Some number) ≡ stands_under links number (Some root) =
+    ap (λ found. option_eq nat_eq found (Some number)) told ∙ sym (is_numbered number (standing_version_in links root))
+    ∙ sym (numbered number (bust_in links root) (current_in links root)) in
+    ap (λ stands. then_some stands root) stands ∙ told-some (stands_under links number (Some root)) root
+    ∙ ap (λ found. if stands_under links number found then found else None) (sym is)
