@@ -5,7 +5,7 @@
   copy_to(room, ...)       the crate in a repository of its own, over its libraries as they are proved in out/
   copy_libraries(room, ..) libraries alone, and add_line(room, line) for a crate of one's own over them
   is_program(crate)        whether a crate is a program, and no library
-  words_of(crate, ..)      what `rattle` is told of a crate, over the statements of its libraries
+  words_of(crate, ..)      what `rattle` is told of a crate, over the statements of its libraries; words_over(..) of one that isn't listed
   stamp(crate, ..)         a sum of all that the proof of a crate reads
 """
 import hashlib
@@ -82,8 +82,12 @@ def is_program(crate):
 
 def words_of(crate, libraries):
     """What `rattle` is told of a crate that stands on these of the repository's libraries, as statements_of() has them."""
-    named = lines()[crate].partition(':')[2].split()
-    words = ['--crate-name', crate, 'src/main.rt' if is_program(crate) else 'src/lib.rt', '-L', f'dependency={KIT}/rlibs']
+    return words_over(crate, 'src/main.rt' if is_program(crate) else 'src/lib.rt', lines()[crate].partition(':')[2].split(), libraries)
+
+
+def words_over(crate, source, named, libraries):
+    """The same of any crate, which names these libraries of the kit and of the repository."""
+    words = ['--crate-name', crate, source, '-L', f'dependency={KIT}/rlibs']
     for name in ['std', *named]:
         words += ['--extern', f'{name}={statements_of(name) if name in libraries else KIT / "rlibs" / f"{name}.rlib"}']
     for name in libraries:
