@@ -6,8 +6,9 @@
   tests/generated.py SEED FOLDER    writes the capture and the lines of that seed, SEED.fix and SEED.lines
 
 Most messages are such as a session goes on with, and each fault comes now and then. Few ExecIDs, accounts and symbols are drawn,
-so that they meet. The plain program's sessions and book stand beside the drawing: from them it knows which number is expected,
+so that they meet. The bytes come in pieces that are drawn too. The plain program's sessions and book stand beside the drawing: from them it knows which number is expected,
 which executions are free and which step is the newest."""
+import contextlib
 import itertools
 import pathlib
 import random
@@ -296,12 +297,26 @@ def first_difference(wanted, printed):
     return next(((number, *pair) for number, pair in enumerate(pairs, 1) if pair[0] != pair[1]), None)
 
 
-def compared(words, given, wanted):
-    """What differs in one call: the call, the number of the line, what the plain program says and what came."""
-    ran = subprocess.run(words, input=given, capture_output=True, timeout=SECONDS, check=False)
-    found = first_difference(wanted, ran.stdout)
-    if not found and (ran.returncode, ran.stderr) != (0, b''):
-        found = ('-', b'status 0', b'status %d: %s' % (ran.returncode, ran.stderr.replace(b'\n', b' ')))
+def pieces_of(seed, given):
+    """The bytes, cut at places drawn from the seed: nowhere, once, or up to forty times."""
+    draw = random.Random(f'{seed} in pieces')
+    cuts = sorted(draw.randrange(len(given) + 1) for _ in range(draw.choice((0, 1, 5, 40))))
+    return [given[begin:end] for begin, end in zip([0, *cuts], [*cuts, len(given)])]
+
+
+def compared(words, pieces, wanted):
+    """What differs in one call, whose input comes in pieces: the call, the number of the line, what the plain program says and what came."""
+    with tempfile.TemporaryFile() as printed, tempfile.TemporaryFile() as errors:
+        with subprocess.Popen(words, bufsize=0, stdin=subprocess.PIPE, stdout=printed, stderr=errors) as process:
+            with contextlib.suppress(BrokenPipeError):
+                for piece in pieces:
+                    process.stdin.write(piece)
+            process.stdin.close()
+            status = process.wait(SECONDS)
+        came, said = (file.seek(0) or file.read() for file in (printed, errors))
+    found = first_difference(wanted, came)
+    if not found and (status, said) != (0, b''):
+        found = ('-', b'status 0', b'status %d: %s' % (status, said.replace(b'\n', b' ')))
     return found and (words[1], *found)
 
 
@@ -317,7 +332,7 @@ def seen(program, seed):
         calls = (([program, 'audit', *own, *PEERS], capture, trail),
                  ([program, 'replay', *own, '--day', dated, *PEERS], capture, report),
                  ([program, 'desk', *own, '--capture', str(file), *PEERS], lines, told))
-        found = next(filter(None, (compared(words, given, wanted.encode('latin-1')) for words, given, wanted in calls)), None)
+        found = next(filter(None, (compared(words, pieces_of(seed, given), wanted.encode('latin-1')) for words, given, wanted in calls)), None)
     desk = plain.day_of(text, OWN, PEERS).desk
     return found, counted(trail, told, desk.entries) + withdrawals(desk, lines.decode('latin-1').split('\n'))
 
