@@ -1,6 +1,6 @@
 -- What a frame comes to at its session.
-use Rattle.std.proofs.Common.{◌≡◌, ℕ, Bool, true, false, List, [], ◌∷◌, ◌++◌, map, Option, Some, None, Result, Ok, refl, sym, ap, subst, ◌∙◌, inl, inr}
-use Rattle.std.specs.Prelude.{ℤ, pos, is_some, if◌then◌else◌}
+use Rattle.std.proofs.Common.{◌≡◌, ℕ, Bool, true, false, List, [], ◌∷◌, ◌++◌, map, Option, Some, None, Result, Ok, Err, refl, sym, ap, subst, ◌∙◌, inl, inr}
+use Rattle.std.specs.Prelude.{ℤ, pos, is_some, IfOk, if◌then◌else◌}
 use Rattle.std.specs.Option.{option_map, option_map_or}
 use Rattle.std.specs.Result.{result_unwrap_or}
 use Rattle.std.proofs.lemmas.Bool.{cond_both, cases_Bool}
@@ -110,11 +110,11 @@ frame-takes state next text actions now at is awaits =
     ∙ ap (λ (given : Outcome). delivered_in given.actions) (sym gave)
 
 -- and what is said of what it delivers is said of what is taken
-pub handled-frame : (state next : State) (journal : Journal) (text : List ℕ) (actions : List Action) (now : ℤ) (handled : Handled)
+handled-one : (state next : State) (journal : Journal) (text : List ℕ) (actions : List Action) (now : ℤ) (handled : Handled)
     → now ≡ moment_at text → record { state = next; actions = actions } ≡ on_frame state (said_by text) now → Awaits next actions
     → ((met : Met) → IsHandled (became_of met journal (delivered_in actions)) (actions_after next journal now actions (delivered_in actions)) (Some met) handled)
     → IsHandledBy (Some state) journal text handled
-handled-frame state next journal text actions now handled at is awaits given =
+handled-one state next journal text actions now handled at is awaits given =
     let gave : record { state = next; actions = actions } ≡ outcome state (frame_call text) = is ∙ ap (on_frame state (said_by text)) at in
     let met = met_of state (said_by text) (moment_at text) in
     let behind = behind_frame state text in
@@ -123,6 +123,13 @@ handled-frame state next journal text actions now handled at is awaits given =
     (sym (frame-takes state next text actions now at is awaits))
     (subst (λ (given : Outcome). IsHandled (became_of met journal (delivered_in actions)) (actions_after given.state journal (moment_at text) given.actions (delivered_in actions)) (Some met) handled) gave
     (subst (λ moment. IsHandled (became_of met journal (delivered_in actions)) (actions_after next journal moment actions (delivered_in actions)) (Some met) handled) at (given met)))
+
+pub handled-frame : {E : Type 0} (state next : State) (journal : Journal) (text : List ℕ) (actions : List Action) (now : ℤ) (result : Result Handled E)
+    → now ≡ moment_at text → record { state = next; actions = actions } ≡ on_frame state (said_by text) now → Awaits next actions
+    → IfOk result (λ handled. (met : Met) → IsHandled (became_of met journal (delivered_in actions)) (actions_after next journal now actions (delivered_in actions)) (Some met) handled)
+    → IfOk result (IsHandledBy (Some state) journal text)
+handled-frame state next journal text actions now (Ok handled) at is awaits given = handled-one state next journal text actions now handled at is awaits given
+handled-frame state next journal text actions now (Err fault) at is awaits given = tt
 
 -- where no reply is awaited, nothing is delivered
 pub delivers-none : (state : State) (actions : List Action) → Awaits state actions → is_some (awaited_of state) ≡ false → delivered_in actions ≡ []

@@ -12,7 +12,7 @@ ghost use Rattle.blot_session.specs.States.{IsIdle, IsAwaiting};
 ghost use Rattle.blot_desk.specs.declared.event.Event.TheVariants.{Submit};
 ghost use Rattle.blot_desk.specs.Desk.{recorded_of};
 ghost use Rattle.blot_gateway.specs.Serving.{seen_by};
-ghost use Rattle.blot_capture.specs.Capture.{behind_all, reply_calls, waiting_calls, taken_by};
+ghost use Rattle.blot_capture.specs.Capture.{behind_all, behind_reply, reply_calls, waiting_calls, taken_by};
 ghost use Rattle.blot_capture.specs.Handling.{IsHandled, IsHandledBy, IsReplied, delivered_in};
 ghost use Rattle.blot_capture.specs.Replay.{submitted, Stopped, fault_of};
 ghost use Rattle.blot_capture.specs.Trace.{actions_after, became_of, on_told, reply_to};
@@ -76,17 +76,45 @@ fn take_said(
     ensures err { IfErr result (Stopped held.old held.new (taken_by session.old (text_of frame.now))) }
     ensures no_write { result ≢ Err ReplayFault.Write }
 {
-    let now = sending_by(said, frame);
-    let Ok(actions) = session.on_said(alloc, said, now) else {
-        return Err(ReplayFault::NoMemory);
-    };
-    match take_delivered(alloc, session, actions, now, held) {
+    match take_and_reply(alloc, session, frame, said, held) {
         Ok(handled) => {
             wait_where_closed(session);
             Ok(handled)
         }
         Err(fault) => Err(fault),
     }
+}
+
+// The same, up to the reply to what is delivered. Nearly every frame is a report in its turn, whose command comes without a list.
+fn take_and_reply(
+    alloc: Global,
+    session: &mut Session,
+    frame: &Frame,
+    said: &Result<Message, FieldFault>,
+    held: &mut Held,
+) -> Result<Handled, ReplayFault>
+    requires idle { IsIdle session.old }
+    requires said { said.now ≡ said_by (text_of frame.now) }
+    requires numbers { IsNumbered said.now }
+    requires sent { IfOk said.now (IsSentAt (fields_of (text_of frame.now))) }
+    ensures session { OnOk result (session.new ≡ behind_reply session.old (text_of frame.now)) }
+    ensures peer { session.new.peer ≡ session.old.peer }
+    ensures idle { IsIdle session.new }
+    ensures desk { OnOk result (held.new ≡ submitted held.old (taken_by session.old (text_of frame.now))) }
+    ensures handled { IfOk result (IsHandledBy (Some session.old) held.old (text_of frame.now)) }
+    ensures err { IfErr result (Stopped held.old held.new (taken_by session.old (text_of frame.now))) }
+    ensures no_write { result ≢ Err ReplayFault.Write }
+{
+    let now = sending_by(said, frame);
+    match session.on_report(alloc, said, now) {
+        Ok(Some(command)) => return submit(alloc, session, command, now, held),
+        Ok(None) => {}
+        Err(_) => return Err(ReplayFault::NoMemory),
+    }
+    let Ok(actions) = session.on_said(alloc, said, now) else {
+        return Err(ReplayFault::NoMemory);
+    };
+    take_delivered(alloc, session, actions, now, held)
 }
 
 // Submits what these actions deliver, if they deliver a command.

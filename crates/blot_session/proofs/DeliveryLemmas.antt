@@ -7,7 +7,7 @@ use Rattle.blot_fields.specs.declared.fault.FieldFault.{FieldFault}
 use Rattle.blot_fields.specs.declared.message.Message.{Message}
 use Rattle.blot_types.specs.declared.command.Command.{Command}
 use Rattle.blot_session.specs.declared.action.Action.{Action}
-use Rattle.blot_session.specs.declared.action.Action.TheVariants.{Send}
+use Rattle.blot_session.specs.declared.action.Action.TheVariants.{Send, Deliver}
 use Rattle.blot_session.specs.declared.outbound.Outbound.{Outbound}
 use Rattle.blot_session.specs.declared.replies.NotTaken.{NotTaken}
 use Rattle.blot_session.specs.declared.replies.SeenReply.{SeenReply}
@@ -15,7 +15,7 @@ use Rattle.blot_session.specs.declared.row.End.{End}
 use Rattle.blot_session.specs.declared.row.End.TheVariants.{Stays, Delivers, Closes}
 use Rattle.blot_session.specs.declared.row.Row.{Row}
 use Rattle.blot_session.specs.declared.state.State.{State}
-use Rattle.blot_session.specs.Calls.{Outcome, Awaits, DeliversLast, DeliversAlone, behind, sent, ending, carried_out, is_deliver, is_spent, outcome_of, behind_all, command_said, on_frame, on_tick, row_of_reply, on_reply}
+use Rattle.blot_session.specs.Calls.{Outcome, Awaits, Reports, DeliversLast, DeliversAlone, behind, sent, ending, carried_out, is_deliver, is_spent, outcome_of, behind_all, command_said, on_frame, on_tick, row_of_reply, on_reply}
 use Rattle.blot_session.specs.Outbound.{text_of}
 use Rattle.blot_session.specs.Rows.{frame_row, tick_row}
 use Rattle.blot_session.specs.States.{awaited_of, IsIdle, IsAwaiting}
@@ -94,6 +94,12 @@ pub awaits_reply : (state next : State) (actions : List Action) (said : Result M
     → record { state = next; actions = actions } ≡ on_frame state said now → Awaits next actions
 awaits_reply state next actions said now idle is =
     subst (λ (outcome : Outcome). Awaits outcome.state outcome.actions) (sym is) (frame-awaits state said now idle)
+
+-- a report's command, too
+pub awaits_report : (state next : State) (command : Option Command) (said : Result Message FieldFault) (now : ℤ) → IsIdle state
+    → Reports (on_frame state said now) state next command → is_some command ≡ is_some (awaited_of next)
+awaits_report state next (Some command) said now idle is = (awaits_reply state next (Deliver command ∷ []) said now idle is).awaited
+awaits_report state next None said now idle is = sym (ap (λ (state : State). is_some (awaited_of state)) is ∙ ap is_some idle)
 
 -- and it is the only action
 alone-none : (actions : List Action) → list_any is_deliver actions ≡ false → DeliversAlone actions

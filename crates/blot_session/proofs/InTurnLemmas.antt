@@ -1,5 +1,5 @@
 -- An Execution Report about a fill in its turn, and the reply to it, as the table has them.
-use Rattle.std.proofs.Common.{◌≡◌, ◌≤◌, ◌==◌, true, false, ◌&&◌, [], Option, Some, None, Result, Ok, Err, refl, sym, ap, ◌∙◌, arith, inl, inr}
+use Rattle.std.proofs.Common.{◌≡◌, ℕ, ◌≤◌, ◌==◌, true, false, ◌&&◌, List, [], Option, Some, None, Result, Ok, Err, refl, sym, ap, subst, ◌∙◌, arith, inl, inr}
 use Rattle.std.specs.Prelude.{nat_lt, nat_le, ℤ, is_some}
 use Rattle.std.proofs.lemmas.Bool.{and_parts, cases_Bool, cond-true, cond_both, ltb-true, leb-true, eqb-true, false≢true}
 use Rattle.blot_fields.specs.declared.TheConstants.{SEQUENCE_MAX}
@@ -9,7 +9,8 @@ use Rattle.blot_fields.specs.declared.message.Body.TheVariants as bodies
 use Rattle.blot_fields.specs.declared.message.Message.{Message}
 use Rattle.blot_fields.specs.declared.report.Report.{Report}
 use Rattle.blot_fields.specs.declared.report.Report.TheVariants as reports
-use Rattle.blot_fields.specs.Commands.{command_of}
+use Rattle.blot_fields.specs.Commands.{command_of, command_of_body}
+use Rattle.blot_types.specs.declared.command.Command.{Command}
 use Rattle.blot_session.specs.declared.carrying.TheConstants.{LAST_NUMBER}
 use Rattle.blot_session.specs.declared.replies.NotTaken.{NotTaken}
 use Rattle.blot_session.specs.declared.replies.SeenReply.{SeenReply}
@@ -20,7 +21,7 @@ use Rattle.blot_session.specs.declared.state.Awaited.TheVariants as awaits
 use Rattle.blot_session.specs.declared.state.Link.{Link}
 use Rattle.blot_session.specs.declared.state.Link.TheVariants as links
 use Rattle.blot_session.specs.declared.state.State.{State}
-use Rattle.blot_session.specs.Calls.{Outcome, ending, is_spent, carried_out, outcome_of, on_frame, on_reply, reply_row_by}
+use Rattle.blot_session.specs.Calls.{Outcome, Reports, ending, is_spent, carried_out, outcome_of, on_frame, on_reply, reply_row_by}
 use Rattle.blot_session.specs.InTurn.{is_about_fill, is_on, is_report_in_turn, delivering, is_of_report, is_taken, is_report_taken}
 use Rattle.blot_session.specs.Rows.{is_from_peer, report_row, body_row, expected_row, number_row, message_row, peer_row, head_row, on_row, frame_row_by, reply_row}
 use Rattle.blot_session.specs.States.{awaiting, heard, changed, counted, answered, awaited_of, awaited_by, IsAwaiting, IsState}
@@ -122,9 +123,9 @@ in_turn-parts state message is =
       peer = (and_parts (((on && low) && fill) && number) (is_from_peer state message.head) is).1;
     }
 
-pub report_in_turn : (state : State) (message : Message) (now : ℤ) → is_report_in_turn state message ≡ true
+in_turn-outcome : (state : State) (message : Message) (now : ℤ) → is_report_in_turn state message ≡ true
     → record { state = record state { link = delivering now state.link }; actions = ending Delivers (command_of message state.peer) } ≡ on_frame state (Ok message) now
-report_in_turn state message now is =
+in_turn-outcome state message now is =
     let parts = in_turn-parts state message is in
     let row = delivers awaits.Report (heard now state) in
     let command = command_of message state.peer in
@@ -132,6 +133,33 @@ report_in_turn state message now is =
     ∙ cond_both (is_spent state row) _ _ (λ (outcome : Outcome). outcome ≡ carried_out row command now)
     (λ y. absurd (false≢true (sym (unspent state row parts.low) ∙ y)))
     (λ n. refl))
+
+-- it brings a command
+fill-brings : (peer : List ℕ) (sending : ℤ) (body : Body) → is_about_fill body ≡ true → is_some (command_of_body peer sending body) ≡ true
+fill-brings peer sending (bodies.Admin admin) fill = absurd (false≢true fill)
+fill-brings peer sending (bodies.Report (reports.Trade execution)) fill = refl
+fill-brings peer sending (bodies.Report (reports.Correct reference execution)) fill = refl
+fill-brings peer sending (bodies.Report (reports.Bust id reference)) fill = refl
+fill-brings peer sending (bodies.Report reports.Other) fill = absurd (false≢true fill)
+fill-brings peer sending (bodies.Allocation allocation) fill = absurd (false≢true fill)
+fill-brings peer sending bodies.Other fill = absurd (false≢true fill)
+
+pub brings_command : (state : State) (message : Message) (command : Option Command) → is_report_in_turn state message ≡ true
+    → command ≡ command_of message state.peer → is_some command ≡ true
+brings_command state message command is given = ap is_some given ∙ fill-brings state.peer message.head.sending message.body (in_turn-parts state message is).fill
+
+reports-command : (given : Outcome) (before after : State) (command : Option Command) → is_some command ≡ true
+    → record { state = after; actions = ending Delivers command } ≡ given → Reports given before after command
+reports-command given before after (Some command) some is = is
+reports-command given before after None some is = absurd (false≢true some)
+
+pub report_in_turn : (state : State) (message : Message) (command : Option Command) (now : ℤ) → is_report_in_turn state message ≡ true
+    → command ≡ command_of message state.peer → Reports (on_frame state (Ok message) now) state (record state { link = delivering now state.link }) command
+report_in_turn state message command now is given =
+    reports-command (on_frame state (Ok message) now) state (record state { link = delivering now state.link }) command
+    (brings_command state message command is given)
+    (subst (λ command. record { state = record state { link = delivering now state.link }; actions = ending Delivers command } ≡ on_frame state (Ok message) now) (sym given)
+    (in_turn-outcome state message now is))
 
 pub delivering_state : (state : State) (message : Message) (now : ℤ) → is_report_in_turn state message ≡ true → IsState state
     → message.head.number ≤ SEQUENCE_MAX → IsState (record state { link = delivering now state.link })

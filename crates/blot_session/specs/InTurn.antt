@@ -1,6 +1,7 @@
 -- Execution Reports about fills in their turn, and the replies to them. The table says what is done about them, too: these
 -- words only tell them from all else.
 use Rattle.std.specs.Prelude.{◌==◌, Bool, true, false, ◌&&◌, nat_le, ℤ, Option, Some, None, Result, Ok, Err}
+use Rattle.blot_fields.specs.declared.fault.FieldFault.{FieldFault}
 use Rattle.blot_fields.specs.declared.message.Body.{Body}
 use Rattle.blot_fields.specs.declared.message.Body.TheVariants as bodies
 use Rattle.blot_fields.specs.declared.message.Message.{Message}
@@ -32,6 +33,11 @@ abbrev pub is_report_in_turn : State → Message → Bool
 is_report_in_turn state message =
     (((is_on state.link && nat_le state.next LAST_NUMBER) && is_about_fill message.body) && (message.head.number == state.expected))
     && is_from_peer state message.head
+
+-- whether a frame says one
+abbrev pub is_report_said : State → Result Message FieldFault → Bool
+is_report_said state (Ok message) = is_report_in_turn state message
+is_report_said state (Err fault) = false
 
 -- a connection on which a frame came, whose command is delivered
 abbrev pub delivering : ℤ → Link → Link

@@ -3,13 +3,15 @@ ghost use Rattle.std.specs.Prelude.{◌≡◌, ◌+◌, ◌≤◌, List, is_some
 ghost use Rattle.blot_tag.specs.Views.{text_of};
 ghost use Rattle.blot_fields.specs.declared.TheConstants.{SEQUENCE_MAX};
 ghost use Rattle.blot_fields.specs.Numbers.{HasNumber, IsNumbered};
-ghost use Rattle.blot_session.specs.Calls.{Awaits, DeliversAlone, Gives, on_frame, on_tick, on_reply, row_of_reply};
+ghost use Rattle.blot_session.specs.Calls.{Awaits, DeliversAlone, Gives, Reports, on_frame, on_tick, on_reply, row_of_reply};
+ghost use Rattle.blot_session.specs.InTurn.{is_report_said};
 ghost use Rattle.blot_session.specs.Met.{IsOfNumber, met_of};
 ghost use Rattle.blot_session.specs.Runs.{Call, AreMet, HasNoReset, IsInOrder, said_by};
 ghost use Rattle.blot_session.specs.States.{awaited_of, fresh, waiting_again, closed, phase_of, IsIdle, IsAwaiting, IsState};
 
 use crate::carrying::{go_on, take_row};
 use crate::met::met_of;
+use crate::reports::take_report;
 use crate::state::{Link, Live, State};
 use crate::taking::{take_frame, take_reply, take_said};
 use crate::ticks::tick_row;
@@ -17,7 +19,7 @@ use crate::{Action, Met, NotTaken, Phase, SeenReply};
 use blot_fields::{FieldFault, Message};
 use blot_tag::Frame;
 use blot_time::Moment;
-use blot_types::Text64;
+use blot_types::{Command, Text64};
 use std::alloc::{AllocError as NoMemory, Global};
 use std::marker::Model;
 
@@ -154,6 +156,29 @@ impl Session {
         ensures alone { IfOk result (λ actions. DeliversAlone actions.items) }
     {
         take_said(alloc, &mut self.state, said, now)
+    }
+
+    /// A frame came that says this: the command that it brings, where it is an Execution Report about a fill that came in
+    /// its turn. The reply to it is awaited then. None where it is anything else: nothing has changed then, and it is for
+    /// `on_said`. Out of memory, the session is closed, with its number expected as before.
+    #[tactic(auto, using(crate::proofs::DeliveryLemmas::awaits_report))]
+    pub fn on_report(
+        &mut self,
+        alloc: Global,
+        said: &Result<Message, FieldFault>,
+        now: Moment,
+    ) -> Result<Option<Command>, NoMemory>
+        requires idle { IsIdle self.old }
+        requires numbers { IsNumbered said.now }
+        ensures ok { IfOk result (Reports (on_frame self.old said.now now) self.old self.new) }
+        ensures report { IfOk result (λ command. is_some command ≡ is_report_said self.old said.now) }
+        ensures err { OnErr result (self.new ≡ closed self.old) }
+        ensures peer { self.new.peer ≡ self.old.peer }
+
+        // A reply is awaited exactly where there is a command.
+        ensures awaits { IfOk result (λ command. is_some command ≡ is_some (awaited_of self.new)) }
+    {
+        take_report(alloc, &mut self.state, said, now)
     }
 
     /// A moment passes: a Heartbeat or a TestRequest may be due, or the peer given up. Out of memory, the session is

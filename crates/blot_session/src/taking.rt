@@ -10,7 +10,7 @@ ghost use Rattle.blot_session.specs.States.{closed, IsIdle, IsAwaiting, IsState}
 use crate::carrying::{Outcome, go_on, take_row};
 use crate::inbound::frame_row;
 use crate::replies::reply_row;
-use crate::reports::{count, hand_on, is_report_in_turn, is_report_taken};
+use crate::reports::{count, hand_on, is_report_taken, take_report};
 use crate::row::{End, Row};
 use crate::state::{Link, Live, State};
 use crate::{Action, NotTaken, SeenReply};
@@ -76,9 +76,9 @@ pub(crate) fn take_said(
     ensures err { OnErr result (state.new ≡ closed state.old) }
     ensures state { IsState state.new }
 {
-    match said {
-        Ok(message) if is_report_in_turn(state, message) => hand_on(alloc, state, message, now),
-        _ => take_by_row(alloc, state, said, now),
+    match take_report(alloc, state, said, now)? {
+        Some(command) => hand_on(alloc, state, command),
+        None => take_by_row(alloc, state, said, now),
     }
 }
 
