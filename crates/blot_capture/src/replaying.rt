@@ -109,6 +109,8 @@ fn day_report(alloc: Global, held: Held, day: Day) -> Result<Vec<u8>, NoMemory>
     ensures few { length held.history ≤ EVENTS_MAX }
 {
     let book = held.into_book();
-    let lines = day_lines(alloc, &book, day)?;
+    let lines = day_lines(alloc, &book, day);
+    drop(book);
+    let lines = lines?;
     report_text(alloc, &lines)
 }

@@ -18,6 +18,7 @@ impl<T> Model for Remembered<T> {
 
 // It owns nothing, and nothing of it can be reached.
 unsafe impl<T: Send> Send for Remembered<T> {}
+
 unsafe impl<T: Send + Sync> Sync for Remembered<T> {}
 
 impl<T> Remembered<T> {

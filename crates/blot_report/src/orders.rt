@@ -25,11 +25,7 @@ type Lines = IndexMap<OrderKey, OrderLine>;
 
 /// The rows of the orders that the executions of a day fill, of those that stand, by peer and then by OrderID. An error is out of
 /// memory.
-pub(crate) fn order_rows(
-    alloc: Global,
-    told: &[Told],
-    day: Day,
-) -> Result<Vec<OrderRow>, NoMemory>
+pub(crate) fn order_rows(alloc: Global, told: &[Told], day: Day) -> Result<Vec<OrderRow>, NoMemory>
     requires { AreTold told.now }
     ensures { IfOk result (λ rows. rows.items ≡ order_rows (fills_on (entries_in told.now) day)) }
 {
@@ -75,11 +71,7 @@ fn rows_in_pieces<R: Threads + Sync>(
 }
 
 // The lines of the orders that the executions of a day fill, of those that stand.
-fn lines_of(
-    alloc: Global,
-    told: &[Told],
-    day: Day,
-) -> Result<Lines, NoMemory>
+fn lines_of(alloc: Global, told: &[Told], day: Day) -> Result<Lines, NoMemory>
     requires { AreTold told.now }
     ensures { IfOk result (λ lines. AreLinesOf lines.entries (fills_on (entries_in told.now) day)) }
 {

@@ -17,11 +17,7 @@ use std::thread::{Threads, join};
 
 /// The positions of a day: what its executions that stand add, and then what the lines of its live allocations move. An error is out
 /// of memory.
-pub(crate) fn positions_on(
-    alloc: Global,
-    told: &[Told],
-    day: Day,
-) -> Result<Positions, NoMemory>
+pub(crate) fn positions_on(alloc: Global, told: &[Told], day: Day) -> Result<Positions, NoMemory>
     requires { AreTold told.now }
     ensures { IfOk result (ShowsParts (day_parts_of (entries_in told.now) day)) }
 {

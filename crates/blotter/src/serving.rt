@@ -259,6 +259,8 @@ fn day_report<R: Threads + Sync>(
     ensures { IfOk result (λ text. text.items ≡ report_of (list_after held.history) day) }
 {
     let book = held.into_book();
-    let lines = day_lines_parallel(rt, alloc, &book, day)?;
+    let lines = day_lines_parallel(rt, alloc, &book, day);
+    drop(book);
+    let lines = lines?;
     report_text(alloc, &lines)
 }
