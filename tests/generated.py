@@ -10,12 +10,14 @@ so that they meet. The bytes come in pieces that are drawn too. The plain progra
 which executions are free and which step is the newest."""
 import contextlib
 import itertools
+import os
 import pathlib
 import random
 import re
 import subprocess
 import sys
 import tempfile
+import threading
 import traceback
 from collections import Counter
 
@@ -304,15 +306,24 @@ def pieces_of(seed, given):
     return [given[begin:end] for begin, end in zip([0, *cuts], [*cuts, len(given)])]
 
 
+def feed(pieces, end):
+    """Writes pieces, each of which is one read: that of a pipe of packets. A packet is of 4,096 bytes at most, and a longer piece of several."""
+    with contextlib.suppress(BrokenPipeError), open(end, 'wb', buffering=0) as pipe:
+        for piece in pieces:
+            pipe.write(piece)
+
+
 def compared(words, pieces, wanted):
     """What differs in one call, whose input comes in pieces: the call, the number of the line, what the plain program says and what came."""
+    source, end = os.pipe2(os.O_DIRECT | os.O_CLOEXEC)
     with tempfile.TemporaryFile() as printed, tempfile.TemporaryFile() as errors:
-        with subprocess.Popen(words, bufsize=0, stdin=subprocess.PIPE, stdout=printed, stderr=errors) as process:
-            with contextlib.suppress(BrokenPipeError):
-                for piece in pieces:
-                    process.stdin.write(piece)
-            process.stdin.close()
-            status = process.wait(SECONDS)
+        process = subprocess.Popen(words, stdin=source, stdout=printed, stderr=errors)
+        os.close(source)
+        alarm = threading.Timer(SECONDS, process.kill)
+        alarm.start()
+        feed(pieces, end)
+        status = process.wait()
+        alarm.cancel()
         came, said = (file.seek(0) or file.read() for file in (printed, errors))
     found = first_difference(wanted, came)
     if not found and (status, said) != (0, b''):

@@ -99,7 +99,7 @@ pub record HoldsOrders (cells : List (OrderKey × Tally)) (slots : List (Option 
   pub fits : (number : ℕ) → IfSome (put_under slots number) Fits
   pub tallies : (order : OrderKey) → tally_at cells order ≡ tally_of slots order
 
--- The cells are those of the fills in slots, wherever these have them, and each is where its fill has it.
+-- The cells are those of the fills in slots, and each slot has the place of the cell of its fill's order.
 pub record HoldsSlots (cells : List (OrderKey × Tally)) (slots : List (Option Placed)) : Type 0 where
   pub orders : HoldsOrders cells (held_in_slots slots)
   pub places : (number : ℕ) → IfSome (placed_at slots number) (IsPlaced cells)

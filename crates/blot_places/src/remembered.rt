@@ -16,7 +16,7 @@ impl<T> Model for Remembered<T> {
     ghost also_owns = { λ _. ftrue };
 }
 
-// It owns nothing, and nothing of it can be reached.
+// It owns nothing, and nothing of it can be reached: so it goes to another thread, and is shared with one.
 unsafe impl<T: Send> Send for Remembered<T> {}
 
 unsafe impl<T: Send + Sync> Sync for Remembered<T> {}
