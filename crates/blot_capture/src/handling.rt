@@ -53,40 +53,15 @@ pub(crate) fn take_frame(
         take_said(alloc, session, frame, &said, held)
     };
     drop(said);
+    if taken.is_ok() {
+        wait_where_closed(session);
+    }
     taken
 }
 
-// The same, where the frame says this.
+// The same, up to the reply to what is delivered, where the frame says this. Nearly every frame is a report in its turn, whose command comes
+// without a list.
 fn take_said(
-    alloc: Global,
-    session: &mut Session,
-    frame: &Frame,
-    said: &Result<Message, FieldFault>,
-    held: &mut Held,
-) -> Result<Handled, ReplayFault>
-    requires idle { IsIdle session.old }
-    requires said { said.now ≡ said_by (text_of frame.now) }
-    requires numbers { IsNumbered said.now }
-    requires sent { IfOk said.now (IsSentAt (fields_of (text_of frame.now))) }
-    ensures session { OnOk result (session.new ≡ behind_all session.old (text_of frame.now)) }
-    ensures peer { session.new.peer ≡ session.old.peer }
-    ensures idle { IsIdle session.new }
-    ensures desk { OnOk result (held.new ≡ submitted held.old (taken_by session.old (text_of frame.now))) }
-    ensures handled { IfOk result (IsHandledBy (Some session.old) held.old (text_of frame.now)) }
-    ensures err { IfErr result (Stopped held.old held.new (taken_by session.old (text_of frame.now))) }
-    ensures no_write { result ≢ Err ReplayFault.Write }
-{
-    match take_and_reply(alloc, session, frame, said, held) {
-        Ok(handled) => {
-            wait_where_closed(session);
-            Ok(handled)
-        }
-        Err(fault) => Err(fault),
-    }
-}
-
-// The same, up to the reply to what is delivered. Nearly every frame is a report in its turn, whose command comes without a list.
-fn take_and_reply(
     alloc: Global,
     session: &mut Session,
     frame: &Frame,

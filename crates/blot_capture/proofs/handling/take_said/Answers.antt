@@ -7,7 +7,7 @@ use Rattle.blot_capture.specs.Capture.{taken_by}
 use Rattle.blot_capture.specs.Handling.{delivered_in}
 use Rattle.blot_capture.specs.Replay.{Stopped, submitted}
 use Rattle.blot_capture.proofs.SessionLemmas.{frame-takes, handled-frame}
-use Rattle.blot_capture.proofs.handling.take_and_reply.Goals as goal
+use Rattle.blot_capture.proofs.handling.take_said.Goals as goal
 
 -- what is no report in its turn is given to the session as it was
 given : (c : goal.After-take_delivered) → record { state = c.on_said.new.self; actions = c.in-Ok.actions.items } ≡ on_frame c.args.session.now (said_by (text_of c.args.frame.now)) c.sending_by-now.result
