@@ -306,8 +306,16 @@ def pieces_of(seed, given):
     return [given[begin:end] for begin, end in zip([0, *cuts], [*cuts, len(given)])]
 
 
+def packets():
+    """Both ends of a pipe of packets, in which each piece is a read of its own, of 4,096 bytes at most. A system that has no such pipe joins the pieces."""
+    try:
+        return os.pipe2(os.O_DIRECT | os.O_CLOEXEC)
+    except OSError:
+        return os.pipe2(os.O_CLOEXEC)
+
+
 def feed(pieces, end):
-    """Writes pieces, each of which is one read: that of a pipe of packets. A packet is of 4,096 bytes at most, and a longer piece of several."""
+    """Writes pieces, and ends."""
     with contextlib.suppress(BrokenPipeError), open(end, 'wb', buffering=0) as pipe:
         for piece in pieces:
             pipe.write(piece)
@@ -315,7 +323,7 @@ def feed(pieces, end):
 
 def compared(words, pieces, wanted):
     """What differs in one call, whose input comes in pieces: the call, the number of the line, what the plain program says and what came."""
-    source, end = os.pipe2(os.O_DIRECT | os.O_CLOEXEC)
+    source, end = packets()
     with tempfile.TemporaryFile() as printed, tempfile.TemporaryFile() as errors:
         process = subprocess.Popen(words, stdin=source, stdout=printed, stderr=errors)
         os.close(source)
