@@ -2,13 +2,10 @@ use Rattle.std.proofs.Common.{◌≡◌, refl, ap, ◌∙◌, sym}
 use Rattle.std.specs.Option.{option_map}
 use Rattle.blot_types.specs.Position.{part_of}
 use Rattle.blot_types.specs.Refusals.{alloc_reference}
-use Rattle.blot_types.specs.Survivors.{version_of, links_of}
-use Rattle.blot_types.specs.Chains.{replaced_by}
-use Rattle.std.specs.Option.{option_and_then}
+use Rattle.blot_types.specs.Survivors.{version_of}
 use Rattle.blot_types.proofs.ChangeLemmas.{replaced_version}
 use Rattle.blot_command.specs.Book.{Shown}
 use Rattle.blot_command.specs.Booking.{rebooked, released, allocated}
-use Rattle.blot_command.specs.Shown.{version_numbered}
 use Rattle.blot_command.specs.Withdrawing.{with_entry}
 use Rattle.blot_command.proofs.EntryMoveLemmas.{own_key}
 use Rattle.blot_command.proofs.AccountLemmas.{Reads, pops, last-split, same-ends, move-second, move-third, move-shows}
