@@ -15,7 +15,7 @@ use Rattle.blot_session.specs.declared.row.End.{End}
 use Rattle.blot_session.specs.declared.row.End.TheVariants.{Stays, Delivers, Closes}
 use Rattle.blot_session.specs.declared.row.Row.{Row}
 use Rattle.blot_session.specs.declared.state.State.{State}
-use Rattle.blot_session.specs.Calls.{Outcome, Awaits, Reports, DeliversLast, DeliversAlone, behind, sent, ending, carried_out, is_deliver, is_spent, outcome_of, behind_all, command_said, on_frame, on_tick, row_of_reply, on_reply}
+use Rattle.blot_session.specs.Calls.{Outcome, Awaits, GivesCommand, DeliversLast, DeliversAlone, behind, sent, ending, carried_out, is_deliver, is_spent, outcome_of, behind_all, command_said, on_frame, on_tick, row_of_reply, on_reply}
 use Rattle.blot_session.specs.Outbound.{text_of}
 use Rattle.blot_session.specs.Rows.{frame_row, tick_row}
 use Rattle.blot_session.specs.States.{awaited_of, IsIdle, IsAwaiting}
@@ -97,7 +97,7 @@ awaits_reply state next actions said now idle is =
 
 -- a report's command, too
 pub awaits_report : (state next : State) (command : Option Command) (said : Result Message FieldFault) (now : ℤ) → IsIdle state
-    → Reports (on_frame state said now) state next command → is_some command ≡ is_some (awaited_of next)
+    → GivesCommand (on_frame state said now) state next command → is_some command ≡ is_some (awaited_of next)
 awaits_report state next (Some command) said now idle is = (awaits_reply state next (Deliver command ∷ []) said now idle is).awaited
 awaits_report state next None said now idle is = sym (ap (λ (state : State). is_some (awaited_of state)) is ∙ ap is_some idle)
 

@@ -21,7 +21,7 @@ use Rattle.blot_session.specs.declared.state.Awaited.TheVariants as awaits
 use Rattle.blot_session.specs.declared.state.Link.{Link}
 use Rattle.blot_session.specs.declared.state.Link.TheVariants as links
 use Rattle.blot_session.specs.declared.state.State.{State}
-use Rattle.blot_session.specs.Calls.{Outcome, Reports, ending, is_spent, carried_out, outcome_of, on_frame, on_reply, reply_row_by}
+use Rattle.blot_session.specs.Calls.{Outcome, GivesCommand, ending, is_spent, carried_out, outcome_of, on_frame, on_reply, reply_row_by}
 use Rattle.blot_session.specs.InTurn.{is_about_fill, is_on, is_report_in_turn, delivering, is_of_report, is_taken, is_report_taken}
 use Rattle.blot_session.specs.Rows.{is_from_peer, report_row, body_row, expected_row, number_row, message_row, peer_row, head_row, on_row, frame_row_by, reply_row}
 use Rattle.blot_session.specs.States.{awaiting, heard, changed, counted, answered, awaited_of, awaited_by, IsAwaiting, IsState}
@@ -149,12 +149,12 @@ pub brings_command : (state : State) (message : Message) (command : Option Comma
 brings_command state message command is given = ap is_some given ∙ fill-brings state.peer message.head.sending message.body (in_turn-parts state message is).fill
 
 reports-command : (given : Outcome) (before after : State) (command : Option Command) → is_some command ≡ true
-    → record { state = after; actions = ending Delivers command } ≡ given → Reports given before after command
+    → record { state = after; actions = ending Delivers command } ≡ given → GivesCommand given before after command
 reports-command given before after (Some command) some is = is
 reports-command given before after None some is = absurd (false≢true some)
 
 pub report_in_turn : (state : State) (message : Message) (command : Option Command) (now : ℤ) → is_report_in_turn state message ≡ true
-    → command ≡ command_of message state.peer → Reports (on_frame state (Ok message) now) state (record state { link = delivering now state.link }) command
+    → command ≡ command_of message state.peer → GivesCommand (on_frame state (Ok message) now) state (record state { link = delivering now state.link }) command
 report_in_turn state message command now is given =
     reports-command (on_frame state (Ok message) now) state (record state { link = delivering now state.link }) command
     (brings_command state message command is given)

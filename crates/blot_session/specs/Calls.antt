@@ -32,9 +32,9 @@ abbrev pub Gives : {A : Type 0} → Outcome → State → Vec Action A → Type 
 Gives given state actions = record { state = state; actions = actions.items } ≡ given
 
 -- a call that takes reports alone gives this: a command, and to deliver it is all that is to be done, or none, and the session is as before
-abbrev pub Reports : Outcome → State → State → Option Command → Type 0
-Reports given before after (Some command) = record { state = after; actions = Deliver command ∷ [] } ≡ given
-Reports given before after None = after ≡ before
+abbrev pub GivesCommand : Outcome → State → State → Option Command → Type 0
+GivesCommand given before after (Some command) = record { state = after; actions = Deliver command ∷ [] } ≡ given
+GivesCommand given before after None = after ≡ before
 
 -- a session after a message that was sent
 abbrev pub behind : State → Outbound → ℤ → State

@@ -3,7 +3,7 @@
 ghost use Rattle.std.specs.Prelude.{◌≡◌, ◌≤◌, ◌∷◌, [], true, None, Ok, is_some, IfOk, OnOk, OnErr};
 ghost use Rattle.blot_fields.specs.declared.TheConstants.{SEQUENCE_MAX};
 ghost use Rattle.blot_fields.specs.Numbers.{IsNumbered};
-ghost use Rattle.blot_session.specs.Calls.{Reports, on_frame};
+ghost use Rattle.blot_session.specs.Calls.{GivesCommand, on_frame};
 ghost use Rattle.blot_session.specs.InTurn.{delivering, is_about_fill, is_of_report, is_on, is_report_in_turn, is_report_said, is_report_taken};
 ghost use Rattle.blot_session.specs.States.{answered, changed, closed, counted, IsState};
 ghost use Rattle.blot_session.specs.declared.action.Action.TheVariants.{Deliver};
@@ -39,7 +39,7 @@ pub(crate) fn take_report(
 ) -> Result<Option<Command>, NoMemory>
     requires within { IsState state.old }
     requires numbers { IsNumbered said.now }
-    ensures ok { IfOk result (Reports (on_frame state.old said.now now) state.old state.new) }
+    ensures ok { IfOk result (GivesCommand (on_frame state.old said.now now) state.old state.new) }
     ensures report { IfOk result (λ command. is_some command ≡ is_report_said state.old said.now) }
     ensures err { OnErr result (state.new ≡ closed state.old) }
     ensures state { IsState state.new }
@@ -128,7 +128,7 @@ fn take_in_turn(
     requires within { IsState state.old }
     requires number { message.now.head.number ≤ SEQUENCE_MAX }
     requires in_turn { is_report_in_turn state.old message.now ≡ true }
-    ensures ok { IfOk result (Reports (on_frame state.old (Ok message.now) now) state.old state.new) }
+    ensures ok { IfOk result (GivesCommand (on_frame state.old (Ok message.now) now) state.old state.new) }
     ensures report { IfOk result (λ command. is_some command ≡ true) }
     ensures err { OnErr result (state.new ≡ closed state.old) }
     ensures state { IsState state.new }

@@ -3,7 +3,7 @@ ghost use Rattle.std.specs.Prelude.{◌≡◌, ◌+◌, ◌≤◌, List, is_some
 ghost use Rattle.blot_tag.specs.Views.{text_of};
 ghost use Rattle.blot_fields.specs.declared.TheConstants.{SEQUENCE_MAX};
 ghost use Rattle.blot_fields.specs.Numbers.{HasNumber, IsNumbered};
-ghost use Rattle.blot_session.specs.Calls.{Awaits, DeliversAlone, Gives, Reports, on_frame, on_tick, on_reply, row_of_reply};
+ghost use Rattle.blot_session.specs.Calls.{Awaits, DeliversAlone, Gives, GivesCommand, on_frame, on_tick, on_reply, row_of_reply};
 ghost use Rattle.blot_session.specs.InTurn.{is_report_said};
 ghost use Rattle.blot_session.specs.Met.{IsOfNumber, met_of};
 ghost use Rattle.blot_session.specs.Runs.{Call, AreMet, HasNoReset, IsInOrder, said_by};
@@ -170,7 +170,7 @@ impl Session {
     ) -> Result<Option<Command>, NoMemory>
         requires idle { IsIdle self.old }
         requires numbers { IsNumbered said.now }
-        ensures ok { IfOk result (Reports (on_frame self.old said.now now) self.old self.new) }
+        ensures ok { IfOk result (GivesCommand (on_frame self.old said.now now) self.old self.new) }
         ensures report { IfOk result (λ command. is_some command ≡ is_report_said self.old said.now) }
         ensures err { OnErr result (self.new ≡ closed self.old) }
         ensures peer { self.new.peer ≡ self.old.peer }

@@ -1,7 +1,7 @@
 use Rattle.std.proofs.Common.{◌≡◌, ap, sym, subst, ◌∙◌}
 use Rattle.std.specs.Prelude.{OnOk, IfErr}
 use Rattle.blot_tag.specs.Views.{text_of}
-use Rattle.blot_session.specs.Calls.{Reports, on_frame}
+use Rattle.blot_session.specs.Calls.{GivesCommand, on_frame}
 use Rattle.blot_session.specs.Runs.{said_by}
 use Rattle.blot_capture.specs.Capture.{taken_by}
 use Rattle.blot_capture.specs.Handling.{delivered_in}
@@ -12,7 +12,7 @@ use Rattle.blot_capture.proofs.handling.take_said.Goals as goal
 -- what is no report in its turn is given to the session as it was
 given : (c : goal.After-take_delivered) → record { state = c.on_said.new.self; actions = c.in-Ok.actions.items } ≡ on_frame c.args.session.now (said_by (text_of c.args.frame.now)) c.sending_by-now.result
 given c =
-    let same = subst (Reports (on_frame c.args.session.now c.args.said.now c.sending_by-now.result) c.args.session.now c.on_report.new.self) c.in-Ok-None.field-0-is c.in-Ok-None.ensures.ok in
+    let same = subst (GivesCommand (on_frame c.args.session.now c.args.said.now c.sending_by-now.result) c.args.session.now c.on_report.new.self) c.in-Ok-None.field-0-is c.in-Ok-None.ensures.ok in
     c.in-Ok.ensures.ok
     ∙ ap (λ state. on_frame state c.args.said.now c.sending_by-now.result) same
     ∙ ap (λ said. on_frame c.args.session.now said c.sending_by-now.result) c.requires.said
