@@ -22,7 +22,9 @@ use Rattle.blot_session.specs.declared.replies.SeenReply.TheVariants.{Accepted, 
 use Rattle.blot_session.specs.declared.state.Awaited.{Awaited}
 use Rattle.blot_session.specs.declared.state.Awaited.TheVariants as awaits
 use Rattle.blot_session.specs.declared.state.State.{State}
-use Rattle.blot_session.specs.Calls.{Outcome, Awaits, is_spent, outcome_of, reply_row_by, on_frame, on_reply}
+use Rattle.blot_session.specs.Calls.{GivesCommand, Outcome, Awaits, is_spent, outcome_of, reply_row_by, on_frame, on_reply}
+use Rattle.blot_fields.specs.declared.fault.FieldFault.{FieldFault}
+use Rattle.blot_fields.specs.declared.message.Message.{Message}
 use Rattle.blot_session.specs.declared.met.Met.{Met}
 use Rattle.blot_session.specs.Met.{met_of}
 use Rattle.blot_session.specs.Rows.{reply_row}
@@ -108,6 +110,14 @@ frame-takes state next text actions now at is awaits =
     let gave : record { state = next; actions = actions } ≡ outcome state (frame_call text) = is ∙ ap (on_frame state (said_by text)) at in
     awaited-take state text (subst (λ (given : Outcome). Awaits given.state given.actions) gave awaits)
     ∙ ap (λ (given : Outcome). delivered_in given.actions) (sym gave)
+
+-- what is no report in its turn is given to the session as it was
+pub given-after : (before between : State) (text : List ℕ) (said : Result Message FieldFault) (now : ℤ) (found : Option Command) (after : Outcome)
+    → GivesCommand (on_frame before said now) before between found → found ≡ None → after ≡ on_frame between said now → said ≡ said_by text
+    → after ≡ on_frame before (said_by text) now
+given-after before between text said now found after gives none is says =
+    let same : between ≡ before = subst (GivesCommand (on_frame before said now) before between) none gives in
+    is ∙ ap (λ state. on_frame state said now) same ∙ ap (λ said. on_frame before said now) says
 
 -- and what is said of what it delivers is said of what is taken
 handled-one : (state next : State) (journal : Journal) (text : List ℕ) (actions : List Action) (now : ℤ) (handled : Handled)

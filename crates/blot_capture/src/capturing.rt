@@ -9,7 +9,7 @@ ghost use Rattle.blot_capture.specs.Replay.{StoppedOf, TakenOf, taking_from};
 
 use crate::intake::take_piece;
 use crate::sessions::Sessions;
-use blot_desk::Held;
+use blot_desk::{Held, TakesCommands};
 use blot_gateway::{READS_MAX, empty_piece};
 use blot_stream::{ReplayFault, read_piece};
 use blot_tag::Reader;
@@ -46,37 +46,37 @@ pub fn capture<R: Read>(
 
 /// Takes a capture into a desk as `capture` does, with this many reads at most: TooLong is answered where that many were made and one
 /// more is needed, if only to find the end.
-pub(crate) fn capture_within<R: Read>(
+pub(crate) fn capture_within<R: Read, D: TakesCommands>(
     alloc: Global,
     input: &mut R,
     own: Text64,
     peers: &[Text64],
-    held: &mut Held,
+    desk: &mut D,
     reads: u64,
 ) -> Result<(), ReplayFault>
     requires { IsDistinct same_text peers.now }
-    ensures taken { OnOk result (TakenOf (R.remaining input.old) (taking_from own peers.now held.old) held.new) }
+    ensures taken { OnOk result (TakenOf (R.remaining input.old) (taking_from own peers.now (D.journal_of desk.old)) (D.journal_of desk.new)) }
     ensures read_to_the_end { OnOk result (IsAtEnd (R.remaining input.new)) }
-    ensures stopped { IfErr result (StoppedOf (R.remaining input.old) (taking_from own peers.now held.old) held.new) }
+    ensures stopped { IfErr result (StoppedOf (R.remaining input.old) (taking_from own peers.now (D.journal_of desk.old)) (D.journal_of desk.new)) }
     ensures no_write { result ≢ Err ReplayFault.Write }
 {
     match Sessions::new(alloc, own, peers) {
-        Ok(mut sessions) => take_all(alloc, input, &mut sessions, held, reads),
+        Ok(mut sessions) => take_all(alloc, input, &mut sessions, desk, reads),
         Err(_) => Err(ReplayFault::NoMemory),
     }
 }
 
 // Takes the frames of an input, to its end.
-fn take_all<R: Read>(
+fn take_all<R: Read, D: TakesCommands>(
     alloc: Global,
     input: &mut R,
     sessions: &mut Sessions,
-    held: &mut Held,
+    desk: &mut D,
     reads: u64,
 ) -> Result<(), ReplayFault>
-    ensures taken { OnOk result (TakenOf (R.remaining input.old) (taking_of sessions.old held.old) held.new) }
+    ensures taken { OnOk result (TakenOf (R.remaining input.old) (taking_of sessions.old (D.journal_of desk.old)) (D.journal_of desk.new)) }
     ensures read_to_the_end { OnOk result (IsAtEnd (R.remaining input.new)) }
-    ensures stopped { IfErr result (StoppedOf (R.remaining input.old) (taking_of sessions.old held.old) held.new) }
+    ensures stopped { IfErr result (StoppedOf (R.remaining input.old) (taking_of sessions.old (D.journal_of desk.old)) (D.journal_of desk.new)) }
     ensures no_write { result ≢ Err ReplayFault.Write }
 {
     let mut reader = Reader::new(alloc);
@@ -85,7 +85,7 @@ fn take_all<R: Read>(
         let Some(count) = read_piece(input, &mut buffer)? else {
             return Ok(());
         };
-        match take_piece(alloc, &mut reader, sessions, held, &buffer[..count]) {
+        match take_piece(alloc, &mut reader, sessions, desk, &buffer[..count]) {
             Ok(()) => {}
             Err(fault) => return Err(fault),
         }

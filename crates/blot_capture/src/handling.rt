@@ -19,7 +19,7 @@ ghost use Rattle.blot_capture.specs.Trace.{actions_after, became_of, on_told, re
 
 use crate::handled::Handled;
 use crate::moment::sending_by;
-use blot_desk::{DeskFault, Event, Held, Reply};
+use blot_desk::{DeskFault, Reply, TakesCommands};
 use blot_fields::{FieldFault, Message, decode, is_out_of_memory};
 use blot_gateway::seen_by;
 use blot_session::{Action, NotTaken, Phase, SeenReply, Session, delivered};
@@ -31,26 +31,26 @@ use std::alloc::Global;
 
 /// Gives a frame to its session, and what the session delivers to the desk. If the session is closed after that, it waits for
 /// its next Logon.
-pub(crate) fn take_frame(
+pub(crate) fn take_frame<D: TakesCommands>(
     alloc: Global,
     session: &mut Session,
     frame: &Frame,
-    held: &mut Held,
+    desk: &mut D,
 ) -> Result<Handled, ReplayFault>
     requires { IsIdle session.old }
     ensures session { OnOk result (session.new ≡ behind_all session.old (text_of frame.now)) }
     ensures peer { session.new.peer ≡ session.old.peer }
     ensures idle { IsIdle session.new }
-    ensures desk { OnOk result (held.new ≡ submitted held.old (taken_by session.old (text_of frame.now))) }
-    ensures handled { IfOk result (IsHandledBy (Some session.old) held.old (text_of frame.now)) }
-    ensures err { IfErr result (Stopped held.old held.new (taken_by session.old (text_of frame.now))) }
+    ensures desk { OnOk result (D.journal_of desk.new ≡ submitted (D.journal_of desk.old) (taken_by session.old (text_of frame.now))) }
+    ensures handled { IfOk result (IsHandledBy (Some session.old) (D.journal_of desk.old) (text_of frame.now)) }
+    ensures err { IfErr result (Stopped (D.journal_of desk.old) (D.journal_of desk.new) (taken_by session.old (text_of frame.now))) }
     ensures no_write { result ≢ Err ReplayFault.Write }
 {
     let said = decode(alloc, frame);
     let taken = if is_out_of_memory(&said) {
         Err(ReplayFault::NoMemory)
     } else {
-        take_said(alloc, session, frame, &said, held)
+        take_said(alloc, session, frame, &said, desk)
     };
     drop(said);
     if taken.is_ok() {
@@ -61,12 +61,12 @@ pub(crate) fn take_frame(
 
 // The same, up to the reply to what is delivered, where the frame says this. Nearly every frame is a report in its turn, whose command comes
 // without a list.
-fn take_said(
+fn take_said<D: TakesCommands>(
     alloc: Global,
     session: &mut Session,
     frame: &Frame,
     said: &Result<Message, FieldFault>,
-    held: &mut Held,
+    desk: &mut D,
 ) -> Result<Handled, ReplayFault>
     requires idle { IsIdle session.old }
     requires said { said.now ≡ said_by (text_of frame.now) }
@@ -75,69 +75,69 @@ fn take_said(
     ensures session { OnOk result (session.new ≡ behind_reply session.old (text_of frame.now)) }
     ensures peer { session.new.peer ≡ session.old.peer }
     ensures idle { IsIdle session.new }
-    ensures desk { OnOk result (held.new ≡ submitted held.old (taken_by session.old (text_of frame.now))) }
-    ensures handled { IfOk result (IsHandledBy (Some session.old) held.old (text_of frame.now)) }
-    ensures err { IfErr result (Stopped held.old held.new (taken_by session.old (text_of frame.now))) }
+    ensures desk { OnOk result (D.journal_of desk.new ≡ submitted (D.journal_of desk.old) (taken_by session.old (text_of frame.now))) }
+    ensures handled { IfOk result (IsHandledBy (Some session.old) (D.journal_of desk.old) (text_of frame.now)) }
+    ensures err { IfErr result (Stopped (D.journal_of desk.old) (D.journal_of desk.new) (taken_by session.old (text_of frame.now))) }
     ensures no_write { result ≢ Err ReplayFault.Write }
 {
     let now = sending_by(said, frame);
     match session.on_report(alloc, said, now) {
-        Ok(Some(command)) => return submit(alloc, session, command, now, held),
+        Ok(Some(command)) => return submit(alloc, session, command, now, desk),
         Ok(None) => {}
         Err(_) => return Err(ReplayFault::NoMemory),
     }
     let Ok(actions) = session.on_said(alloc, said, now) else {
         return Err(ReplayFault::NoMemory);
     };
-    take_delivered(alloc, session, actions, now, held)
+    take_delivered(alloc, session, actions, now, desk)
 }
 
 // Submits what these actions deliver, if they deliver a command.
-fn take_delivered(
+fn take_delivered<D: TakesCommands>(
     alloc: Global,
     session: &mut Session,
     actions: Vec<Action>,
     now: Moment,
-    held: &mut Held,
+    desk: &mut D,
 ) -> Result<Handled, ReplayFault>
     requires awaits { Awaits session.old actions.items }
     requires alone { DeliversAlone actions.items }
     ensures session { OnOk result (session.new ≡ behind_calls session.old (reply_calls session.old now)) }
     ensures peer { session.new.peer ≡ session.old.peer }
     ensures idle { IsIdle session.new }
-    ensures desk { OnOk result (held.new ≡ submitted held.old (delivered_in actions.items)) }
-    ensures handled { IfOk result (λ handled. (met : Met) → IsHandled (became_of met held.old (delivered_in actions.items))
-        (actions_after session.old held.old now actions.items (delivered_in actions.items)) (Some met) handled) }
-    ensures err { IfErr result (Stopped held.old held.new (delivered_in actions.items)) }
+    ensures desk { OnOk result (D.journal_of desk.new ≡ submitted (D.journal_of desk.old) (delivered_in actions.items)) }
+    ensures handled { IfOk result (λ handled. (met : Met) → IsHandled (became_of met (D.journal_of desk.old) (delivered_in actions.items))
+        (actions_after session.old (D.journal_of desk.old) now actions.items (delivered_in actions.items)) (Some met) handled) }
+    ensures err { IfErr result (Stopped (D.journal_of desk.old) (D.journal_of desk.new) (delivered_in actions.items)) }
     ensures no_write { result ≢ Err ReplayFault.Write }
 {
     if !session.is_awaiting() {
         return Ok(Handled::Met(actions));
     }
     match delivered(actions) {
-        Some(command) => submit(alloc, session, command, now, held),
+        Some(command) => submit(alloc, session, command, now, desk),
         None => unreachable!(),
     }
 }
 
 // Submits a delivered command to the desk, and tells the session the reply, or that the command wasn't taken.
-fn submit(
+fn submit<D: TakesCommands>(
     alloc: Global,
     session: &mut Session,
     command: Command,
     now: Moment,
-    held: &mut Held,
+    desk: &mut D,
 ) -> Result<Handled, ReplayFault>
     requires { IsAwaiting session.old }
     ensures session { OnOk result (session.new ≡ (on_reply session.old (Ok Accepted) now).state) }
     ensures peer { session.new.peer ≡ session.old.peer }
     ensures idle { IsIdle session.new }
-    ensures desk { OnOk result (held.new ≡ recorded_of held.old (Submit command)) }
-    ensures handled { IfOk result (IsReplied (reply_to held.old command) (on_told session.old (reply_to held.old command) now).actions) }
-    ensures err { IfErr result (Stopped held.old held.new (command ∷ [])) }
+    ensures desk { OnOk result (D.journal_of desk.new ≡ recorded_of (D.journal_of desk.old) (Submit command)) }
+    ensures handled { IfOk result (IsReplied (reply_to (D.journal_of desk.old) command) (on_told session.old (reply_to (D.journal_of desk.old) command) now).actions) }
+    ensures err { IfErr result (Stopped (D.journal_of desk.old) (D.journal_of desk.new) (command ∷ [])) }
     ensures no_write { result ≢ Err ReplayFault.Write }
 {
-    match held.step(Event::Submit(command)) {
+    match desk.submit(command) {
         Ok(reply) => answer(alloc, session, &reply, now),
         Err(fault) => {
             let _ = tell(alloc, session, Err(NotTaken), now);

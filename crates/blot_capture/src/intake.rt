@@ -7,47 +7,47 @@ ghost use Rattle.blot_capture.specs.Replay.{submitted, CameOn, Stopped, StoppedO
 ghost use Rattle.blot_capture.specs.Sessions.{sessions_of, taking_of};
 
 use crate::sessions::Sessions;
-use blot_desk::Held;
+use blot_desk::TakesCommands;
 use blot_stream::ReplayFault;
 use blot_tag::{Frame, Reader};
 use std::alloc::Global;
 
 /// Takes the frames of a piece of the stream, with what the reader holds of the pieces before. What is left there holds no
 /// frame. Whatever comes after it, the commands that were taken and those to come are those of the whole.
-pub(crate) fn take_piece(
+pub(crate) fn take_piece<D: TakesCommands>(
     alloc: Global,
     reader: &mut Reader,
     sessions: &mut Sessions,
-    held: &mut Held,
+    desk: &mut D,
     piece: &[u8],
 ) -> Result<(), ReplayFault>
     ensures drained { OnOk result (frames_of reader.new.unread ≡ []) }
-    ensures came { OnOk result (CameOn (taking_of sessions.old held.old) (reader.old.unread ++ piece.now)
-        (taking_of sessions.new held.new) reader.new.unread) }
-    ensures err { IfErr result (StoppedOn (taking_of sessions.old held.old) (reader.old.unread ++ piece.now) held.new) }
+    ensures came { OnOk result (CameOn (taking_of sessions.old (D.journal_of desk.old)) (reader.old.unread ++ piece.now)
+        (taking_of sessions.new (D.journal_of desk.new)) reader.new.unread) }
+    ensures err { IfErr result (StoppedOn (taking_of sessions.old (D.journal_of desk.old)) (reader.old.unread ++ piece.now) (D.journal_of desk.new)) }
     ensures no_write { result ≢ Err ReplayFault.Write }
 {
     match reader.feed(piece) {
-        Ok(()) => take_frames(alloc, reader, sessions, held),
+        Ok(()) => take_frames(alloc, reader, sessions, desk),
         Err(_) => Err(ReplayFault::NoMemory),
     }
 }
 
 // Takes the frames that stand in the reader, in their order.
-fn take_frames(
+fn take_frames<D: TakesCommands>(
     alloc: Global,
     reader: &mut Reader,
     sessions: &mut Sessions,
-    held: &mut Held,
+    desk: &mut D,
 ) -> Result<(), ReplayFault>
     ensures drained { OnOk result (frames_of reader.new.unread ≡ []) }
-    ensures came { OnOk result (CameOn (taking_of sessions.old held.old) reader.old.unread
-        (taking_of sessions.new held.new) reader.new.unread) }
-    ensures err { IfErr result (StoppedOn (taking_of sessions.old held.old) reader.old.unread held.new) }
+    ensures came { OnOk result (CameOn (taking_of sessions.old (D.journal_of desk.old)) reader.old.unread
+        (taking_of sessions.new (D.journal_of desk.new)) reader.new.unread) }
+    ensures err { IfErr result (StoppedOn (taking_of sessions.old (D.journal_of desk.old)) reader.old.unread (D.journal_of desk.new)) }
     ensures no_write { result ≢ Err ReplayFault.Write }
 {
     while let Some(frame) = reader.next()? {
-        match take_frame(alloc, sessions, held, &frame) {
+        match take_frame(alloc, sessions, desk, &frame) {
             Ok(()) => {}
             Err(fault) => return Err(fault),
         }
@@ -56,18 +56,18 @@ fn take_frames(
 }
 
 // Takes a frame, whatever becomes of it.
-fn take_frame(
+fn take_frame<D: TakesCommands>(
     alloc: Global,
     sessions: &mut Sessions,
-    held: &mut Held,
+    desk: &mut D,
     frame: &Frame,
 ) -> Result<(), ReplayFault>
     ensures sessions { OnOk result (sessions_of sessions.new ≡ sessions_behind (sessions_of sessions.old) (text_of frame.now)) }
-    ensures desk { OnOk result (held.new ≡ submitted held.old (commands_in (sessions_of sessions.old) (text_of frame.now))) }
-    ensures err { IfErr result (Stopped held.old held.new (commands_in (sessions_of sessions.old) (text_of frame.now))) }
+    ensures desk { OnOk result (D.journal_of desk.new ≡ submitted (D.journal_of desk.old) (commands_in (sessions_of sessions.old) (text_of frame.now))) }
+    ensures err { IfErr result (Stopped (D.journal_of desk.old) (D.journal_of desk.new) (commands_in (sessions_of sessions.old) (text_of frame.now))) }
     ensures no_write { result ≢ Err ReplayFault.Write }
 {
-    match sessions.take(alloc, frame, held) {
+    match sessions.take(alloc, frame, desk) {
         Ok(_) => Ok(()),
         Err(fault) => Err(fault),
     }

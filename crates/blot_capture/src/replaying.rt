@@ -10,7 +10,7 @@ ghost use Rattle.blot_capture.specs.Replay.{Fits, Overfills, replay_of};
 ghost use Rattle.blot_capture.specs.Trace.{IsReplayed};
 
 use crate::capturing::capture_within;
-use blot_desk::Held;
+use blot_desk::Unrecorded;
 use blot_gateway::READS_MAX;
 use blot_report::{day_lines, report_text};
 use blot_stream::{ReplayFault, write_text};
@@ -92,23 +92,23 @@ fn captured_report<R: Read>(
     ensures full { result ≡ Err ReplayFault.Full → Overfills own peers.now (R.remaining input.old) }
     ensures no_write { result ≢ Err ReplayFault.Write }
 {
-    let mut held = Held::new(alloc);
-    if let Err(fault) = capture_within(alloc, input, own, peers, &mut held, reads) {
-        drop(held);
+    let mut desk = Unrecorded::new(alloc);
+    if let Err(fault) = capture_within(alloc, input, own, peers, &mut desk, reads) {
+        drop(desk);
         return Err(fault);
     }
-    match day_report(alloc, held, day) {
+    match day_report(alloc, desk, day) {
         Ok(text) => Ok(text),
         Err(_) => Err(ReplayFault::NoMemory),
     }
 }
 
-// The report of a day of a desk, whose record goes first, so that the report takes its room.
-fn day_report(alloc: Global, held: Held, day: Day) -> Result<Vec<u8>, NoMemory>
-    ensures text { IfOk result (λ text. text.items ≡ report_of (run_of (events_of held.history)).book.list day) }
-    ensures few { length held.history ≤ EVENTS_MAX }
+// The report of a day of a desk, whose steps go first, so that the report takes their room.
+fn day_report(alloc: Global, desk: Unrecorded, day: Day) -> Result<Vec<u8>, NoMemory>
+    ensures text { IfOk result (λ text. text.items ≡ report_of (run_of (events_of desk.history)).book.list day) }
+    ensures few { length desk.history ≤ EVENTS_MAX }
 {
-    let book = held.into_book();
+    let book = desk.into_book();
     let lines = day_lines(alloc, &book, day);
     drop(book);
     let lines = lines?;

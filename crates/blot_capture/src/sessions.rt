@@ -15,7 +15,7 @@ ghost use Rattle.blot_capture.specs.Trace.{session_for};
 use crate::handled::Handled;
 use crate::handling::take_frame;
 use crate::moment::sending_of;
-use blot_desk::Held;
+use blot_desk::TakesCommands;
 use blot_fields::{FieldFault, Message, sender_of};
 use blot_session::{Met, Session};
 use blot_slots::SlotTable;
@@ -79,20 +79,20 @@ impl Sessions {
     }
 
     /// Gives a frame to the session of its sender, and what that delivers to the desk. The frames of others are passed over.
-    pub fn take(
+    pub fn take<D: TakesCommands>(
         &mut self,
         alloc: Global,
         frame: &Frame,
-        held: &mut Held,
+        desk: &mut D,
     ) -> Result<Handled, ReplayFault>
         ensures sessions { OnOk result (sessions_of self.new ≡ sessions_behind (sessions_of self.old) (text_of frame.now)) }
-        ensures desk { OnOk result (held.new ≡ submitted held.old (commands_in (sessions_of self.old) (text_of frame.now))) }
-        ensures handled { IfOk result (IsHandledIn (taking_of self.old held.old) (text_of frame.now)) }
-        ensures err { IfErr result (Stopped held.old held.new (commands_in (sessions_of self.old) (text_of frame.now))) }
+        ensures desk { OnOk result (D.journal_of desk.new ≡ submitted (D.journal_of desk.old) (commands_in (sessions_of self.old) (text_of frame.now))) }
+        ensures handled { IfOk result (IsHandledIn (taking_of self.old (D.journal_of desk.old)) (text_of frame.now)) }
+        ensures err { IfErr result (Stopped (D.journal_of desk.old) (D.journal_of desk.new) (commands_in (sessions_of self.old) (text_of frame.now))) }
         ensures no_write { result ≢ Err ReplayFault.Write }
     {
         match place_for(&mut self.table, &mut self.out, frame) {
-            Ok(Some(place)) => take_frame(alloc, &mut self.out[place], frame, held),
+            Ok(Some(place)) => take_frame(alloc, &mut self.out[place], frame, desk),
             Ok(None) => Ok(Handled::Passed),
             Err(_) => Err(ReplayFault::NoMemory),
         }

@@ -15,20 +15,21 @@ use Rattle.blot_types.specs.Chains.{current_in, first_needing_link, first_referr
 use Rattle.blot_types.specs.Keys.{same_exec}
 use Rattle.blot_types.specs.Numbers.{lesser}
 use Rattle.blot_types.specs.Refusals.{first_of}
+use Rattle.blot_types.proofs.BringLemmas.{found-All}
 use Rattle.blot_types.proofs.ChainLemmas.{accepted_key, clash}
 use Rattle.blot_types.proofs.KeyLemmas.{same_exec-refl, same_exec-sym, same_exec-true}
 use Rattle.blot_places.specs.declared.slots.Slot.{Slot}
 use Rattle.blot_places.specs.Shown.{item_at}
-use Rattle.blot_places.specs.Slots.{is_above, live, live_item, live_items, numbers_fall, places_by}
+use Rattle.blot_places.specs.Slots.{is_above, items, live, live_item, live_items, numbers_fall, places_by}
 use Rattle.blot_places.proofs.AroundLemmas.{find-above, newest-below, oldest-above, parted-above, parted-below}
 use Rattle.blot_places.proofs.FirstLemmas.{first-agree, first-either, first-more, first-through, first_by}
-use Rattle.blot_places.proofs.MarkLemmas.{falling-side}
+use Rattle.blot_places.proofs.MarkLemmas.{at-all, falling-side}
 use Rattle.blot_places.proofs.ShownLemmas.{at-here, at-on, at-through, falling-parts, none-at}
 use Rattle.blot_chain.specs.declared.index.Index.{Index}
 use Rattle.blot_chain.specs.declared.rooted.Rooted.{Rooted}
 use Rattle.blot_chain.specs.Cells.{busts_in, versions_in}
 use Rattle.blot_chain.specs.Holds.{HoldsChains}
-use Rattle.blot_chain.specs.Index.{BelowFirst, UpToFirst, newest_below, number_if_referring, oldest_above, places_after, referring_at}
+use Rattle.blot_chain.specs.Index.{BelowFirst, IsPlaced, UpToFirst, newest_below, number_if_referring, oldest_above, places_after, referring_at}
 use Rattle.blot_chain.specs.Rooted.{AreRooted, chain_root, has_key, is_bust, is_bust_of, is_version, is_version_of, kept_root, link_number, links_in, refers}
 use Rattle.blot_chain.specs.Steps.{number_of}
 use Rattle.blot_chain.proofs.ChainLemmas.{chained-parts, find-current, kept_root-own, version-is_root}
@@ -262,13 +263,6 @@ on_stacks n key root item is =
           ∙ sym (ap (λ b. (b && (is_version_of root item && refers key item)) || (b && (is_bust_of root item && refers key item))) before)
     ]
 
-item-number : (n : ℕ) (rooted : List Rooted) (k : Rooted) → item_at link_number n rooted ≡ Some k → k.link.number ≡ n
-item-number n [] k found = cc
-item-number n (item ∷ earlier) k found = elim (cases_Bool (nat_eq (link_number item) n)) [
-  | inl here ↦ ap link_number (sym (same_Some item k (sym (at-here link_number n item earlier here) ∙ found))) ∙ eqb-true _ _ here
-  | inr other ↦ item-number n earlier k (sym (at-on link_number n item earlier other) ∙ found)
-]
-
 -- where no link of the number is there, none refers to it
 pub needing-none : (slots : List (Slot Rooted)) (n : ℕ) → item_at link_number n (live (reverse slots)) ≡ None → first_needing_link (links_in (live (reverse slots))) n ≡ None
 needing-none slots n none =
@@ -308,16 +302,14 @@ module _ (index : Index) (slots : List (Slot Rooted)) (n : ℕ) (k : Rooted) (ho
       (of_chain n all k (rooted-live index (reverse slots) holds) holds.chained falls found))
       ∙ first-either link_number (among (is_version_of k.root)) (among (is_bust_of k.root)) all falls
 
-  needing-here :
-      lesser (first_of (number_if_referring slots k.link.key) (places_after n slots (versions_under index k.root)))
-      (first_of (number_if_referring slots k.link.key) (places_after n slots (busts_under index k.root)))
-      ≡ first_needing_link (links_in all) n
-  needing-here =
+  pub needing-held :
+      lesser (referring_at slots (versions_under index k.root) n k.link.key) (referring_at slots (busts_under index k.root) n k.link.key) ≡ first_needing_link (links_in all) n
+  needing-held =
       (λ i. lesser (on-versions i) (on-busts i)) ∙ sym referring-all
       ∙ sym (ap (λ link. option_and_then (λ (link : Link). first_referring (links_in all) n link.key) link) (at-through link_of number_of n all ∙ ap (option_map link_of) found))
 
-  pub needing-held : lesser (referring_at slots (versions_under index k.root) k) (referring_at slots (busts_under index k.root) k) ≡ first_needing_link (links_in all) n
-  needing-held =
-      ap (λ m. lesser (first_of (number_if_referring slots k.link.key) (places_after m slots (versions_under index k.root)))
-      (first_of (number_if_referring slots k.link.key) (places_after m slots (busts_under index k.root)))) (item-number n all k found)
-      ∙ needing-here
+  -- the cell of its key is at its place
+  pub needing-placed : IsPlaced index.cells k
+  needing-placed =
+      found-All (IsPlaced index.cells) (λ item. nat_eq (link_number item) n) (items (reverse slots)) k holds.indexed.placed
+      (at-all link_number n true (reverse slots) k holds.fall found)

@@ -1,15 +1,15 @@
 -- What one written cell changes under each key.
-use Rattle.std.proofs.Common.{◌≡◌, ℕ, ◌<◌, Bool, true, false, cond, ◌&&◌, List, [], Option, Some, None, refl, sym, ap, subst, ◌∙◌, inl, inr, if◌then◌else◌}
+use Rattle.std.proofs.Common.{◌≡◌, ℕ, Bool, true, false, cond, ◌&&◌, List, [], Option, Some, None, refl, ap, ◌∙◌, inl, inr, if◌then◌else◌}
 use Rattle.std.specs.Prelude.{unwrap_or}
 use Rattle.std.specs.Cmp.{IsEquivalence}
 use Rattle.std.specs.HashMap.Eq.{lookup_congr}
 use Rattle.std.specs.Map.{lookup}
-use Rattle.std.specs.Option.{option_map_or, IsSomeAnd}
+use Rattle.std.specs.Option.{option_map_or}
 use Rattle.std.proofs.lemmas.Bool.{cases_Bool}
 use Rattle.blot_places.specs.Stack.{Stack}
 use Rattle.blot_chain.specs.declared.cell.Cell.{Cell}
 use Rattle.blot_chain.specs.declared.cell.Part.{Part}
-use Rattle.blot_chain.specs.Cells.{CellsByKey, HasMore, HasOneLess, HasSame, KeepsTakerRoom, PutsUnder, SameUnder, TakesUnder, busts_in, has_bust, has_taker, has_version, one_less, one_more, takers_in, versions_in}
+use Rattle.blot_chain.specs.Cells.{CellsByKey, HasMore, HasOneLess, HasSame, PutsUnder, SameUnder, TakesUnder, busts_in, has_bust, has_taker, has_version, one_less, one_more, takers_in, versions_in}
 
 more-where : (wanted here : Bool) (place : ℕ) (places : List ℕ) → (if here then one_more wanted place places else places) ≡ one_more (wanted && here) place places
 more-where true true place places = refl
@@ -106,23 +106,3 @@ module _ {K : Type 0} (same : K → K → Bool) where
       versions = λ other. written-places (λ cell. cell.versions) (λ places. places) (kept.versions ∙ had.versions) other ∙ same-where (same key other) (versions_in same old other);
       busts = λ other. written-places (λ cell. cell.busts) (λ places. places) (kept.busts ∙ had.busts) other ∙ same-where (same key other) (busts_in same old other);
     }
-
-  -- a cell that keeps its takers keeps their room
-  pub keeps-room :
-      (laws : IsEquivalence same) (old new : CellsByKey K) (key : K) (found : Option Cell) (fresh cell was : Cell)
-      → found ≡ lookup (same key) old.cells → was ≡ unwrap_or found fresh → cell.takers ≡ was.takers → IsWritten old new key cell
-      → KeepsTakerRoom same old new
-  keeps-room laws old new key found fresh cell was at_key is kept writes other room =
-      let written : lookup (same other) new.cells ≡ cond (same key other) (Some cell) (lookup (same other) old.cells) = writes other in
-      elim (cases_Bool (same key other)) [
-        | inl here ↦
-            subst (λ there. IsSomeAnd there (λ (c : Cell). 0 < c.takers.room)) (sym (rw here at written))
-            (there found at_key is (subst (λ there. IsSomeAnd there (λ (c : Cell). 0 < c.takers.room)) (sym (at_key ∙ lookup_congr same laws.congr old.cells key other here)) room))
-        | inr apart ↦ subst (λ there. IsSomeAnd there (λ (c : Cell). 0 < c.takers.room)) (sym (rw apart at written)) room
-      ]
-    where
-      there :
-          (found : Option Cell) → found ≡ lookup (same key) old.cells → was ≡ unwrap_or found fresh → IsSomeAnd found (λ (c : Cell). 0 < c.takers.room)
-          → 0 < cell.takers.room
-      there None at_key is room = absurd room
-      there (Some c) at_key is room = subst (λ (stack : Stack). 0 < stack.room) (sym (kept ∙ ap (λ (c : Cell). c.takers) is)) room

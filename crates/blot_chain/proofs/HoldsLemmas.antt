@@ -1,6 +1,6 @@
 -- What the chains keep with one link more, and one less; and what their look-ups find.
 use Rattle.std.proofs.Common.{◌≡◌, ℕ, ◌<◌, true, List, [], ◌∷◌, ◌++◌, reverse, Option, Some, None, refl, sym, ap, subst, ◌∙◌, inl, inr, arith}
-use Rattle.std.specs.Prelude.{find, is_none}
+use Rattle.std.specs.Prelude.{IfSome, find, is_none}
 use Rattle.std.specs.Option.{option_map, option_and_then}
 use Rattle.std.proofs.lemmas.Bool.{cases_Bool, and_from, and_parts, ltb-true}
 use Rattle.std.proofs.lemmas.List.{reverse-append}
@@ -16,6 +16,8 @@ use Rattle.blot_types.specs.declared.link.Role.{Role}
 use Rattle.blot_types.specs.Chains.{taker_in, root_in, current_in, bust_in, link_refusal, is_chained, is_above_links}
 use Rattle.blot_types.specs.Keys.{same_exec}
 use Rattle.blot_types.proofs.ChainLemmas.{accepted_key}
+use Rattle.blot_types.proofs.KeyLemmas.{same_exec-true}
+use Rattle.blot_types.proofs.SurvivorLemmas.{find-passes}
 use Rattle.blot_chain.specs.declared.index.Index.{Index}
 use Rattle.blot_chain.specs.declared.rooted.Rooted.{Rooted}
 use Rattle.blot_chain.specs.Cells.{busts_in, takers_in, versions_in}
@@ -63,6 +65,29 @@ taker-held index slots key holds =
     ∙ ap (option_map (λ (item : Rooted). item.link.number)) (newest_live-find (has_key key) slots)
     ∙ find-taker (live (reverse slots)) key
 
+-- what is found under a key has that key
+pub taker-key :
+    (index : Index) (slots : List (Slot Rooted)) (key : ExecKey) → HoldsChains index (reverse slots) → (item : Rooted)
+    → newest_live slots (takers_in same_exec index.cells key) ≡ Some item → key ≡ item.link.key
+taker-key index slots key holds item newest =
+    let found : find (has_key key) (live (reverse slots)) ≡ Some item =
+    sym (newest_live-find (has_key key) slots) ∙ ap (newest_live slots) (sym (holds.indexed.takers key)) ∙ newest in
+    sym (same_exec-true item.link.key key (find-passes (has_key key) (live (reverse slots)) item found))
+
+pub taker-keyed :
+    (index : Index) (slots : List (Slot Rooted)) (key : ExecKey) → HoldsChains index (reverse slots)
+    → IfSome (newest_live slots (takers_in same_exec index.cells key)) (λ item. key ≡ item.link.key)
+taker-keyed index slots key holds = by (newest_live slots (takers_in same_exec index.cells key)) (taker-key index slots key holds)
+  where
+    by : (found : Option Rooted) → ((item : Rooted) → found ≡ Some item → key ≡ item.link.key) → IfSome found (λ item. key ≡ item.link.key)
+    by None keyed = tt
+    by (Some item) keyed = keyed item refl
+
+-- another index of the same slots
+pub held-index : (index new : Index) (slots : List (Slot Rooted)) → HoldsChains index slots → IsIndexed new slots → HoldsChains new slots
+held-index index new slots holds indexed =
+    record { fall = holds.fall; roots = holds.roots; indexed = indexed; chained = holds.chained; newest = holds.newest }
+
 -- ---- a number above links, and above what slots hold
 
 pub above-links : (n : ℕ) (rooted : List Rooted) → is_above_links n (links_in rooted) ≡ is_above link_number n rooted
@@ -78,15 +103,15 @@ pub vacant : (rooted : List Rooted) (key : ExecKey) → taker_in (links_in roote
 vacant rooted key free = none-found (find (has_key key) rooted) (find-taker rooted key ∙ free)
 
 pub held-push :
-    (index new : Index) (slots written : List (Slot Rooted)) (link : Link) (root : ExecKey)
-    → HoldsChains index (reverse slots) → written ≡ slots ++ record { item = record { link = link; root = root }; is_live = true } ∷ []
-    → IsIndexed new (record { item = record { link = link; root = root }; is_live = true } ∷ reverse slots)
+    (index new : Index) (slots written : List (Slot Rooted)) (link : Link) (root : ExecKey) (place : ℕ)
+    → HoldsChains index (reverse slots) → written ≡ slots ++ record { item = record { link = link; root = root; place = place }; is_live = true } ∷ []
+    → IsIndexed new (record { item = record { link = link; root = root; place = place }; is_live = true } ∷ reverse slots)
     → link_refusal (shown_of (reverse slots)).list link.key link.role ≡ None
     → is_above_links link.number (shown_of (reverse slots)).list ≡ true → is_above_links link.number (shown_of (reverse slots)).kept ≡ true
     → chain_root (shown_of (reverse slots)).list link.key link.role ≡ Some root
     → HoldsChains new (reverse written)
-held-push index new slots written link root holds is indexed accepted above above_kept rooted =
-    let slot : Slot Rooted = record { item = record { link = link; root = root }; is_live = true } in
+held-push index new slots written link root place holds is indexed accepted above above_kept rooted =
+    let slot : Slot Rooted = record { item = record { link = link; root = root; place = place }; is_live = true } in
     let earlier : List (Slot Rooted) = reverse slots in
     let all : HoldsChains new (slot ∷ earlier) = record {
       fall = and_from _ _
@@ -103,6 +128,7 @@ held-push index new slots written link root holds is indexed accepted above abov
 
 pub record PopsLink (key : ExecKey) (role : Role) (slot : Slot Rooted) (earlier : List (Slot Rooted)) (shown : Shown Link) : Type 0 where
   pub lives : slot.is_live ≡ true
+  pub keyed : key ≡ slot.item.link.key
   pub adds : AddsOne key role (shown_of earlier) shown
   pub kept : (shown_of earlier).kept ≡ shown.kept
 
@@ -140,6 +166,7 @@ pops-link key role slot earlier fall newest =
     let same : slot.item.link ≡ link = first_link slot.item.link link (links_in (live earlier)) newest.1 lists in
     record {
       lives = is;
+      keyed = sym (ap (λ (link : Link). link.key) same);
       adds = (newest.0, ap links_in (live_here slot earlier is) ∙ ap (λ first. first ∷ links_in (live earlier)) same);
       kept = sym (ap links_in (lifted_on slot earlier is));
     }

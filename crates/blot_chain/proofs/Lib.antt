@@ -4,5 +4,6 @@ pub mod ChainLemmas
 pub mod HoldsLemmas
 mod IndexLemmas
 pub mod LiftLemmas
+mod PlaceLemmas
 pub mod RootedLemmas
 pub mod StandingLemmas

@@ -1,7 +1,7 @@
 -- What the chains keep where a link is lifted out, or put back.
 use Rattle.std.specs.List.{list_all}
 use Rattle.std.specs.Option.{option_map, option_and_then}
-use Rattle.std.specs.Prelude.{IsSome, find, not, nat_eq, nat_lt, ◌&&◌}
+use Rattle.std.specs.Prelude.{All, IsSome, find, not, nat_eq, nat_lt, ◌&&◌}
 use Rattle.std.proofs.Common.{◌≡◌, ℕ, ◌<◌, Bool, true, false, List, [], ◌∷◌, Option, Some, None, refl, sym, ap, subst, ◌∙◌, inl, inr, arith}
 use Rattle.std.proofs.lemmas.Bool.{cases_Bool, and_from, and_parts, eqb-true, le-ltb, ltb-false, ltb-true}
 use Rattle.std.proofs.lemmas.List.Folds.{list_all-map}
@@ -22,7 +22,7 @@ use Rattle.blot_types.proofs.KeyLemmas.{same_exec-sym}
 use Rattle.blot_chain.specs.declared.index.Index.{Index}
 use Rattle.blot_chain.specs.declared.rooted.Rooted.{Rooted}
 use Rattle.blot_chain.specs.Holds.{HoldsChains, shown_of}
-use Rattle.blot_chain.specs.Index.{IsIndexed}
+use Rattle.blot_chain.specs.Index.{IsIndexed, IsPlaced}
 use Rattle.blot_chain.specs.Rooted.{HaveRoots, NewestLive, has_key, is_bust_of, is_version_of, kept_root, link_number, links_in, slot_chain}
 use Rattle.blot_chain.specs.Steps.{CanReturn, is_untaken_above, lifted_out, link_at, number_of, put_back}
 use Rattle.blot_chain.proofs.ChainLemmas.{chained-parts}
@@ -39,6 +39,7 @@ module _ (n : ℕ) (b : Bool) where
     takers = λ key. indexed.takers key ∙ sym (places-marked link_number n b (has_key key) slots);
     versions = λ root. indexed.versions root ∙ sym (places-marked link_number n b (is_version_of root) slots);
     busts = λ root. indexed.busts root ∙ sym (places-marked link_number n b (is_bust_of root) slots);
+    placed = subst (All (IsPlaced index.cells)) (sym (items-marked link_number n b slots)) indexed.placed;
   }
 
   root-marked : (slots : List (Slot Rooted)) (key : ExecKey) → option_and_then kept_root (find (has_key key) (items (marked link_number n b slots))) ≡ option_and_then kept_root (find (has_key key) (items slots))

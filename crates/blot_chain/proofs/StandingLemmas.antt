@@ -1,30 +1,27 @@
 -- What the cell of a key tells: the root of the key, and which version of a root's chain stands.
 use Rattle.std.proofs.Common.{◌≡◌, ℕ, Bool, true, false, ◌&&◌, List, [], reverse, Option, Some, None, refl, sym, ap, ◌∙◌}
-use Rattle.std.specs.Prelude.{find, is_none, nat_eq, if◌then◌else◌}
+use Rattle.std.specs.Prelude.{is_none, nat_eq, if◌then◌else◌}
 use Rattle.std.specs.Bool.{then_some}
 use Rattle.std.specs.Map.{lookup}
 use Rattle.std.specs.Option.{option_eq, option_map, option_map_or, option_and_then}
 use Rattle.std.proofs.lemmas.Option.{same_Some}
 use Rattle.blot_places.specs.declared.slots.Slot.{Slot}
 use Rattle.blot_places.specs.Shown.{Shown}
-use Rattle.blot_places.specs.Slots.{live, newest_live}
-use Rattle.blot_places.proofs.SlotLemmas.{newest_live-find}
+use Rattle.blot_places.specs.Slots.{newest_live}
 use Rattle.blot_types.specs.declared.keys.ExecKey.{ExecKey}
 use Rattle.blot_types.specs.declared.link.Link.{Link}
 use Rattle.blot_types.specs.Chains.{bust_in, current_in, root_in}
 use Rattle.blot_types.specs.Keys.{same_exec}
 use Rattle.blot_types.specs.Survivors.{is_number, stands_under}
-use Rattle.blot_types.proofs.KeyLemmas.{same_exec-true}
-use Rattle.blot_types.proofs.SurvivorLemmas.{find-passes}
 use Rattle.blot_chain.specs.declared.cell.Cell.{Cell}
 use Rattle.blot_chain.specs.declared.index.Index.{Index}
 use Rattle.blot_chain.specs.declared.rooted.Rooted.{Rooted}
 use Rattle.blot_chain.specs.Holds.{HoldsChains, shown_of}
 use Rattle.blot_chain.specs.Index.{standing_at}
-use Rattle.blot_chain.specs.Rooted.{has_key, kept_root, link_number}
+use Rattle.blot_chain.specs.Rooted.{kept_root, link_number}
 use Rattle.blot_chain.specs.RootedLink.{begun}
 use Rattle.blot_chain.specs.Standing.{standing_root_in, standing_version_in}
-use Rattle.blot_chain.proofs.HoldsLemmas.{bust-held, current-held, root-held}
+use Rattle.blot_chain.proofs.HoldsLemmas.{bust-held, current-held, root-held, taker-key}
 
 -- ---- by the cell, if the key has one
 
@@ -54,7 +51,7 @@ root-by_cell slots None = refl
 root-by_cell slots (Some cell) = refl
 
 -- a root that is the link's own key
-begun-root : (item : Rooted) (root : ExecKey) → item ≡ begun item.link.number item.link.key → kept_root item ≡ Some root → item.link.key ≡ root
+begun-root : (item : Rooted) (root : ExecKey) → item ≡ begun item.link.number item.link.key item.place → kept_root item ≡ Some root → item.link.key ≡ root
 begun-root item root is kept = same_Some item.link.key root (sym (ap kept_root is) ∙ kept)
 
 module _ (index : Index) (slots : List (Slot Rooted)) (shown : Shown Link) (holds : HoldsChains index (reverse slots)) (is : shown_of (reverse slots) ≡ shown) where
@@ -73,17 +70,21 @@ module _ (index : Index) (slots : List (Slot Rooted)) (shown : Shown Link) (hold
       ap (root_by_cell slots) there ∙ root-by_cell slots (lookup (same_exec key) index.cells.cells) ∙ root-held index slots key holds
       ∙ ap (λ shown. root_in shown.list key) is
 
-  -- where the newest link of a key begins its chain, the key is the root
+  -- the newest link in the cell of a key has that key
+  pub key-told :
+      (key : ExecKey) (cell : Cell) (item : Rooted) → Some cell ≡ lookup (same_exec key) index.cells.cells → newest_live slots cell.takers.places ≡ Some item
+      → key ≡ item.link.key
+  key-told key cell item there newest =
+      let places = ap (λ found. option_map_or (λ (cell : Cell). cell.takers.places) found []) there in
+      taker-key index slots key holds item (ap (newest_live slots) (sym places) ∙ newest)
+
+  -- where it begins its chain, the key is the root
   pub version-beside :
       (key : ExecKey) (cell : Cell) (item : Rooted) (root : ExecKey) → Some cell ≡ lookup (same_exec key) index.cells.cells
-      → newest_live slots cell.takers.places ≡ Some item → item ≡ begun item.link.number item.link.key → kept_root item ≡ Some root
+      → newest_live slots cell.takers.places ≡ Some item → item ≡ begun item.link.number item.link.key item.place → kept_root item ≡ Some root
       → standing_at slots cell ≡ standing_version_in shown.list root
   version-beside key cell item root there newest begins kept =
-      let places = ap (λ found. option_map_or (λ (cell : Cell). cell.takers.places) found []) there ∙ holds.indexed.takers key in
-      let found : find (has_key key) (live (reverse slots)) ≡ Some item =
-      sym (newest_live-find (has_key key) slots) ∙ ap (newest_live slots) (sym places) ∙ newest in
-      let its : item.link.key ≡ key = same_exec-true item.link.key key (find-passes (has_key key) (live (reverse slots)) item found) in
-      let one : key ≡ root = sym its ∙ begun-root item root begins kept in
+      let one : key ≡ root = key-told key cell item there newest ∙ begun-root item root begins kept in
       version-told key (Some cell) there ∙ ap (standing_version_in shown.list) one
 
 -- ---- a version of a number and key

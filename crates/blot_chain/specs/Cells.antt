@@ -1,6 +1,6 @@
 -- The places under a key, by what the links there are to it: those that take it up, the versions of its chain, and its Busts.
-use Rattle.std.specs.Prelude.{◌≡◌, ℕ, Bool, true, false, ◌&&◌, ◌<◌, List, [], ◌∷◌, drop, if◌then◌else◌}
-use Rattle.std.specs.Map.{lookup}
+use Rattle.std.specs.Prelude.{◌≡◌, ℕ, Bool, true, false, ◌&&◌, ◌<◌, List, [], ◌∷◌, drop, slice_get, Option, Some, if◌then◌else◌}
+use Rattle.std.specs.Map.{keys_of, lookup}
 use Rattle.std.specs.Option.{option_map_or, IsSomeAnd}
 use Rattle.blot_types.specs.declared.link.Role.{Role}
 use Rattle.blot_types.specs.declared.link.Role.TheVariants.{Begins, Corrects, Busts}
@@ -73,16 +73,25 @@ module _ {K : Type 0} (same : K → K → Bool) (by_key : CellsByKey K) (key : K
   abbrev pub busts_in : List ℕ
   busts_in = option_map_or (λ cell. cell.busts.places) (lookup (same key) by_key.cells) []
 
-  -- there is room for the place of one more link that takes up a key
-  abbrev pub HasTakerRoom : Type 0
-  HasTakerRoom = IsSomeAnd (lookup (same key) by_key.cells) (λ cell. 0 < cell.takers.room)
+module _ {K : Type 0} where
+  -- the key whose cell is at a place
+  abbrev pub key_at : CellsByKey K → ℕ → Option K
+  key_at by_key place = slice_get (keys_of by_key.cells) place
+
+  -- a cell that was at a place is still there
+  abbrev pub KeepsPlaces : CellsByKey K → CellsByKey K → Type 0
+  KeepsPlaces old new = (place : ℕ) (key : K) → key_at old place ≡ Some key → key_at new place ≡ Some key
+
+  -- the cell at a place has room for the place of one more link that takes up its key
+  abbrev pub HasTakerRoom : CellsByKey K → ℕ → Type 0
+  HasTakerRoom by_key place = IsSomeAnd (slice_get by_key.cells place) (λ entry. 0 < entry.1.takers.room)
+
+  -- each cell that had such room has it
+  abbrev pub KeepsTakerRoom : CellsByKey K → CellsByKey K → Type 0
+  KeepsTakerRoom old new = (place : ℕ) → HasTakerRoom old place → HasTakerRoom new place
 
 -- what a call does to the cells of all keys
 module _ {K : Type 0} (same : K → K → Bool) where
-  -- each key that had room for one more link that takes it up has it
-  abbrev pub KeepsTakerRoom : CellsByKey K → CellsByKey K → Type 0
-  KeepsTakerRoom old new = (other : K) → HasTakerRoom same old other → HasTakerRoom same new other
-
   -- each key has the places that it had
   pub record SameUnder (old new : CellsByKey K) : Type 0 where
     pub takers : (other : K) → takers_in same new other ≡ takers_in same old other
@@ -94,6 +103,10 @@ module _ {K : Type 0} (same : K → K → Bool) where
     pub takers : (other : K) → takers_in same new other ≡ one_more (has_taker part && same key other) place (takers_in same old other)
     pub versions : (other : K) → versions_in same new other ≡ one_more (has_version part && same key other) place (versions_in same old other)
     pub busts : (other : K) → busts_in same new other ≡ one_more (has_bust part && same key other) place (busts_in same old other)
+
+  -- the same under the key whose cell is at a place
+  abbrev pub PutsAt : Part → ℕ → ℕ → CellsByKey K → CellsByKey K → Type 0
+  PutsAt part at place old new = (key : K) → key_at old at ≡ Some key → PutsUnder part key place old new
 
   -- one less does
   pub record TakesUnder (part : Part) (key : K) (old new : CellsByKey K) : Type 0 where

@@ -1,23 +1,28 @@
 -- Where the slots of a key, and of the chain of a root, are.
-use Rattle.std.specs.Prelude.{◌≡◌, ℕ, reverse, List, Option, Some, None, is_none, if◌then◌else◌}
+use Rattle.std.specs.Prelude.{◌≡◌, ℕ, reverse, All, List, Option, Some, None, is_none, if◌then◌else◌}
 use Rattle.std.specs.List.Sorted.{IsPartitionedBy}
 use Rattle.std.specs.Option.{option_and_then, option_map}
 use Rattle.blot_places.specs.declared.slots.Slot.{Slot}
-use Rattle.blot_places.specs.Slots.{is_below, is_up_to, live_item, newest_live, places_above, places_below, places_by}
+use Rattle.blot_places.specs.Slots.{is_below, is_up_to, items, live_item, newest_live, places_above, places_below, places_by}
 use Rattle.blot_types.specs.declared.keys.ExecKey.{ExecKey}
 use Rattle.blot_types.specs.Keys.{same_exec}
 use Rattle.blot_types.specs.Refusals.{first_of}
 use Rattle.blot_chain.specs.declared.cell.Cell.{Cell}
 use Rattle.blot_chain.specs.declared.index.Index.{Index}
 use Rattle.blot_chain.specs.declared.rooted.Rooted.{Rooted}
-use Rattle.blot_chain.specs.Cells.{busts_in, takers_in, versions_in}
+use Rattle.blot_chain.specs.Cells.{CellsByKey, busts_in, key_at, takers_in, versions_in}
 use Rattle.blot_chain.specs.Rooted.{has_key, is_bust_of, is_version_of, link_number, refers}
 
--- the index names the places of these slots, by key and by root
+-- the cell of a link's key is at its place
+abbrev pub IsPlaced : CellsByKey ExecKey → Rooted → Type 0
+IsPlaced cells item = key_at cells item.place ≡ Some item.link.key
+
+-- the index names the places of these slots, by key and by root, and the place in each of their links is that of its key's cell
 pub record IsIndexed (index : Index) (slots : List (Slot Rooted)) : Type 0 where
   pub takers : (key : ExecKey) → takers_in same_exec index.cells key ≡ places_by (has_key key) slots
   pub versions : (root : ExecKey) → versions_in same_exec index.cells root ≡ places_by (is_version_of root) slots
   pub busts : (root : ExecKey) → busts_in same_exec index.cells root ≡ places_by (is_bust_of root) slots
+  pub placed : All (IsPlaced index.cells) (items slots)
 
 -- ---- what is found on a stack. The slots and the places stand oldest first
 
@@ -52,6 +57,6 @@ abbrev pub number_if_referring : List (Slot Rooted) → ExecKey → ℕ → Opti
 number_if_referring slots key place =
     option_and_then (λ item. if refers key item then Some item.link.number else None) (live_item slots place)
 
--- the number of the oldest live link above another, on a stack, that refers to the other's key
-abbrev pub referring_at : List (Slot Rooted) → List ℕ → Rooted → Option ℕ
-referring_at slots stack item = first_of (number_if_referring slots item.link.key) (places_after item.link.number slots stack)
+-- the number of the oldest live link above a number, on a stack, that refers to a key
+abbrev pub referring_at : List (Slot Rooted) → List ℕ → ℕ → ExecKey → Option ℕ
+referring_at slots stack number key = first_of (number_if_referring slots key) (places_after number slots stack)

@@ -5,15 +5,16 @@ use Rattle.blot_types.specs.declared.link.Link.{Link}
 use Rattle.blot_types.specs.declared.link.Role.{Role}
 use Rattle.blot_types.specs.declared.link.Role.TheVariants.{Begins}
 
--- a link, and beside it the root of its chain
+-- a link, and beside it the root of its chain, and the place of the cell of its key among the cells
 pub record RootedLink : Type 0 where
   pub link : Link
   pub root : ExecKey
+  pub place : ℕ
 
--- that of this number, key, role and root
-abbrev pub rooted : ℕ → ExecKey → Role → ExecKey → RootedLink
-rooted number key role root = record { link = record { number = number; key = key; role = role }; root = root }
+-- that of this number, key, role, root and place
+abbrev pub rooted : ℕ → ExecKey → Role → ExecKey → ℕ → RootedLink
+rooted number key role root place = record { link = record { number = number; key = key; role = role }; root = root; place = place }
 
 -- a Trade's: its root is its own key
-abbrev pub begun : ℕ → ExecKey → RootedLink
-begun number key = rooted number key Begins key
+abbrev pub begun : ℕ → ExecKey → ℕ → RootedLink
+begun number key place = rooted number key Begins key place

@@ -61,7 +61,7 @@ impl Chains {
         ensures kept { self.new.kept ≡ self.old.kept }
         ensures err { OnErr result (self.new ≡ self.old) }
     {
-        self.push_link(Rooted::begun(number, key))
+        self.push_link(number, key, Role::Begins, key)
     }
 
     /// Adds a Correct, which brings a version to the chain of the reference. No listed link takes up its key,
@@ -81,9 +81,7 @@ impl Chains {
         ensures err { OnErr result (self.new ≡ self.old) }
     {
         let root = self.chain_of(reference);
-        let role = Role::Corrects(*reference);
-        let item = Rooted::referring(self.alloc, number, key, role, root)?;
-        self.push_link(item)
+        self.push_link(number, key, Role::Corrects(*reference), &root)
     }
 
     /// Adds a Bust, which ends the chain of the reference. No listed link takes up its key, its number is above
@@ -98,9 +96,7 @@ impl Chains {
         ensures err { OnErr result (self.new ≡ self.old) }
     {
         let root = self.chain_of(reference);
-        let role = Role::Busts(*reference);
-        let item = Rooted::referring(self.alloc, number, key, role, root)?;
-        self.push_link(item)
+        self.push_link(number, key, Role::Busts(*reference), &root)
     }
 
     /// Takes back a Trade of this key, the newest link. No memory is taken. This project's rule.
@@ -159,7 +155,7 @@ impl Chains {
         ensures root { result ≡ root_in self.now.list key.now }
         ensures one_trade { IfSome result (λ root. IsOneTrade self.now.list root) }
     {
-        root_on(&self.slots, self.index.cells.takers(key))
+        root_on(&self.slots, self.index.cells.takers(key), key)
     }
 
     /// The number of the last version of the chain of a root, busted or not. None where the key is no root.
@@ -178,13 +174,14 @@ impl Chains {
     }
 
     /// The root of the chain in which the version of a number and key stands: the chain isn't busted, and this is its last version.
-    /// None where it doesn't stand. A Trade's key is its root, so its cell tells all. This project's rule.
-    pub fn standing_root(&self, number: u64, key: &ExecKey) -> Option<ExecKey>
+    /// None where it doesn't stand. A Trade's key is its root, so its cell tells all. It is looked for at `near` first: the keys have
+    /// their cells in the order in which they came. This project's rule.
+    pub fn standing_root(&self, number: u64, key: &ExecKey, near: usize) -> Option<ExecKey>
         ensures { result ≡ standing_root_in self.now.list number key.now }
     {
-        let cell = self.index.cells.get(key)?;
+        let cell = self.index.cells.get_near(near, key)?;
         let item = newest_live(&self.slots, cell.takers.as_slice())?;
-        let root = item.own_root()?;
+        let root = item.own_root(key)?;
         let standing = if item.begins() {
             standing_at(&self.slots, cell)
         } else {
@@ -213,9 +210,13 @@ impl Chains {
         ensures { result ≡ first_needing_link self.now.list number }
     {
         let item = live_numbered(&self.slots, number)?;
+        let Some(key) = self.index.cells.key_at(item.place()) else {
+            unreachable!()
+        };
+        let root = item.root(key);
         lesser(
-            referring_at(&self.slots, self.index.cells.versions(item.root()), item),
-            referring_at(&self.slots, self.index.cells.busts(item.root()), item),
+            referring_at(&self.slots, self.index.cells.versions(root), number, key),
+            referring_at(&self.slots, self.index.cells.busts(root), number, key),
         )
     }
 
@@ -245,23 +246,30 @@ impl Chains {
         }
     }
 
-    // Adds a link at the end, with the root of its chain. All room is made before anything changes.
-    fn push_link(&mut self, item: Rooted) -> Result<(), NoMemory>
-        requires accepted { link_refusal self.old.list item.link.key item.link.role ≡ None }
-        requires above { IsTrue (is_above_links item.link.number self.old.list) }
-        requires above_kept { IsTrue (is_above_links item.link.number self.old.kept) }
-        requires rooted { chain_root self.old.list item.link.key item.link.role ≡ Some item.root }
-        ensures ok { OnOk result (Adds item.link.number item.link.key item.link.role self.old self.new) }
+    // Adds a link at the end, with the root of its chain. All room is made before any place is put in; an error may leave a cell without places.
+    fn push_link(
+        &mut self,
+        number: u64,
+        key: &ExecKey,
+        role: Role,
+        root: &ExecKey,
+    ) -> Result<(), NoMemory>
+        requires accepted { link_refusal self.old.list key.now role ≡ None }
+        requires above { IsTrue (is_above_links number self.old.list) }
+        requires above_kept { IsTrue (is_above_links number self.old.kept) }
+        requires rooted { chain_root self.old.list key.now role ≡ Some root.now }
+        ensures ok { OnOk result (Adds number key.now role self.old self.new) }
         ensures kept { self.new.kept ≡ self.old.kept }
         ensures err { OnErr result (self.new ≡ self.old) }
     {
         self.slots.reserve(1)?;
+        let at = self.index.reach(self.alloc, key)?;
         let slot = Slot {
-            item,
+            item: Rooted::new(self.alloc, number, key, role, root, at)?,
             is_live: true,
         };
         let place = self.slots.len();
-        self.index.add(self.alloc, &slot, place)?;
+        self.index.add(self.alloc, key, &slot, place)?;
         self.slots.push_reserved(slot);
         Ok(())
     }
@@ -275,6 +283,6 @@ impl Chains {
         let Some(slot) = self.slots.pop() else {
             unreachable!()
         };
-        self.index.pop(&slot);
+        self.index.pop(key, &slot);
     }
 }

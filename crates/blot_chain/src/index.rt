@@ -1,10 +1,11 @@
 //! Where the slots of a key, and of the chain of a root, are.
-ghost use Rattle.std.specs.Prelude.{◌≡◌, [], OnOk, OnErr};
+ghost use Rattle.std.specs.Prelude.{◌≡◌, [], Some, IfOk, IfSome, OnOk, OnErr};
 ghost use Rattle.std.specs.Option.{option_and_then, option_map};
 ghost use Rattle.blot_places.specs.Indexed.{NamesOneLess, NamesOneMore, NamesSame};
 ghost use Rattle.blot_types.specs.Refusals.{first_of};
+ghost use Rattle.blot_chain.specs.Cells.{key_at};
 ghost use Rattle.blot_chain.specs.Rooted.{kept_root, link_number};
-ghost use Rattle.blot_chain.specs.Index.{BelowFirst, IsIndexed, UpToFirst, newest_below, newest_on, number_if_referring, oldest_above, referring_at, standing_at};
+ghost use Rattle.blot_chain.specs.Index.{BelowFirst, IsIndexed, IsPlaced, UpToFirst, newest_below, newest_on, number_if_referring, oldest_above, referring_at, standing_at};
 
 use crate::cell::{Cell, Part};
 use crate::cells::Cells;
@@ -30,38 +31,50 @@ impl Index {
         }
     }
 
-    /// Puts in the place of one more slot, after the others. All room is made before any place is put in, and an error leaves what is
-    /// indexed. A Trade's key is its root, so it has one cell.
+    /// The place of the cell of a key, which is made where there is none. What is indexed stays.
+    pub(crate) fn reach(&mut self, alloc: Global, key: &ExecKey) -> Result<usize, NoMemory>
+        ensures place { IfOk result (λ place. key_at self.new.cells place ≡ Some key.now) }
+        ensures same { NamesSame IsIndexed self.old self.new }
+    {
+        self.cells.reach(alloc, key)
+    }
+
+    /// Puts in the place of one more slot of this key, after the others. All room is made before any place is put in, and an error
+    /// leaves what is indexed. A Trade's key is its root, so it has one cell.
     pub(crate) fn add(
         &mut self,
         alloc: Global,
+        key: &ExecKey,
         slot: &Slot<Rooted>,
         place: usize,
     ) -> Result<(), NoMemory>
+        requires key { key.now ≡ slot.now.item.link.key }
+        requires placed { IsPlaced self.old.cells slot.now.item }
         ensures ok { OnOk result (NamesOneMore IsIndexed slot.now place self.old self.new) }
         ensures err { OnErr result (NamesSame IsIndexed self.old self.new) }
     {
         let item = &slot.item;
         if item.begins() {
-            return self.cells.add(alloc, item.key(), Part::First, place);
+            return self.cells.add(item.place(), Part::First, place);
         }
-        self.cells.make_taker_room(alloc, item.key())?;
-        self.cells
-            .add(alloc, item.root(), item.part_in_chain(), place)?;
-        self.cells.push_taker(item.key(), place);
+        self.cells.make_taker_room(item.place())?;
+        let chain = self.cells.reach(alloc, item.root(key))?;
+        self.cells.add(chain, item.part_in_chain(), place)?;
+        self.cells.push_taker(item.place(), place);
         Ok(())
     }
 
-    /// Takes out the place of the newest slot.
-    pub(crate) fn pop(&mut self, slot: &Slot<Rooted>)
+    /// Takes out the place of the newest slot, which is of this key.
+    pub(crate) fn pop(&mut self, key: &ExecKey, slot: &Slot<Rooted>)
+        requires { key.now ≡ slot.now.item.link.key }
         ensures { NamesOneLess IsIndexed slot.now self.old self.new }
     {
         let item = &slot.item;
         if item.begins() {
-            return self.cells.pop(item.key(), Part::First);
+            return self.cells.pop(key, Part::First);
         }
-        self.cells.pop(item.key(), Part::Taker);
-        self.cells.pop(item.root(), item.part_in_chain());
+        self.cells.pop(key, Part::Taker);
+        self.cells.pop(item.root(key), item.part_in_chain());
     }
 }
 
@@ -98,12 +111,17 @@ pub(crate) fn number_above(slots: &[Slot<Rooted>], stack: &[usize], number: u64)
     oldest_live(slots, places_above(slots, stack, number)).map(|item| item.number())
 }
 
-/// The number of the oldest live link above that of another, on a stack, that refers to the other's key.
-pub(crate) fn referring_at(slots: &[Slot<Rooted>], stack: &[usize], item: &Rooted) -> Option<u64>
-    requires { UpToFirst item.now.link.number slots.now stack.now }
-    ensures { result ≡ referring_at slots.now stack.now item.now }
+/// The number of the oldest live link above a number, on a stack, that refers to a key.
+pub(crate) fn referring_at(
+    slots: &[Slot<Rooted>],
+    stack: &[usize],
+    number: u64,
+    key: &ExecKey,
+) -> Option<u64>
+    requires { UpToFirst number slots.now stack.now }
+    ensures { result ≡ referring_at slots.now stack.now number key.now }
 {
-    first_referring(slots, places_above(slots, stack, item.number()), item.key())
+    first_referring(slots, places_above(slots, stack, number), key)
 }
 
 // The number of the first live link at these places that refers to a key.
@@ -130,9 +148,10 @@ fn number_if_referring(slots: &[Slot<Rooted>], place: usize, key: &ExecKey) -> O
     }
 }
 
-/// The root of the key of the newest live link on a stack.
-pub(crate) fn root_on(slots: &[Slot<Rooted>], stack: &[usize]) -> Option<ExecKey>
+/// The root of a key, as the newest live link on the stack of those that take it up tells.
+pub(crate) fn root_on(slots: &[Slot<Rooted>], stack: &[usize], key: &ExecKey) -> Option<ExecKey>
+    requires { IfSome (newest_on slots.now stack.now) (λ item. key.now ≡ item.link.key) }
     ensures { result ≡ option_and_then kept_root (newest_on slots.now stack.now) }
 {
-    newest_live(slots, stack)?.own_root()
+    newest_live(slots, stack)?.own_root(key)
 }

@@ -1,22 +1,25 @@
 //! A link with the root of its chain.
 ghost use Rattle.std.specs.Prelude.{◌≡◌, IfOk, IsTrue};
+ghost use Rattle.blot_types.specs.declared.link.Role.TheVariants.{Begins};
 ghost use Rattle.blot_types.specs.Chains.{refers_to};
 ghost use Rattle.blot_chain.specs.Cells.{part_in_chain};
 ghost use Rattle.blot_chain.specs.Rooted.{is_version, kept_root};
 ghost use Rattle.blot_chain.specs.RootedLink.{begun, rooted};
 
 use crate::cell::Part;
+use blot_places::Remembered;
 use blot_types::{ExecKey, Numbered, Role};
 use std::alloc::{AllocError as NoMemory, Global};
 use std::marker::Model;
 
-/// A link with the root of the chain that it begins, corrects or busts. A Trade's refers to nothing, and its root is its own key. So a
-/// Trade has a number and a key alone, and what the others have besides is on the heap. A contract sees the link and the root.
+/// A link with the root of the chain that it begins, corrects or busts. Its key stands in the key's cell, of which it has the place.
+/// A Trade refers to nothing, and its root is its own key; what the others have besides is on the heap. A contract sees it whole.
 #[derive(Drop)]
 pub(crate) struct Rooted {
     number: u64,
+    place: usize,
     origin: Option<Box<Origin>>,
-    key: ExecKey,
+    key: Remembered<ExecKey>,
 }
 
 // What a link does that refers to another, and the root of the other's chain.
@@ -33,50 +36,48 @@ impl Model for Rooted {
 
     ghost Value = { RootedLink };
 
-    ghost view = { λ item. rooted item.number item.key (option_map_or (λ origin. origin.value.role) item.origin Begins)
-        (option_map_or (λ origin. origin.value.root) item.origin item.key) };
+    ghost view = { λ item. rooted item.number item.key.value (option_map_or (λ origin. origin.value.role) item.origin Begins)
+        (option_map_or (λ origin. origin.value.root) item.origin item.key.value) item.place };
 }
 
 impl Rooted {
-    /// The link of a Trade. No memory is taken.
-    pub(crate) fn begun(number: u64, key: &ExecKey) -> Rooted
-        ensures { result ≡ begun number key.now }
-    {
-        Rooted {
-            number,
-            origin: None,
-            key: *key,
-        }
-    }
-
-    /// A link that refers to another, with the root of the other's chain. Out of memory is the only error.
-    pub(crate) fn referring(
+    /// A link whose key has its cell at a place. That of a Trade takes no memory, since its root is its own key. Out of memory is the
+    /// only error.
+    pub(crate) fn new(
         alloc: Global,
         number: u64,
         key: &ExecKey,
         role: Role,
-        root: ExecKey,
+        root: &ExecKey,
+        place: usize,
     ) -> Result<Rooted, NoMemory>
-        ensures { IfOk result (λ item. item ≡ rooted number key.now role root) }
+        requires begins { role ≡ Begins → root.now ≡ key.now }
+        ensures { IfOk result (λ item. item ≡ rooted number key.now role root.now place) }
     {
-        let origin = Box::new(alloc, Origin { role, root })?;
+        let origin = match role {
+            Role::Begins => None,
+            Role::Corrects(_) | Role::Busts(_) => {
+                Some(Box::new(alloc, Origin { role, root: *root })?)
+            }
+        };
         Ok(Rooted {
             number,
-            origin: Some(origin),
-            key: *key,
+            place,
+            origin,
+            key: Remembered::of(key),
         })
     }
 
-    /// The key that the link takes up.
-    pub(crate) fn key(&self) -> &ExecKey
-        ensures { result.now ≡ self.now.link.key }
+    /// The place of its key's cell.
+    pub(crate) fn place(&self) -> usize
+        ensures { result ≡ self.now.place }
     {
-        &self.key
+        self.place
     }
 
     /// Whether the link begins its chain, so that the root is its own key.
     pub(crate) fn begins(&self) -> bool
-        ensures { IsTrue result → self.now ≡ begun self.now.link.number self.now.link.key }
+        ensures { IsTrue result → self.now ≡ begun self.now.link.number self.now.link.key self.now.place }
     {
         self.origin.is_none()
     }
@@ -111,22 +112,24 @@ impl Rooted {
         }
     }
 
-    /// The root of its chain.
-    pub(crate) fn root(&self) -> &ExecKey
+    /// The root of its chain, where the link has this key.
+    pub(crate) fn root<'a>(&'a self, key: &'a ExecKey) -> &'a ExecKey
+        requires { key.now ≡ self.now.link.key }
         ensures { result.now ≡ self.now.root }
     {
         match &self.origin {
             Some(origin) => &origin.root,
-            None => &self.key,
+            None => key,
         }
     }
 
-    /// The root of the link's own key. The key of a Bust has none.
-    pub(crate) fn own_root(&self) -> Option<ExecKey>
+    /// The root of the link's own key, which is this. The key of a Bust has none.
+    pub(crate) fn own_root(&self, key: &ExecKey) -> Option<ExecKey>
+        requires { key.now ≡ self.now.link.key }
         ensures { result ≡ kept_root self.now }
     {
         if self.is_version() {
-            Some(*self.root())
+            Some(*self.root(key))
         } else {
             None
         }

@@ -37,6 +37,7 @@ pub mod StepLemmas
 pub mod TakeOutLemmas
 pub mod TakenLemmas
 pub mod TermsLemmas
+mod TradeLemmas
 pub mod TurnLemmas
 pub mod UnnamedLemmas
 pub mod UntilNeedLemmas

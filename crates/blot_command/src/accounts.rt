@@ -7,6 +7,7 @@ ghost use Rattle.blot_types.specs.Legal.{is_above_entries, is_book, without};
 ghost use Rattle.blot_types.specs.Position.{is_named, part_of, part_of_fill, position_of};
 ghost use Rattle.blot_types.specs.Survivors.{version_of};
 ghost use Rattle.blot_command.specs.Book.{has_number};
+ghost use Rattle.blot_command.specs.Kinds.{trade_of};
 ghost use Rattle.blot_command.specs.Shown.{version_replaced};
 ghost use Rattle.blot_command.specs.Withdrawing.{with_entry, HasLast, lifted, returned, CanReturn};
 ghost use Rattle.blot_command.specs.Booking.{changed_all, CanChangeAll, chains_to_house, chains_from_house, allocated, released};
@@ -66,7 +67,11 @@ impl Accounts {
 
     /// Puts an entry after the others, or hands it back where memory runs out. Its number is above those whose slots are left. It
     /// replaces this version, if one.
-    pub(crate) fn push(&mut self, entry: Entry, replaced: &Option<Version>) -> Result<(), Entry>
+    pub(crate) fn push(
+        &mut self,
+        entry: BoxedEntry,
+        replaced: &Option<Version>,
+    ) -> Result<(), BoxedEntry>
         requires book { IsTrue (is_book (self.old.list ++ entry ∷ [])) }
         requires above { IsTrue (is_above_entries entry.number self.old.kept) }
         requires replaces { replaced.now ≡ version_replaced self.old.list entry }
@@ -74,11 +79,12 @@ impl Accounts {
         ensures err { OnErr result (self.new ≡ self.old) }
         ensures returned { IfErr result (λ back. back ≡ entry) }
     {
-        let Ok(()) = open_cells(&mut self.positions, &entry) else {
+        let inner = entry.as_entry();
+        let Ok(()) = open_cells(&mut self.positions, inner) else {
             return Err(entry);
         };
-        let ended = entry.command.alloc_reference();
-        let brought = entry.command.brought_key();
+        let ended = inner.command.alloc_reference();
+        let brought = inner.command.brought_key();
         let gone = part_of(&self.live, replaced);
         match self.live.push(entry) {
             Ok(()) => {
@@ -86,6 +92,28 @@ impl Accounts {
                 rebook(&mut self.positions, &gone, &come);
                 release(&mut self.positions, &self.live, &ended);
                 allocate(&mut self.positions, &self.live, &brought);
+                Ok(())
+            }
+            Err(back) => Err(back),
+        }
+    }
+
+    /// The same of a Trade. It replaces no version, and ends and brings no allocation, so its own part is all that comes.
+    pub(crate) fn push_trade(&mut self, entry: BoxedEntry) -> Result<(), BoxedEntry>
+        requires book { IsTrue (is_book (self.old.list ++ entry ∷ [])) }
+        requires above { IsTrue (is_above_entries entry.number self.old.kept) }
+        requires trade { IsSome (trade_of entry.command) }
+        ensures ok { OnOk result (self.new ≡ with_entry entry self.old) }
+        ensures err { OnErr result (self.new ≡ self.old) }
+        ensures returned { IfErr result (λ back. back ≡ entry) }
+    {
+        let Ok(()) = open_cells(&mut self.positions, entry.as_entry()) else {
+            return Err(entry);
+        };
+        match self.live.push(entry) {
+            Ok(()) => {
+                let come = part_by(&self.live, self.live.last());
+                rebook(&mut self.positions, &None, &come);
                 Ok(())
             }
             Err(back) => Err(back),

@@ -1,7 +1,8 @@
 //! An entry on the heap.
-ghost use Rattle.std.specs.Prelude.{◌≡◌, IfOk, IfErr};
+ghost use Rattle.std.specs.Prelude.{◌≡◌, is_some, IfOk, IfErr};
+ghost use Rattle.blot_command.specs.Kinds.{trade_of};
 
-use blot_types::Entry;
+use blot_types::{Command, Entry};
 use std::alloc::Global;
 use std::marker::Model;
 
@@ -36,6 +37,13 @@ impl BoxedEntry {
         ensures { result.now ≡ self.now }
     {
         &self.entry
+    }
+
+    /// Whether it is a Trade's, as nearly every entry is.
+    pub(crate) fn is_trade(&self) -> bool
+        ensures { result ≡ is_some (trade_of self.now.command) }
+    {
+        matches!(&self.entry.command, Command::Trade(_))
     }
 
     /// The entry, off the heap.

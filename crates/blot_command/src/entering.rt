@@ -5,7 +5,7 @@ ghost use Rattle.blot_command.specs.Meanings.{entry_meaning};
 ghost use Rattle.blot_command.specs.Undoable.{IsAboveNumbers, TakesStep, Refuses, Adds, Undoes, TakesOut};
 ghost use Rattle.blot_command.specs.Withdrawing.{with_command};
 
-use crate::{ApplyFault, Tables};
+use crate::{ApplyFault, BoxedEntry, Tables};
 use blot_types::{Command, Entry};
 
 /// Takes a command under a number above all numbers in the book as its next entry, and answers the number. Where the book refuses
@@ -25,10 +25,13 @@ pub(crate) fn enter(
     if let Some(refused) = tables.refusal(&command) {
         return Err((command, ApplyFault::Refused(refused)));
     }
-    let entry = Entry { number, command };
+    let entry = match BoxedEntry::new(tables.alloc(), Entry { number, command }) {
+        Ok(entry) => entry,
+        Err(back) => return Err((back.command, ApplyFault::NoMemory)),
+    };
     match tables.record(entry) {
         Ok(()) => Ok(number),
-        Err(entry) => Err((entry.command, ApplyFault::NoMemory)),
+        Err(back) => Err((back.into_entry().command, ApplyFault::NoMemory)),
     }
 }
 

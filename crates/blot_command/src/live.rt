@@ -228,21 +228,25 @@ impl LiveList {
         self.allocs.roots_of(key)
     }
 
+    /// Where it takes its memory from.
+    pub(crate) fn alloc(&self) -> Global {
+        *self.slots.allocator()
+    }
+
     /// Puts an entry after the others, or hands it back where memory runs out. Its number is above those whose slots are left.
-    pub(crate) fn push(&mut self, entry: Entry) -> Result<(), Entry>
+    pub(crate) fn push(&mut self, entry: BoxedEntry) -> Result<(), BoxedEntry>
         requires book { IsTrue (is_book (self.old.list ++ entry ∷ [])) }
         requires above { IsTrue (is_above_entries entry.number self.old.kept) }
         ensures ok { OnOk result (self.new ≡ with_entry entry self.old) }
         ensures err { OnErr result (self.new ≡ self.old) }
         ensures returned { IfErr result (λ back. back ≡ entry) }
     {
-        let alloc = *self.slots.allocator();
+        let alloc = self.alloc();
         let Ok(()) = self.slots.reserve(1) else {
             return Err(entry);
         };
-        let entry = BoxedEntry::new(alloc, entry)?;
         let Ok(()) = link_entry(alloc, &mut self.chains, &mut self.allocs, entry.as_entry()) else {
-            return Err(entry.into_entry());
+            return Err(entry);
         };
         self.slots.push_reserved(EntrySlot::new(entry));
         Ok(())

@@ -32,21 +32,34 @@ pub(crate) fn standings_in(
     ensures { IfOk result (λ standings. standings.items ≡ map (standing_in chains.now.list allocs.now.list) (entries_in slots.now)) }
 {
     let mut standings = Vec::with_capacity(alloc, slots.len())?;
+    let mut near = 0;
     for slot in slots {
         if let Some(entry) = slot.entry() {
-            standings.push(standing_in(chains, allocs, entry))?;
+            standings.push(standing_in(chains, allocs, entry, near))?;
         }
+        near = behind(slot, near);
     }
     Ok(standings)
 }
 
+// Where the next key of an execution has its cell among those of the chains, if none was taken back. An entry that was taken out of its
+// slot was most likely an execution's.
+fn behind(slot: &EntrySlot, near: usize) -> usize {
+    match slot.entry() {
+        Some(entry) if entry.command.alloc_key().is_some() => near,
+        _ => near.wrapping_add(1),
+    }
+}
+
 // What an entry comes to, as the chains and the allocations tell it.
-fn standing_in(chains: &Chains, allocs: &Allocs, entry: &Entry) -> Standing
+fn standing_in(chains: &Chains, allocs: &Allocs, entry: &Entry, near: usize) -> Standing
     ensures { result ≡ standing_in chains.now.list allocs.now.list entry.now }
 {
     match &entry.command {
-        Command::Trade(trade) => execution_standing(chains, allocs, entry.number, &trade.key),
-        Command::Correct(correct) => execution_standing(chains, allocs, entry.number, &correct.key),
+        Command::Trade(trade) => execution_standing(chains, allocs, entry.number, &trade.key, near),
+        Command::Correct(correct) => {
+            execution_standing(chains, allocs, entry.number, &correct.key, near)
+        }
         Command::AllocNew(new) => allocation_standing(allocs, &new.key),
         Command::AllocReplace(replace) => allocation_standing(allocs, &replace.key),
         Command::Bust(_) | Command::AllocCancel(_) | Command::Withdraw(_) => Standing::Neither,
@@ -54,10 +67,16 @@ fn standing_in(chains: &Chains, allocs: &Allocs, entry: &Entry) -> Standing
 }
 
 // An execution of a number and a key stands, and its chain is named or isn't; or it doesn't stand.
-fn execution_standing(chains: &Chains, allocs: &Allocs, number: u64, key: &ExecKey) -> Standing
+fn execution_standing(
+    chains: &Chains,
+    allocs: &Allocs,
+    number: u64,
+    key: &ExecKey,
+    near: usize,
+) -> Standing
     ensures { result ≡ execution_standing chains.now.list allocs.now.list number key.now }
 {
-    match chains.standing_root(number, key) {
+    match chains.standing_root(number, key, near) {
         Some(root) => Standing::Stands {
             is_named: is_named(allocs, &root),
         },

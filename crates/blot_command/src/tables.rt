@@ -8,6 +8,7 @@ ghost use Rattle.blot_types.specs.Order.{order_of};
 ghost use Rattle.blot_types.specs.Position.{position_of};
 ghost use Rattle.blot_types.specs.Survivors.{version_of};
 ghost use Rattle.blot_command.specs.Book.{has_number};
+ghost use Rattle.blot_command.specs.Kinds.{trade_of};
 ghost use Rattle.blot_command.specs.Shown.{chain_numbered, with_put, with_kept, IsPut, IsKept, CanPut};
 ghost use Rattle.blot_command.specs.Withdrawing.{with_entry, HasLast, lifted, returned, CanReturn};
 
@@ -127,16 +128,59 @@ impl Tables {
         self.accounts.live().refusal(command)
     }
 
+    /// Where it takes its memory from.
+    pub(crate) fn alloc(&self) -> Global {
+        self.accounts.live().alloc()
+    }
+
     /// Puts an entry after the others, or hands it back where memory runs out. Its number is above those whose slots are kept.
-    pub(crate) fn record(&mut self, entry: Entry) -> Result<(), Entry>
+    pub(crate) fn record(&mut self, entry: BoxedEntry) -> Result<(), BoxedEntry>
         requires book { IsTrue (is_book (self.old.list ++ entry ∷ [])) }
         requires above { IsTrue (is_above_entries entry.number self.old.kept) }
         ensures ok { OnOk result (self.new ≡ with_entry entry self.old) }
         ensures err { OnErr result (self.new ≡ self.old) }
         ensures returned { IfErr result (λ back. back ≡ entry) }
     {
-        let replaced = self.accounts.live().replaced(&entry);
-        let Ok(()) = hold(&mut self.orders, &entry) else {
+        if entry.is_trade() {
+            self.record_trade(entry)
+        } else {
+            self.record_other(entry)
+        }
+    }
+
+    // The same of a Trade. It takes no version's place, so its own fill is all that comes.
+    fn record_trade(&mut self, entry: BoxedEntry) -> Result<(), BoxedEntry>
+        requires book { IsTrue (is_book (self.old.list ++ entry ∷ [])) }
+        requires above { IsTrue (is_above_entries entry.number self.old.kept) }
+        requires trade { IsSome (trade_of entry.command) }
+        ensures ok { OnOk result (self.new ≡ with_entry entry self.old) }
+        ensures err { OnErr result (self.new ≡ self.old) }
+        ensures returned { IfErr result (λ back. back ≡ entry) }
+    {
+        let Ok(()) = hold(&mut self.orders, entry.as_entry()) else {
+            return Err(entry);
+        };
+        match self.accounts.push_trade(entry) {
+            Ok(()) => {
+                put_held(&mut self.orders, self.accounts.live().last());
+                Ok(())
+            }
+            Err(back) => Err(back),
+        }
+    }
+
+    // The same of any entry. It stands out of line, since its frame has room for a version that is replaced, and a Trade replaces none.
+    #[inline(never)]
+    fn record_other(&mut self, entry: BoxedEntry) -> Result<(), BoxedEntry>
+        requires book { IsTrue (is_book (self.old.list ++ entry ∷ [])) }
+        requires above { IsTrue (is_above_entries entry.number self.old.kept) }
+        ensures ok { OnOk result (self.new ≡ with_entry entry self.old) }
+        ensures err { OnErr result (self.new ≡ self.old) }
+        ensures returned { IfErr result (λ back. back ≡ entry) }
+    {
+        let inner = entry.as_entry();
+        let replaced = self.accounts.live().replaced(inner);
+        let Ok(()) = hold(&mut self.orders, inner) else {
             return Err(entry);
         };
         match self.accounts.push(entry, &replaced) {

@@ -6,7 +6,7 @@ ghost use Rattle.blot_types.specs.Position.{position_of};
 ghost use Rattle.blot_desk.specs.Desk.{empty_journal, list_after, newest_entry_of, step_of, recorded_of, with_recorded, IsRun};
 
 use crate::taking::take;
-use crate::{DeskFault, Event, Recorded, Reply, Snapshot};
+use crate::{DeskFault, Event, Recorded, Reply, Snapshot, TakesCommands};
 use blot_command::Tables;
 use blot_types::{Command, EVENTS_MAX, OrderKey, Text64};
 use blot_undo::Steps;
@@ -120,6 +120,14 @@ impl Held {
         ensures few { length self.now.history ≤ EVENTS_MAX }
     {
         &self.history
+    }
+}
+
+impl TakesCommands for Held {
+    ghost journal_of = { λ held. held };
+
+    fn submit(&mut self, command: Command) -> Result<Reply, DeskFault> {
+        self.step(Event::Submit(command))
     }
 }
 

@@ -1,7 +1,8 @@
 //! The desk: one event at a time, answered, and recorded with its answer. `Held` keeps the book with its steps,
 //! done and undone, and the history of the day; its book and its replies are those of the run of the events that
-//! it recorded. `Desk` is one under its lock: each caller has a seat, which keeps a receipt of every answer, and at the
-//! end of the day the receipts are compared with the history.
+//! it recorded. `Unrecorded` only counts its events, for a capture of which nobody asks for the record. `Desk` is a
+//! `Held` under its lock: each caller has a seat, which keeps a receipt of every answer, and at the end of the day the
+//! receipts are compared with the history.
 #![tactic(auto)]
 
 mod closed;
@@ -10,10 +11,14 @@ mod desk;
 mod event;
 mod fault;
 mod held;
+mod past;
 mod receipt;
 mod seat;
 mod settling;
+mod submitted;
+mod takes_commands;
 mod taking;
+mod unrecorded;
 
 pub use blot_command::Snapshot;
 pub use closed::{Closed, Settled};
@@ -23,3 +28,5 @@ pub use fault::DeskFault;
 pub use held::Held;
 pub use receipt::Receipt;
 pub use seat::Seat;
+pub use takes_commands::TakesCommands;
+pub use unrecorded::Unrecorded;

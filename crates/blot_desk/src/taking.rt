@@ -40,7 +40,29 @@ fn submit(steps: &mut Steps<Command>, alloc: Global, command: &Command) -> Resul
         return Ok(Reply::Refused(reason));
     }
     let own = command.try_copy(alloc)?;
-    match steps.apply(own) {
+    apply(steps, own)
+}
+
+/// Takes a command that nobody else keeps, or refuses it; a Correct or a Bust before it is moved.
+pub(crate) fn enter(steps: &mut Steps<Command>, command: Command) -> Result<Reply, NoMemory>
+    requires { steps.old.next ≤ EVENTS_MAX }
+    ensures ok { IfOk result (λ reply. outcome_in steps.new reply ≡ submit_of (desk_book steps.old) command) }
+    ensures err { OnErr result (desk_book steps.new ≡ desk_book steps.old) }
+{
+    if let Some(reason) = early_refusal(steps.state(), &command) {
+        drop(command);
+        return Ok(Reply::Refused(reason));
+    }
+    apply(steps, command)
+}
+
+// Takes a command as the next step, or refuses it.
+fn apply(steps: &mut Steps<Command>, command: Command) -> Result<Reply, NoMemory>
+    requires { steps.old.next ≤ EVENTS_MAX }
+    ensures ok { IfOk result (λ reply. outcome_in steps.new reply ≡ submit_of (desk_book steps.old) command) }
+    ensures err { OnErr result (desk_book steps.new ≡ desk_book steps.old) }
+{
+    match steps.apply(command) {
         Ok(number) => Ok(Reply::Accepted(number)),
         Err(StepFault::Refused(back, fault)) => {
             drop(back);

@@ -14,7 +14,7 @@ ghost use Rattle.blot_trail.specs.Making.{none_yet, trail_from};
 use crate::telling::tell_piece;
 use crate::trail::Trail;
 use blot_capture::Sessions;
-use blot_desk::Held;
+use blot_desk::Unrecorded;
 use blot_gateway::{READS_MAX, empty_piece};
 use blot_stream::{ReplayFault, read_piece, write_text};
 use blot_tag::Reader;
@@ -69,15 +69,15 @@ fn captured_trail<R: Read>(
     ensures full { result ≡ Err ReplayFault.Full → Overfills own peers.now (R.remaining input.old) }
     ensures no_write { result ≢ Err ReplayFault.Write }
 {
-    let mut held = Held::new(alloc);
+    let mut desk = Unrecorded::new(alloc);
     match Sessions::new(alloc, own, peers) {
         Ok(mut sessions) => {
-            let told = tell_all(alloc, input, &mut sessions, &mut held);
-            drop(held);
+            let told = tell_all(alloc, input, &mut sessions, &mut desk);
+            drop(desk);
             told
         }
         Err(_) => {
-            drop(held);
+            drop(desk);
             Err(ReplayFault::NoMemory)
         }
     }
@@ -88,14 +88,14 @@ fn tell_all<R: Read>(
     alloc: Global,
     input: &mut R,
     sessions: &mut Sessions,
-    held: &mut Held,
+    desk: &mut Unrecorded,
 ) -> Result<Vec<u8>, ReplayFault>
-    ensures text { IfOk result (λ text. IsTextOf (trail_from none_yet (taking_of sessions.old held.old))
+    ensures text { IfOk result (λ text. IsTextOf (trail_from none_yet (taking_of sessions.old desk.old))
         (R.remaining input.old) text.items) }
-    ensures taken { OnOk result (TakenOf (R.remaining input.old) (taking_of sessions.old held.old) held.new) }
-    ensures few { OnOk result (length held.new.history ≤ EVENTS_MAX) }
+    ensures taken { OnOk result (TakenOf (R.remaining input.old) (taking_of sessions.old desk.old) desk.new) }
+    ensures few { OnOk result (length desk.new.history ≤ EVENTS_MAX) }
     ensures read_to_the_end { OnOk result (IsAtEnd (R.remaining input.new)) }
-    ensures stopped { IfErr result (StoppedOf (R.remaining input.old) (taking_of sessions.old held.old) held.new) }
+    ensures stopped { IfErr result (StoppedOf (R.remaining input.old) (taking_of sessions.old desk.old) desk.new) }
     ensures no_write { result ≢ Err ReplayFault.Write }
 {
     let mut reader = Reader::new(alloc);
@@ -104,8 +104,8 @@ fn tell_all<R: Read>(
     let mut total = 0;
     for _ in 0..READS_MAX {
         let Some(count) = read_piece(input, &mut buffer)? else {
-            // A desk tells that it has recorded no more than a day has events.
-            let _recorded = held.history();
+            // A desk tells that no more came than a day has events.
+            let _events = desk.events();
             let rest = total - trail.offset();
             return Ok(trail.finish(alloc, rest)?);
         };
@@ -114,7 +114,7 @@ fn tell_all<R: Read>(
             alloc,
             &mut reader,
             sessions,
-            held,
+            desk,
             &mut trail,
             &buffer[..count],
         ) {

@@ -11,7 +11,7 @@ ghost use Rattle.blot_trail.specs.TrailText.{IsToldOf};
 
 use crate::trail::Noted;
 use blot_capture::{Handled, Sessions};
-use blot_desk::Held;
+use blot_desk::Unrecorded;
 use blot_fields::{FieldFault, Message, decode, is_out_of_memory};
 use blot_session::Met;
 use blot_stream::ReplayFault;
@@ -22,13 +22,13 @@ use std::alloc::Global;
 pub(crate) fn take_noted(
     alloc: Global,
     sessions: &mut Sessions,
-    held: &mut Held,
+    desk: &mut Unrecorded,
     frame: &Frame,
 ) -> Result<Noted, ReplayFault>
     ensures sessions { OnOk result (sessions_of sessions.new ≡ sessions_behind (sessions_of sessions.old) (text_of frame.now)) }
-    ensures desk { OnOk result (held.new ≡ submitted held.old (commands_in (sessions_of sessions.old) (text_of frame.now))) }
-    ensures noted { IfOk result (λ noted. noted ≡ line_at (taking_of sessions.old held.old) (text_of frame.now)) }
-    ensures err { IfErr result (Stopped held.old held.new (commands_in (sessions_of sessions.old) (text_of frame.now))) }
+    ensures desk { OnOk result (desk.new ≡ submitted desk.old (commands_in (sessions_of sessions.old) (text_of frame.now))) }
+    ensures noted { IfOk result (λ noted. noted ≡ line_at (taking_of sessions.old desk.old) (text_of frame.now)) }
+    ensures err { IfErr result (Stopped desk.old desk.new (commands_in (sessions_of sessions.old) (text_of frame.now))) }
     ensures no_write { result ≢ Err ReplayFault.Write }
 {
     let said = decode(alloc, frame);
@@ -38,7 +38,7 @@ pub(crate) fn take_noted(
     let Ok(met) = sessions.meets(frame, &said) else {
         return Err(ReplayFault::NoMemory);
     };
-    match sessions.take(alloc, frame, held) {
+    match sessions.take(alloc, frame, desk) {
         Ok(handled) => note(alloc, frame, &said, met, &handled),
         Err(fault) => Err(fault),
     }

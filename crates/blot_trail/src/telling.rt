@@ -8,7 +8,7 @@ ghost use Rattle.blot_trail.specs.Making.{IsInStep, Notes, TellsNext, ToldOn, of
 use crate::noting::take_noted;
 use crate::trail::{Noted, Trail};
 use blot_capture::Sessions;
-use blot_desk::Held;
+use blot_desk::Unrecorded;
 use blot_stream::ReplayFault;
 use blot_tag::Reader;
 use std::alloc::Global;
@@ -18,7 +18,7 @@ pub(crate) fn tell_piece(
     alloc: Global,
     reader: &mut Reader,
     sessions: &mut Sessions,
-    held: &mut Held,
+    desk: &mut Unrecorded,
     trail: &mut Trail,
     piece: &[u8],
 ) -> Result<(), ReplayFault>
@@ -27,15 +27,15 @@ pub(crate) fn tell_piece(
     ensures step { OnOk result (IsInStep reader.new trail.new) }
     ensures read { OnOk result (offset_of trail.new + length reader.new.unread ≡ offset_of trail.old + length (reader.old.unread ++ piece.now)) }
     ensures drained { OnOk result (walk_of reader.new.unread ≡ stops_at reader.new.unread) }
-    ensures told { OnOk result (ToldOn (telling_of trail.old sessions.old held.old) (reader.old.unread ++ piece.now)
-        (telling_of trail.new sessions.new held.new) reader.new.unread) }
-    ensures came { OnOk result (CameOn (taking_of sessions.old held.old) (reader.old.unread ++ piece.now)
-        (taking_of sessions.new held.new) reader.new.unread) }
-    ensures err { IfErr result (StoppedOn (taking_of sessions.old held.old) (reader.old.unread ++ piece.now) held.new) }
+    ensures told { OnOk result (ToldOn (telling_of trail.old sessions.old desk.old) (reader.old.unread ++ piece.now)
+        (telling_of trail.new sessions.new desk.new) reader.new.unread) }
+    ensures came { OnOk result (CameOn (taking_of sessions.old desk.old) (reader.old.unread ++ piece.now)
+        (taking_of sessions.new desk.new) reader.new.unread) }
+    ensures err { IfErr result (StoppedOn (taking_of sessions.old desk.old) (reader.old.unread ++ piece.now) desk.new) }
     ensures no_write { result ≢ Err ReplayFault.Write }
 {
     match reader.feed(piece) {
-        Ok(()) => tell_frames(alloc, reader, sessions, held, trail),
+        Ok(()) => tell_frames(alloc, reader, sessions, desk, trail),
         Err(_) => Err(ReplayFault::NoMemory),
     }
 }
@@ -45,7 +45,7 @@ fn tell_frames(
     alloc: Global,
     reader: &mut Reader,
     sessions: &mut Sessions,
-    held: &mut Held,
+    desk: &mut Unrecorded,
     trail: &mut Trail,
 ) -> Result<(), ReplayFault>
     requires step { IsInStep reader.old trail.old }
@@ -53,15 +53,15 @@ fn tell_frames(
     ensures step { OnOk result (IsInStep reader.new trail.new) }
     ensures read { OnOk result (offset_of trail.new + length reader.new.unread ≡ offset_of trail.old + length reader.old.unread) }
     ensures drained { OnOk result (walk_of reader.new.unread ≡ stops_at reader.new.unread) }
-    ensures told { OnOk result (ToldOn (telling_of trail.old sessions.old held.old) reader.old.unread
-        (telling_of trail.new sessions.new held.new) reader.new.unread) }
-    ensures came { OnOk result (CameOn (taking_of sessions.old held.old) reader.old.unread
-        (taking_of sessions.new held.new) reader.new.unread) }
-    ensures err { IfErr result (StoppedOn (taking_of sessions.old held.old) reader.old.unread held.new) }
+    ensures told { OnOk result (ToldOn (telling_of trail.old sessions.old desk.old) reader.old.unread
+        (telling_of trail.new sessions.new desk.new) reader.new.unread) }
+    ensures came { OnOk result (CameOn (taking_of sessions.old desk.old) reader.old.unread
+        (taking_of sessions.new desk.new) reader.new.unread) }
+    ensures err { IfErr result (StoppedOn (taking_of sessions.old desk.old) reader.old.unread desk.new) }
     ensures no_write { result ≢ Err ReplayFault.Write }
 {
     loop {
-        match tell_next(alloc, reader, sessions, held, trail) {
+        match tell_next(alloc, reader, sessions, desk, trail) {
             Ok(true) => {}
             Ok(false) => return Ok(()),
             Err(fault) => return Err(fault),
@@ -74,17 +74,17 @@ fn tell_next(
     alloc: Global,
     reader: &mut Reader,
     sessions: &mut Sessions,
-    held: &mut Held,
+    desk: &mut Unrecorded,
     trail: &mut Trail,
 ) -> Result<bool, ReplayFault>
     requires step { IsInStep reader.old trail.old }
     requires within { offset_of trail.old + length reader.old.unread < 2 ^ 63 }
-    ensures ok { IfOk result (λ told. TellsNext told reader.old (telling_of trail.old sessions.old held.old)
-        reader.new (telling_of trail.new sessions.new held.new)) }
-    ensures err { IfErr result (StoppedOn (taking_of sessions.old held.old) reader.old.unread held.new) }
+    ensures ok { IfOk result (λ told. TellsNext told reader.old (telling_of trail.old sessions.old desk.old)
+        reader.new (telling_of trail.new sessions.new desk.new)) }
+    ensures err { IfErr result (StoppedOn (taking_of sessions.old desk.old) reader.old.unread desk.new) }
     ensures no_write { result ≢ Err ReplayFault.Write }
 {
-    match next_noted(alloc, reader, sessions, held) {
+    match next_noted(alloc, reader, sessions, desk) {
         Ok(noted) => tell(alloc, trail, reader.skipped(), noted),
         Err(fault) => Err(fault),
     }
@@ -118,15 +118,15 @@ fn next_noted(
     alloc: Global,
     reader: &mut Reader,
     sessions: &mut Sessions,
-    held: &mut Held,
+    desk: &mut Unrecorded,
 ) -> Result<Option<Noted>, ReplayFault>
-    ensures read { IfOk result (λ noted. Notes noted reader.old (taking_of sessions.old held.old)
-        reader.new (taking_of sessions.new held.new)) }
-    ensures err { IfErr result (StoppedOn (taking_of sessions.old held.old) reader.old.unread held.new) }
+    ensures read { IfOk result (λ noted. Notes noted reader.old (taking_of sessions.old desk.old)
+        reader.new (taking_of sessions.new desk.new)) }
+    ensures err { IfErr result (StoppedOn (taking_of sessions.old desk.old) reader.old.unread desk.new) }
     ensures no_write { result ≢ Err ReplayFault.Write }
 {
     match reader.next()? {
-        Some(frame) => match take_noted(alloc, sessions, held, &frame) {
+        Some(frame) => match take_noted(alloc, sessions, desk, &frame) {
             Ok(noted) => Ok(Some(noted)),
             Err(fault) => Err(fault),
         },

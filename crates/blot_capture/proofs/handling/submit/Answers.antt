@@ -11,17 +11,17 @@ use Rattle.blot_capture.proofs.SessionLemmas.{replied}
 use Rattle.blot_capture.proofs.handling.submit.Goals as goal
 
 pub returns-in-Ok-clause-session : goal.returns-in-Ok-clause-session
-returns-in-Ok-clause-session c =
+returns-in-Ok-clause-session g c =
     on-ok c.answer.result c.answer.ensures.session (λ is.
-    is ∙ replied c.args.held.now.book c.args.command c.in-Ok.reply (seen_by (Ok c.in-Ok.reply)) c.args.session.now c.args.now c.in-Ok.ensures.reply refl)
+    is ∙ replied (g.D.TakesCommands.journal_of c.args.desk.now).book c.args.command c.in-Ok.reply (seen_by (Ok c.in-Ok.reply)) c.args.session.now c.args.now c.in-Ok.ensures.reply refl)
 
 pub returns-in-Ok-clause-handled : goal.returns-in-Ok-clause-handled
-returns-in-Ok-clause-handled c =
+returns-in-Ok-clause-handled g c =
     subst (λ reply. IfOk c.answer.result (IsReplied reply (on_reply c.args.session.now (seen_by (Ok reply)) c.args.now).actions))
     c.in-Ok.ensures.reply c.answer.ensures.handled
 
 pub returns-in-Ok-clause-err : goal.returns-in-Ok-clause-err
-returns-in-Ok-clause-err c =
-    if-err (λ fault. fault ≡ NoMemory) (Stopped c.args.held.now c.step.new.self (c.args.command ∷ [])) c.answer.result c.answer.ensures.fault (λ fault is.
-    subst (Stopped c.args.held.now c.step.new.self (c.args.command ∷ [])) (sym is)
-    (stopped-submitted c.args.held.now c.step.new.self c.args.command c.in-Ok.ensures.taken))
+returns-in-Ok-clause-err g c =
+    if-err (λ fault. fault ≡ NoMemory) (Stopped (g.D.TakesCommands.journal_of c.args.desk.now) (g.D.TakesCommands.journal_of c.submit.new.self) (c.args.command ∷ [])) c.answer.result c.answer.ensures.fault (λ fault is.
+    subst (Stopped (g.D.TakesCommands.journal_of c.args.desk.now) (g.D.TakesCommands.journal_of c.submit.new.self) (c.args.command ∷ [])) (sym is)
+    (stopped-submitted (g.D.TakesCommands.journal_of c.args.desk.now) (g.D.TakesCommands.journal_of c.submit.new.self) c.args.command c.in-Ok.ensures.taken))

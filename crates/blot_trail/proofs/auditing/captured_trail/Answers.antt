@@ -15,9 +15,9 @@ use Rattle.blot_trail.proofs.auditing.captured_trail.Goals as goal
 
 pub returns-in-Ok-clause-text : goal.returns-in-Ok-clause-text
 returns-in-Ok-clause-text g c =
-    let first : taking_of c.in-Ok.sessions c.new-held.result ≡ first_taking c.args.own c.args.peers.now =
-    ap (λ (sessions : Sessions). record { sessions = sessions; journal = c.new-held.result }) c.in-Ok.ensures
-    ∙ ap (λ journal. record { sessions = first_sessions c.args.own c.args.peers.now; journal = journal }) c.new-held.ensures in
+    let first : taking_of c.in-Ok.sessions c.new-desk.result ≡ first_taking c.args.own c.args.peers.now =
+    ap (λ (sessions : Sessions). record { sessions = sessions; journal = c.new-desk.result }) c.in-Ok.ensures
+    ∙ ap (λ journal. record { sessions = first_sessions c.args.own c.args.peers.now; journal = journal }) c.new-desk.ensures in
     told-whole (λ text. text.items) (g.R.Read.remaining c.args.input.now) (first_taking c.args.own c.args.peers.now) c.tell_all-told.result
     (subst (λ (taking : Taking). IfOk c.tell_all-told.result (λ text. IfSome (g.R.Read.remaining c.args.input.now) (λ bytes. text.items ≡ trail_from none_yet taking bytes)))
     first c.tell_all-told.ensures.text)
@@ -25,23 +25,23 @@ returns-in-Ok-clause-text g c =
 pub returns-in-Ok-clause-full : goal.returns-in-Ok-clause-full
 returns-in-Ok-clause-full g c = λ full.
     let known = g.R.Read.remaining c.args.input.now in
-    if-some (λ (bytes : List ℕ). Stopped c.new-held.result c.tell_all-told.new.held (commands_over (sessions_of c.in-Ok.sessions) (frames_of bytes)) Full)
+    if-some (λ (bytes : List ℕ). Stopped c.new-desk.result c.tell_all-told.new.desk (commands_over (sessions_of c.in-Ok.sessions) (frames_of bytes)) Full)
     (λ (bytes : List ℕ). EVENTS_MAX < length (commands_of c.args.own c.args.peers.now bytes)) known
-    (err-says (λ fault. IfSome known (λ (bytes : List ℕ). Stopped c.new-held.result c.tell_all-told.new.held (commands_over (sessions_of c.in-Ok.sessions) (frames_of bytes)) fault))
+    (err-says (λ fault. IfSome known (λ (bytes : List ℕ). Stopped c.new-desk.result c.tell_all-told.new.desk (commands_over (sessions_of c.in-Ok.sessions) (frames_of bytes)) fault))
     c.tell_all-told.result Full full c.tell_all-told.ensures.stopped)
-    (λ bytes stopped. stopped-over c.new-held.result c.tell_all-told.new.held (commands_of c.args.own c.args.peers.now bytes) c.new-held.ensures
-    (subst (λ (sessions : Sessions). Stopped c.new-held.result c.tell_all-told.new.held (commands_over sessions (frames_of bytes)) Full) c.in-Ok.ensures stopped))
+    (λ bytes stopped. stopped-over c.new-desk.result c.tell_all-told.new.desk (commands_of c.args.own c.args.peers.now bytes) c.new-desk.ensures
+    (subst (λ (sessions : Sessions). Stopped c.new-desk.result c.tell_all-told.new.desk (commands_over sessions (frames_of bytes)) Full) c.in-Ok.ensures stopped))
 
 pub returns-in-Ok-clause-few : goal.returns-in-Ok-clause-few
 returns-in-Ok-clause-few g c =
     let known = g.R.Read.remaining c.args.input.now in
     let own = c.args.own in
     let peers = c.args.peers.now in
-    let held = c.tell_all-told.new.held in
+    let desk = c.tell_all-told.new.desk in
     both-ok c.tell_all-told.result c.tell_all-told.ensures.taken c.tell_all-told.ensures.few (λ taken few.
-    if-some (λ (bytes : List ℕ). held ≡ submitted c.new-held.result (commands_over (sessions_of c.in-Ok.sessions) (frames_of bytes)))
+    if-some (λ (bytes : List ℕ). desk ≡ submitted c.new-desk.result (commands_over (sessions_of c.in-Ok.sessions) (frames_of bytes)))
     (λ (bytes : List ℕ). length (commands_of own peers bytes) ≤ EVENTS_MAX) known taken
     (λ bytes is.
-    (let all = subst (λ (sessions : Sessions). held ≡ submitted c.new-held.result (commands_over sessions (frames_of bytes))) c.in-Ok.ensures is in
-    let count = submitted-count c.new-held.result held (commands_of own peers bytes) c.new-held.ensures all in
+    (let all = subst (λ (sessions : Sessions). desk ≡ submitted c.new-desk.result (commands_over sessions (frames_of bytes))) c.in-Ok.ensures is in
+    let count = submitted-count c.new-desk.result desk (commands_of own peers bytes) c.new-desk.ensures all in
     omega (arith, count, few))))

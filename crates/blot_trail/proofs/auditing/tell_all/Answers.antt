@@ -9,7 +9,7 @@ use Rattle.blot_trail.proofs.auditing.tell_all.Goals as goal
 
 pub loop-init : goal.loop-init
 loop-init g c =
-    let taking = taking_of c.args.sessions.now c.args.held.now in
+    let taking = taking_of c.args.sessions.now c.args.desk.now in
     let empty : c.new-trail.result ≡ none_yet = c.new-trail.ensures in
     let skipped = ap (λ (trail : Making). trail.skipped) empty in
     let passed = ap (λ (trail : Making). trail.passed) empty in
@@ -33,9 +33,9 @@ loop-preserved g c =
     ap (take c.in-Some.count) c.deref.ensures.value
     ∙ front_of_buffer c.in-Some.count c.loop.buffer.len c.read_piece.new.buffer behind consumed.1 (omega (arith, consumed.1)) in
     let size : length (take c.in-Some.count c.deref.result.now) ≡ c.in-Some.count = ap length piece ∙ length-take-le c.in-Some.count c.read_piece.new.buffer consumed.1 in
-    let first = taking_of c.args.sessions.now c.args.held.now in
-    let before = taking_of c.loop.sessions c.loop.held in
-    let after = taking_of c.tell_piece.new.sessions c.tell_piece.new.held in
+    let first = taking_of c.args.sessions.now c.args.desk.now in
+    let before = taking_of c.loop.sessions c.loop.desk in
+    let after = taking_of c.tell_piece.new.sessions c.tell_piece.new.desk in
     let from : Telling = record { trail = none_yet; taking = first } in
     let mid : Telling = record { trail = c.loop.trail; taking = before } in
     let now : Telling = record { trail = c.tell_piece.new.trail; taking = after } in (
@@ -59,7 +59,7 @@ returns-in-Err-clause-stopped g c =
     let piece : take c.in-Some.count c.deref.result.now ≡ take c.in-Some.count c.read_piece.new.buffer =
     ap (take c.in-Some.count) c.deref.ensures.value
     ∙ front_of_buffer c.in-Some.count c.loop.buffer.len c.read_piece.new.buffer behind consumed.1 (omega (arith, consumed.1)) in
-    let from = taking_of c.args.sessions.now c.args.held.now in
-    let mid = taking_of c.loop.sessions c.loop.held in
-    CameOf-stopped c.in-Err.fault (g.R.Read.remaining c.args.input.now) (g.R.Read.remaining c.loop.input) (g.R.Read.remaining c.read_piece.new.input) from mid c.tell_piece.new.held
+    let from = taking_of c.args.sessions.now c.args.desk.now in
+    let mid = taking_of c.loop.sessions c.loop.desk in
+    CameOf-stopped c.in-Err.fault (g.R.Read.remaining c.args.input.now) (g.R.Read.remaining c.loop.input) (g.R.Read.remaining c.read_piece.new.input) from mid c.tell_piece.new.desk
     c.loop.reader.unread (take c.in-Some.count c.deref.result.now) c.loop.invariant.1 (rw piece consumed.0) c.in-Err.ensures.err

@@ -8,10 +8,10 @@ use Rattle.blot_trail.proofs.auditing.tell_all.Given as goal
 
 abbrev pub invariant-loop : goal.invariant-loop
 invariant-loop g l =
-    ToldOf (g.R.Read.remaining l.initial.input) (telling_of none_yet l.initial.sessions l.initial.held)
-    (g.R.Read.remaining l.input) l.reader.unread (telling_of l.trail l.sessions l.held)
-    × CameOf (g.R.Read.remaining l.initial.input) (taking_of l.initial.sessions l.initial.held) (g.R.Read.remaining l.input) l.reader.unread
-    (taking_of l.sessions l.held)
+    ToldOf (g.R.Read.remaining l.initial.input) (telling_of none_yet l.initial.sessions l.initial.desk)
+    (g.R.Read.remaining l.input) l.reader.unread (telling_of l.trail l.sessions l.desk)
+    × CameOf (g.R.Read.remaining l.initial.input) (taking_of l.initial.sessions l.initial.desk) (g.R.Read.remaining l.input) l.reader.unread
+    (taking_of l.sessions l.desk)
     × IsInStep l.reader l.trail
     × (offset_of l.trail + length l.reader.unread ≡ l.total)
     × (l.total ≤ l.counter * PIECE)

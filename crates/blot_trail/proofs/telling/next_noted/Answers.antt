@@ -12,7 +12,7 @@ returns-in-Err-clause-err c =
     let frame = text_of c.in-Some.frame in
     let takes : TakesFirst c.args.reader.now frame left =
     subst (λ given. Leaves c.args.reader.now given left) (c.in_ok-frame.was ∙ ap (λ found. Ok found) c.in-Some.is) c.next.follows.holds-at-none in
-    let from = taking_of c.args.sessions.now c.args.held.now in
+    let from = taking_of c.args.sessions.now c.args.desk.now in
     λ more.
-    stopped-frame c.in-Err.fault from from c.args.reader.now.unread c.args.reader.now left frame more c.take_noted.new.held takes
+    stopped-frame c.in-Err.fault from from c.args.reader.now.unread c.args.reader.now left frame more c.take_noted.new.desk takes
     (came-first from (frames_of (c.args.reader.now.unread ++ more))) c.in-Err.ensures.err

@@ -8,8 +8,8 @@ abbrev pub invariant-loop-fault : goal.invariant-loop-fault
 invariant-loop-fault l =
     IsInStep l.reader l.trail
     × (offset_of l.trail + length l.reader.unread ≡ offset_of l.initial.trail + length l.initial.reader.unread)
-    × ToldOn (telling_of l.initial.trail l.initial.sessions l.initial.held) l.initial.reader.unread (telling_of l.trail l.sessions l.held) l.reader.unread
-    × CameOn (taking_of l.initial.sessions l.initial.held) l.initial.reader.unread (taking_of l.sessions l.held) l.reader.unread
+    × ToldOn (telling_of l.initial.trail l.initial.sessions l.initial.desk) l.initial.reader.unread (telling_of l.trail l.sessions l.desk) l.reader.unread
+    × CameOn (taking_of l.initial.sessions l.initial.desk) l.initial.reader.unread (taking_of l.sessions l.desk) l.reader.unread
 
 abbrev pub decreases-loop-fault : goal.decreases-loop-fault
 decreases-loop-fault l = length l.reader.unread

@@ -11,7 +11,7 @@ use Rattle.blot_stream.proofs.ResultLemmas.{on-ok, if-err}
 use Rattle.blot_capture.proofs.sessions.Sessions.take.Goals as goal
 
 pub returns-in-Ok-Some-clause-sessions : goal.returns-in-Ok-Some-clause-sessions
-returns-in-Ok-Some-clause-sessions c =
+returns-in-Ok-Some-clause-sessions g c =
     let text = text_of c.args.frame.now in
     let at : IsPlaceFor text c.place_for.new.out.items c.in-Ok-Some.place = rw c.in-Ok-Some.field-0-is at c.in-Ok-Some.ensures.place in
     on-ok c.take_frame.result c.take_frame.ensures.session (λ led.
@@ -20,36 +20,36 @@ returns-in-Ok-Some-clause-sessions c =
     ∙ ap (λ sessions. sessions_behind sessions text) (c.in-Ok-Some.ensures.same ∙ ap sessions_of c.self.view_is))
 
 pub returns-in-Ok-Some-clause-desk : goal.returns-in-Ok-Some-clause-desk
-returns-in-Ok-Some-clause-desk c =
+returns-in-Ok-Some-clause-desk g c =
     let text = text_of c.args.frame.now in
     let at : IsPlaceFor text c.place_for.new.out.items c.in-Ok-Some.place = rw c.in-Ok-Some.field-0-is at c.in-Ok-Some.ensures.place in
     let commands = commands-at at.peer c.place_for.new.out.items c.place_for.new.table c.in-Ok-Some.place c.index_mut.result.now text
     at.at c.index_mut.ensures.value at.sent in
     on-ok c.take_frame.result c.take_frame.ensures.desk (λ taken.
-    taken ∙ ap (submitted c.args.held.now) (sym commands ∙ ap (λ sessions. commands_in sessions text) (c.in-Ok-Some.ensures.same ∙ ap sessions_of c.self.view_is)))
+    taken ∙ ap (submitted (g.D.TakesCommands.journal_of c.args.desk.now)) (sym commands ∙ ap (λ sessions. commands_in sessions text) (c.in-Ok-Some.ensures.same ∙ ap sessions_of c.self.view_is)))
 
 pub returns-in-Ok-Some-clause-handled : goal.returns-in-Ok-Some-clause-handled
-returns-in-Ok-Some-clause-handled c =
+returns-in-Ok-Some-clause-handled g c =
     let text = text_of c.args.frame.now in
     let at : IsPlaceFor text c.place_for.new.out.items c.in-Ok-Some.place = rw c.in-Ok-Some.field-0-is at c.in-Ok-Some.ensures.place in
     let found : session_for (sessions_of c.args.self.now) text ≡ Some c.index_mut.result.now =
     ap (λ sessions. session_for sessions text) (sym (c.in-Ok-Some.ensures.same ∙ ap sessions_of c.self.view_is))
     ∙ session-for at.peer c.place_for.new.out.items c.place_for.new.table c.in-Ok-Some.place c.index_mut.result.now text at.at c.index_mut.ensures.value at.sent in
-    subst (λ found. IfOk c.take_frame.result (IsHandledBy found c.args.held.now text)) (sym found) c.take_frame.ensures.handled
+    subst (λ found. IfOk c.take_frame.result (IsHandledBy found (g.D.TakesCommands.journal_of c.args.desk.now) text)) (sym found) c.take_frame.ensures.handled
 
 pub returns-in-Ok-Some-clause-err : goal.returns-in-Ok-Some-clause-err
-returns-in-Ok-Some-clause-err c =
+returns-in-Ok-Some-clause-err g c =
     let text = text_of c.args.frame.now in
     let at : IsPlaceFor text c.place_for.new.out.items c.in-Ok-Some.place = rw c.in-Ok-Some.field-0-is at c.in-Ok-Some.ensures.place in
     let commands = commands-at at.peer c.place_for.new.out.items c.place_for.new.table c.in-Ok-Some.place c.index_mut.result.now text
     at.at c.index_mut.ensures.value at.sent in
-    if-err (Stopped c.args.held.now c.take_frame.new.held (taken_by c.index_mut.result.now text))
-    (Stopped c.args.held.now c.take_frame.new.held (commands_in (sessions_of c.args.self.now) text)) c.take_frame.result c.take_frame.ensures.err
-    (λ fault stopped. subst (λ commands. Stopped c.args.held.now c.take_frame.new.held commands fault)
+    if-err (Stopped (g.D.TakesCommands.journal_of c.args.desk.now) (g.D.TakesCommands.journal_of c.take_frame.new.desk) (taken_by c.index_mut.result.now text))
+    (Stopped (g.D.TakesCommands.journal_of c.args.desk.now) (g.D.TakesCommands.journal_of c.take_frame.new.desk) (commands_in (sessions_of c.args.self.now) text)) c.take_frame.result c.take_frame.ensures.err
+    (λ fault stopped. subst (λ commands. Stopped (g.D.TakesCommands.journal_of c.args.desk.now) (g.D.TakesCommands.journal_of c.take_frame.new.desk) commands fault)
     (sym commands ∙ ap (λ sessions. commands_in sessions text) (c.in-Ok-Some.ensures.same ∙ ap sessions_of c.self.view_is)) stopped)
 
 pub returns-in-Ok-None-clause-sessions : goal.returns-in-Ok-None-clause-sessions
-returns-in-Ok-None-clause-sessions c =
+returns-in-Ok-None-clause-sessions g c =
     let text = text_of c.args.frame.now in
     let none : session_for (session_in c.place_for.new.out.items c.place_for.new.table) text ≡ None = rw c.in-Ok-None.field-0-is at c.in-Ok-None.ensures.place in
     sym (sessions-none (session_in c.place_for.new.out.items c.place_for.new.table) text none)

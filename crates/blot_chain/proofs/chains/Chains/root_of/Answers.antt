@@ -1,8 +1,18 @@
-use Rattle.std.proofs.Common.{◌≡◌, true, sym, ap, ◌∙◌}
+use Rattle.std.proofs.Common.{◌≡◌, true, sym, ap, subst, ◌∙◌}
+use Rattle.std.specs.Prelude.{IfSome}
+use Rattle.blot_places.specs.Slots.{newest_live}
 use Rattle.blot_types.specs.Chains.{root_in, is_chained}
 use Rattle.blot_chain.proofs.ChainLemmas.{one_trade-found}
-use Rattle.blot_chain.proofs.HoldsLemmas.{root-held}
+use Rattle.blot_chain.proofs.HoldsLemmas.{root-held, taker-keyed}
+use Rattle.blot_chain.specs.Index.{newest_on}
 use Rattle.blot_chain.proofs.chains.Chains.root_of.Goals as goal
+
+pub root_on-requires : goal.root_on-requires
+root_on-requires c =
+    let slots = c.self.inside.slots.items in
+    subst (λ slots. IfSome (newest_on slots c.takers.result.now) (λ item. c.args.key.now ≡ item.link.key)) (sym c.deref.ensures.value)
+    (subst (λ places. IfSome (newest_live slots places) (λ item. c.args.key.now ≡ item.link.key)) (sym c.takers.ensures)
+    (taker-keyed c.self.inside.index slots c.args.key.now c.self.invariant))
 
 root_found : goal.returns-clause-root
 root_found c =

@@ -1,13 +1,16 @@
 use Rattle.std.proofs.Common.{◌++◌, ◌∷◌, [], ap, ◌∙◌, sym, subst}
 use Rattle.std.specs.Option.{option_map}
+use Rattle.blot_types.specs.declared.command.Entry.{Entry}
 use Rattle.blot_types.specs.Legal.{is_above_entries, is_book}
 use Rattle.blot_types.specs.Position.{part_of}
+use Rattle.blot_types.specs.Refusals.{alloc_reference}
 use Rattle.blot_types.specs.Survivors.{version_of}
 use Rattle.blot_types.proofs.ChangeLemmas.{replaced_version}
 use Rattle.blot_command.specs.Book.{Shown}
 use Rattle.blot_command.specs.Shown.{version_replaced}
 use Rattle.blot_command.specs.Booking.{rebooked, released, allocated}
-use Rattle.blot_command.specs.Carried.{ShowsPositions}
+use Rattle.blot_command.specs.Carried.{EntryFits, HasEntryCells, ShowsPositions}
+use Rattle.blot_command.proofs.EntryMoveLemmas.{own_key}
 use Rattle.blot_command.proofs.ReadyLemmas.{shows-opened}
 use Rattle.blot_command.proofs.AccountLemmas.{Reads, has-last, last-is, pushes, move-second, move-third, move-shows}
 use Rattle.blot_command.proofs.accounts.Accounts.push.Goals as goal
@@ -30,11 +33,13 @@ rebook-requires c =
     let it : Reads new.list old.list entry (version_of entry) (replaced_version old.list entry) come gone ended brought = record {
       lost_is = c.part_by-come.ensures ∙ ap (λ last. option_map (part_of new.list) (version_of last)) (last-is old new entry c.last.result.now c.in-Ok-push.ensures.ok c.last.ensures.last);
       gained_is = c.part_of-gone.ensures ∙ ap (option_map (part_of old.list)) (c.requires.replaces ∙ sym (ap (λ (shown : Shown). version_replaced shown.list entry) c.self.view_is));
-      ended_is = c.alloc_reference-ended.ensures;
-      brought_is = c.brought_key-brought.ensures;
+      ended_is = c.alloc_reference-ended.ensures ∙ ap (λ (told : Entry). alloc_reference told.command) c.as_entry-inner.ensures;
+      brought_is = c.brought_key-brought.ensures ∙ ap own_key c.as_entry-inner.ensures;
     } in
     let book = ap (λ (shown : Shown). is_book (shown.list ++ entry ∷ [])) c.self.view_is ∙ c.requires.book in
-    let leads = pushes old new entry come gone ended brought c.self.inside.positions cells c.in-Ok-push.ensures.ok book it c.self.invariant c.in-Ok.ensures.opens c.in-Ok.ensures.made c.in-Ok.ensures.fits in
+    let made = subst (λ (told : Entry). HasEntryCells cells told.command) c.as_entry-inner.ensures c.in-Ok.ensures.made in
+    let fits = subst (λ (told : Entry). EntryFits told.command) c.as_entry-inner.ensures c.in-Ok.ensures.fits in
+    let leads = pushes old new entry come gone ended brought c.self.inside.positions cells c.in-Ok-push.ensures.ok book it c.self.invariant c.in-Ok.ensures.opens made fits in
     leads.moves.first
 
 pub release-requires : goal.release-requires
@@ -50,11 +55,13 @@ release-requires c =
     let it : Reads new.list old.list entry (version_of entry) (replaced_version old.list entry) come gone ended brought = record {
       lost_is = c.part_by-come.ensures ∙ ap (λ last. option_map (part_of new.list) (version_of last)) (last-is old new entry c.last.result.now c.in-Ok-push.ensures.ok c.last.ensures.last);
       gained_is = c.part_of-gone.ensures ∙ ap (option_map (part_of old.list)) (c.requires.replaces ∙ sym (ap (λ (shown : Shown). version_replaced shown.list entry) c.self.view_is));
-      ended_is = c.alloc_reference-ended.ensures;
-      brought_is = c.brought_key-brought.ensures;
+      ended_is = c.alloc_reference-ended.ensures ∙ ap (λ (told : Entry). alloc_reference told.command) c.as_entry-inner.ensures;
+      brought_is = c.brought_key-brought.ensures ∙ ap own_key c.as_entry-inner.ensures;
     } in
     let book = ap (λ (shown : Shown). is_book (shown.list ++ entry ∷ [])) c.self.view_is ∙ c.requires.book in
-    let leads = pushes old new entry come gone ended brought c.self.inside.positions cells c.in-Ok-push.ensures.ok book it c.self.invariant c.in-Ok.ensures.opens c.in-Ok.ensures.made c.in-Ok.ensures.fits in
+    let made = subst (λ (told : Entry). HasEntryCells cells told.command) c.as_entry-inner.ensures c.in-Ok.ensures.made in
+    let fits = subst (λ (told : Entry). EntryFits told.command) c.as_entry-inner.ensures c.in-Ok.ensures.fits in
+    let leads = pushes old new entry come gone ended brought c.self.inside.positions cells c.in-Ok-push.ensures.ok book it c.self.invariant c.in-Ok.ensures.opens made fits in
     move-second (rebooked gone come) (released new.list ended) (allocated new.list brought) cells c.rebook.new.positions new.list leads.moves c.rebook.ensures
 
 pub allocate-requires : goal.allocate-requires
@@ -70,11 +77,13 @@ allocate-requires c =
     let it : Reads new.list old.list entry (version_of entry) (replaced_version old.list entry) come gone ended brought = record {
       lost_is = c.part_by-come.ensures ∙ ap (λ last. option_map (part_of new.list) (version_of last)) (last-is old new entry c.last.result.now c.in-Ok-push.ensures.ok c.last.ensures.last);
       gained_is = c.part_of-gone.ensures ∙ ap (option_map (part_of old.list)) (c.requires.replaces ∙ sym (ap (λ (shown : Shown). version_replaced shown.list entry) c.self.view_is));
-      ended_is = c.alloc_reference-ended.ensures;
-      brought_is = c.brought_key-brought.ensures;
+      ended_is = c.alloc_reference-ended.ensures ∙ ap (λ (told : Entry). alloc_reference told.command) c.as_entry-inner.ensures;
+      brought_is = c.brought_key-brought.ensures ∙ ap own_key c.as_entry-inner.ensures;
     } in
     let book = ap (λ (shown : Shown). is_book (shown.list ++ entry ∷ [])) c.self.view_is ∙ c.requires.book in
-    let leads = pushes old new entry come gone ended brought c.self.inside.positions cells c.in-Ok-push.ensures.ok book it c.self.invariant c.in-Ok.ensures.opens c.in-Ok.ensures.made c.in-Ok.ensures.fits in
+    let made = subst (λ (told : Entry). HasEntryCells cells told.command) c.as_entry-inner.ensures c.in-Ok.ensures.made in
+    let fits = subst (λ (told : Entry). EntryFits told.command) c.as_entry-inner.ensures c.in-Ok.ensures.fits in
+    let leads = pushes old new entry come gone ended brought c.self.inside.positions cells c.in-Ok-push.ensures.ok book it c.self.invariant c.in-Ok.ensures.opens made fits in
     move-third (rebooked gone come) (released new.list ended) (allocated new.list brought) cells c.rebook.new.positions c.release.new.positions new.list leads.moves c.rebook.ensures c.release.ensures
 
 pub invariant_of-self-in-Ok-push : goal.invariant_of-self-in-Ok-push
@@ -90,11 +99,13 @@ invariant_of-self-in-Ok-push c =
     let it : Reads new.list old.list entry (version_of entry) (replaced_version old.list entry) come gone ended brought = record {
       lost_is = c.part_by-come.ensures ∙ ap (λ last. option_map (part_of new.list) (version_of last)) (last-is old new entry c.last.result.now c.in-Ok-push.ensures.ok c.last.ensures.last);
       gained_is = c.part_of-gone.ensures ∙ ap (option_map (part_of old.list)) (c.requires.replaces ∙ sym (ap (λ (shown : Shown). version_replaced shown.list entry) c.self.view_is));
-      ended_is = c.alloc_reference-ended.ensures;
-      brought_is = c.brought_key-brought.ensures;
+      ended_is = c.alloc_reference-ended.ensures ∙ ap (λ (told : Entry). alloc_reference told.command) c.as_entry-inner.ensures;
+      brought_is = c.brought_key-brought.ensures ∙ ap own_key c.as_entry-inner.ensures;
     } in
     let book = ap (λ (shown : Shown). is_book (shown.list ++ entry ∷ [])) c.self.view_is ∙ c.requires.book in
-    let leads = pushes old new entry come gone ended brought c.self.inside.positions cells c.in-Ok-push.ensures.ok book it c.self.invariant c.in-Ok.ensures.opens c.in-Ok.ensures.made c.in-Ok.ensures.fits in
+    let made = subst (λ (told : Entry). HasEntryCells cells told.command) c.as_entry-inner.ensures c.in-Ok.ensures.made in
+    let fits = subst (λ (told : Entry). EntryFits told.command) c.as_entry-inner.ensures c.in-Ok.ensures.fits in
+    let leads = pushes old new entry come gone ended brought c.self.inside.positions cells c.in-Ok-push.ensures.ok book it c.self.invariant c.in-Ok.ensures.opens made fits in
     move-shows (rebooked gone come) (released new.list ended) (allocated new.list brought) cells c.rebook.new.positions c.release.new.positions c.allocate.new.positions new leads c.rebook.ensures c.release.ensures c.allocate.ensures
 
 pub invariant_of-self-in-Err : goal.invariant_of-self-in-Err

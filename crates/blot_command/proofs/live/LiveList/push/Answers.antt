@@ -14,7 +14,7 @@ use Rattle.blot_command.proofs.live.LiveList.push.Goals as goal
 use Rattle.blot_command.proofs.live.LiveList.push.Goals.{After-as_entry, After-push_reserved}
 
 same : (c : After-as_entry) → c.as_entry.result.now ≡ c.args.entry
-same c = c.as_entry.ensures ∙ c.in_ok-entry.ensures.ok
+same c = c.as_entry.ensures
 
 above : (c : After-as_entry) → is_above_entries c.as_entry.result.now.number (left_in c.self.inside.slots.items) ≡ true
 above c =
@@ -41,7 +41,7 @@ link_entry-requires-clause-above_instructions c =
 pushed : (c : After-push_reserved) → c.push_reserved.new.self.items ≡ c.self.inside.slots.items ++ record { item = c.args.entry; is_live = true } ∷ []
 pushed c =
     c.push_reserved.ensures.items
-    ∙ (λ i. c.reserve.ensures.items i ++ (c.new-2.ensures ∙ ap (λ (entry : Entry). record { item = entry; is_live = true }) c.in_ok-entry.ensures.ok) i ∷ [])
+    ∙ (λ i. c.reserve.ensures.items i ++ c.new.ensures i ∷ [])
 
 pub invariant_of-self-2 : goal.invariant_of-self-2
 invariant_of-self-2 c =
