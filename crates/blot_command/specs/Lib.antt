@@ -1,6 +1,7 @@
 pub mod Blocking
 pub mod Book
 pub mod Booking
+pub mod Boxed
 pub mod Carried
 pub mod Kinds
 pub mod Law

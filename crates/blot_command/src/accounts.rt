@@ -121,7 +121,7 @@ impl Accounts {
     }
 
     /// Takes the last entry out.
-    pub(crate) fn pop(&mut self) -> Entry
+    pub(crate) fn pop(&mut self) -> BoxedEntry
         requires { HasLast self.old }
         ensures rest { self.old ≡ with_entry result self.new }
         ensures above { IsTrue (is_above_entries result.number self.new.kept) }
@@ -135,7 +135,8 @@ impl Accounts {
         allocate(&mut self.positions, &self.live, &ended);
         let gone = part_of(&self.live, &version);
         let entry = self.live.pop();
-        let come = part_of(&self.live, &self.live.replaced(&entry));
+        let inner = entry.as_entry();
+        let come = part_of(&self.live, &self.live.replaced(inner));
         rebook(&mut self.positions, &gone, &come);
         entry
     }

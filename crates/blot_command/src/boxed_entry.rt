@@ -39,6 +39,15 @@ impl BoxedEntry {
         &self.entry
     }
 
+    /// The entry under a number, where it is.
+    pub(crate) fn renumbered(self, number: u64) -> BoxedEntry
+        ensures { result ≡ record self { number = number } }
+    {
+        let mut entry = self.entry;
+        entry.number = number;
+        BoxedEntry { entry }
+    }
+
     /// Whether it is a Trade's, as nearly every entry is.
     pub(crate) fn is_trade(&self) -> bool
         ensures { result ≡ is_some (trade_of self.now.command) }

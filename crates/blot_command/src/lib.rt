@@ -10,6 +10,7 @@ mod alloc_new;
 mod alloc_replace;
 mod blocked;
 mod booking;
+mod boxed_command;
 mod boxed_entry;
 mod bust;
 mod command;
@@ -29,6 +30,7 @@ mod trade;
 mod undoable;
 mod withdrawing;
 
+pub use boxed_command::BoxedCommand;
 pub use boxed_entry::BoxedEntry;
 pub use fault::ApplyFault;
 pub use inverse::Inverse;

@@ -253,7 +253,7 @@ impl LiveList {
     }
 
     /// Takes the last entry out.
-    pub(crate) fn pop(&mut self) -> Entry
+    pub(crate) fn pop(&mut self) -> BoxedEntry
         requires { HasLast self.old }
         ensures rest { self.old ≡ with_entry result self.new }
         ensures above { IsTrue (is_above_entries result.number self.new.kept) }
@@ -265,7 +265,8 @@ impl LiveList {
         let Some(entry) = slot.into_entry() else {
             unreachable!()
         };
-        unlink_entry(&mut self.chains, &mut self.allocs, &entry);
+        let inner = entry.as_entry();
+        unlink_entry(&mut self.chains, &mut self.allocs, inner);
         entry
     }
 

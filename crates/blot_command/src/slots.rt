@@ -63,14 +63,11 @@ impl EntrySlot {
         }
     }
 
-    /// Its entry, if that is there, off the heap.
-    pub(crate) fn into_entry(self) -> Option<Entry>
+    /// Its entry, if that is there.
+    pub(crate) fn into_entry(self) -> Option<BoxedEntry>
         ensures { result ≡ (if self.is_live then Some self.item else None) }
     {
-        match self.entry {
-            None => None,
-            Some(entry) => Some(entry.into_entry()),
-        }
+        self.entry
     }
 
     // Takes its entry, which is there.

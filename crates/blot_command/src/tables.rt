@@ -194,14 +194,15 @@ impl Tables {
     }
 
     /// Takes the last entry out.
-    pub(crate) fn take_last(&mut self) -> Entry
+    pub(crate) fn take_last(&mut self) -> BoxedEntry
         requires { HasLast self.old }
         ensures rest { self.old ≡ with_entry result self.new }
         ensures above { IsTrue (is_above_entries result.number self.new.kept) }
     {
         let entry = self.accounts.pop();
-        let version = entry.version();
-        let restored = self.accounts.live().replaced(&entry);
+        let inner = entry.as_entry();
+        let version = inner.version();
+        let restored = self.accounts.live().replaced(inner);
         take(&mut self.orders, &version);
         un_take(&mut self.orders, &restored);
         entry

@@ -7,7 +7,7 @@ ghost use Rattle.blot_desk.specs.Desk.{empty_journal, list_after, newest_entry_o
 
 use crate::taking::take;
 use crate::{DeskFault, Event, Recorded, Reply, Snapshot, TakesCommands};
-use blot_command::Tables;
+use blot_command::{BoxedCommand, Tables};
 use blot_types::{Command, EVENTS_MAX, OrderKey, Text64};
 use blot_undo::Steps;
 use std::alloc::{AllocError as NoMemory, Global};
@@ -18,7 +18,7 @@ use std::marker::Model;
 #[derive(Drop)]
 pub struct Held {
     alloc: Global,
-    steps: Steps<Command>,
+    steps: Steps<BoxedCommand>,
     history: Vec<Recorded>,
 }
 

@@ -5,11 +5,11 @@ use blot_places::Remembered;
 use blot_types::Command;
 use std::marker::Model;
 
-/// A command that was submitted, which proofs alone remember, with the reply to it. A contract sees the event with its reply.
+/// A command that was submitted, with the reply to it, both of which proofs alone remember. A contract sees the event with its reply.
 #[derive(Drop)]
 pub(crate) struct Submitted {
     pub(crate) command: Remembered<Command>,
-    pub(crate) reply: Reply,
+    pub(crate) reply: Remembered<Reply>,
 }
 
 impl Model for Submitted {
@@ -18,5 +18,5 @@ impl Model for Submitted {
 
     ghost Value = { Recorded };
 
-    ghost view = { λ submitted. record { event = Submit submitted.command.value; reply = submitted.reply } };
+    ghost view = { λ submitted. record { event = Submit submitted.command.value; reply = submitted.reply.value } };
 }

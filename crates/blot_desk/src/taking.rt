@@ -4,14 +4,14 @@ ghost use Rattle.blot_types.specs.Legal.{entry_refusal};
 ghost use Rattle.blot_desk.specs.Desk.{corrects_or_busts, desk_book, outcome_in, step_of, submit_of, undo_of, redo_of};
 
 use crate::{Event, Reply};
-use blot_command::{ApplyFault, Tables};
+use blot_command::{ApplyFault, BoxedCommand, Tables};
 use blot_types::{Command, EVENTS_MAX, Refused};
 use blot_undo::{StepFault, Steps};
 use std::alloc::{AllocError as NoMemory, Global};
 
 /// Takes an event, and gives the reply to it. The book keeps a command of its own.
 pub(crate) fn take(
-    steps: &mut Steps<Command>,
+    steps: &mut Steps<BoxedCommand>,
     alloc: Global,
     event: &Event,
 ) -> Result<Reply, NoMemory>
@@ -31,7 +31,11 @@ pub(crate) fn take(
 }
 
 // Takes a command, or refuses it; a Correct or a Bust before it is copied.
-fn submit(steps: &mut Steps<Command>, alloc: Global, command: &Command) -> Result<Reply, NoMemory>
+fn submit(
+    steps: &mut Steps<BoxedCommand>,
+    alloc: Global,
+    command: &Command,
+) -> Result<Reply, NoMemory>
     requires { steps.old.next ≤ EVENTS_MAX }
     ensures ok { IfOk result (λ reply. outcome_in steps.new reply ≡ submit_of (desk_book steps.old) command.now) }
     ensures err { OnErr result (desk_book steps.new ≡ desk_book steps.old) }
@@ -40,11 +44,15 @@ fn submit(steps: &mut Steps<Command>, alloc: Global, command: &Command) -> Resul
         return Ok(Reply::Refused(reason));
     }
     let own = command.try_copy(alloc)?;
-    apply(steps, own)
+    apply(steps, alloc, own)
 }
 
 /// Takes a command that nobody else keeps, or refuses it; a Correct or a Bust before it is moved.
-pub(crate) fn enter(steps: &mut Steps<Command>, command: Command) -> Result<Reply, NoMemory>
+pub(crate) fn enter(
+    steps: &mut Steps<BoxedCommand>,
+    alloc: Global,
+    command: Command,
+) -> Result<Reply, NoMemory>
     requires { steps.old.next ≤ EVENTS_MAX }
     ensures ok { IfOk result (λ reply. outcome_in steps.new reply ≡ submit_of (desk_book steps.old) command) }
     ensures err { OnErr result (desk_book steps.new ≡ desk_book steps.old) }
@@ -53,11 +61,30 @@ pub(crate) fn enter(steps: &mut Steps<Command>, command: Command) -> Result<Repl
         drop(command);
         return Ok(Reply::Refused(reason));
     }
-    apply(steps, command)
+    apply(steps, alloc, command)
 }
 
-// Takes a command as the next step, or refuses it.
-fn apply(steps: &mut Steps<Command>, command: Command) -> Result<Reply, NoMemory>
+// Takes a command as the next step, or refuses it. It goes on the heap first, and moves as a pointer from there on.
+fn apply(
+    steps: &mut Steps<BoxedCommand>,
+    alloc: Global,
+    command: Command,
+) -> Result<Reply, NoMemory>
+    requires { steps.old.next ≤ EVENTS_MAX }
+    ensures ok { IfOk result (λ reply. outcome_in steps.new reply ≡ submit_of (desk_book steps.old) command) }
+    ensures err { OnErr result (desk_book steps.new ≡ desk_book steps.old) }
+{
+    match BoxedCommand::new(alloc, command) {
+        Ok(boxed) => apply_boxed(steps, boxed),
+        Err(back) => {
+            drop(back);
+            Err(NoMemory)
+        }
+    }
+}
+
+// The same of a command on the heap.
+fn apply_boxed(steps: &mut Steps<BoxedCommand>, command: BoxedCommand) -> Result<Reply, NoMemory>
     requires { steps.old.next ≤ EVENTS_MAX }
     ensures ok { IfOk result (λ reply. outcome_in steps.new reply ≡ submit_of (desk_book steps.old) command) }
     ensures err { OnErr result (desk_book steps.new ≡ desk_book steps.old) }
@@ -94,7 +121,7 @@ fn early_refusal(tables: &Tables, command: &Command) -> Option<Refused>
 }
 
 // Undoes the newest step, where it has this number.
-fn undo(steps: &mut Steps<Command>, newest: u64) -> Reply
+fn undo(steps: &mut Steps<BoxedCommand>, newest: u64) -> Reply
     ensures { outcome_in steps.new result ≡ undo_of (desk_book steps.old) newest }
 {
     match steps.newest() {
@@ -108,7 +135,7 @@ fn undo(steps: &mut Steps<Command>, newest: u64) -> Reply
 }
 
 // Does the step that was undone last again.
-fn redo(steps: &mut Steps<Command>) -> Result<Reply, NoMemory>
+fn redo(steps: &mut Steps<BoxedCommand>) -> Result<Reply, NoMemory>
     ensures ok { IfOk result (λ reply. outcome_in steps.new reply ≡ redo_of (desk_book steps.old)) }
     ensures err { OnErr result (desk_book steps.new ≡ desk_book steps.old) }
 {

@@ -7,7 +7,7 @@ use crate::past::Past;
 use crate::submitted::Submitted;
 use crate::taking::enter;
 use crate::{DeskFault, Reply, TakesCommands};
-use blot_command::Tables;
+use blot_command::{BoxedCommand, Tables};
 use blot_places::Remembered;
 use blot_types::{Command, EVENTS_MAX};
 use blot_undo::Steps;
@@ -18,7 +18,8 @@ use std::marker::Model;
 /// same of it, the book and the history, which proofs alone remember.
 #[derive(Drop)]
 pub struct Unrecorded {
-    steps: Steps<Command>,
+    alloc: Global,
+    steps: Steps<BoxedCommand>,
     events: u64,
     history: Past<Submitted>,
 }
@@ -40,6 +41,7 @@ impl Unrecorded {
         ensures { result ≡ empty_journal }
     {
         Unrecorded {
+            alloc,
             steps: Steps::new(alloc, Tables::new(alloc)),
             events: 0,
             history: Past::new(),
@@ -75,7 +77,7 @@ impl TakesCommands for Unrecorded {
             return Err(DeskFault::Full);
         }
         let remembered = Remembered::of(&command);
-        let reply = match enter(&mut self.steps, command) {
+        let reply = match enter(&mut self.steps, self.alloc, command) {
             Ok(reply) => reply,
             Err(_) => return Err(DeskFault::NoMemory),
         };
@@ -89,7 +91,7 @@ impl TakesCommands for Unrecorded {
 fn remember(history: &mut Past<Submitted>, command: Remembered<Command>, reply: &Reply)
     ensures { history.new.items ≡ with_recorded (Submit command.value) reply.now history.old.items }
 {
-    let reply = *reply;
+    let reply = Remembered::of(reply);
     let submitted = Submitted { command, reply };
     *history = history.followed_by(&submitted);
 }

@@ -1,5 +1,5 @@
 //! Numbers that rise.
-ghost use Rattle.std.specs.Prelude.{◌≡◌, ◌+◌, ◌<◌, ◌≤◌, length, vec_capacity, Contains};
+ghost use Rattle.std.specs.Prelude.{◌≡◌, ◌+◌, ◌<◌, ◌≤◌, length, vec_capacity, Contains, IsTrue};
 ghost use Rattle.blot_order.specs.Numbers.{AreBelow, NoneBelow, Rise, with_number, without_number};
 
 /// Puts a number in its place among others, where there is room for it.
@@ -35,5 +35,20 @@ fn place_of(numbers: &[u64], number: u64) -> usize
     ensures below { AreBelow number result numbers.now }
     ensures above { NoneBelow number result numbers.now }
 {
+    // Mostly the number is above all others, which the last one tells.
+    if is_above_last(numbers, number) {
+        return numbers.len();
+    }
     numbers.partition_point(|other| *other < number)
+}
+
+// Whether the last number is below this one.
+fn is_above_last(numbers: &[u64], number: u64) -> bool
+    requires { Rise numbers.now }
+    ensures { IsTrue result → AreBelow number (length numbers.now) numbers.now }
+{
+    match numbers.last() {
+        Some(last) => *last < number,
+        None => false,
+    }
 }

@@ -1,5 +1,5 @@
 //! Single bytes in a text.
-ghost use Rattle.std.specs.Prelude.{◌≡◌, ◌==◌};
+ghost use Rattle.std.specs.Prelude.{◌≡◌, ◌≤◌, ◌==◌, length};
 ghost use Rattle.std.specs.List.{position_or_len};
 ghost use Rattle.blot_tag.specs.Bytes.{IsFirstPlace};
 
@@ -22,7 +22,8 @@ pub(crate) fn find_byte(byte: u8, text: &[u8]) -> Option<usize>
 /// loop is quicker than `find_byte`.
 #[inline(always)]
 pub(crate) fn place_near(byte: u8, text: &[u8]) -> usize
-    ensures { result ≡ position_or_len (λ other. other == byte) text.now }
+    ensures place { result ≡ position_or_len (λ other. other == byte) text.now }
+    ensures within { result ≤ length text.now }
 {
     text.iter().take_while(|other| **other != byte).count()
 }

@@ -1,5 +1,5 @@
 //! Sixteen bytes at once.
-ghost use Rattle.std.specs.Prelude.{◌≡◌, ◌<◌, ◌≤◌, length};
+ghost use Rattle.std.specs.Prelude.{◌≡◌, ◌+◌, ◌<◌, ◌≤◌, drop, length};
 ghost use Rattle.std.specs.List.{position_or_len};
 ghost use Rattle.blot_tag.specs.Bytes.{is_soh};
 
@@ -14,20 +14,22 @@ const LANES: usize = 16;
 pub(crate) fn place_of_soh(text: &[u8]) -> usize
     ensures { result ≡ position_or_len is_soh text.now }
 {
-    if LANES <= text.len() {
-        let place = place_in_lanes(text);
-        if place < LANES {
-            return place;
-        }
+    if text.len() < LANES {
+        return place_near(SOH, text);
     }
-    place_near(SOH, text)
+    let place = place_in_lanes(text);
+    if place < LANES {
+        return place;
+    }
+    LANES + place_near(SOH, &text[LANES..])
 }
 
-// The first place of SOH among the first sixteen bytes, or no place among them.
+// The first place of SOH among the first sixteen bytes, or no place among them where it stands behind them, if at all.
 #[inline(always)]
 fn place_in_lanes(text: &[u8]) -> usize
     requires { LANES ≤ length text.now }
-    ensures { result < LANES → result ≡ position_or_len is_soh text.now }
+    ensures first { result < LANES → result ≡ position_or_len is_soh text.now }
+    ensures none { LANES ≤ result → position_or_len is_soh text.now ≡ LANES + position_or_len is_soh (drop LANES text.now) }
 {
     let stops = u8x16::from_slice(text).simd_eq(u8x16::splat(SOH));
     stops.to_bitmask().trailing_zeros() as usize

@@ -58,7 +58,7 @@ rebook-requires c =
     let it : Reads old.list new.list entry (version_of entry) (replaced_version new.list entry) gone come ended brought = record {
       lost_is = c.part_of-gone.ensures ∙ ap (option_map (part_of old.list)) (c.version-version.ensures ∙ ap version_of same);
       gained_is = c.part_of-come.ensures
-          ∙ ap (option_map (part_of new.list)) c.replaced.ensures;
+          ∙ ap (option_map (part_of new.list)) (c.replaced.ensures ∙ ap (replaced_version new.list) c.as_entry-inner.ensures);
       ended_is = c.alloc_reference-ended.ensures ∙ ap (λ e. alloc_reference e.command) same;
       brought_is = c.brought_key-brought.ensures ∙ ap own_key same;
     } in
@@ -80,7 +80,7 @@ invariant_of-self c =
     let it : Reads old.list new.list entry (version_of entry) (replaced_version new.list entry) gone come ended brought = record {
       lost_is = c.part_of-gone.ensures ∙ ap (option_map (part_of old.list)) (c.version-version.ensures ∙ ap version_of same);
       gained_is = c.part_of-come.ensures
-          ∙ ap (option_map (part_of new.list)) c.replaced.ensures;
+          ∙ ap (option_map (part_of new.list)) (c.replaced.ensures ∙ ap (replaced_version new.list) c.as_entry-inner.ensures);
       ended_is = c.alloc_reference-ended.ensures ∙ ap (λ e. alloc_reference e.command) same;
       brought_is = c.brought_key-brought.ensures ∙ ap own_key same;
     } in

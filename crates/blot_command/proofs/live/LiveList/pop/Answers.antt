@@ -1,8 +1,11 @@
-use Rattle.std.proofs.Common.{◌≡◌, ◌++◌, ◌∷◌, [], ◌+◌, true, Some, None, sym, ap, ◌∙◌}
+use Rattle.std.proofs.Common.{◌≡◌, ◌++◌, ◌∷◌, [], ◌+◌, true, Some, None, sym, ap, subst, ◌∙◌}
 use Rattle.std.specs.Prelude.{if◌then◌else◌}
 use Rattle.blot_types.specs.declared.command.Entry.{Entry}
+use Rattle.blot_types.specs.Chains.{is_above_links}
+use Rattle.blot_types.specs.Instructions.{is_above_instructions}
 use Rattle.blot_types.specs.Legal.{is_above_entries}
 use Rattle.blot_command.specs.Book.{Shown}
+use Rattle.blot_command.specs.Linking.{IsLinkedLast, without_link, without_instruction}
 use Rattle.blot_command.specs.Slots.{entries_in, left_in}
 use Rattle.blot_command.proofs.LastSlotLemmas.{IsLast, above-kept-instructions, above-kept-links, holds-popped, last-slot}
 use Rattle.blot_command.proofs.LiveLemmas.{holds-more, linked-last}
@@ -48,25 +51,29 @@ unlink_entry-requires-clause-last c =
     let at = (goal.at.unlink_entry-requires-clause-last c).In-Some-into_entry in
     let entry = c.in-Some-into_entry.entry in
     let front = c.pop.new.self.items in
-    linked-last (entries_in front) entry v.chains.list v.allocs.list
-    (holds-more (entries_in v.slots.items) (entries_in front) entry v.chains.list v.allocs.list c.self.invariant.holds (ap entries_in (whole at) ∙ list-push front entry))
+    subst (λ e. IsLinkedLast e v.chains.list v.allocs.list) (sym c.as_entry-inner.ensures)
+    (linked-last (entries_in front) entry v.chains.list v.allocs.list
+    (holds-more (entries_in v.slots.items) (entries_in front) entry v.chains.list v.allocs.list c.self.invariant.holds (ap entries_in (whole at) ∙ list-push front entry)))
 
 pub unlink_entry-requires-clause-above : goal.unlink_entry-requires-clause-above
 unlink_entry-requires-clause-above c =
     let v = c.self.inside in
-    above-kept-links v.slots.items c.in-Some-into_entry.entry.number v.chains v.allocs c.self.invariant (above-whole (goal.at.unlink_entry-requires-clause-above c).In-Some-into_entry)
+    ap (λ (e : Entry). is_above_links e.number v.chains.kept) c.as_entry-inner.ensures
+    ∙ above-kept-links v.slots.items c.in-Some-into_entry.entry.number v.chains v.allocs c.self.invariant (above-whole (goal.at.unlink_entry-requires-clause-above c).In-Some-into_entry)
 
 pub unlink_entry-requires-clause-above_instructions : goal.unlink_entry-requires-clause-above_instructions
 unlink_entry-requires-clause-above_instructions c =
     let v = c.self.inside in
-    above-kept-instructions v.slots.items c.in-Some-into_entry.entry.number v.chains v.allocs c.self.invariant (above-whole (goal.at.unlink_entry-requires-clause-above_instructions c).In-Some-into_entry)
+    ap (λ (e : Entry). is_above_instructions e.number v.allocs.kept) c.as_entry-inner.ensures
+    ∙ above-kept-instructions v.slots.items c.in-Some-into_entry.entry.number v.chains v.allocs c.self.invariant (above-whole (goal.at.unlink_entry-requires-clause-above_instructions c).In-Some-into_entry)
 
 pub invariant_of-self : goal.invariant_of-self
 invariant_of-self c =
     let v = c.self.inside in
     let e = c.unlink_entry.ensures in
     holds-popped v.slots.items c.pop.new.self.items c.in-Some-into_entry.entry v.chains c.unlink_entry.new.chains v.allocs c.unlink_entry.new.allocs c.self.invariant
-    (whole (goal.at.invariant_of-self c).In-Some-into_entry) e.chains e.kept e.allocs e.kept_instructions
+    (whole (goal.at.invariant_of-self c).In-Some-into_entry) (e.chains ∙ ap (λ (e : Entry). without_link e.command v.chains.list) c.as_entry-inner.ensures) e.kept
+    (e.allocs ∙ ap (λ (e : Entry). without_instruction e.command v.allocs.list) c.as_entry-inner.ensures) e.kept_instructions
 
 pub returns-clause-above : goal.returns-clause-above
 returns-clause-above c = above (goal.at.returns-clause-above c).In-Some-into_entry

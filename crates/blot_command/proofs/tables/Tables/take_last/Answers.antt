@@ -1,5 +1,6 @@
 use Rattle.std.proofs.Common.{ap, ◌∙◌, sym, subst}
 use Rattle.std.specs.Prelude.{IfSome}
+use Rattle.blot_types.specs.Survivors.{version_of}
 use Rattle.blot_command.specs.Book.{Shown}
 use Rattle.blot_command.specs.Shown.{version_replaced, Shows, with_put, IsKept}
 use Rattle.blot_command.proofs.RecordLemmas.{brings, takes_last}
@@ -8,8 +9,8 @@ use Rattle.blot_command.proofs.tables.Tables.take_last.Goals as goal
 pub take-requires : goal.take-requires
 take-requires c =
     let entry = c.pop-entry.result in
-    let brought = brings entry c.version-version.result c.version-version.ensures in
-    let read = c.replaced-restored.ensures ∙ ap (λ (shown : Shown). version_replaced shown.list entry) c.live.ensures in
+    let brought = brings entry c.version-version.result (c.version-version.ensures ∙ ap version_of c.as_entry-inner.ensures) in
+    let read = c.replaced-restored.ensures ∙ ap (λ (shown : Shown). version_replaced shown.list c.as_entry-inner.result.now) c.live.ensures ∙ ap (version_replaced c.pop-entry.new.self.list) c.as_entry-inner.ensures in
     let does =
     takes_last c.self.inside.accounts c.pop-entry.new.self entry c.self.inside.orders c.version-version.result c.replaced-restored.result c.pop-entry.ensures.rest c.pop-entry.ensures.book c.self.invariant brought
     read in
@@ -18,8 +19,8 @@ take-requires c =
 pub un_take-requires : goal.un_take-requires
 un_take-requires c =
     let entry = c.pop-entry.result in
-    let brought = brings entry c.version-version.result c.version-version.ensures in
-    let read = c.replaced-restored.ensures ∙ ap (λ (shown : Shown). version_replaced shown.list entry) c.live.ensures in
+    let brought = brings entry c.version-version.result (c.version-version.ensures ∙ ap version_of c.as_entry-inner.ensures) in
+    let read = c.replaced-restored.ensures ∙ ap (λ (shown : Shown). version_replaced shown.list c.as_entry-inner.result.now) c.live.ensures ∙ ap (version_replaced c.pop-entry.new.self.list) c.as_entry-inner.ensures in
     let does =
     takes_last c.self.inside.accounts c.pop-entry.new.self entry c.self.inside.orders c.version-version.result c.replaced-restored.result c.pop-entry.ensures.rest c.pop-entry.ensures.book c.self.invariant brought
     read in
@@ -28,8 +29,8 @@ un_take-requires c =
 pub invariant_of-self : goal.invariant_of-self
 invariant_of-self c =
     let entry = c.pop-entry.result in
-    let brought = brings entry c.version-version.result c.version-version.ensures in
-    let read = c.replaced-restored.ensures ∙ ap (λ (shown : Shown). version_replaced shown.list entry) c.live.ensures in
+    let brought = brings entry c.version-version.result (c.version-version.ensures ∙ ap version_of c.as_entry-inner.ensures) in
+    let read = c.replaced-restored.ensures ∙ ap (λ (shown : Shown). version_replaced shown.list c.as_entry-inner.result.now) c.live.ensures ∙ ap (version_replaced c.pop-entry.new.self.list) c.as_entry-inner.ensures in
     let does =
     takes_last c.self.inside.accounts c.pop-entry.new.self entry c.self.inside.orders c.version-version.result c.replaced-restored.result c.pop-entry.ensures.rest c.pop-entry.ensures.book c.self.invariant brought
     read in

@@ -1,7 +1,7 @@
 use Rattle.std.proofs.Common.{refl, Some, ap, sym}
 use Rattle.blot_command.specs.Book.{Shown}
 use Rattle.blot_command.proofs.StepLemmas.{has_last, taken_back, takes_out}
-use Rattle.blot_command.proofs.entering.leave.Goals as goal
+use Rattle.blot_command.proofs.entering.leave_boxed.Goals as goal
 
 pub take_last-requires : goal.take_last-requires
 take_last-requires c = has_last c.args.tables.now c.args.number c.requires
