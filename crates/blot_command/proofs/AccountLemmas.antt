@@ -17,9 +17,10 @@ use Rattle.blot_types.proofs.OrderLemmas.{last_or-push}
 use Rattle.blot_position.specs.Positions.{Cells}
 use Rattle.blot_command.specs.Book.{Shown}
 use Rattle.blot_command.specs.Booking.{Change, changed_all, CanChangeAll, rebooked, allocated, released}
-use Rattle.blot_command.specs.Carried.{Opens, HasEntryCells, EntryFits, IsReady, ShowsPositions}
+use Rattle.blot_command.specs.Carried.{Opens, HasEntryCells, EntryFits, IsHoused, IsReady, ShowsPositions}
 use Rattle.blot_command.specs.Withdrawing.{with_entry, HasLast}
 use Rattle.blot_command.proofs.EntryMoveLemmas.{own_key, AreApart, goes-apart, comes-apart, next-apart}
+use Rattle.blot_command.proofs.HouseCellLemmas.{housed-stays}
 use Rattle.blot_command.proofs.LiveLemmas.{next-entry}
 use Rattle.blot_command.proofs.ReadyLemmas.{ready-stays, shows-opened, ready-more, ready-less, CarriesList, CanMove}
 
@@ -36,6 +37,7 @@ pub record LeadsTo (one two three : List Change) (cells : Cells) (shown : Shown)
   pub moves : CanMove one two three cells shown.list
   pub ready : IsReady shown.list cells
   pub ready_kept : IsReady shown.kept cells
+  pub housed : IsHoused cells
 
 pub move-shows :
     (one two three : List Change) (cells between last end : Cells) (shown : Shown) → LeadsTo one two three cells shown
@@ -45,7 +47,9 @@ move-shows one two three cells between last end shown leads first second third =
     let then = changed_all two after in
     let stays : (list : List Entry) → IsReady list cells → IsReady list (changed_all three then) =
     λ list here. ready-stays list three then (ready-stays list two after (ready-stays list one cells here)) in
-    let shows : ShowsPositions shown (changed_all three then) = record { carried = leads.moves.carried; ready = stays shown.list leads.ready; ready_kept = stays shown.kept leads.ready_kept } in
+    let housed = housed-stays three then leads.moves.third (housed-stays two after leads.moves.second (housed-stays one cells leads.moves.first leads.housed)) in
+    let shows : ShowsPositions shown (changed_all three then) =
+    record { carried = leads.moves.carried; ready = stays shown.list leads.ready; ready_kept = stays shown.kept leads.ready_kept; housed = housed } in
     subst (ShowsPositions shown) (sym (third ∙ ap (changed_all three) (second ∙ ap (changed_all two) first))) shows
 
 -- ---- a list that ends in an entry
@@ -138,6 +142,7 @@ pushes old new entry lost gained ended brought before cells is book it was opens
       moves = comes-as new.list old.list entry (version_of entry) (replaced_version old.list entry) lost gained ended brought cells apart it shows.carried;
       ready = subst (λ list. IsReady list cells) (sym list_is) ready;
       ready_kept = subst (λ (shown : Shown). IsReady shown.kept cells) (sym is) shows.ready_kept;
+      housed = shows.housed;
     }
 
 -- it goes
@@ -155,4 +160,5 @@ pops old new entry lost gained ended brought cells is book it shows =
       moves = goes-as old.list new.list entry (version_of entry) (replaced_version new.list entry) lost gained ended brought cells apart it shows.carried;
       ready = ready-less new.list entry cells ready;
       ready_kept = subst (λ (shown : Shown). IsReady shown.kept cells) is shows.ready_kept;
+      housed = shows.housed;
     }

@@ -9,6 +9,7 @@ pub mod EachLemmas
 pub mod EntryMoveLemmas
 pub mod FirstEntryLemmas
 pub mod HoldLemmas
+pub mod HouseCellLemmas
 pub mod HouseLemmas
 pub mod KeepsLemmas
 pub mod LastSlotLemmas

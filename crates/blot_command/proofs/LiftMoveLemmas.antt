@@ -173,6 +173,7 @@ lift-leads old new number entry chain lost gained ended brought cells book found
       moves = goes-as old.list new.list entry (stood old.list entry) (stood new.list entry) lost gained ended brought cells (middle-apart old.list new.list entry cells it shows.ready ready) reads shows.carried;
       ready = ready;
       ready_kept = each-ready new.kept cells each.kept;
+      housed = shows.housed;
     }
 
 -- and an entry that is kept is put back
@@ -196,4 +197,5 @@ return-leads old new entry chain lost gained ended brought cells book can is rea
       moves = comes-as new.list old.list entry (stood new.list entry) (stood old.list entry) gained lost ended brought cells (middle-apart new.list old.list entry cells it ready shows.ready) reads shows.carried;
       ready = ready;
       ready_kept = each-ready new.kept cells each.kept;
+      housed = shows.housed;
     }

@@ -18,6 +18,7 @@ use Rattle.blot_position.proofs.PositionLemmas.{sums_at-empty}
 use Rattle.blot_position.specs.Carried.{Carries}
 use Rattle.blot_command.specs.Book.{Shown}
 use Rattle.blot_command.specs.Carried.{HasFillCells, HasTermsCells, IsReady, ShowsPositions}
+use Rattle.blot_command.proofs.HouseCellLemmas.{housed-empty}
 
 ones : (parts : List Part) → total (λ part. pos 1) parts ≡ pos (length parts)
 ones [] = refl
@@ -58,7 +59,7 @@ ready-nothing = record {
 }
 
 shows-nothing : ShowsPositions (record { list = []; kept = [] }) finite.empty
-shows-nothing = record { carried = carries-nothing; ready = ready-nothing; ready_kept = ready-nothing }
+shows-nothing = record { carried = carries-nothing; ready = ready-nothing; ready_kept = ready-nothing; housed = housed-empty }
 
 pub shows-none : (shown : Shown) (cells : Cells) → shown ≡ record { list = []; kept = [] } → cells ≡ finite.empty → ShowsPositions shown cells
 shows-none shown cells none empty = subst (λ s. ShowsPositions s cells) (sym none) (subst (ShowsPositions (record { list = []; kept = [] })) (sym empty) shows-nothing)

@@ -104,6 +104,7 @@ shows-opened shown old new opens shows = record {
   carried = Carries-cells (λ f. total f (parts_of shown.list)) old new opens.sums shows.carried;
   ready = ready-kept shown.list old new opens.made shows.ready;
   ready_kept = ready-kept shown.kept old new opens.made shows.ready_kept;
+  housed = opens.housed shows.housed;
 }
 
 -- the cells of an entry's version and of its allocation are made, and their amounts are in range

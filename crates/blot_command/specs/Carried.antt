@@ -33,10 +33,15 @@ abbrev pub EntryFits : Command → Type 0
 EntryFits command =
     IfSome (version_by 0 command) (λ version. FillFits version.fill) × IfSome (allocation_of command) (λ allocation. TermsFit allocation.terms)
 
--- cells were made, and no sums changed
+-- where an account has a cell in a symbol, the house account has one too
+abbrev pub IsHoused : Cells → Type 0
+IsHoused cells = (account symbol : List ℕ) → has_cell cells account symbol ≡ true → has_cell cells house symbol ≡ true
+
+-- cells were made, those of the house account too, and no sums changed
 pub record Opens (old new : Cells) : Type 0 where
   pub sums : (account symbol : List ℕ) → sums_at new account symbol ≡ sums_at old account symbol
   pub made : (account symbol : List ℕ) → has_cell old account symbol ≡ true → has_cell new account symbol ≡ true
+  pub housed : IsHoused old → IsHoused new
 
 -- the cells of a list's fills and allocations are made, so that their parts come and go without memory; and all
 -- amounts are in range
@@ -47,8 +52,9 @@ pub record IsReady (list : List Entry) (cells : Cells) : Type 0 where
   pub terms_fit : All (λ allocation. TermsFit allocation.terms) (filter_map (λ entry. allocation_of entry.command) list)
 
 -- the cells show the positions of a book: they carry the parts of its list, and are ready for its entries to come and go, and for
--- those that are kept to come back
+-- those that are kept to come back; and the house account has a cell in each symbol in which an account has one
 pub record ShowsPositions (shown : Shown) (cells : Cells) : Type 0 where
   pub carried : Carries (λ amount. total amount (parts_of shown.list)) cells
   pub ready : IsReady shown.list cells
   pub ready_kept : IsReady shown.kept cells
+  pub housed : IsHoused cells

@@ -2,7 +2,7 @@
 ghost use Rattle.std.specs.Prelude.{◌≡◌, OnOk};
 ghost use Rattle.blot_types.specs.Position.{FillFits, TermsFit};
 ghost use Rattle.blot_command.specs.Booking.{put_in, taken_out, changed, changed_all, CanChange, CanChangeAll, lines_put, lines_taken, rebooked};
-ghost use Rattle.blot_command.specs.Carried.{Opens, HasFillCells, HasTermsCells, HasEntryCells, EntryFits};
+ghost use Rattle.blot_command.specs.Carried.{Opens, IsHoused, HasFillCells, HasTermsCells, HasEntryCells, EntryFits};
 
 use blot_position::Positions;
 use blot_types::{Command, Entry, Fill, Part, Terms, house_account};
@@ -64,6 +64,7 @@ pub(crate) fn rebook(positions: &mut Positions, gone: &Option<Part>, come: &Opti
 /// Makes the cells to which the parts of an entry come and go without memory. No sums change; out of memory
 /// is the only error.
 pub(crate) fn open_cells(positions: &mut Positions, entry: &Entry) -> Result<(), NoMemory>
+    requires { IsHoused positions.old }
     ensures opens { Opens positions.old positions.new }
     ensures made { OnOk result (HasEntryCells positions.new entry.now.command) }
     ensures fits { OnOk result (EntryFits entry.now.command) }
@@ -77,18 +78,22 @@ pub(crate) fn open_cells(positions: &mut Positions, entry: &Entry) -> Result<(),
     }
 }
 
-// Makes the cells of a fill: that of its own account, and that of the house account.
+// Makes the cells of a fill: that of its own account, and that of the house account. Where the first is there, so is the second.
 fn open_fill(positions: &mut Positions, fill: &Fill) -> Result<(), NoMemory>
+    requires { IsHoused positions.old }
     ensures opens { Opens positions.old positions.new }
     ensures made { OnOk result (HasFillCells positions.new fill.now) }
     ensures fits { OnOk result (FillFits fill.now) }
 {
     let part = Part::of_fill(false, fill);
-    positions.open(&part.account, &part.symbol)?;
-    positions.open(&house_account(), &part.symbol)
+    if positions.is_open(&part.account, &part.symbol) {
+        return Ok(());
+    }
+    positions.open(&house_account(), &part.symbol)?;
+    positions.open(&part.account, &part.symbol)
 }
 
-// Makes the cells of terms: those of its lines, and that of the house account.
+// Makes the cells of terms: that of the house account, and those of its lines.
 fn open_terms(positions: &mut Positions, terms: &Terms) -> Result<(), NoMemory>
     ensures opens { Opens positions.old positions.new }
     ensures made { OnOk result (HasTermsCells positions.new terms.now) }
@@ -96,9 +101,10 @@ fn open_terms(positions: &mut Positions, terms: &Terms) -> Result<(), NoMemory>
 {
     // The range of a quantity is known once its units are read.
     let _block = terms.block.units();
+    positions.open(&house_account(), &terms.symbol)?;
     for line in terms.lines.as_slice() {
         let part = Part::of_line(terms, line);
         positions.open(&part.account, &part.symbol)?;
     }
-    positions.open(&house_account(), &terms.symbol)
+    Ok(())
 }

@@ -1,3 +1,4 @@
 pub mod CarryLemmas
 pub mod CellLemmas
+pub mod PlaceLemmas
 pub mod PositionLemmas

@@ -15,6 +15,9 @@ use Rattle.blot_command.proofs.ReadyLemmas.{shows-opened}
 use Rattle.blot_command.proofs.AccountLemmas.{Reads, has-last, last-is, pushes, move-second, move-third, move-shows}
 use Rattle.blot_command.proofs.accounts.Accounts.push.Goals as goal
 
+pub open_cells-requires : goal.open_cells-requires
+open_cells-requires c = c.self.invariant.housed
+
 pub last-requires : goal.last-requires
 last-requires c =
     let above = ap (λ (shown : Shown). is_above_entries c.args.entry.number shown.kept) c.self.view_is ∙ c.requires.above in

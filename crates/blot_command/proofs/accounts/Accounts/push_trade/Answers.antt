@@ -13,6 +13,9 @@ use Rattle.blot_command.proofs.AccountLemmas.{Reads, has-last, last-is, pushes, 
 use Rattle.blot_command.proofs.TradeLemmas.{alone}
 use Rattle.blot_command.proofs.accounts.Accounts.push_trade.Goals as goal
 
+pub open_cells-requires : goal.open_cells-requires
+open_cells-requires c = c.self.invariant.housed
+
 pub last-requires : goal.last-requires
 last-requires c =
     let above = ap (λ (shown : Shown). is_above_entries c.args.entry.number shown.kept) c.self.view_is ∙ c.requires.above in
