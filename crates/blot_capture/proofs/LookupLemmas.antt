@@ -1,6 +1,6 @@
 -- The session of a peer, among those that are out and in the table.
-use Rattle.std.proofs.Common.{◌≡◌, ℕ, ◌+◌, ◌<◌, true, false, List, [], ◌∷◌, ◌++◌, length, take, Option, Some, None, Ok, refl, sym, ap, subst, ◌∙◌, inl, inr, arith, zero, suc, slice_index_or, slice_set}
-use Rattle.std.specs.Prelude.{is_some, if◌then◌else◌}
+use Rattle.std.proofs.Common.{◌≡◌, ℕ, ◌+◌, ◌<◌, true, false, List, [], ◌∷◌, ◌++◌, length, take, Option, Some, None, Result, Ok, Err, refl, sym, ap, subst, ◌∙◌, inl, inr, arith, zero, suc, slice_index_or, slice_set}
+use Rattle.std.specs.Prelude.{is_some, if◌then◌else◌, IfOk, IsTrue, MatchOption}
 use Rattle.std.specs.Cmp.Lexicographic.{bytes_decides}
 use Rattle.std.specs.List.{list_any}
 use Rattle.std.specs.Option.{option_map_or, option_or, option_and_then}
@@ -8,14 +8,16 @@ use Rattle.std.proofs.lemmas.Bool.{cases_Bool}
 use Rattle.std.proofs.lemmas.List.{length-append, take_at}
 use Rattle.std.proofs.lemmas.List.Folds.{find-append}
 use Rattle.blot_tag.specs.Fields.{fields_of}
+use Rattle.blot_fields.specs.First.{first_value, text_in}
 use Rattle.blot_fields.specs.Sender.{sender_of}
 use Rattle.blot_types.specs.Keys.{same_text}
+use Rattle.blot_types.specs.Text.{is_text}
 use Rattle.blot_session.specs.declared.state.State.{State}
 use Rattle.blot_session.specs.Runs.{behind_calls}
 use Rattle.blot_slots.specs.Slots.{Slots, slot_of, with_slot, all_in, answer_of}
 use Rattle.blot_slots.proofs.SlotLemmas.{slot_of-with_slot, slot_of-all_in}
 use Rattle.blot_capture.specs.Capture.{Sessions, first_sessions, sessions_behind, commands_in, is_from, calls_of, taken_by}
-use Rattle.blot_capture.specs.Sessions.{session_among, session_of_slot, session_in, IsAt}
+use Rattle.blot_capture.specs.Sessions.{session_among, session_of_slot, session_in, IsAt, IsPlaceFor, IsSenderAt}
 use Rattle.blot_capture.specs.Trace.{session_for}
 
 -- ---- the first place of a peer
@@ -187,6 +189,20 @@ commands-at peer out slots place session text at is sent =
     let was : session_in out slots peer ≡ Some session = session-at peer out slots place session at ∙ ap Some (sym is) in
     ap (λ sent. option_map_or (λ state. taken_by state text) (option_and_then (session_in out slots) sent) []) sent
     ∙ ap (λ found. option_map_or (λ state. taken_by state text) found []) was
+
+-- ---- the place of the session of a frame's sender
+
+-- bytes that are a text
+pub text-in : (bytes : List ℕ) → IsTrue (is_text bytes) → text_in bytes ≡ Some bytes
+text-in bytes is = rw is refl
+
+-- the place of the bytes that are first in a frame is that of the frame
+pub frame-place : {E : Type 0} (sender text : List ℕ) (out : List State) (sessions : Sessions) (result : Result (Option ℕ) E) → first_value 49 (fields_of text) ≡ Some sender
+    → IfOk result (λ place. MatchOption place (option_and_then sessions (text_in sender) ≡ None) (IsSenderAt sender out))
+    → IfOk result (λ place. MatchOption place (session_for sessions text ≡ None) (IsPlaceFor text out))
+frame-place sender text out sessions (Ok (Some place)) is at = record { peer = sender; sent = ap (option_and_then text_in) is ∙ at.text; at = at.at }
+frame-place sender text out sessions (Ok None) is none = ap (λ found. option_and_then sessions (option_and_then text_in found)) is ∙ none
+frame-place sender text out sessions (Err fault) is at = tt
 
 -- ---- a frame that is passed over
 

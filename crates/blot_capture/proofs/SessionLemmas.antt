@@ -3,7 +3,7 @@ use Rattle.std.proofs.Common.{◌≡◌, ℕ, Bool, true, false, List, [], ◌�
 use Rattle.std.specs.Prelude.{ℤ, pos, is_some, IfOk, if◌then◌else◌}
 use Rattle.std.specs.Option.{option_map, option_map_or}
 use Rattle.std.specs.Result.{result_unwrap_or}
-use Rattle.std.proofs.lemmas.Bool.{cond_both, cases_Bool}
+use Rattle.std.proofs.lemmas.Bool.{cond_both, cases_Bool, false≢true}
 use Rattle.std.proofs.lemmas.List.{append-nil}
 use Rattle.blot_time.specs.Moment.{moment_of}
 use Rattle.blot_time.specs.declared.fault.TimeFault.{TimeFault}
@@ -22,7 +22,7 @@ use Rattle.blot_session.specs.declared.replies.SeenReply.TheVariants.{Accepted, 
 use Rattle.blot_session.specs.declared.state.Awaited.{Awaited}
 use Rattle.blot_session.specs.declared.state.Awaited.TheVariants as awaits
 use Rattle.blot_session.specs.declared.state.State.{State}
-use Rattle.blot_session.specs.Calls.{GivesCommand, Outcome, Awaits, is_spent, outcome_of, reply_row_by, on_frame, on_reply}
+use Rattle.blot_session.specs.Calls.{GivesCommand, Outcome, Awaits, command_said, is_spent, outcome_of, reply_row_by, on_frame, on_reply}
 use Rattle.blot_fields.specs.declared.fault.FieldFault.{FieldFault}
 use Rattle.blot_fields.specs.declared.message.Message.{Message}
 use Rattle.blot_session.specs.declared.met.Met.{Met}
@@ -35,7 +35,7 @@ use Rattle.blot_session.proofs.ActionLemmas.{delivered-none}
 use Rattle.blot_session.proofs.OneLemmas.{AtMostOne, one-frame}
 use Rattle.blot_capture.specs.Capture.{frame_call, reply_calls, waiting_calls, behind_frame, behind_reply, calls_of, taken_by, moment_at, is_closed_phase}
 use Rattle.blot_capture.specs.declared.handled.Handled.{Handled}
-use Rattle.blot_capture.specs.Handling.{IsHandled, IsHandledBy, delivered_in}
+use Rattle.blot_capture.specs.Handling.{IsHandled, IsHandledBy, delivered_in, delivery_of, report_actions}
 use Rattle.blot_capture.specs.Trace.{actions_after, became_of}
 
 -- ---- what is delivered
@@ -112,12 +112,36 @@ frame-takes state next text actions now at is awaits =
     ∙ ap (λ (given : Outcome). delivered_in given.actions) (sym gave)
 
 -- what is no report in its turn is given to the session as it was
-pub given-after : (before between : State) (text : List ℕ) (said : Result Message FieldFault) (now : ℤ) (found : Option Command) (after : Outcome)
-    → GivesCommand (on_frame before said now) before between found → found ≡ None → after ≡ on_frame between said now → said ≡ said_by text
-    → after ≡ on_frame before (said_by text) now
-given-after before between text said now found after gives none is says =
-    let same : between ≡ before = subst (GivesCommand (on_frame before said now) before between) none gives in
+pub given-after : (before between : State) (text : List ℕ) (said : Result Message FieldFault) (now : ℤ) (after : Outcome)
+    → between ≡ before → after ≡ on_frame between said now → said ≡ said_by text → after ≡ on_frame before (said_by text) now
+given-after before between text said now after same is says =
     is ∙ ap (λ state. on_frame state said now) same ∙ ap (λ said. on_frame before said now) says
+
+-- of what is one, its command is delivered
+given-command : (given : Outcome) (after : State) (command : Option Command) → GivesCommand given after command → record { state = after; actions = delivery_of command } ≡ given
+given-command given after (Some command) gives = gives.gives
+given-command given after None gives = absurd (false≢true gives.brings)
+
+given-report : (before after : State) (text : List ℕ) (said : Result Message FieldFault) (now : ℤ) → GivesCommand (on_frame before said now) after (command_said said before.peer)
+    → after.peer ≡ before.peer → said ≡ said_by text → record { state = after; actions = report_actions said after.peer } ≡ on_frame before (said_by text) now
+given-report before after text said now given same says =
+    ap (λ peer. record { state = after; actions = report_actions said peer }) same
+    ∙ given-command (on_frame before said now) after (command_said said before.peer) given ∙ ap (λ said. on_frame before said now) says
+
+report-brings : (before after : State) (said : Result Message FieldFault) (given : Outcome) → GivesCommand given after (command_said said before.peer)
+    → after.peer ≡ before.peer → is_some (command_said said after.peer) ≡ true
+report-brings before after said given gives same = ap (λ peer. is_some (command_said said peer)) same ∙ gives.brings
+
+report-awaits : (state : State) (command : Option Command) → is_some command ≡ true → is_some (awaited_of state) ≡ true → Awaits state (delivery_of command)
+report-awaits state (Some command) brings awaited = record { last = tt; awaited = sym awaited }
+report-awaits state None brings awaited = absurd (false≢true brings)
+
+pub report-takes : (before after : State) (text : List ℕ) (said : Result Message FieldFault) (now : ℤ) → now ≡ moment_at text
+    → GivesCommand (on_frame before said now) after (command_said said before.peer) → after.peer ≡ before.peer → is_some (awaited_of after) ≡ true → said ≡ said_by text
+    → taken_by before text ≡ delivered_in (report_actions said after.peer)
+report-takes before after text said now at gives same awaited says =
+    frame-takes before after text (report_actions said after.peer) now at (given-report before after text said now gives same says)
+    (report-awaits after (command_said said after.peer) (report-brings before after said (on_frame before said now) gives same) awaited)
 
 -- and what is said of what it delivers is said of what is taken
 handled-one : (state next : State) (journal : Journal) (text : List ℕ) (actions : List Action) (now : ℤ) (handled : Handled)
@@ -140,6 +164,16 @@ pub handled-frame : {E : Type 0} (state next : State) (journal : Journal) (text 
     → IfOk result (IsHandledBy (Some state) journal text)
 handled-frame state next journal text actions now (Ok handled) at is awaits given = handled-one state next journal text actions now handled at is awaits given
 handled-frame state next journal text actions now (Err fault) at is awaits given = tt
+
+pub handled-report : {E : Type 0} (before after : State) (journal : Journal) (text : List ℕ) (said : Result Message FieldFault) (now : ℤ) (result : Result Handled E)
+    → now ≡ moment_at text → GivesCommand (on_frame before said now) after (command_said said before.peer) → after.peer ≡ before.peer → is_some (awaited_of after) ≡ true
+    → said ≡ said_by text
+    → IfOk result (λ handled. (met : Met) → IsHandled (became_of met journal (delivered_in (report_actions said after.peer)))
+    (actions_after after journal now (report_actions said after.peer) (delivered_in (report_actions said after.peer))) (Some met) handled)
+    → IfOk result (IsHandledBy (Some before) journal text)
+handled-report before after journal text said now result at gives same awaited says given =
+    handled-frame before after journal text (report_actions said after.peer) now result at (given-report before after text said now gives same says)
+    (report-awaits after (command_said said after.peer) (report-brings before after said (on_frame before said now) gives same) awaited) given
 
 -- where no reply is awaited, nothing is delivered
 pub delivers-none : (state : State) (actions : List Action) → Awaits state actions → is_some (awaited_of state) ≡ false → delivered_in actions ≡ []

@@ -1,11 +1,14 @@
 -- What a capture's sessions say came of a frame.
-use Rattle.std.specs.Prelude.{◌≡◌, ℕ, List, [], ◌∷◌, map, Option, Some, None}
+use Rattle.std.specs.Prelude.{◌≡◌, ℕ, List, [], ◌∷◌, map, Option, Some, None, Result}
 use Rattle.std.specs.Option.{option_map}
+use Rattle.blot_fields.specs.declared.fault.FieldFault.{FieldFault}
+use Rattle.blot_fields.specs.declared.message.Message.{Message}
 use Rattle.blot_types.specs.declared.command.Command.{Command}
 use Rattle.blot_session.specs.declared.action.Action.{Action}
 use Rattle.blot_session.specs.declared.action.Action.TheVariants.{Deliver}
 use Rattle.blot_session.specs.declared.met.Met.{Met}
 use Rattle.blot_session.specs.declared.state.State.{State}
+use Rattle.blot_session.specs.Calls.{command_said}
 use Rattle.blot_session.specs.Met.{met_of}
 use Rattle.blot_session.specs.Runs.{delivered_by, said_by}
 use Rattle.blot_desk.specs.declared.event.Reply.{Reply}
@@ -21,6 +24,15 @@ use Rattle.blot_capture.specs.Trace.{actions_in, became_in, session_for}
 -- the commands that some actions deliver
 abbrev pub delivered_in : List Action → List Command
 delivered_in actions = map (λ numbered. numbered.command) (delivered_by 0 actions)
+
+-- the actions of a call that delivers a command and does nothing else
+abbrev pub delivery_of : Option Command → List Action
+delivery_of (Some command) = Deliver command ∷ []
+delivery_of None = []
+
+-- so of one that takes a report
+abbrev pub report_actions : Result Message FieldFault → List ℕ → List Action
+report_actions said peer = delivery_of (command_said said peer)
 
 -- what a session would make of a frame; a sender without a session has none
 abbrev pub met_at : Option State → List ℕ → Option Met

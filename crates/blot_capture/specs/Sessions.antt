@@ -3,6 +3,7 @@ use Rattle.std.specs.Prelude.{◌≡◌, ◌<◌, ℕ, List, length, take, slice
 use Rattle.std.specs.Option.{option_or}
 use Rattle.blot_tag.specs.Fields.{fields_of}
 use Rattle.blot_types.specs.Keys.{same_text}
+use Rattle.blot_fields.specs.First.{text_in}
 use Rattle.blot_fields.specs.Sender.{sender_of}
 use Rattle.blot_session.specs.declared.state.State.{State}
 use Rattle.blot_slots.specs.Slots.{Slots, slot_of}
@@ -40,6 +41,11 @@ pub record IsAt (peer : List ℕ) (sessions : List State) (place : ℕ) : Type 0
   pub within : place < length sessions
   pub first : session_among peer (take place sessions) ≡ None
   pub of_peer : (other : State) → (slice_index_or sessions place other).peer ≡ peer
+
+-- the first session of the peer with this CompID stands at this place
+pub record IsSenderAt (sender : List ℕ) (sessions : List State) (place : ℕ) : Type 0 where
+  pub text : text_in sender ≡ Some sender
+  pub at : IsAt sender sessions place
 
 -- the session of a frame's sender stands at this place
 pub record IsPlaceFor (text : List ℕ) (sessions : List State) (place : ℕ) : Type 0 where

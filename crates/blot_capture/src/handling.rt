@@ -1,10 +1,10 @@
 //! A frame at the session of its sender, and what that delivers at the desk.
-ghost use Rattle.std.specs.Prelude.{◌≡◌, ◌≢◌, [], ◌∷◌, Ok, Err, Some, OnOk, IfOk, IfErr};
+ghost use Rattle.std.specs.Prelude.{◌≡◌, ◌≢◌, [], ◌∷◌, true, Ok, Err, Some, is_some, OnOk, IfOk, IfErr};
 ghost use Rattle.blot_tag.specs.Fields.{fields_of};
 ghost use Rattle.blot_tag.specs.Views.{text_of};
 ghost use Rattle.blot_fields.specs.First.{IsSentAt};
 ghost use Rattle.blot_fields.specs.Numbers.{IsNumbered};
-ghost use Rattle.blot_session.specs.Calls.{Awaits, DeliversAlone, on_reply};
+ghost use Rattle.blot_session.specs.Calls.{Awaits, DeliversAlone, command_said, on_reply};
 ghost use Rattle.blot_session.specs.declared.met.Met.{Met};
 ghost use Rattle.blot_session.specs.declared.replies.SeenReply.TheVariants.{Accepted};
 ghost use Rattle.blot_session.specs.Runs.{behind_calls, said_by};
@@ -13,21 +13,21 @@ ghost use Rattle.blot_desk.specs.declared.event.Event.TheVariants.{Submit};
 ghost use Rattle.blot_desk.specs.Desk.{recorded_of};
 ghost use Rattle.blot_gateway.specs.Serving.{seen_by};
 ghost use Rattle.blot_capture.specs.Capture.{behind_all, behind_reply, reply_calls, waiting_calls, taken_by};
-ghost use Rattle.blot_capture.specs.Handling.{IsHandled, IsHandledBy, IsReplied, delivered_in};
+ghost use Rattle.blot_capture.specs.Handling.{IsHandled, IsHandledBy, IsReplied, delivered_in, report_actions};
 ghost use Rattle.blot_capture.specs.Replay.{submitted, Stopped, fault_of};
 ghost use Rattle.blot_capture.specs.Trace.{actions_after, became_of, on_told, reply_to};
 
 use crate::handled::Handled;
 use crate::moment::sending_by;
 use blot_desk::{DeskFault, Reply, TakesCommands};
-use blot_fields::{FieldFault, Message, decode, is_out_of_memory};
+use blot_fields::{FieldFault, Message, command_of, decode, is_out_of_memory};
 use blot_gateway::seen_by;
 use blot_session::{Action, NotTaken, Phase, SeenReply, Session, delivered};
 use blot_stream::ReplayFault;
 use blot_tag::Frame;
 use blot_time::Moment;
-use blot_types::Command;
-use std::alloc::Global;
+use blot_types::{Command, Text64};
+use std::alloc::{AllocError as NoMemory, Global};
 
 /// Gives a frame to its session, and what the session delivers to the desk. If the session is closed after that, it waits for
 /// its next Logon.
@@ -59,8 +59,8 @@ pub(crate) fn take_frame<D: TakesCommands>(
     taken
 }
 
-// The same, up to the reply to what is delivered, where the frame says this. Nearly every frame is a report in its turn, whose command comes
-// without a list.
+// The same, up to the reply to what is delivered, where the frame says this. Nearly every frame is a report in its turn, whose command is
+// made where it is submitted.
 fn take_said<D: TakesCommands>(
     alloc: Global,
     session: &mut Session,
@@ -81,15 +81,57 @@ fn take_said<D: TakesCommands>(
     ensures no_write { result ≢ Err ReplayFault.Write }
 {
     let now = sending_by(said, frame);
-    match session.on_report(alloc, said, now) {
-        Ok(Some(command)) => return submit(alloc, session, command, now, desk),
-        Ok(None) => {}
-        Err(_) => return Err(ReplayFault::NoMemory),
+    if session.on_report(said, now) {
+        return submit_report(alloc, session, said, now, desk);
     }
     let Ok(actions) = session.on_said(alloc, said, now) else {
         return Err(ReplayFault::NoMemory);
     };
     take_delivered(alloc, session, actions, now, desk)
+}
+
+// Submits the command of a report that the session took. Where there is no memory for it, the session is told that it wasn't taken.
+fn submit_report<D: TakesCommands>(
+    alloc: Global,
+    session: &mut Session,
+    said: &Result<Message, FieldFault>,
+    now: Moment,
+    desk: &mut D,
+) -> Result<Handled, ReplayFault>
+    requires awaiting { IsAwaiting session.old }
+    requires brings { is_some (command_said said.now session.old.peer) ≡ true }
+    ensures session { OnOk result (session.new ≡ behind_calls session.old (reply_calls session.old now)) }
+    ensures peer { session.new.peer ≡ session.old.peer }
+    ensures idle { IsIdle session.new }
+    ensures desk { OnOk result (D.journal_of desk.new ≡ submitted (D.journal_of desk.old) (delivered_in (report_actions said.now session.old.peer))) }
+    ensures handled { IfOk result (λ handled. (met : Met) → IsHandled (became_of met (D.journal_of desk.old) (delivered_in (report_actions said.now session.old.peer)))
+        (actions_after session.old (D.journal_of desk.old) now (report_actions said.now session.old.peer) (delivered_in (report_actions said.now session.old.peer)))
+        (Some met) handled) }
+    ensures err { IfErr result (Stopped (D.journal_of desk.old) (D.journal_of desk.new) (delivered_in (report_actions said.now session.old.peer))) }
+    ensures no_write { result ≢ Err ReplayFault.Write }
+{
+    match command_said(alloc, said, session.peer()) {
+        Ok(Some(command)) => submit(alloc, session, command, now, desk),
+        Ok(None) => unreachable!(),
+        Err(_) => {
+            let _ = tell(alloc, session, Err(NotTaken), now);
+            Err(ReplayFault::NoMemory)
+        }
+    }
+}
+
+// The command that a frame brings.
+fn command_said(
+    alloc: Global,
+    said: &Result<Message, FieldFault>,
+    peer: Text64,
+) -> Result<Option<Command>, NoMemory>
+    ensures { IfOk result (λ command. command ≡ command_said said.now peer) }
+{
+    match said {
+        Ok(message) => command_of(alloc, message, peer),
+        Err(_) => Ok(None),
+    }
 }
 
 // Submits what these actions deliver, if they deliver a command.

@@ -1,22 +1,24 @@
 //! The sessions of a capture's peers.
-ghost use Rattle.std.specs.Prelude.{◌≡◌, ◌≢◌, All, Err, IfOk, IfErr, OnOk, MatchOption, None, find};
+ghost use Rattle.std.specs.Prelude.{◌≡◌, ◌≢◌, All, Err, IfOk, IfErr, OnOk, MatchOption, None};
 ghost use Rattle.std.specs.List.{IsDistinct};
+ghost use Rattle.std.specs.Option.{option_and_then};
 ghost use Rattle.blot_tag.specs.Views.{text_of};
 ghost use Rattle.blot_types.specs.Keys.{same_text};
+ghost use Rattle.blot_fields.specs.First.{text_in};
 ghost use Rattle.blot_fields.specs.Numbers.{HasNumber};
 ghost use Rattle.blot_session.specs.Runs.{said_by};
 ghost use Rattle.blot_session.specs.States.{IsIdle};
 ghost use Rattle.blot_capture.specs.Capture.{first_sessions, sessions_behind, commands_in};
 ghost use Rattle.blot_capture.specs.Handling.{IsHandledIn, met_in};
 ghost use Rattle.blot_capture.specs.Replay.{submitted, Stopped};
-ghost use Rattle.blot_capture.specs.Sessions.{session_in, sessions_of, taking_of, IsAt, IsPlaceFor};
+ghost use Rattle.blot_capture.specs.Sessions.{session_among, session_in, sessions_of, taking_of, IsAt, IsPlaceFor, IsSenderAt};
 ghost use Rattle.blot_capture.specs.Trace.{session_for};
 
 use crate::handled::Handled;
 use crate::handling::take_frame;
 use crate::moment::sending_of;
 use blot_desk::TakesCommands;
-use blot_fields::{FieldFault, Message, sender_of};
+use blot_fields::{FieldFault, Message, first_value};
 use blot_session::{Met, Session};
 use blot_slots::SlotTable;
 use blot_stream::ReplayFault;
@@ -111,26 +113,46 @@ fn place_for(
     ensures place { IfOk result (λ place. MatchOption place (session_for (session_in out.new.items table.new) (text_of frame.now) ≡ None)
         (IsPlaceFor (text_of frame.now) out.new.items)) }
 {
-    match sender_of(frame) {
-        Some(sender) => place_of(table, out, &sender),
+    match first_value(frame, 49) {
+        Some(sender) => place_of(table, out, sender),
         None => Ok(None),
     }
 }
 
-// The place of a peer's session among those that are out; it is checked out where it was in. None where the peer has none.
+// The place of the session of the peer with this CompID among those that are out; it is checked out where it was in. None where there is
+// no such peer, or it has none.
 fn place_of(
     table: &mut SlotTable,
     out: &mut Vec<Session>,
-    peer: &Text64,
+    sender: &[u8],
 ) -> Result<Option<usize>, NoMemory>
     requires { All IsIdle out.old.items }
     ensures same { OnOk result (session_in out.new.items table.new ≡ session_in out.old.items table.old) }
     ensures idle { All IsIdle out.new.items }
-    ensures place { IfOk result (λ place. MatchOption place (session_in out.new.items table.new peer.now ≡ None) (IsAt peer.now out.new.items)) }
+    ensures place { IfOk result (λ place. MatchOption place (option_and_then (session_in out.new.items table.new) (text_in sender.now) ≡ None)
+        (IsSenderAt sender.now out.new.items)) }
 {
-    if let Some(place) = place_out(out, peer) {
+    if let Some(place) = place_out(out, sender) {
         return Ok(Some(place));
     }
+    match Text64::read(sender) {
+        Some(peer) => check_out(table, out, &peer),
+        None => Ok(None),
+    }
+}
+
+// The place of a peer's session, which isn't out: it is checked out, where it is in. None where the peer has none.
+fn check_out(
+    table: &mut SlotTable,
+    out: &mut Vec<Session>,
+    peer: &Text64,
+) -> Result<Option<usize>, NoMemory>
+    requires idle { All IsIdle out.old.items }
+    requires none { session_among peer.now out.old.items ≡ None }
+    ensures same { OnOk result (session_in out.new.items table.new ≡ session_in out.old.items table.old) }
+    ensures idle { All IsIdle out.new.items }
+    ensures place { IfOk result (λ place. MatchOption place (session_in out.new.items table.new peer.now ≡ None) (IsAt peer.now out.new.items)) }
+{
     let Ok(session) = table.check_out(peer) else {
         return Ok(None);
     };
@@ -141,12 +163,12 @@ fn place_of(
     }
 }
 
-// The first place of a peer's session among those that are out.
-fn place_out(out: &[Session], peer: &Text64) -> Option<usize>
-    ensures { MatchOption result (find (λ session. same_text session.peer peer.now) out.now ≡ None) (IsAt peer.now out.now) }
+// The first place among those that are out of the session of the peer with this CompID. Neither is copied.
+fn place_out(out: &[Session], sender: &[u8]) -> Option<usize>
+    ensures { MatchOption result (session_among sender.now out.now ≡ None) (IsSenderAt sender.now out.now) }
 {
     for (place, session) in out.iter().enumerate() {
-        if session.peer() == *peer {
+        if session.is_of(sender) {
             return Some(place);
         }
     }

@@ -1,5 +1,5 @@
 -- What a call delivers is last, and awaits its reply.
-use Rattle.std.proofs.Common.{◌≡◌, ℕ, true, false, List, [], ◌∷◌, ◌++◌, Option, Some, None, Result, Ok, Err, refl, sym, ap, subst, ◌∙◌, inl, inr}
+use Rattle.std.proofs.Common.{◌≡◌, ℕ, Bool, true, false, List, [], ◌∷◌, ◌++◌, Option, Some, None, Result, Ok, Err, refl, sym, ap, subst, ◌∙◌, inl, inr}
 use Rattle.std.specs.Prelude.{ℤ, is_some, IfOk, OnErr}
 use Rattle.std.specs.List.{list_any}
 use Rattle.std.proofs.lemmas.Bool.{cond_both, false≢true}
@@ -7,7 +7,7 @@ use Rattle.blot_fields.specs.declared.fault.FieldFault.{FieldFault}
 use Rattle.blot_fields.specs.declared.message.Message.{Message}
 use Rattle.blot_types.specs.declared.command.Command.{Command}
 use Rattle.blot_session.specs.declared.action.Action.{Action}
-use Rattle.blot_session.specs.declared.action.Action.TheVariants.{Send, Deliver}
+use Rattle.blot_session.specs.declared.action.Action.TheVariants.{Send}
 use Rattle.blot_session.specs.declared.outbound.Outbound.{Outbound}
 use Rattle.blot_session.specs.declared.replies.NotTaken.{NotTaken}
 use Rattle.blot_session.specs.declared.replies.SeenReply.{SeenReply}
@@ -95,11 +95,13 @@ pub awaits_reply : (state next : State) (actions : List Action) (said : Result M
 awaits_reply state next actions said now idle is =
     subst (λ (outcome : Outcome). Awaits outcome.state outcome.actions) (sym is) (frame-awaits state said now idle)
 
--- a report's command, too
-pub awaits_report : (state next : State) (command : Option Command) (said : Result Message FieldFault) (now : ℤ) → IsIdle state
-    → GivesCommand (on_frame state said now) state next command → is_some command ≡ is_some (awaited_of next)
-awaits_report state next (Some command) said now idle is = (awaits_reply state next (Deliver command ∷ []) said now idle is).awaited
-awaits_report state next None said now idle is = sym (ap (λ (state : State). is_some (awaited_of state)) is ∙ ap is_some idle)
+-- a report's command, too, and where none was taken no reply is awaited
+pub awaits_report : (taken : Bool) (state next : State) (command : Option Command) (said : Result Message FieldFault) (now : ℤ) → IsIdle state
+    → (taken ≡ true → GivesCommand (on_frame state said now) next command) → (taken ≡ false → next ≡ state) → taken ≡ is_some (awaited_of next)
+awaits_report true state next command said now idle gives same =
+    let given = gives refl in
+    sym (some-ending Delivers command refl given.brings) ∙ (awaits_reply state next (ending Delivers command) said now idle given.gives).awaited
+awaits_report false state next command said now idle gives same = sym (ap (λ (state : State). is_some (awaited_of state)) (same refl) ∙ ap is_some idle)
 
 -- and it is the only action
 alone-none : (actions : List Action) → list_any is_deliver actions ≡ false → DeliversAlone actions

@@ -1,5 +1,5 @@
 -- An Execution Report about a fill in its turn, and the reply to it, as the table has them.
-use Rattle.std.proofs.Common.{◌≡◌, ℕ, ◌≤◌, ◌==◌, true, false, ◌&&◌, List, [], Option, Some, None, Result, Ok, Err, refl, sym, ap, subst, ◌∙◌, arith, inl, inr}
+use Rattle.std.proofs.Common.{◌≡◌, ℕ, ◌≤◌, ◌==◌, true, false, ◌&&◌, List, [], Option, Some, None, Result, Ok, Err, refl, sym, ap, ◌∙◌, arith, inl, inr}
 use Rattle.std.specs.Prelude.{nat_lt, nat_le, ℤ, is_some}
 use Rattle.std.proofs.lemmas.Bool.{and_parts, cases_Bool, cond-true, cond_both, ltb-true, leb-true, eqb-true, false≢true}
 use Rattle.blot_fields.specs.declared.TheConstants.{SEQUENCE_MAX}
@@ -10,7 +10,6 @@ use Rattle.blot_fields.specs.declared.message.Message.{Message}
 use Rattle.blot_fields.specs.declared.report.Report.{Report}
 use Rattle.blot_fields.specs.declared.report.Report.TheVariants as reports
 use Rattle.blot_fields.specs.Commands.{command_of, command_of_body}
-use Rattle.blot_types.specs.declared.command.Command.{Command}
 use Rattle.blot_session.specs.declared.carrying.TheConstants.{LAST_NUMBER}
 use Rattle.blot_session.specs.declared.replies.NotTaken.{NotTaken}
 use Rattle.blot_session.specs.declared.replies.SeenReply.{SeenReply}
@@ -144,22 +143,13 @@ fill-brings peer sending (bodies.Report reports.Other) fill = absurd (false≢tr
 fill-brings peer sending (bodies.Allocation allocation) fill = absurd (false≢true fill)
 fill-brings peer sending bodies.Other fill = absurd (false≢true fill)
 
-pub brings_command : (state : State) (message : Message) (command : Option Command) → is_report_in_turn state message ≡ true
-    → command ≡ command_of message state.peer → is_some command ≡ true
-brings_command state message command is given = ap is_some given ∙ fill-brings state.peer message.head.sending message.body (in_turn-parts state message is).fill
-
-reports-command : (given : Outcome) (before after : State) (command : Option Command) → is_some command ≡ true
-    → record { state = after; actions = ending Delivers command } ≡ given → GivesCommand given before after command
-reports-command given before after (Some command) some is = is
-reports-command given before after None some is = absurd (false≢true some)
-
-pub report_in_turn : (state : State) (message : Message) (command : Option Command) (now : ℤ) → is_report_in_turn state message ≡ true
-    → command ≡ command_of message state.peer → GivesCommand (on_frame state (Ok message) now) state (record state { link = delivering now state.link }) command
-report_in_turn state message command now is given =
-    reports-command (on_frame state (Ok message) now) state (record state { link = delivering now state.link }) command
-    (brings_command state message command is given)
-    (subst (λ command. record { state = record state { link = delivering now state.link }; actions = ending Delivers command } ≡ on_frame state (Ok message) now) (sym given)
-    (in_turn-outcome state message now is))
+pub report_in_turn : (state : State) (message : Message) (now : ℤ) → is_report_in_turn state message ≡ true
+    → GivesCommand (on_frame state (Ok message) now) (record state { link = delivering now state.link }) (command_of message state.peer)
+report_in_turn state message now is =
+    record {
+      brings = fill-brings state.peer message.head.sending message.body (in_turn-parts state message is).fill;
+      gives = in_turn-outcome state message now is;
+    }
 
 pub delivering_state : (state : State) (message : Message) (now : ℤ) → is_report_in_turn state message ≡ true → IsState state
     → message.head.number ≤ SEQUENCE_MAX → IsState (record state { link = delivering now state.link })

@@ -31,11 +31,6 @@ pub record Outcome : Type 0 where
 abbrev pub Gives : {A : Type 0} → Outcome → State → Vec Action A → Type 0
 Gives given state actions = record { state = state; actions = actions.items } ≡ given
 
--- a call that takes reports alone gives this: a command, and to deliver it is all that is to be done, or none, and the session is as before
-abbrev pub GivesCommand : Outcome → State → State → Option Command → Type 0
-GivesCommand given before after (Some command) = record { state = after; actions = Deliver command ∷ [] } ≡ given
-GivesCommand given before after None = after ≡ before
-
 -- a session after a message that was sent
 abbrev pub behind : State → Outbound → ℤ → State
 behind state message now = spoken now (record state { next = next_behind message state.next })
@@ -55,6 +50,11 @@ ending Stays command = []
 ending Delivers None = []
 ending Delivers (Some command) = Deliver command ∷ []
 ending (Closes reason) command = Close reason ∷ []
+
+-- a call takes a report, which brings a command: so the session is after it, and to deliver the command is all that is to be done
+pub record GivesCommand (given : Outcome) (state : State) (command : Option Command) : Type 0 where
+  pub brings : is_some command ≡ true
+  pub gives : record { state = state; actions = ending Delivers command } ≡ given
 
 -- what a row says is done
 abbrev pub carried_out : Row → Option Command → ℤ → Outcome

@@ -1,19 +1,19 @@
 //! Execution Reports about fills in their turn, and the replies to them. Most of what comes is one of these, so the
 //! session changes in place for them, and no row of its table is made. What is done is what the table says.
-ghost use Rattle.std.specs.Prelude.{◌≡◌, ◌≤◌, ◌∷◌, [], true, None, Ok, is_some, IfOk, OnOk, OnErr};
+ghost use Rattle.std.specs.Prelude.{◌≡◌, ◌≤◌, true, false, None, IfOk, OnOk, OnErr};
 ghost use Rattle.blot_fields.specs.declared.TheConstants.{SEQUENCE_MAX};
 ghost use Rattle.blot_fields.specs.Numbers.{IsNumbered};
-ghost use Rattle.blot_session.specs.Calls.{GivesCommand, on_frame};
+ghost use Rattle.blot_session.specs.Calls.{GivesCommand, command_said, ending, on_frame};
 ghost use Rattle.blot_session.specs.InTurn.{delivering, is_about_fill, is_of_report, is_on, is_report_in_turn, is_report_said, is_report_taken};
 ghost use Rattle.blot_session.specs.States.{answered, changed, closed, counted, IsState};
-ghost use Rattle.blot_session.specs.declared.action.Action.TheVariants.{Deliver};
+ghost use Rattle.blot_session.specs.declared.row.End.TheVariants.{Delivers};
 
 use crate::carrying::LAST_NUMBER;
 use crate::state::{Awaited, Link, State};
 use crate::{Action, NotTaken, SeenReply};
 use blot_fields::{Body, FieldFault, Message, Report, command_of};
 use blot_time::Moment;
-use blot_types::Command;
+use blot_types::Text64;
 use std::alloc::{AllocError as NoMemory, Global};
 
 // Whether a message is the expected Execution Report about a fill, of the peer, at a session that is on and has numbers to
@@ -28,20 +28,19 @@ fn is_report_in_turn(state: &State, message: &Message) -> bool
         && state.is_from_peer(&message.head)
 }
 
-/// Takes what a frame says where that is such a report: the command that it brings, whose reply is awaited then. None where
-/// it is anything else, and nothing has changed then. It takes no memory beyond the command. Out of memory, the session is
-/// closed, with its number expected as before.
+/// Whether a frame says such a report. Then it is taken, and the reply to the command that it brings is awaited. Otherwise
+/// nothing has changed. It takes no memory.
+#[tactic(auto, using(crate::proofs::InTurnLemmas::report_in_turn, crate::proofs::InTurnLemmas::delivering_state))]
 pub(crate) fn take_report(
-    alloc: Global,
     state: &mut State,
     said: &Result<Message, FieldFault>,
     now: Moment,
-) -> Result<Option<Command>, NoMemory>
+) -> bool
     requires within { IsState state.old }
     requires numbers { IsNumbered said.now }
-    ensures ok { IfOk result (GivesCommand (on_frame state.old said.now now) state.old state.new) }
-    ensures report { IfOk result (λ command. is_some command ≡ is_report_said state.old said.now) }
-    ensures err { OnErr result (state.new ≡ closed state.old) }
+    ensures report { result ≡ is_report_said state.old said.now }
+    ensures taken { result ≡ true → GivesCommand (on_frame state.old said.now now) state.new (command_said said.now state.old.peer) }
+    ensures other { result ≡ false → state.new ≡ state.old }
     ensures state { IsState state.new }
 
     // Only the connection has changed.
@@ -49,28 +48,28 @@ pub(crate) fn take_report(
 {
     match said {
         Ok(message) if is_report_in_turn(state, message) => {
-            take_in_turn(alloc, state, message, now)
+            deliver_on(&mut state.link, now);
+            true
         }
-        _ => Ok(None),
+        Ok(_) | Err(_) => false,
     }
 }
 
-/// Hands a report's command on, as the only action. Out of memory, the session is closed.
+/// Hands on the command of a report that was taken, as the only action. Out of memory, the session is closed.
 pub(crate) fn hand_on(
     alloc: Global,
     state: &mut State,
-    command: Command,
+    said: &Result<Message, FieldFault>,
 ) -> Result<Vec<Action>, NoMemory>
-    ensures ok { IfOk result (λ actions. actions.items ≡ Deliver command ∷ []) }
+    ensures ok { IfOk result (λ actions. actions.items ≡ ending Delivers (command_said said.now state.old.peer)) }
     ensures same { OnOk result (state.new ≡ state.old) }
     ensures err { OnErr result (state.new ≡ closed state.old) }
 {
-    let Ok(mut actions) = Vec::with_capacity(alloc, 1) else {
+    let actions = delivery_of(alloc, said, state.peer);
+    if actions.is_err() {
         *state = state.closed();
-        return Err(NoMemory);
-    };
-    actions.push_reserved(Action::Deliver(command));
-    Ok(actions)
+    }
+    actions
 }
 
 /// Whether a reply says what became of the command of an Execution Report.
@@ -117,29 +116,23 @@ fn is_of_report(awaited: &Option<Awaited>) -> bool
     matches!(awaited, Some(Awaited::Report))
 }
 
-// Takes such a report: its command.
-#[tactic(auto, using(crate::proofs::InTurnLemmas::report_in_turn, crate::proofs::InTurnLemmas::brings_command, crate::proofs::InTurnLemmas::delivering_state, crate::proofs::StateLemmas::closed_state))]
-fn take_in_turn(
+// The command that a frame brings, as the only action, if it brings one.
+fn delivery_of(
     alloc: Global,
-    state: &mut State,
-    message: &Message,
-    now: Moment,
-) -> Result<Option<Command>, NoMemory>
-    requires within { IsState state.old }
-    requires number { message.now.head.number ≤ SEQUENCE_MAX }
-    requires in_turn { is_report_in_turn state.old message.now ≡ true }
-    ensures ok { IfOk result (GivesCommand (on_frame state.old (Ok message.now) now) state.old state.new) }
-    ensures report { IfOk result (λ command. is_some command ≡ true) }
-    ensures err { OnErr result (state.new ≡ closed state.old) }
-    ensures state { IsState state.new }
-    ensures rest { closed state.new ≡ closed state.old }
+    said: &Result<Message, FieldFault>,
+    peer: Text64,
+) -> Result<Vec<Action>, NoMemory>
+    ensures { IfOk result (λ actions. actions.items ≡ ending Delivers (command_said said.now peer)) }
 {
-    let command = command_of(alloc, message, state.peer);
-    match &command {
-        Ok(_) => deliver_on(&mut state.link, now),
-        Err(_) => state.link = Link::Closed,
-    }
-    command
+    let Ok(message) = said else {
+        return Ok(Vec::new(alloc));
+    };
+    let Some(command) = command_of(alloc, message, peer)? else {
+        return Ok(Vec::new(alloc));
+    };
+    let mut actions = Vec::with_capacity(alloc, 1)?;
+    actions.push_reserved(Action::Deliver(command));
+    Ok(actions)
 }
 
 // A frame came, whose command is delivered.

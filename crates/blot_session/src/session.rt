@@ -1,9 +1,11 @@
 //! The session with one peer.
-ghost use Rattle.std.specs.Prelude.{◌≡◌, ◌+◌, ◌≤◌, List, is_some, IfOk, OnErr};
+ghost use Rattle.std.specs.Prelude.{◌≡◌, ◌+◌, ◌≤◌, List, true, false, is_some, IfOk, OnErr, IsTrue};
 ghost use Rattle.blot_tag.specs.Views.{text_of};
+ghost use Rattle.blot_types.specs.Keys.{same_text};
+ghost use Rattle.blot_types.specs.Text.{is_text};
 ghost use Rattle.blot_fields.specs.declared.TheConstants.{SEQUENCE_MAX};
 ghost use Rattle.blot_fields.specs.Numbers.{HasNumber, IsNumbered};
-ghost use Rattle.blot_session.specs.Calls.{Awaits, DeliversAlone, Gives, GivesCommand, on_frame, on_tick, on_reply, row_of_reply};
+ghost use Rattle.blot_session.specs.Calls.{Awaits, DeliversAlone, Gives, GivesCommand, command_said, on_frame, on_tick, on_reply, row_of_reply};
 ghost use Rattle.blot_session.specs.InTurn.{is_report_said};
 ghost use Rattle.blot_session.specs.Met.{IsOfNumber, met_of};
 ghost use Rattle.blot_session.specs.Runs.{Call, AreMet, HasNoReset, IsInOrder, said_by};
@@ -19,7 +21,7 @@ use crate::{Action, Met, NotTaken, Phase, SeenReply};
 use blot_fields::{FieldFault, Message};
 use blot_tag::Frame;
 use blot_time::Moment;
-use blot_types::{Command, Text64};
+use blot_types::Text64;
 use std::alloc::{AllocError as NoMemory, Global};
 use std::marker::Model;
 
@@ -63,6 +65,17 @@ impl Session {
         ensures { result ≡ self.now.peer }
     {
         self.state.peer
+    }
+
+    /// Whether these bytes are the peer's CompID. Neither is copied.
+    pub fn is_of(&self, peer: &[u8]) -> bool
+        ensures same { result ≡ same_text self.now.peer peer.now }
+
+        // Each CompID is a text.
+        ensures text { result ≡ true → IsTrue (is_text peer.now) }
+    {
+        let known = self.state.peer.bytes();
+        known == peer
     }
 
     /// MsgSeqNum(34) of the peer's next message, 1 to 1,000,000,000.
@@ -158,27 +171,21 @@ impl Session {
         take_said(alloc, &mut self.state, said, now)
     }
 
-    /// A frame came that says this: the command that it brings, where it is an Execution Report about a fill that came in
-    /// its turn. The reply to it is awaited then. None where it is anything else: nothing has changed then, and it is for
-    /// `on_said`. Out of memory, the session is closed, with its number expected as before.
-    #[tactic(auto, using(crate::proofs::DeliveryLemmas::awaits_report))]
-    pub fn on_report(
-        &mut self,
-        alloc: Global,
-        said: &Result<Message, FieldFault>,
-        now: Moment,
-    ) -> Result<Option<Command>, NoMemory>
+    /// A frame came that says this: whether it is an Execution Report about a fill that came in its turn. Then it is taken, and
+    /// the reply to the command that its message brings (`blot_fields::command_of`) is awaited. Otherwise nothing has changed,
+    /// and it is for `on_said`. It takes no memory.
+    pub fn on_report(&mut self, said: &Result<Message, FieldFault>, now: Moment) -> bool
         requires idle { IsIdle self.old }
         requires numbers { IsNumbered said.now }
-        ensures ok { IfOk result (GivesCommand (on_frame self.old said.now now) self.old self.new) }
-        ensures report { IfOk result (λ command. is_some command ≡ is_report_said self.old said.now) }
-        ensures err { OnErr result (self.new ≡ closed self.old) }
+        ensures report { result ≡ is_report_said self.old said.now }
+        ensures taken { result ≡ true → GivesCommand (on_frame self.old said.now now) self.new (command_said said.now self.old.peer) }
+        ensures other { result ≡ false → self.new ≡ self.old }
         ensures peer { self.new.peer ≡ self.old.peer }
 
-        // A reply is awaited exactly where there is a command.
-        ensures awaits { IfOk result (λ command. is_some command ≡ is_some (awaited_of self.new)) }
+        // A reply is awaited exactly where it was taken.
+        ensures awaits { result ≡ is_some (awaited_of self.new) }
     {
-        take_report(alloc, &mut self.state, said, now)
+        take_report(&mut self.state, said, now)
     }
 
     /// A moment passes: a Heartbeat or a TestRequest may be due, or the peer given up. Out of memory, the session is

@@ -76,10 +76,10 @@ pub(crate) fn take_said(
     ensures err { OnErr result (state.new ≡ closed state.old) }
     ensures state { IsState state.new }
 {
-    match take_report(alloc, state, said, now)? {
-        Some(command) => hand_on(alloc, state, command),
-        None => take_by_row(alloc, state, said, now),
+    if take_report(state, said, now) {
+        return hand_on(alloc, state, said);
     }
+    take_by_row(alloc, state, said, now)
 }
 
 // What a session does about what a frame says, by a row of its table.
