@@ -4,7 +4,7 @@
 use crate::draws::{Draws, drawn_orders};
 use crate::model::{compare_lines, live};
 use crate::tally::Tally;
-use blot_command::{ApplyFault, Tables};
+use blot_command::{ApplyFault, BoxedCommand, Tables};
 use blot_model::accepts;
 use blot_types::{Command, EVENTS_MAX, Entry, OrderKey, Refused};
 use blot_undo::{StepFault, Steps};
@@ -141,7 +141,7 @@ fn examine(alloc: Global, tables: &Tables, stack: &Stack, orders: &[OrderKey]) -
 // Undoes up to three steps, and then redoes up to two. The book is examined after each.
 fn go_back(
     alloc: Global,
-    steps: &mut Steps<Command>,
+    steps: &mut Steps<BoxedCommand>,
     stack: &mut Stack,
     draws: &mut Draws,
     orders: &[OrderKey],
@@ -159,12 +159,17 @@ fn go_back(
     Ok(())
 }
 
-// What the steps answer to a command: its number, or why it is refused.
-fn answer(steps: &mut Steps<Command>, command: Command) -> Result<Result<u64, Refused>, Fail> {
+// What the steps answer to a command, which goes on the heap first, as at a desk: its number, or why it is refused.
+fn answer(
+    alloc: Global,
+    steps: &mut Steps<BoxedCommand>,
+    command: Command,
+) -> Result<Result<u64, Refused>, Fail> {
     if !steps.room() {
         return Err(Fail::new("no room"));
     }
-    match steps.apply(command) {
+    let boxed = BoxedCommand::new(alloc, command).ok().ok_or("no memory")?;
+    match steps.apply(boxed) {
         Ok(number) => Ok(Ok(number)),
         Err(StepFault::Refused(_, ApplyFault::Refused(refused))) => Ok(Err(refused)),
         Err(_) => Err(Fail::new("no memory")),
@@ -183,7 +188,7 @@ fn drawn(alloc: Global, draws: &mut Draws, list: &[Entry]) -> Result<Command, Fa
 // Sends a command that is drawn, which is taken or refused as the plain program says.
 fn send(
     alloc: Global,
-    steps: &mut Steps<Command>,
+    steps: &mut Steps<BoxedCommand>,
     stack: &mut Stack,
     draws: &mut Draws,
     tally: &mut Tally,
@@ -195,7 +200,7 @@ fn send(
         Some(refused) => Err(refused),
         None => Ok(take(stack, command.try_copy(alloc)?)?),
     };
-    let found = answer(steps, command)?;
+    let found = answer(alloc, steps, command)?;
     if found != wanted {
         return Err(Fail::new(format_args!("{found:?} for {wanted:?}")));
     }
@@ -205,7 +210,7 @@ fn send(
 // Sends all commands, with steps undone and redone before every other one.
 fn run(
     alloc: Global,
-    steps: &mut Steps<Command>,
+    steps: &mut Steps<BoxedCommand>,
     stack: &mut Stack,
     tally: &mut Tally,
 ) -> Result<(), Fail> {

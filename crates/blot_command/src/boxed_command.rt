@@ -1,6 +1,7 @@
 //! A command on the heap.
-ghost use Rattle.std.specs.Prelude.{◌≡◌, IfOk, IfErr};
+ghost use Rattle.std.specs.Prelude.{◌≡◌, IfOk, IfErr, IsOk, IsSome};
 ghost use Rattle.blot_types.specs.declared.command.Command.TheVariants.{Withdraw};
+ghost use Rattle.blot_types.specs.Refusals.{withdrawn_by};
 
 use crate::entering::{enter_boxed, leave_boxed};
 use crate::withdrawing::withdraw;
@@ -40,6 +41,7 @@ impl BoxedCommand {
     pub fn new(alloc: Global, command: Command) -> Result<BoxedCommand, Command>
         ensures ok { IfOk result (λ boxed. boxed ≡ command) }
         ensures err { IfErr result (λ back. back ≡ command) }
+        ensures withdrawal { IsSome (withdrawn_by command) → IsOk result }
     {
         if let Some(number) = command.withdrawn() {
             drop(command);
