@@ -26,8 +26,8 @@ use blot_session::{Action, NotTaken, Phase, SeenReply, Session, delivered};
 use blot_stream::ReplayFault;
 use blot_tag::Frame;
 use blot_time::Moment;
-use blot_types::{Command, Text64};
-use std::alloc::{AllocError as NoMemory, Global};
+use blot_types::Command;
+use std::alloc::Global;
 
 /// Gives a frame to its session, and what the session delivers to the desk. If the session is closed after that, it waits for
 /// its next Logon.
@@ -110,27 +110,14 @@ fn submit_report<D: TakesCommands>(
     ensures err { IfErr result (Stopped (D.journal_of desk.old) (D.journal_of desk.new) (delivered_in (report_actions said.now session.old.peer))) }
     ensures no_write { result ≢ Err ReplayFault.Write }
 {
-    match command_said(alloc, said, session.peer()) {
+    let Ok(message) = said else { unreachable!() };
+    match command_of(alloc, message, session.peer()) {
         Ok(Some(command)) => submit(alloc, session, command, now, desk),
         Ok(None) => unreachable!(),
         Err(_) => {
             let _ = tell(alloc, session, Err(NotTaken), now);
             Err(ReplayFault::NoMemory)
         }
-    }
-}
-
-// The command that a frame brings.
-fn command_said(
-    alloc: Global,
-    said: &Result<Message, FieldFault>,
-    peer: Text64,
-) -> Result<Option<Command>, NoMemory>
-    ensures { IfOk result (λ command. command ≡ command_said said.now peer) }
-{
-    match said {
-        Ok(message) => command_of(alloc, message, peer),
-        Err(_) => Ok(None),
     }
 }
 
