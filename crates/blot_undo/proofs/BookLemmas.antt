@@ -34,6 +34,25 @@ pub undone_one :
 undone_one m lawful list step earlier undone next lead =
     rw (given_back m lawful (m.before list step.inverse) list lead.0.0 step.number step.inverse lead.0.1) refl
 
+-- what stands after the newest step was undone, and after the step that was undone last was redone
+pub undone_book :
+    {S L C I R : Type 0} (m : Meaning S L C I R) (list next_list : L) (step : Done I) (earlier done : List (Done I)) (undone : List (Undone C)) (next : ℕ) (command : C)
+    → next_list ≡ m.before list step.inverse → m.command_of list step.inverse ≡ Some command → done ≡ step ∷ earlier
+    → book next_list earlier (record { number = step.number; command = command } ∷ undone) next ≡ undo_of m (book list done undone next)
+undone_book {C = C} m list next_list step earlier done undone next command list_is back done_is =
+    let after : undo_of m (book list (step ∷ earlier) undone next) ≡ book (m.before list step.inverse) earlier (record { number = step.number; command = command } ∷ undone) next = rw back refl in
+    ap (λ l. book l earlier (record { number = step.number; command = command } ∷ undone) next) list_is
+    ∙ sym after ∙ ap (λ d. undo_of m (book list d undone next)) (sym done_is)
+
+pub redone_book :
+    {S L C I R : Type 0} (m : Meaning S L C I R) (list next_list : L) (step : Undone C) (later : List (Undone C)) (done : List (Done I)) (undone : List (Undone C)) (next : ℕ) (inverse : I)
+    → IsStep m list step.command step.number inverse next_list → undone ≡ step ∷ later
+    → book next_list (record { number = step.number; inverse = inverse } ∷ done) later next ≡ redo_of m (book list done undone next)
+redone_book m list next_list step later done undone next inverse taken undone_is =
+    ap (λ l. book l (record { number = step.number; inverse = inverse } ∷ done) later next) taken.list_is
+    ∙ ap (λ i. book (m.after list step.command step.number) (record { number = step.number; inverse = i } ∷ done) later next) taken.inverse_is
+    ∙ ap (λ u. redo_of m (book list done u next)) (sym undone_is)
+
 -- and redone, it gives the book
 redone_one :
     {S L C I R : Type 0} (m : Meaning S L C I R) → IsLawful m → (list : L) (step : Done I) (earlier : List (Done I)) (undone : List (Undone C)) (next : ℕ)

@@ -1,2 +1,4 @@
 pub mod BookLemmas
+pub mod PutLemmas
+pub mod RowLemmas
 pub mod StackLemmas

@@ -1,11 +1,36 @@
 -- What a stack of steps keeps of its state and its steps.
-use Rattle.std.specs.Prelude.{ℕ, ◌<◌, ◌≤◌, ◌+◌, List, [], ◌∷◌, length, map, Contains}
+use Rattle.std.specs.Prelude.{◌≡◌, ℕ, ◌<◌, ◌≤◌, ◌+◌, List, [], ◌∷◌, ◌++◌, Option, Some, None, length, map, reverse, Contains}
+use Rattle.std.specs.List.{filter_map}
 use Rattle.blot_types.specs.declared.TheConstants.{EVENTS_MAX}
 use Rattle.blot_command.specs.Undoable.{Meaning, IsNext, numbers_in}
 use Rattle.blot_undo.specs.declared.step.Done.{Done}
 use Rattle.blot_undo.specs.declared.step.Undone.{Undone}
+use Rattle.blot_undo.specs.declared.step.Step.{Step}
+use Rattle.blot_undo.specs.declared.step.Step.TheVariants.{Done as DoneStep, Undone as UndoneStep}
 use Rattle.blot_undo.specs.Book.{done_number}
 use Rattle.blot_undo.specs.Laws.{LeadTo}
+
+-- the done step that a step is, if it is one, and the undone one
+abbrev pub as_done : {C I : Type 0} → Step C I → Option (Done I)
+as_done (DoneStep step) = Some step
+as_done (UndoneStep step) = None
+
+abbrev pub as_undone : {C I : Type 0} → Step C I → Option (Undone C)
+as_undone (DoneStep step) = None
+as_undone (UndoneStep step) = Some step
+
+-- the done steps of a row, the last first, and its undone ones, the first first
+abbrev pub done_in : {C I : Type 0} → List (Step C I) → List (Done I)
+done_in row = reverse (filter_map as_done row)
+
+abbrev pub undone_in : {C I : Type 0} → List (Step C I) → List (Undone C)
+undone_in row = filter_map as_undone row
+
+-- a row of steps and a place stand for these done steps and these undone ones: before the place stand the done ones, the
+-- newest last, and from it on the undone ones, the one undone last first
+pub record StandFor {C I : Type 0} (row : List (Step C I)) (place : ℕ) (done : List (Done I)) (undone : List (Undone C)) : Type 0 where
+  pub row_is : row ≡ map DoneStep (reverse done) ++ map UndoneStep undone
+  pub place_is : place ≡ length done
 
 -- each undone step may be taken next, the one undone last first
 abbrev pub CanFollow : {S L C I R : Type 0} → Meaning S L C I R → List (Undone C) → L → Type 0
@@ -33,8 +58,8 @@ Fall [] below = Unit {0}
 Fall (step ∷ earlier) below = (step.number < below) × Fall earlier step.number
 
 -- what a stack keeps: the done steps lead to its state, the undone ones can follow, and their numbers rise to the
--- next one; the state keeps what the done steps need, and its numbers are theirs; both stacks have room for all steps
-pub record IsStack {S L C I R : Type 0} (m : Meaning S L C I R) (state : S) (done : List (Done I)) (undone : List (Undone C)) (next done_room undone_room : ℕ) : Type 0 where
+-- next one; the state keeps what the done steps need, and its numbers are theirs
+pub record IsStack {S L C I R : Type 0} (m : Meaning S L C I R) (state : S) (done : List (Done I)) (undone : List (Undone C)) (next : ℕ) : Type 0 where
   pub lead : LeadTo m done (m.list_of state)
   pub follow : CanFollow m undone (m.list_of state)
   pub keeps : KeepsAll m done state
@@ -42,5 +67,7 @@ pub record IsStack {S L C I R : Type 0} (m : Meaning S L C I R) (state : S) (don
   pub rise : Rise undone next
   pub fall : Fall done (limit undone next)
   pub few : next ≤ EVENTS_MAX + 1
-  pub done_fits : length done + length undone ≤ done_room
-  pub undone_fits : length done + length undone ≤ undone_room
+
+-- what a stack keeps of a row of steps and a place: they stand for its done and its undone steps
+abbrev pub Holds : {S L C I R : Type 0} → Meaning S L C I R → S → List (Step C I) → ℕ → ℕ → Type 0
+Holds m state row place next = StandFor row place (done_in row) (undone_in row) × IsStack m state (done_in row) (undone_in row) next

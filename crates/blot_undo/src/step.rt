@@ -13,3 +13,10 @@ pub struct Undone<C> {
     pub number: u64,
     pub command: C,
 }
+
+/// A step, which is done or undone.
+#[derive(Drop)]
+pub(crate) enum Step<C, I> {
+    Done(Done<I>),
+    Undone(Undone<C>),
+}

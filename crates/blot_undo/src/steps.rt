@@ -1,10 +1,12 @@
 //! The stack of steps.
-ghost use Rattle.std.specs.Prelude.{◌≡◌, ◌≤◌, ◌+◌, [], IsTrue, ◌↔◌, IfOk, IfErr, OnOk, OnErr, length, vec_capacity};
+ghost use Rattle.std.specs.Prelude.{◌≡◌, ◌≤◌, ◌<◌, List, [], IsTrue, ◌↔◌, IfOk, IfErr, OnOk, OnErr, length, slice_set, vec_len, vec_capacity};
+ghost use Rattle.std.specs.List.{swap_remove};
 ghost use Rattle.blot_command.specs.Undoable.{numbers_in};
 ghost use Rattle.blot_undo.specs.Book.{Accepts, book_of, book_redone, book_rewound, book_undone, book_with, list_before, list_in, newest_done, newest_undone};
 ghost use Rattle.blot_undo.specs.Laws.{LeadTo, GoesBack, RoundTrips};
 ghost use Rattle.blot_undo.specs.Faults.{IsFault};
 
+use crate::step::Step;
 use crate::{Done, StepFault, Undone};
 use blot_command::Undoable;
 use blot_types::EVENTS_MAX;
@@ -17,27 +19,26 @@ use std::marker::Model;
 #[derive(Drop)]
 pub struct Steps<C: Undoable> {
     state: C::State,
-    done: Vec<Done<C::Inverse>>,
-    undone: Vec<Undone<C>>,
+    // The done steps, the newest last, and from `place` on the undone ones, the one undone last first.
+    steps: Vec<Step<C, C::Inverse>>,
+    place: usize,
     next: u64,
 }
 
 impl<C: Undoable> Model for Steps<C> {
-    ghost use Rattle.std.specs.Prelude.{reverse, vec_capacity};
     ghost use Rattle.blot_undo.specs.Book.{Stack};
-    ghost use Rattle.blot_undo.specs.Stacks.{IsStack};
+    ghost use Rattle.blot_undo.specs.Stacks.{Holds, done_in, undone_in};
 
     ghost Value = { Stack C.State C C.Inverse };
 
-    ghost view = { λ steps. record {
-      state = steps.state;
-      done = reverse steps.done.items;
-      undone = reverse steps.undone.items;
-      next = steps.next;
+    ghost view = { λ stack. record {
+      state = stack.state;
+      done = done_in stack.steps.items;
+      undone = undone_in stack.steps.items;
+      next = stack.next;
     } };
 
-    ghost invariant = { λ steps.
-        IsStack C.meaning steps.state (reverse steps.done.items) (reverse steps.undone.items) steps.next (vec_capacity steps.done) (vec_capacity steps.undone) };
+    ghost invariant = { λ stack. Holds C.meaning stack.state stack.steps.items stack.place stack.next };
 }
 
 impl<C: Undoable> Steps<C> {
@@ -48,8 +49,8 @@ impl<C: Undoable> Steps<C> {
     {
         Steps {
             state,
-            done: Vec::new(alloc),
-            undone: Vec::new(alloc),
+            steps: Vec::new(alloc),
+            place: 0,
             next: 1,
         }
     }
@@ -71,16 +72,17 @@ impl<C: Undoable> Steps<C> {
         // Any count of them undone, and as many redone, give the book as it is.
         ensures round_trip { RoundTrips C.meaning (book_of C.meaning self.now) }
     {
-        self.done.len()
+        self.place
     }
 
     /// The number of the newest done step, if a step is done.
     pub fn newest(&self) -> Option<u64>
         ensures { result ≡ newest_done self.now.done }
     {
-        match self.done.last() {
-            Some(step) => Some(step.number),
-            None => None,
+        let place = self.place.checked_sub(1)?;
+        match &self.steps[place] {
+            Step::Done(step) => Some(step.number),
+            Step::Undone(_) => unreachable!(),
         }
     }
 
@@ -114,11 +116,13 @@ impl<C: Undoable> Steps<C> {
             Ok(inverse) => inverse,
             Err((back, refusal)) => return Err(StepFault::Refused(back, refusal)),
         };
-        let Ok(()) = make_room(&mut self.done, &mut self.undone) else {
+        let Ok(()) = self.steps.reserve(1) else {
             return Err(StepFault::NoMemory(C::revert(inverse, &mut self.state)));
         };
-        self.undone.clear();
-        self.done.push_reserved(Done { number, inverse });
+        self.steps.truncate(self.place);
+        let step = Done { number, inverse };
+        self.steps.push_reserved(Step::Done(step));
+        self.place = self.steps.len();
         self.next += 1;
         Ok(number)
     }
@@ -129,12 +133,15 @@ impl<C: Undoable> Steps<C> {
         ensures book { book_of C.meaning self.new ≡ book_undone C.meaning self.old }
         ensures number { result ≡ newest_done self.old.done }
     {
-        let Some(step) = self.done.pop() else {
-            return None;
+        let place = self.place.checked_sub(1)?;
+        let Step::Done(step) = self.steps.swap_remove(place) else {
+            unreachable!()
         };
         let Done { number, inverse } = step;
         let command = C::revert(inverse, &mut self.state);
-        self.undone.push_reserved(Undone { number, command });
+        let step = Undone { number, command };
+        put_back(&mut self.steps, place, Step::Undone(step));
+        self.place = place;
         Some(number)
     }
 
@@ -145,20 +152,24 @@ impl<C: Undoable> Steps<C> {
         ensures number { IfOk result (λ number. number ≡ newest_undone self.old.undone) }
         ensures err { OnErr result (book_of C.meaning self.new ≡ book_of C.meaning self.old) }
     {
-        let Some(step) = self.undone.pop() else {
+        let place = self.place;
+        if place == self.steps.len() {
             return Ok(None);
+        }
+        let Step::Undone(step) = self.steps.swap_remove(place) else {
+            unreachable!()
         };
         let Undone { number, command } = step;
         match command.apply(&mut self.state, number) {
             Ok(inverse) => {
-                self.done.push_reserved(Done { number, inverse });
+                let step = Done { number, inverse };
+                put_back(&mut self.steps, place, Step::Done(step));
+                self.place += 1;
                 Ok(Some(number))
             }
-            Err((back, _)) => {
-                self.undone.push_reserved(Undone {
-                    number,
-                    command: back,
-                });
+            Err((command, _)) => {
+                let step = Undone { number, command };
+                put_back(&mut self.steps, place, Step::Undone(step));
                 Err(NoMemory)
             }
         }
@@ -178,15 +189,14 @@ impl<C: Undoable> Steps<C> {
     }
 }
 
-// Room for one more done step, and for each of them undone.
-fn make_room<I, C>(done: &mut Vec<Done<I>>, undone: &mut Vec<Undone<C>>) -> Result<(), NoMemory>
-    ensures done { done.new.items ≡ done.old.items }
-    ensures undone { undone.new.items ≡ undone.old.items }
-    ensures done_kept { vec_capacity done.old ≤ vec_capacity done.new }
-    ensures undone_kept { vec_capacity undone.old ≤ vec_capacity undone.new }
-    ensures done_room { OnOk result (length done.new.items + 1 ≤ vec_capacity done.new) }
-    ensures undone_room { OnOk result (length done.new.items + 1 ≤ vec_capacity undone.new) }
+// Puts an item at the place where `swap_remove` took one out, and the one that stands there now back to the end.
+// No memory is taken.
+fn put_back<T>(items: &mut Vec<T>, place: usize, item: T)
+    requires within { place ≤ vec_len items.old }
+    requires room { vec_len items.old < vec_capacity items.old }
+    ensures { (before : List T) (taken : T) → place < length before → items.old.items ≡ swap_remove before place taken → items.new.items ≡ slice_set before place item }
 {
-    done.reserve(1)?;
-    undone.reserve(done.capacity())
+    let last = items.len();
+    items.push_reserved(item);
+    items.swap(place, last);
 }
