@@ -2,7 +2,7 @@
 use Rattle.std.proofs.Common.{◌≡◌, ℕ, ◌+◌, ◌<◌, ◌≤◌, true, false, List, length, set, Option, Some, None, refl, sym, ap, subst, ◌∙◌, arith, inl, inr, if◌then◌else◌}
 use Rattle.std.specs.Prelude.{◌==◌, Bool, Contains, IfSome}
 use Rattle.std.specs.Option.{option_and_then, option_map}
-use Rattle.std.proofs.lemmas.Bool.{cases_Bool, eqb-true, eqb-false}
+use Rattle.std.proofs.lemmas.Bool.{cases_Bool, eqb-true, eqb-false, false≢true}
 use Rattle.std.proofs.lemmas.Int.{ints}
 use Rattle.std.proofs.lemmas.List.{get_or-set_same, get_or-set_other, length-set}
 use Rattle.blot_types.specs.declared.TheConstants.{EVENTS_MAX}
@@ -14,13 +14,12 @@ use Rattle.blot_order.specs.declared.held.Held.{Held}
 use Rattle.blot_order.specs.declared.held.Held.TheVariants.{Kept, Put}
 use Rattle.blot_order.specs.Cells.{Tally, tally_at, tally_of, line_in, with_one_kept, without_one_kept, with_fill_put, with_fill_taken, Changes, ChangesWhere, CountsKept, CanPut, CanTake, HoldsOrders}
 use Rattle.blot_order.specs.Fills.{Fills, fill_put, fill_kept, fills_put}
-use Rattle.blot_order.specs.Numbers.{Rise}
 use Rattle.blot_order.specs.Slots.{held_by, slot_at, fills_in_slots, put_under, kept_under, puts, keeps, keeps_under, numbers_from, reaching}
 use Rattle.blot_order.specs.Totals.{Fits, AreSmall}
 use Rattle.blot_order.proofs.PlaceLemmas.{same_order-refl}
 use Rattle.blot_order.proofs.SlotLemmas.{slot_at-reaching, few-reaching, fills_put-held_by, slot_within}
 use Rattle.blot_order.proofs.SumLemmas.{within_slots}
-use Rattle.blot_order.proofs.TallyLemmas.{rise-numbers, listed-number, last_fill-is, count-few, count-some, tally-reaching, tally-kept, tally-put, tally-taken}
+use Rattle.blot_order.proofs.TallyLemmas.{slot-listed, listed-number, last_fill-is, count-few, count-some, tally-reaching, tally-kept, tally-put, tally-taken}
 
 -- one more fill that is kept, or none, leaves one
 still_one : (test : Bool) (tally : Tally) → 0 < tally.kept → 0 < (if test then with_one_kept tally else tally).kept
@@ -48,10 +47,6 @@ module _ (cells : List (OrderKey × Tally)) (slots : List (Option Held)) (are : 
         value_high = omega (arith, ints, value, within.value_high, are.few);
       }
 
-  -- the numbers of an order rise
-  rise : (order : OrderKey) → Rise (tally_at cells order).numbers
-  rise order = subst (λ (t : Tally). Rise t.numbers) (sym (are.tallies order)) (rise-numbers order 0 slots)
-
   -- no more fills are kept than there are slots
   pub few_kept : (order : OrderKey) → (tally_at cells order).kept ≤ EVENTS_MAX + 1
   few_kept order =
@@ -65,8 +60,18 @@ module _ (cells : List (OrderKey × Tally)) (slots : List (Option Held)) (are : 
       let one : keeps fill.order (slot_at slots n) ≡ true = ap (keeps fill.order) is ∙ same_order-refl fill.order in
       subst (λ (t : Tally). 0 < t.kept) (sym (are.tallies fill.order)) (count-some fill.order n slots (slot_within n slots (Kept fill) is) one)
 
-  pub can_put : (n : ℕ) (fill : Fill) → slot_at slots n ≡ Some (Kept fill) → CanPut (tally_at cells fill.order)
-  can_put n fill is = record { kept = has_kept n fill is; rise = rise fill.order; small = small fill.order }
+  -- and no number of its order is that of the fill
+  lists_none : (n : ℕ) (fill : Fill) → slot_at slots n ≡ Some (Kept fill) → ¬ (Contains (tally_at cells fill.order).numbers n)
+  lists_none n fill is there =
+      let found = slot-listed fill.order 0 slots n (subst (λ (t : Tally). Contains t.numbers n) (are.tallies fill.order) there) in
+      let at = found.1 in
+      let here : found.0 ≡ n = omega (arith, at) in
+      false≢true (sym (ap (puts fill.order) is) ∙ subst (λ k. puts fill.order (slot_at slots k) ≡ true) here found.2)
+
+  pub can_put : (n : ℕ) (fill : Fill) → slot_at slots n ≡ Some (Kept fill) → CanPut n (tally_at cells fill.order)
+  can_put n fill is =
+      let within = slot_within n slots (Kept fill) is in
+      record { kept = has_kept n fill is; within = omega (arith, within, are.few); unlisted = lists_none n fill is; small = small fill.order }
 
   -- where a fill is put, its order lists the number
   lists : (n : ℕ) (fill : Fill) → slot_at slots n ≡ Some (Put fill) → Contains (tally_at cells fill.order).numbers n
@@ -76,7 +81,7 @@ module _ (cells : List (OrderKey × Tally)) (slots : List (Option Held)) (are : 
       subst (λ (t : Tally). Contains t.numbers n) (sym (are.tallies fill.order)) (subst (Contains (numbers_from 0 fill.order slots)) here there)
 
   pub can_take : (n : ℕ) (fill : Fill) → slot_at slots n ≡ Some (Put fill) → CanTake n (tally_at cells fill.order)
-  can_take n fill is = record { listed = lists n fill is; rise = rise fill.order; small = small fill.order }
+  can_take n fill is = record { listed = lists n fill is; small = small fill.order }
 
   -- the line of an order, as it is read
   pub line-read :

@@ -1,6 +1,6 @@
 -- What the fills of an order in slots come to, when one slot changes.
 use Rattle.std.proofs.Common.{◌≡◌, ℕ, zero, suc, ◌+◌, ◌-◌, ◌<◌, ◌≤◌, pos, ◌+ℤ◌, ◌-ℤ◌, ◌*ℤ◌, Bool, true, false, List, [], ◌∷◌, ◌++◌, length, set, get_or, replicate, Option, Some, None, refl, sym, ap, subst, ◌∙◌, arith, inl, inr, if◌then◌else◌}
-use Rattle.std.specs.Prelude.{ℤ, Contains, nat_lt}
+use Rattle.std.specs.Prelude.{ℤ, Contains, nat_lt, ◌⊎◌}
 use Rattle.std.specs.List.{last_or}
 use Rattle.std.specs.Option.{option_and_then}
 use Rattle.std.proofs.lemmas.Bool.{cases_Bool, lt-ltb, le-ltb, eq-eqb, ne_eqb}
@@ -13,7 +13,7 @@ use Rattle.blot_order.specs.declared.held.Held.{Held}
 use Rattle.blot_order.specs.declared.held.Held.TheVariants.{Kept, Put}
 use Rattle.blot_order.specs.Cells.{Tally, tally_of, with_one_kept, without_one_kept, with_fill_put, with_fill_taken}
 use Rattle.blot_order.specs.Fills.{fill_put}
-use Rattle.blot_order.specs.Numbers.{Rise, with_number, without_number}
+use Rattle.blot_order.specs.Numbers.{with_number, without_number}
 use Rattle.blot_order.specs.Slots.{fills_in_slots, slot_at, is_of, put_under, puts, keeps, numbers_from, count_kept, reaching}
 use Rattle.blot_order.proofs.SlotLemmas.{fills_in_slots-reaching}
 use Rattle.blot_order.proofs.SumLemmas.{counted, sum_in, sum_in-set}
@@ -24,36 +24,12 @@ count passes = if passes then 1 else 0
 
 -- ---- the numbers of the fills that are put
 
--- a number and the rising ones above it
-rise-pair : (first : ℕ) (others : List ℕ) → ((k d : ℕ) → k < length others → first + 1 ≤ get_or others k d) → Rise others
-    → (i j d : ℕ) → i ≤ j → j < length (first ∷ others) → get_or (first ∷ others) i d ≤ get_or (first ∷ others) j d
-rise-pair first others low rise zero zero d le within = omega arith
-rise-pair first others low rise zero (suc j) d le within = let least = low j d (omega (arith, within)) in omega (arith, least)
-rise-pair first others low rise (suc i) zero d le within = absurd (omega (arith, le))
-rise-pair first others low rise (suc i) (suc j) d le within = rise i j d (omega (arith, le)) (omega (arith, within))
+-- one of some numbers is the first or a later one
+first-or-later : (first : ℕ) (others : List ℕ) (number k : ℕ) → k < length (first ∷ others) → get_or (first ∷ others) k number ≡ number → (first ≡ number) ⊎ Contains others number
+first-or-later first others number zero within at = inl at
+first-or-later first others number (suc k) within at = inr (k, omega (arith, within), at)
 
 module _ (order : OrderKey) where
-  -- those from a number on are no lower than it
-  low-first : (test : Bool) (first : ℕ) (others : List ℕ) → ((k d : ℕ) → k < length others → first + 1 ≤ get_or others k d)
-      → (k d : ℕ) → k < length (if test then first ∷ others else others) → first ≤ get_or (if test then first ∷ others else others) k d
-  low-first false first others low k d within = let least = low k d within in omega (arith, least)
-  low-first true first others low zero d within = omega arith
-  low-first true first others low (suc k) d within = let least = low k d (omega (arith, within)) in omega (arith, least)
-
-  low : (first : ℕ) (slots : List (Option Held)) (k d : ℕ) → k < length (numbers_from first order slots) → first ≤ get_or (numbers_from first order slots) k d
-  low first [] = λ k d within. absurd (omega (arith, within))
-  low first (slot ∷ slots) = low-first (puts order slot) first (numbers_from (first + 1) order slots) (low (first + 1) slots)
-
-  -- they rise
-  rise-first : (test : Bool) (first : ℕ) (others : List ℕ) → ((k d : ℕ) → k < length others → first + 1 ≤ get_or others k d) → Rise others
-      → Rise (if test then first ∷ others else others)
-  rise-first false first others low rise = rise
-  rise-first true first others low rise = λ i j d le within. rise-pair first others low rise i j d le within
-
-  pub rise-numbers : (first : ℕ) (slots : List (Option Held)) → Rise (numbers_from first order slots)
-  rise-numbers first [] = λ i j d le within. absurd (omega (arith, within))
-  rise-numbers first (slot ∷ slots) = rise-first (puts order slot) first (numbers_from (first + 1) order slots) (low (first + 1) slots) (rise-numbers (first + 1) slots)
-
   -- the number of a slot that puts a fill is among them
   listed-later : (test : Bool) (first : ℕ) (others : List ℕ) (number : ℕ) → Contains others number → Contains (if test then first ∷ others else others) number
   listed-later false first others number there = there
@@ -68,6 +44,24 @@ module _ (order : OrderKey) where
       let others = numbers_from (first + 1) order slots in
       let next : (first + 1) + n ≡ first + suc n = omega arith in
       listed-later (puts order slot) first others (first + suc n) (subst (Contains others) next (listed-number (first + 1) n slots put))
+
+  -- a number that is among them is that of a slot that puts a fill
+  pub slot-listed : (first : ℕ) (slots : List (Option Held)) (number : ℕ) → Contains (numbers_from first order slots) number
+      → (n : ℕ) × (first + n ≡ number) × (puts order (slot_at slots n) ≡ true)
+  slot-listed first [] number there = absurd (omega (arith, there.1))
+  slot-listed first (slot ∷ slots) number there =
+      let others = numbers_from (first + 1) order slots in
+      let next : Contains others number → (n : ℕ) × (first + n ≡ number) × (puts order (slot_at (slot ∷ slots) n) ≡ true) =
+      λ later. (let found = slot-listed (first + 1) slots number later in let at = found.1 in (suc found.0, omega (arith, at), found.2)) in
+      elim (cases_Bool (puts order slot)) [
+        | inl put ↦
+            let among : Contains (first ∷ others) number = subst (λ t. Contains (if t then first ∷ others else others) number) put there in
+            elim (first-or-later first others number among.0 among.1 among.2) [
+              | inl here ↦ (0, omega (arith, here), put)
+              | inr later ↦ next later
+            ]
+        | inr other ↦ next (subst (λ t. Contains (if t then first ∷ others else others) number) other there)
+      ]
 
   -- one slot changed, which puts a fill of the order as little or as much as before
   numbers-same :

@@ -11,7 +11,7 @@ use Rattle.blot_types.specs.Keys.{same_order}
 use Rattle.blot_types.specs.Order.{fills_of, cum_of, value_of}
 use Rattle.blot_order.specs.declared.held.Held.{Held}
 use Rattle.blot_order.specs.declared.totals.Totals.{Totals}
-use Rattle.blot_order.specs.Numbers.{Rise, with_number, without_number}
+use Rattle.blot_order.specs.Numbers.{with_number, without_number}
 use Rattle.blot_order.specs.Slots.{Placed, held_in_slots, placed_at, fills_in_slots, put_under, numbers_from, count_kept}
 use Rattle.blot_order.specs.Totals.{no_fills, with_one, without_one, line_with, Fits, AreSmall}
 
@@ -51,16 +51,16 @@ with_fill_taken number fill tally = record { totals = without_one fill tally.tot
 abbrev pub line_in : List (Option Held) → Tally → Option OrderLine
 line_in slots tally = option_map (line_with tally.totals) (option_and_then (put_under slots) (last_or None tally.numbers))
 
--- a fill that is kept can be put: one is counted, the numbers rise, and the sums are small
-pub record CanPut (tally : Tally) : Type 0 where
+-- a fill that is kept can be put: one is counted, its number is within the range and not listed, and the sums are small
+pub record CanPut (number : ℕ) (tally : Tally) : Type 0 where
   pub kept : 0 < tally.kept
-  pub rise : Rise tally.numbers
+  pub within : number ≤ EVENTS_MAX
+  pub unlisted : ¬ (Contains tally.numbers number)
   pub small : AreSmall tally.totals
 
--- a fill that is put can be taken: its number is listed, the numbers rise, and the sums are small
+-- a fill that is put can be taken: its number is listed, and the sums are small
 pub record CanTake (number : ℕ) (tally : Tally) : Type 0 where
   pub listed : Contains tally.numbers number
-  pub rise : Rise tally.numbers
   pub small : AreSmall tally.totals
 
 -- the tally of an order in its cell; without a cell that of no fills
@@ -92,7 +92,7 @@ abbrev pub CountsKept : List (OrderKey × Tally) → Option Fill → Type 0
 CountsKept cells kept = IfSome kept (λ fill. 0 < (tally_at cells fill.order).kept)
 
 -- The cells are those of the fills in slots: the cell of each order has the sums of its fills that are put, their numbers, and the
--- count of those that are kept, for which it has room (that is the invariant of `Cell`). What is put is small, and there are few
+-- count of those that are kept, for which it has room (that is the invariant of `Numbers`). What is put is small, and there are few
 -- slots, so no sum is large.
 pub record HoldsOrders (cells : List (OrderKey × Tally)) (slots : List (Option Held)) : Type 0 where
   pub few : length slots ≤ EVENTS_MAX + 1

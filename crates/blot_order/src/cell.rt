@@ -6,31 +6,26 @@ ghost use Rattle.blot_order.specs.Slots.{held_in_slots};
 ghost use Rattle.blot_order.specs.Totals.{Fits};
 
 use crate::held::HeldFill;
-use crate::numbers::{insert_number, remove_number};
+use crate::numbers::Numbers;
 use crate::slots::put_at;
 use crate::totals::Totals;
 use blot_types::OrderLine;
 use std::alloc::{AllocError as NoMemory, Global};
 use std::marker::Model;
 
-/// What the fills of an order come to: the sums of those that are put, their numbers, rising, and how many are
-/// kept. There is room for the number of each that is kept.
+/// What the fills of an order come to: the sums of those that are put, their numbers, rising, and how many are kept.
 #[derive(Drop)]
 pub(crate) struct Cell {
     totals: Totals,
-    numbers: Vec<u64>,
-    kept: usize,
+    numbers: Numbers,
 }
 
 impl Model for Cell {
-    ghost use Rattle.std.specs.Prelude.{◌+◌, ◌≤◌, length, vec_capacity};
     ghost use Rattle.blot_order.specs.Cells.{Tally};
 
     ghost Value = { Tally };
 
-    ghost view = { λ cell. record { totals = cell.totals; numbers = cell.numbers.items; kept = cell.kept } };
-
-    ghost invariant = { λ cell. length cell.numbers.items + cell.kept ≤ vec_capacity cell.numbers };
+    ghost view = { λ cell. record { totals = cell.totals; numbers = cell.numbers.put; kept = cell.numbers.kept } };
 }
 
 impl Cell {
@@ -40,8 +35,7 @@ impl Cell {
     {
         Cell {
             totals: Totals::none(),
-            numbers: Vec::new(alloc),
-            kept: 0,
+            numbers: Numbers::new(alloc),
         }
     }
 
@@ -51,9 +45,7 @@ impl Cell {
         ensures ok { OnOk result (self.new ≡ with_one_kept self.old) }
         ensures err { OnErr result (self.new ≡ self.old) }
     {
-        self.numbers.reserve(self.kept + 1)?;
-        self.kept += 1;
-        Ok(())
+        self.numbers.add_kept()
     }
 
     /// Counts one fill less that is kept.
@@ -61,18 +53,17 @@ impl Cell {
         requires { 0 < self.old.kept }
         ensures { self.new ≡ without_one_kept self.old }
     {
-        self.kept -= 1;
+        self.numbers.sub_kept();
     }
 
     /// Puts a fill that is kept under its number. It needs no memory.
     pub(crate) fn put(&mut self, number: u64, held: &HeldFill)
-        requires { CanPut self.old }
+        requires { CanPut number self.old }
         ensures tally { self.new ≡ with_fill_put number held.now.fill self.old }
         ensures fits { Fits held.now.fill }
     {
         self.totals = self.totals.with_one(held);
-        insert_number(&mut self.numbers, number);
-        self.kept -= 1;
+        self.numbers.put(number);
     }
 
     /// Takes a fill that is put under a number, and keeps it. It needs no memory.
@@ -81,8 +72,7 @@ impl Cell {
         ensures { self.new ≡ with_fill_taken number held.now.fill self.old }
     {
         self.totals = self.totals.without_one(held);
-        remove_number(&mut self.numbers, number);
-        self.kept += 1;
+        self.numbers.take(number);
     }
 
     /// The line of the order; none where no fill is put.
@@ -90,7 +80,7 @@ impl Cell {
         requires { pos 0 ≤ℤ self.now.totals.cum }
         ensures { result ≡ line_in (held_in_slots slots.now) self.now }
     {
-        match put_at(slots, self.numbers.last().copied()) {
+        match put_at(slots, self.numbers.last()) {
             Some(last) => Some(self.totals.line_with(last)),
             None => None,
         }

@@ -69,7 +69,7 @@ pub(crate) fn sub_kept(cells: &mut Cells, held: &HeldFill)
 /// Puts a fill that is kept under its number, in the cell of its order.
 pub(crate) fn put_fill(cells: &mut Cells, number: u64, held: &HeldFill)
     requires placed { IsPlaced cells.old.entries held.now }
-    requires can { CanPut (tally_at cells.old.entries held.now.fill.order) }
+    requires can { CanPut number (tally_at cells.old.entries held.now.fill.order) }
     ensures tallies { Changes held.now.fill.order (with_fill_put number held.now.fill) cells.old.entries cells.new.entries }
     ensures fits { Fits held.now.fill }
     ensures places { KeepsPlaces cells.old.entries cells.new.entries }

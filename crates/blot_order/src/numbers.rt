@@ -1,54 +1,210 @@
-//! Numbers that rise.
-ghost use Rattle.std.specs.Prelude.{◌≡◌, ◌+◌, ◌<◌, ◌≤◌, length, vec_capacity, Contains, IsTrue};
-ghost use Rattle.blot_order.specs.Numbers.{AreBelow, NoneBelow, Rise, with_number, without_number};
+//! The numbers of the fills of an order.
+ghost use Rattle.std.specs.Prelude.{◌≡◌, ℕ, ◌+◌, ◌-◌, ◌<◌, ◌≤◌, [], true, length, take, vec_capacity, Contains, OnOk, OnErr, MatchResult, None};
+ghost use Rattle.std.specs.Bool.{OnTrue, OnFalse};
+ghost use Rattle.std.specs.List.{last_or};
+ghost use Rattle.blot_types.specs.declared.TheConstants.{EVENTS_MAX};
+ghost use Rattle.blot_order.specs.Numbers.{numbers_put, with_number, without_number, ends_put, AreListed, BelongsAt, IsUnlisted, RiseFrom, StandsAt};
 
-/// Puts a number in its place among others, where there is room for it.
-pub(crate) fn insert_number(numbers: &mut Vec<u64>, number: u64)
-    requires rise { Rise numbers.old.items }
-    requires room { length numbers.old.items < vec_capacity numbers.old }
-    ensures items { numbers.new.items ≡ with_number number numbers.old.items }
-    ensures length { length numbers.new.items ≡ length numbers.old.items + 1 }
-    ensures capacity { vec_capacity numbers.old ≤ vec_capacity numbers.new }
+use std::alloc::{AllocError as NoMemory, Global};
+use std::marker::Model;
+
+/// The numbers of the fills of an order that are put, rising, and how many of its fills are kept. There is room for the number
+/// of each that is kept.
+#[derive(Drop)]
+pub(crate) struct Numbers {
+    listed: Vec<Listed>,
+    kept: usize,
+}
+
+/// An entry: a number, and whether its fill is put. A number that is taken stays listed, and only loses its mark, so that those
+/// behind it aren't moved; it leaves the list once none behind it is put.
+#[derive(Clone, Copy)]
+pub(crate) struct Listed {
+    number: u32,
+    is_put: bool,
+}
+
+impl Model for Numbers {
+    ghost use Rattle.std.specs.Prelude.{◌+◌, ◌≤◌, length, vec_capacity};
+    ghost use Rattle.blot_order.specs.Numbers.{PutAndKept, numbers_put, AreListed};
+
+    ghost Value = { PutAndKept };
+
+    ghost view = { λ numbers. record { put = numbers_put numbers.listed.items; kept = numbers.kept } };
+
+    ghost invariant = { λ numbers. AreListed numbers.listed.items × (length (numbers_put numbers.listed.items) + numbers.kept ≤ vec_capacity numbers.listed) };
+}
+
+impl Numbers {
+    /// No number, and no fill that is kept. No memory is taken.
+    pub(crate) fn new(alloc: Global) -> Numbers
+        ensures { result ≡ record { put = []; kept = 0 } }
+    {
+        Numbers {
+            listed: Vec::new(alloc),
+            kept: 0,
+        }
+    }
+
+    /// Counts one more fill that is kept, with room for its number. An error leaves all as it was.
+    pub(crate) fn add_kept(&mut self) -> Result<(), NoMemory>
+        requires { self.old.kept ≤ EVENTS_MAX + 1 }
+        ensures ok { OnOk result (self.new ≡ record self.old { kept = self.old.kept + 1 }) }
+        ensures err { OnErr result (self.new ≡ self.old) }
+    {
+        self.listed.reserve(self.kept + 1)?;
+        self.kept += 1;
+        Ok(())
+    }
+
+    /// Counts one fill less that is kept.
+    pub(crate) fn sub_kept(&mut self)
+        requires { 0 < self.old.kept }
+        ensures { self.new ≡ record self.old { kept = self.old.kept - 1 } }
+    {
+        self.kept -= 1;
+    }
+
+    /// Puts the number of a fill that is kept. It needs no memory.
+    pub(crate) fn put(&mut self, number: u64)
+        requires kept { 0 < self.old.kept }
+        requires within { number ≤ EVENTS_MAX }
+        requires unput { ¬ (Contains self.old.put number) }
+        ensures { self.new ≡ record { put = with_number number self.old.put; kept = self.old.kept - 1 } }
+    {
+        put_number(&mut self.listed, number);
+        self.kept -= 1;
+    }
+
+    /// Takes a number that is put. Its fill is kept then. It needs no memory.
+    pub(crate) fn take(&mut self, number: u64)
+        requires { Contains self.old.put number }
+        ensures { self.new ≡ record { put = without_number number self.old.put; kept = self.old.kept + 1 } }
+    {
+        take_number(&mut self.listed, number);
+        self.kept += 1;
+    }
+
+    /// The last number that is put.
+    pub(crate) fn last(&self) -> Option<u64>
+        ensures { result ≡ last_or None self.now.put }
+    {
+        match self.listed.last() {
+            Some(entry) => Some(u64::from(entry.number)),
+            None => None,
+        }
+    }
+}
+
+// Puts a number, where it is listed already by its mark alone.
+fn put_number(listed: &mut Vec<Listed>, number: u64)
+    requires listed { AreListed listed.old.items }
+    requires within { number ≤ EVENTS_MAX }
+    requires unput { ¬ (Contains (numbers_put listed.old.items) number) }
+    requires room { length (numbers_put listed.old.items) < vec_capacity listed.old }
+    ensures listed { AreListed listed.new.items }
+    ensures put { numbers_put listed.new.items ≡ with_number number (numbers_put listed.old.items) }
+    ensures capacity { vec_capacity listed.old ≤ vec_capacity listed.new }
 {
-    let place = place_of(numbers, number);
-    let Ok(()) = numbers.insert(place, number) else {
+    if mark_put(listed, number) {
+        return;
+    }
+    make_room(listed);
+    insert_put(listed, number);
+}
+
+// Marks a number as put, if it is listed, and tells whether it is.
+fn mark_put(listed: &mut [Listed], number: u64) -> bool
+    requires listed { AreListed listed.old }
+    requires unput { ¬ (Contains (numbers_put listed.old) number) }
+    ensures listed { AreListed listed.new }
+    ensures put { OnTrue result (numbers_put listed.new ≡ with_number number (numbers_put listed.old)) }
+    ensures same { OnFalse result (listed.new ≡ listed.old) }
+    ensures unlisted { OnFalse result (IsUnlisted number listed.new) }
+{
+    let Ok(place) = find(listed, number) else {
+        return false;
+    };
+    listed[place].is_put = true;
+    true
+}
+
+// Makes room for one more entry, of those that aren't put.
+fn make_room(listed: &mut Vec<Listed>)
+    requires listed { AreListed listed.old.items }
+    requires room { length (numbers_put listed.old.items) < vec_capacity listed.old }
+    ensures listed { AreListed listed.new.items }
+    ensures put { numbers_put listed.new.items ≡ numbers_put listed.old.items }
+    ensures unlisted { (number : ℕ) → IsUnlisted number listed.old.items → IsUnlisted number listed.new.items }
+    ensures room { length listed.new.items < vec_capacity listed.new }
+    ensures capacity { vec_capacity listed.new ≡ vec_capacity listed.old }
+{
+    if listed.len() == listed.capacity() {
+        listed.retain(|entry| entry.is_put);
+    }
+}
+
+// Lists a number that isn't listed as put, where there is room for it.
+fn insert_put(listed: &mut Vec<Listed>, number: u64)
+    requires listed { AreListed listed.old.items }
+    requires within { number ≤ EVENTS_MAX }
+    requires unlisted { IsUnlisted number listed.old.items }
+    requires room { length listed.old.items < vec_capacity listed.old }
+    ensures listed { AreListed listed.new.items }
+    ensures put { numbers_put listed.new.items ≡ with_number number (numbers_put listed.old.items) }
+    ensures capacity { vec_capacity listed.old ≤ vec_capacity listed.new }
+{
+    let Err(place) = find(listed, number) else {
+        unreachable!()
+    };
+    let entry = Listed {
+        number: number as u32,
+        is_put: true,
+    };
+    let Ok(()) = listed.insert(place, entry) else {
         unreachable!()
     };
 }
 
-/// Takes a number from its place among others.
-pub(crate) fn remove_number(numbers: &mut Vec<u64>, number: u64)
-    requires rise { Rise numbers.old.items }
-    requires listed { Contains numbers.old.items number }
-    ensures items { numbers.new.items ≡ without_number number numbers.old.items }
-    ensures length { length numbers.new.items + 1 ≡ length numbers.old.items }
-    ensures capacity { vec_capacity numbers.old ≤ vec_capacity numbers.new }
+// Takes a number that is put: its entry loses its mark, and those at the end that aren't put are dropped.
+fn take_number(listed: &mut Vec<Listed>, number: u64)
+    requires listed { AreListed listed.old.items }
+    requires put { Contains (numbers_put listed.old.items) number }
+    ensures listed { AreListed listed.new.items }
+    ensures taken { numbers_put listed.new.items ≡ without_number number (numbers_put listed.old.items) }
+    ensures capacity { vec_capacity listed.new ≡ vec_capacity listed.old }
 {
-    let place = place_of(numbers, number);
-    numbers.remove(place);
+    let Ok(place) = find(listed, number) else {
+        unreachable!()
+    };
+    listed[place].is_put = false;
+    let end = end_of_put(listed);
+    listed.truncate(end);
 }
 
-/// The first place at which a number isn't below this one.
-fn place_of(numbers: &[u64], number: u64) -> usize
-    requires { Rise numbers.now }
-    ensures within { result ≤ length numbers.now }
-    ensures below { AreBelow number result numbers.now }
-    ensures above { NoneBelow number result numbers.now }
+// Where the entries end once those at the end that aren't put are dropped.
+fn end_of_put(listed: &[Listed]) -> usize
+    ensures within { result ≤ length listed.now }
+    ensures same { numbers_put (take result listed.now) ≡ numbers_put listed.now }
+    ensures last { ends_put true (take result listed.now) ≡ true }
+{
+    let mut end = listed.len();
+    while end > 0 && !listed[end - 1].is_put {
+        end -= 1;
+    }
+    end
+}
+
+// The place of a number in entries whose numbers rise, or the one where it belongs.
+fn find(listed: &[Listed], number: u64) -> Result<usize, usize>
+    requires { RiseFrom 0 listed.now }
+    ensures { MatchResult result (StandsAt number listed.now) (BelongsAt number listed.now) }
 {
     // Mostly the number is above all others, which the last one tells.
-    if is_above_last(numbers, number) {
-        return numbers.len();
-    }
-    numbers.partition_point(|other| *other < number)
-}
-
-// Whether the last number is below this one.
-fn is_above_last(numbers: &[u64], number: u64) -> bool
-    requires { Rise numbers.now }
-    ensures { IsTrue result → AreBelow number (length numbers.now) numbers.now }
-{
-    match numbers.last() {
-        Some(last) => *last < number,
-        None => false,
+    match listed.last() {
+        Some(last) if number <= u64::from(last.number) => {
+            listed.binary_search_by_key(&number, |entry| u64::from(entry.number))
+        }
+        _ => Err(listed.len()),
     }
 }

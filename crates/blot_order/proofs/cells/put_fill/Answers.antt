@@ -7,7 +7,7 @@ pub put-requires : goal.put-requires
 put-requires c =
     let cells = c.args.cells.now in
     let there = ap (order_at cells.entries) c.place.ensures ∙ c.requires.placed in
-    subst CanPut
+    subst (CanPut c.args.number)
     (sym (tally-there cells c.get_index_mut.ensures.unique c.args.held.now.fill.order c.place.result there c.in-Some.cell.now c.in-Some.ensures.value)) c.requires.can
 
 pub unreachable-requires : goal.unreachable-requires

@@ -28,7 +28,7 @@ put_fill-requires-clause-can c =
     let now = placed_as true kept.0 kept.1 in
     let put = slot-marked slots n was true _ _ kept.2 c.index_mut.ensures.value c.mark.ensures in
     let same = found-marked slots _ n was now _ _ kept.2 put c.deref.ensures.value c.in-Some.ensures in
-    subst (λ (placed : Placed). CanPut (tally_at c.args.cells.now.entries placed.fill.order)) (sym same)
+    subst (λ (placed : Placed). CanPut n (tally_at c.args.cells.now.entries placed.fill.order)) (sym same)
     (can_put c.args.cells.now.entries (held_in_slots slots) c.requires.holds.orders n kept.0 (held-placed n slots was kept.2))
 
 pub returns-clause-holds : goal.returns-clause-holds
