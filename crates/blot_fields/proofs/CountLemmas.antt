@@ -8,9 +8,9 @@ use Rattle.std.proofs.lemmas.List.Sums.{length-filter}
 use Rattle.std.specs.List.{list_any, position_or_len}
 use Rattle.blot_tag.specs.Fields.{TagValue}
 use Rattle.blot_tag.specs.Results.{◌>>=◌}
-use Rattle.blot_types.specs.declared.allocation.Line.{Line}
 use Rattle.blot_types.specs.Making.{Made, Makes, IsShort}
 use Rattle.blot_types.proofs.MakingLemmas.{makes_short}
+use Rattle.blot_fields.specs.declared.allocation.AllocationLine.{AllocationLine}
 use Rattle.blot_fields.specs.declared.allocation.TheConstants.{ENTRIES_MAX}
 use Rattle.blot_fields.specs.declared.fault.Wrong.{Wrong}
 use Rattle.blot_fields.specs.Forms.{text_form}
@@ -33,7 +33,7 @@ ids-length (value ∷ values) ids is =
     let others = bound (ids_of values) (λ ids. Ok (first.0 ∷ ids)) ids first.2 in
     ap length (sym (given_same (first.0 ∷ others.0) ids others.2)) ∙ ap suc (ids-length values others.0 others.1)
 
-lines-length : (average : Option ℤ) (groups : List (List TagValue)) (lines : List Line) → each_line_of average groups ≡ Ok lines → length lines ≡ length groups
+lines-length : (average : Option ℤ) (groups : List (List TagValue)) (lines : List AllocationLine) → each_line_of average groups ≡ Ok lines → length lines ≡ length groups
 unfolding each_line_of
 lines-length average [] lines is = ap length (sym (given_same [] lines is))
 lines-length average (group ∷ groups) lines is =
@@ -81,7 +81,7 @@ executions_short count fields result low are makes =
     omega (arith, as_long)) makes
 
 -- so are the lines
-pub lines_short : (count : ℕ) (average : Option ℤ) (fields : List TagValue) (result : Result (Made Line) Wrong)
+pub lines_short : (count : ℕ) (average : Option ℤ) (fields : List TagValue) (result : Result (Made AllocationLine) Wrong)
     → count ≤ ENTRIES_MAX → are_lines count fields ≡ true → Makes result (each_line_of average (lines_in (behind 78 fields))) → IfOk result IsShort
 lines_short count average fields result low are makes =
     let first = and-left (count_of 79 fields == count) (not (list_any is_of_line (before 78 fields)))

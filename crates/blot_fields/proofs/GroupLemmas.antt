@@ -7,7 +7,7 @@ use Rattle.std.specs.List.{list_any}
 use Rattle.blot_tag.specs.Bytes.{is_number, number_of}
 use Rattle.blot_tag.specs.Fields.{TagValue}
 use Rattle.blot_tag.specs.Results.{◌>>=◌}
-use Rattle.blot_types.specs.declared.allocation.Line.{Line}
+use Rattle.blot_fields.specs.declared.allocation.AllocationLine.{AllocationLine}
 use Rattle.blot_fields.specs.declared.fault.Flaw.{Flaw}
 use Rattle.blot_fields.specs.declared.fault.Flaw.TheVariants.{RequiredTagMissing, ValueIncorrect, IncorrectDataFormat, IncorrectGroupCount}
 use Rattle.blot_fields.specs.declared.fault.Wrong.{Wrong}
@@ -104,7 +104,7 @@ never : {A B : Type 0} (read : Result A Wrong) (next : A → Result B Wrong) (fo
 never read next found is well = step read next found None is well ∙ option_or-none found
 
 -- a line's price, its own or the average
-line-priced : (average own : Option ℤ) (line : List TagValue) (done : ℤ → Line)
+line-priced : (average own : Option ℤ) (line : List TagValue) (done : ℤ → AllocationLine)
     → (is_none average ≡ true → lacks_price line ≡ false) → optional 366 price_form line ≡ Ok own
     → result_err (ok_or (option_or own average) (wrong 366 RequiredTagMissing) >>= λ price. Ok (done price)) ≡ None
 line-priced average (Some price) line done priced is = refl
@@ -120,7 +120,7 @@ line-rows average line priced =
     (λ account is. step (needed 80 qty_form line) _ (needs 80 qty_form line) _ (needs-row 80 qty_form line)
     (λ qty is. never (optional 366 price_form line) _ (may_have 366 price_form line) (may_have-row 366 price_form line)
     (λ own is.
-    let done : ℤ → Line = λ price. record { account = account; qty = qty; price = price } in
+    let done : ℤ → AllocationLine = λ price. record { account = account; qty = qty; price = price } in
     line-priced average own line done priced is)))
 
 -- the rows of each line
@@ -176,7 +176,7 @@ lines-rows fields average is_average =
     by_group false = refl
 
 -- both groups, one after the other
-pub groups-rows : {A : Type 0} (fields : List TagValue) (average : Option ℤ) (done : List (List ℕ) → List Line → A) → average_of fields ≡ Ok average
+pub groups-rows : {A : Type 0} (fields : List TagValue) (average : Option ℤ) (done : List (List ℕ) → List AllocationLine → A) → average_of fields ≡ Ok average
     → result_err (executions_of fields >>= λ executions. lines_of average fields >>= λ lines. Ok (done executions lines)) ≡ first_fault fields (execution_group fields ++ line_group fields)
 groups-rows fields average done is =
     step (executions_of fields) (λ executions. lines_of average fields >>= λ lines. Ok (done executions lines)) (first_fault fields (execution_group fields)) (first_fault fields (line_group fields)) (executions-rows fields)

@@ -6,9 +6,9 @@ use Rattle.std.specs.Option.{option_map}
 use Rattle.std.specs.List.{prefix_len}
 use Rattle.blot_tag.specs.Fields.{TagValue}
 use Rattle.blot_tag.specs.Results.{◌>>=◌}
-use Rattle.blot_types.specs.declared.allocation.Line.{Line}
 use Rattle.blot_types.specs.Making.{Made, Makes}
 use Rattle.blot_types.proofs.MakingLemmas.{with_first, IsFront, front_grows, front_faults, front_ends}
+use Rattle.blot_fields.specs.declared.allocation.AllocationLine.{AllocationLine}
 use Rattle.blot_fields.specs.declared.fault.Flaw.{Flaw}
 use Rattle.blot_fields.specs.declared.fault.Wrong.{Wrong}
 use Rattle.blot_fields.specs.Drafts.{Draft, line_from, with_field, begun, Pushes, NextLine}
@@ -28,17 +28,17 @@ known draft later = record {
 }
 
 -- a line before the others
-abbrev pub with_line : Result Line Wrong → Result (List Line) Wrong → Result (List Line) Wrong
+abbrev pub with_line : Result AllocationLine Wrong → Result (List AllocationLine) Wrong → Result (List AllocationLine) Wrong
 with_line (Ok line) others = with_first line others
 with_line (Err wrong) others = Err wrong
 
 -- the open line before the others, where no field of it is to come
-abbrev pub with_open : Option ℤ → Option Draft → Result (List Line) Wrong → Result (List Line) Wrong
+abbrev pub with_open : Option ℤ → Option Draft → Result (List AllocationLine) Wrong → Result (List AllocationLine) Wrong
 with_open average None others = others
 with_open average (Some draft) others = with_line (line_from average draft) others
 
 -- the lines to come, of which one may be open
-abbrev pub resumed : Option ℤ → Option Draft → List TagValue → Result (List Line) Wrong
+abbrev pub resumed : Option ℤ → Option Draft → List TagValue → Result (List AllocationLine) Wrong
 resumed average None rest = each_line_of average (lines_in rest)
 resumed average (Some draft) rest = with_line (line_from average (known draft (before 79 rest))) (each_line_of average (lines_in rest))
 
@@ -114,7 +114,7 @@ each_line_of-cons : (average : Option ℤ) (line : List TagValue) (lines : List 
 unfolding each_line_of
 each_line_of-cons average line lines = by_line (line_of average line) (each_line_of average lines)
   where
-    by_line : (first : Result Line Wrong) (others : Result (List Line) Wrong)
+    by_line : (first : Result AllocationLine Wrong) (others : Result (List AllocationLine) Wrong)
         → (first >>= λ line. others >>= λ lines. Ok (line ∷ lines)) ≡ with_line first others
     by_line (Ok line) (Ok lines) = refl
     by_line (Ok line) (Err wrong) = refl
@@ -151,27 +151,27 @@ resumed-nil average None = refl
 resumed-nil average (Some draft) = ap (λ whole. with_line (line_from average whole) (Ok [])) (known-nil draft)
 
 -- the lines so far, the open one and those to come are what is meant
-abbrev pub LinesFront : Option ℤ → Made Line → Option Draft → List TagValue → Result (List Line) Wrong → Type 0
+abbrev pub LinesFront : Option ℤ → Made AllocationLine → Option Draft → List TagValue → Result (List AllocationLine) Wrong → Type 0
 LinesFront average lines line fields meant = IsFront lines (resumed average line fields) meant
 
-pub pushed_front : (average : Option ℤ) (line : Option Draft) (old new : Made Line) (rest meant : Result (List Line) Wrong)
+pub pushed_front : (average : Option ℤ) (line : Option Draft) (old new : Made AllocationLine) (rest meant : Result (List AllocationLine) Wrong)
     → Pushes average line old (Ok tt) new → IsFront old (with_open average line rest) meant → IsFront new rest meant
 pushed_front average None old new rest meant pushes front =
-    let P : Made Line → Type 0 = λ lines. IsFront lines rest meant in
+    let P : Made AllocationLine → Type 0 = λ lines. IsFront lines rest meant in
     subst P (sym pushes.1) front
 pushed_front average (Some draft) old new rest meant pushes front =
-    let P : Result Line Wrong → Type 0 = λ line. IsFront old (with_line line rest) meant in
+    let P : Result AllocationLine Wrong → Type 0 = λ line. IsFront old (with_line line rest) meant in
     front_grows pushes.0 old new rest meant pushes.2 (subst P pushes.1 front)
 
-pub pushed_fault : (average : Option ℤ) (line : Option Draft) (old new : Made Line) (rest meant : Result (List Line) Wrong) (wrong : Wrong)
+pub pushed_fault : (average : Option ℤ) (line : Option Draft) (old new : Made AllocationLine) (rest meant : Result (List AllocationLine) Wrong) (wrong : Wrong)
     → Pushes average line old (Err wrong) new → IsFront old (with_open average line rest) meant → meant ≡ Err wrong
 pushed_fault average None old new rest meant wrong pushes front = absurd (let no = pushes.0 in cc)
 pushed_fault average (Some draft) old new rest meant wrong pushes front =
-    let P : Result Line Wrong → Type 0 = λ line. IsFront old (with_line line rest) meant in
+    let P : Result AllocationLine Wrong → Type 0 = λ line. IsFront old (with_line line rest) meant in
     front_faults old wrong meant (subst P pushes front)
 
 -- one more field, without a fault
-pub next_front : (average : Option ℤ) (line next : Option Draft) (field : TagValue) (all later : List TagValue) (old new : Made Line) (meant : Result (List Line) Wrong)
+pub next_front : (average : Option ℤ) (line next : Option Draft) (field : TagValue) (all later : List TagValue) (old new : Made AllocationLine) (meant : Result (List AllocationLine) Wrong)
     → all ≡ field ∷ later → NextLine average line field old (Ok next) new → LinesFront average old line all meant → LinesFront average new next later meant
 next_front average line next field all later old new meant is came front =
     let P : List TagValue → Type 0 = λ fields. LinesFront average old line fields meant in
@@ -181,36 +181,36 @@ next_front average line next field all later old new meant is came front =
         → MatchBool begins (Pushes average line old (Ok tt) new × (next ≡ Some (begun field.value))) ((next ≡ option_map (λ draft. with_field draft field) line) × (new ≡ old))
         → LinesFront average old line (field ∷ later) meant → LinesFront average new next later meant
     by_tag true is came front =
-        let Q : Result (List Line) Wrong → Type 0 = λ rest. IsFront old rest meant in
+        let Q : Result (List AllocationLine) Wrong → Type 0 = λ rest. IsFront old rest meant in
         let pushed = pushed_front average line old new (resumed average (Some (begun field.value)) later) meant came.0 (subst Q (resumed-begins average line field later is) front) in
         let R : Option Draft → Type 0 = λ begun. LinesFront average new begun later meant in
         subst R (sym came.1) pushed
     by_tag false is came front =
-        let Q : Result (List Line) Wrong → Type 0 = λ rest. IsFront old rest meant in
+        let Q : Result (List AllocationLine) Wrong → Type 0 = λ rest. IsFront old rest meant in
         let R : Option Draft → Type 0 = λ begun. LinesFront average old begun later meant in
-        let S : Made Line → Type 0 = λ lines. LinesFront average lines next later meant in
+        let S : Made AllocationLine → Type 0 = λ lines. LinesFront average lines next later meant in
         subst S (sym came.1) (subst R (sym came.0) (subst Q (resumed-goes_on average line field later is) front))
 
 -- one more field, which ends a line at fault
-pub next_fault : (average : Option ℤ) (line : Option Draft) (field : TagValue) (all later : List TagValue) (old new : Made Line) (wrong : Wrong) (meant : Result (List Line) Wrong)
+pub next_fault : (average : Option ℤ) (line : Option Draft) (field : TagValue) (all later : List TagValue) (old new : Made AllocationLine) (wrong : Wrong) (meant : Result (List AllocationLine) Wrong)
     → all ≡ field ∷ later → NextLine average line field old (Err wrong) new → LinesFront average old line all meant → meant ≡ Err wrong
 next_fault average line field all later old new wrong meant is came front =
     let P : List TagValue → Type 0 = λ fields. LinesFront average old line fields meant in
-    let Q : Result (List Line) Wrong → Type 0 = λ rest. IsFront old rest meant in
+    let Q : Result (List AllocationLine) Wrong → Type 0 = λ rest. IsFront old rest meant in
     pushed_fault average line old new (resumed average (Some (begun field.value)) later) meant wrong came.1
     (subst Q (resumed-begins average line field later (eq-eqb field.tag 79 came.0)) (subst P is front))
 
 -- no more field
-pub end_front : (average : Option ℤ) (line : Option Draft) (all : List TagValue) (old new : Made Line) (meant : Result (List Line) Wrong)
+pub end_front : (average : Option ℤ) (line : Option Draft) (all : List TagValue) (old new : Made AllocationLine) (meant : Result (List AllocationLine) Wrong)
     → all ≡ [] → Pushes average line old (Ok tt) new → LinesFront average old line all meant → Makes (Ok new) meant
 end_front average line all old new meant is pushes front =
     let P : List TagValue → Type 0 = λ fields. LinesFront average old line fields meant in
-    let Q : Result (List Line) Wrong → Type 0 = λ rest. IsFront old rest meant in
+    let Q : Result (List AllocationLine) Wrong → Type 0 = λ rest. IsFront old rest meant in
     front_ends new meant (pushed_front average line old new (Ok []) meant pushes (subst Q (resumed-nil average line) (subst P is front)))
 
-pub end_fault : (average : Option ℤ) (line : Option Draft) (all : List TagValue) (old new : Made Line) (wrong : Wrong) (meant : Result (List Line) Wrong)
+pub end_fault : (average : Option ℤ) (line : Option Draft) (all : List TagValue) (old new : Made AllocationLine) (wrong : Wrong) (meant : Result (List AllocationLine) Wrong)
     → all ≡ [] → Pushes average line old (Err wrong) new → LinesFront average old line all meant → meant ≡ Err wrong
 end_fault average line all old new wrong meant is pushes front =
     let P : List TagValue → Type 0 = λ fields. LinesFront average old line fields meant in
-    let Q : Result (List Line) Wrong → Type 0 = λ rest. IsFront old rest meant in
+    let Q : Result (List AllocationLine) Wrong → Type 0 = λ rest. IsFront old rest meant in
     pushed_fault average line old new (Ok []) meant wrong pushes (subst Q (resumed-nil average line) (subst P is front))

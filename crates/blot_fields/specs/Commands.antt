@@ -1,6 +1,7 @@
 -- The command that a message gives the book.
 use Rattle.std.specs.Prelude.{ℕ, ℤ, pos, ◌+ℤ◌, List, map, Option, Some, None}
 use Rattle.blot_time.specs.Moment.{utc_day}
+use Rattle.blot_types.specs.declared.allocation.Line.{Line}
 use Rattle.blot_types.specs.declared.allocation.Terms.{Terms}
 use Rattle.blot_types.specs.declared.command.Command.{Command}
 use Rattle.blot_types.specs.declared.command.Command.TheVariants as commands
@@ -9,6 +10,7 @@ use Rattle.blot_types.specs.declared.keys.AllocKey.{AllocKey}
 use Rattle.blot_types.specs.declared.keys.ExecKey.{ExecKey}
 use Rattle.blot_fields.specs.declared.allocation.Allocation.{Allocation}
 use Rattle.blot_fields.specs.declared.allocation.Allocation.TheVariants as allocations
+use Rattle.blot_fields.specs.declared.allocation.AllocationLine.{AllocationLine}
 use Rattle.blot_fields.specs.declared.allocation.AllocationTerms.{AllocationTerms}
 use Rattle.blot_fields.specs.declared.message.Body.{Body}
 use Rattle.blot_fields.specs.declared.message.Body.TheVariants as bodies
@@ -62,6 +64,10 @@ command_of_report peer sending reports.Other = None
 abbrev pub alloc_of : List ℕ → List ℕ → AllocKey
 alloc_of peer id = record { peer = peer; id = id }
 
+-- what a line books
+abbrev pub line_of : AllocationLine → Line
+line_of line = record { account = line.account; qty = line.qty; price = line.price }
+
 -- what an allocation books: its executions are the peer's
 abbrev pub terms_of : List ℕ → AllocationTerms → Terms
 terms_of peer terms = record {
@@ -70,7 +76,7 @@ terms_of peer terms = record {
   day = terms.day;
   block = terms.block;
   execs = map (exec_of peer) terms.executions;
-  lines = terms.lines;
+  lines = map line_of terms.lines;
 }
 
 -- the command of a peer's Allocation Instruction: its key is its AllocID; it replaces or ends the allocation that its

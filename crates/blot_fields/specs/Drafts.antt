@@ -3,8 +3,8 @@ use Rattle.std.specs.Prelude.{◌≡◌, ℕ, ℤ, ◌==◌, List, Option, Some,
 use Rattle.std.specs.Option.{ok_or, option_or, option_map}
 use Rattle.blot_tag.specs.Fields.{TagValue}
 use Rattle.blot_tag.specs.Results.{◌>>=◌}
-use Rattle.blot_types.specs.declared.allocation.Line.{Line}
 use Rattle.blot_types.specs.Making.{Made, Grows}
+use Rattle.blot_fields.specs.declared.allocation.AllocationLine.{AllocationLine}
 use Rattle.blot_fields.specs.declared.drafts.LineDraft.{LineDraft}
 use Rattle.blot_fields.specs.declared.fault.Flaw.{Flaw}
 use Rattle.blot_fields.specs.declared.fault.Flaw.TheVariants.{RequiredTagMissing}
@@ -25,7 +25,7 @@ abbrev pub draft_of : LineDraft → Draft
 draft_of line = record { account = line.account.now; qty = found_in line.qty; price = found_in line.price }
 
 -- the line, as far as it is known
-unfoldable pub line_from : Option ℤ → Draft → Result Line Wrong
+unfoldable pub line_from : Option ℤ → Draft → Result AllocationLine Wrong
 line_from average draft = do
   account ← at 79 (text_form draft.account)
   qty ← needed_in 80 qty_form draft.qty
@@ -46,10 +46,10 @@ abbrev pub begun : List ℕ → Draft
 begun account = record { account = account; qty = found_in Missing; price = found_in Missing }
 
 -- the open line, if there is one, was added after the others, or is at fault
-abbrev pub Pushes : Option ℤ → Option Draft → Made Line → Result (Unit {0}) Wrong → Made Line → Type 0
+abbrev pub Pushes : Option ℤ → Option Draft → Made AllocationLine → Result (Unit {0}) Wrong → Made AllocationLine → Type 0
 Pushes average None old result new = (result ≡ Ok tt) × (new ≡ old)
 Pushes average (Some draft) old (Ok done) new =
-    (line : Line) × (line_from average draft ≡ Ok line) × Grows line old new
+    (line : AllocationLine) × (line_from average draft ≡ Ok line) × Grows line old new
 Pushes average (Some draft) old (Err wrong) new = line_from average draft ≡ Err wrong
 
 -- the line that stays open
@@ -58,7 +58,7 @@ next_draft (Ok line) = Ok (option_map draft_of line)
 next_draft (Err wrong) = Err wrong
 
 -- a field began a line and ended the one before, or went on with the open line
-abbrev pub NextLine : Option ℤ → Option Draft → TagValue → Made Line → Result (Option Draft) Wrong → Made Line → Type 0
+abbrev pub NextLine : Option ℤ → Option Draft → TagValue → Made AllocationLine → Result (Option Draft) Wrong → Made AllocationLine → Type 0
 NextLine average line field old (Ok next) new =
     MatchBool (field.tag == 79)
     (Pushes average line old (Ok tt) new × (next ≡ Some (begun field.value)))

@@ -4,7 +4,7 @@ use Rattle.std.specs.Option.{ok_or, option_or}
 use Rattle.std.specs.List.{before_first, after_first, list_any}
 use Rattle.blot_tag.specs.Fields.{TagValue}
 use Rattle.blot_tag.specs.Results.{◌>>=◌}
-use Rattle.blot_types.specs.declared.allocation.Line.{Line}
+use Rattle.blot_fields.specs.declared.allocation.AllocationLine.{AllocationLine}
 use Rattle.blot_fields.specs.declared.fault.Flaw.TheVariants.{RequiredTagMissing, IncorrectGroupCount}
 use Rattle.blot_fields.specs.declared.fault.Wrong.{Wrong}
 use Rattle.blot_fields.specs.Forms.{text_form, count_form, qty_form, price_form}
@@ -62,7 +62,7 @@ are_lines count fields =
     && not (list_any is_of_line (before 79 (behind 78 fields)))
 
 -- a line without AllocPrice takes AvgPx
-unfoldable pub line_of : Option ℤ → List TagValue → Result Line Wrong
+unfoldable pub line_of : Option ℤ → List TagValue → Result AllocationLine Wrong
 line_of average line = do
   account ← needed 79 text_form line
   qty ← needed 80 qty_form line
@@ -71,7 +71,7 @@ line_of average line = do
   Ok (record { account = account; qty = qty; price = price })
 
 -- each line
-unfoldable pub each_line_of : Option ℤ → List (List TagValue) → Result (List Line) Wrong
+unfoldable pub each_line_of : Option ℤ → List (List TagValue) → Result (List AllocationLine) Wrong
 each_line_of average [] = Ok []
 each_line_of average (line ∷ lines) = do
   first ← line_of average line
@@ -79,7 +79,7 @@ each_line_of average (line ∷ lines) = do
   Ok (first ∷ others)
 
 -- NoAllocs and the lines
-unfoldable pub lines_of : Option ℤ → List TagValue → Result (List Line) Wrong
+unfoldable pub lines_of : Option ℤ → List TagValue → Result (List AllocationLine) Wrong
 lines_of average fields = do
   count ← needed 78 count_form fields
   if are_lines count fields then each_line_of average (lines_in (behind 78 fields))

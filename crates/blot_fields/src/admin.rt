@@ -7,14 +7,14 @@ use crate::SEQUENCE_MAX;
 use crate::fault::Wrong;
 use crate::index::FieldIndex;
 use crate::rows::{needed, number, optional, zero};
-use blot_types::Text64;
+use crate::text::Text;
 
 // A day, in seconds.
 const HEARTBEAT_MAX: u64 = 86_400;
 
 /// An administrative message. FIX 4.4 volume 2, "Administrative messages".
-#[derive(Clone, Copy, Debug, PartialEq, Eq)]
-pub enum Admin {
+#[derive(Debug, PartialEq, Eq, Drop)]
+pub enum Admin<'a> {
     /// 35=A, with EncryptMethod(98) 0.
     Logon {
         /// HeartBtInt(108), 0 to 86,400 seconds.
@@ -26,7 +26,7 @@ pub enum Admin {
     Heartbeat,
     /// 35=1, with TestReqID(112).
     TestRequest {
-        id: Text64,
+        id: Text<'a>,
     },
     /// 35=2.
     ResendRequest {
@@ -50,7 +50,7 @@ pub enum Admin {
 
 /// Reads a Logon.
 #[tactic(auto, unfolding(crate::specs::Messages::logon_of))]
-pub(crate) fn logon_of(fields: &FieldIndex) -> Result<Admin, Wrong>
+pub(crate) fn logon_of<'a>(fields: &FieldIndex<'a, '_>) -> Result<Admin<'a>, Wrong>
     ensures value { result ≡ logon_of fields.now }
     ensures range { IfOk result NamesNumber }
 {
@@ -62,17 +62,17 @@ pub(crate) fn logon_of(fields: &FieldIndex) -> Result<Admin, Wrong>
 
 /// Reads a Test Request.
 #[tactic(auto, unfolding(crate::specs::Messages::test_request_of))]
-pub(crate) fn test_request_of(fields: &FieldIndex) -> Result<Admin, Wrong>
+pub(crate) fn test_request_of<'a>(fields: &FieldIndex<'a, '_>) -> Result<Admin<'a>, Wrong>
     ensures value { result ≡ test_request_of fields.now }
     ensures range { IfOk result NamesNumber }
 {
-    let id = needed::<Text64>(fields, 112)?;
+    let id = needed::<Text>(fields, 112)?;
     Ok(Admin::TestRequest { id })
 }
 
 /// Reads a Resend Request.
 #[tactic(auto, unfolding(crate::specs::Messages::resend_request_of))]
-pub(crate) fn resend_request_of(fields: &FieldIndex) -> Result<Admin, Wrong>
+pub(crate) fn resend_request_of<'a>(fields: &FieldIndex<'a, '_>) -> Result<Admin<'a>, Wrong>
     ensures value { result ≡ resend_request_of fields.now }
     ensures range { IfOk result NamesNumber }
 {
@@ -83,7 +83,7 @@ pub(crate) fn resend_request_of(fields: &FieldIndex) -> Result<Admin, Wrong>
 
 /// Reads a Sequence Reset.
 #[tactic(auto, unfolding(crate::specs::Messages::sequence_reset_of))]
-pub(crate) fn sequence_reset_of(fields: &FieldIndex) -> Result<Admin, Wrong>
+pub(crate) fn sequence_reset_of<'a>(fields: &FieldIndex<'a, '_>) -> Result<Admin<'a>, Wrong>
     ensures value { result ≡ sequence_reset_of fields.now }
     ensures range { IfOk result NamesNumber }
 {

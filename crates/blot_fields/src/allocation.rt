@@ -17,10 +17,11 @@ use crate::index::FieldIndex;
 use crate::kinds::AllocType;
 use crate::rows::{at, needed, number, there};
 use crate::sound::SoundFields;
+use crate::text::Text;
 use blot_decimal::{Price, Qty};
 use blot_tag::Field;
 use blot_time::Day;
-use blot_types::{ITEMS_MAX, Items, Line, Making, Sign, Text64};
+use blot_types::{ITEMS_MAX, Items, Making, Sign};
 use std::alloc::Global;
 
 // The most entries of a group: the most items of a list.
@@ -28,56 +29,70 @@ const ENTRIES_MAX: u64 = ITEMS_MAX as u64;
 
 /// What an Allocation Instruction (35=J) says.
 #[derive(Debug, Drop)]
-pub enum Allocation {
+pub enum Allocation<'a> {
     /// AllocTransType(71) 0.
     New {
-        id: Text64,
-        terms: AllocationTerms,
+        id: Text<'a>,
+        terms: AllocationTerms<'a>,
     },
     /// AllocTransType 1, of the allocation that RefAllocID(72) names.
     Replace {
-        id: Text64,
-        reference: Text64,
-        terms: AllocationTerms,
+        id: Text<'a>,
+        reference: Text<'a>,
+        terms: AllocationTerms<'a>,
     },
     /// AllocTransType 2, of the allocation that RefAllocID names. Its other fields aren't read.
     Cancel {
-        id: Text64,
-        reference: Text64,
+        id: Text<'a>,
+        reference: Text<'a>,
     },
 }
 
 /// What is allocated, and to whom.
 #[derive(Debug, Drop)]
-pub struct AllocationTerms {
+pub struct AllocationTerms<'a> {
     /// Side(54).
     pub sign: Sign,
     /// Symbol(55).
-    pub symbol: Text64,
+    pub symbol: Text<'a>,
     /// Quantity(53).
     pub block: Qty,
     /// TradeDate(75).
     pub day: Day,
     /// The ExecID(17) of each execution, 1 to 200 of them.
-    pub executions: Items<Text64>,
+    pub executions: Items<Text<'a>>,
     /// 1 to 200 lines.
-    pub lines: Items<Line>,
+    pub lines: Items<AllocationLine<'a>>,
+}
+
+/// What is allocated to one account.
+#[derive(Debug, Drop)]
+pub struct AllocationLine<'a> {
+    /// AllocAccount(79).
+    pub account: Text<'a>,
+    /// AllocQty(80).
+    pub qty: Qty,
+    /// AllocPrice(366), or else AvgPx(6).
+    pub price: Price,
 }
 
 /// Reads an Allocation Instruction. Its lists take memory; that there was none is told only where nothing is at
 /// fault.
 #[tactic(auto, unfolding(crate::specs::Allocations::allocation_of))]
-pub(crate) fn allocation_of(alloc: Global, fields: &FieldIndex) -> Result<Allocation, Refusal>
+pub(crate) fn allocation_of<'a>(
+    alloc: Global,
+    fields: &FieldIndex<'a, '_>,
+) -> Result<Allocation<'a>, Refusal>
     ensures { Gives result (allocation_of fields.now) }
 {
-    let id = needed::<Text64>(fields, 70)?;
+    let id = needed::<Text>(fields, 70)?;
     match needed::<AllocType>(fields, 71)? {
         AllocType::New => {
             let terms = terms_of(alloc, fields)?;
             Ok(Allocation::New { id, terms })
         }
         AllocType::Replace => {
-            let reference = needed::<Text64>(fields, 72)?;
+            let reference = needed::<Text>(fields, 72)?;
             let terms = terms_of(alloc, fields)?;
             Ok(Allocation::Replace {
                 id,
@@ -86,7 +101,7 @@ pub(crate) fn allocation_of(alloc: Global, fields: &FieldIndex) -> Result<Alloca
             })
         }
         AllocType::Cancel => {
-            let reference = needed::<Text64>(fields, 72)?;
+            let reference = needed::<Text>(fields, 72)?;
             Ok(Allocation::Cancel { id, reference })
         }
     }
@@ -94,11 +109,11 @@ pub(crate) fn allocation_of(alloc: Global, fields: &FieldIndex) -> Result<Alloca
 
 // What is allocated, and to whom.
 #[tactic(auto, unfolding(crate::specs::Allocations::terms_of))]
-fn terms_of(alloc: Global, fields: &FieldIndex) -> Result<AllocationTerms, Refusal>
+fn terms_of<'a>(alloc: Global, fields: &FieldIndex<'a, '_>) -> Result<AllocationTerms<'a>, Refusal>
     ensures { Gives result (terms_of fields.now) }
 {
     let sign = needed::<Sign>(fields, 54)?;
-    let symbol = needed::<Text64>(fields, 55)?;
+    let symbol = needed::<Text>(fields, 55)?;
     let block = needed::<Qty>(fields, 53)?;
     let average = average_of(fields)?;
     let day = needed::<Day>(fields, 75)?;
@@ -128,7 +143,7 @@ fn average_of(fields: &FieldIndex) -> Result<Option<Price>, Wrong>
 
 // NoExecs and the executions.
 #[tactic(auto, unfolding(crate::specs::Groups::executions_of))]
-fn executions_of(alloc: Global, fields: &FieldIndex) -> Result<Making<Text64>, Wrong>
+fn executions_of<'a>(alloc: Global, fields: &FieldIndex<'a, '_>) -> Result<Making<Text<'a>>, Wrong>
     ensures made { Makes result (executions_of fields.now) }
     ensures few { IfOk result IsShort }
 {
@@ -141,11 +156,11 @@ fn executions_of(alloc: Global, fields: &FieldIndex) -> Result<Making<Text64>, W
 
 // NoAllocs and the lines.
 #[tactic(auto, unfolding(crate::specs::Groups::lines_of))]
-fn lines_of(
+fn lines_of<'a>(
     alloc: Global,
     average: &Option<Price>,
-    fields: &FieldIndex,
-) -> Result<Making<Line>, Wrong>
+    fields: &FieldIndex<'a, '_>,
+) -> Result<Making<AllocationLine<'a>>, Wrong>
     ensures made { Makes result (lines_of average.now fields.now) }
     ensures few { IfOk result IsShort }
 {
@@ -157,24 +172,24 @@ fn lines_of(
 }
 
 // The ExecIDs among the fields.
-fn ids_of(alloc: Global, fields: &FieldIndex) -> Result<Making<Text64>, Wrong>
+fn ids_of<'a>(alloc: Global, fields: &FieldIndex<'a, '_>) -> Result<Making<Text<'a>>, Wrong>
     ensures { Makes result (ids_of (values 17 fields.now)) }
 {
     let mut ids = Making::new(alloc);
     for field in fields.walk() {
         if field.tag == 17 {
-            ids.push(at(17, Text64::from_value(field.value))?);
+            ids.push(at(17, Text::from_value(field.value))?);
         }
     }
     Ok(ids)
 }
 
 // The lines among the fields after NoAllocs.
-fn each_line_of(
+fn each_line_of<'a>(
     alloc: Global,
     average: &Option<Price>,
-    fields: SoundFields,
-) -> Result<Making<Line>, Wrong>
+    fields: SoundFields<'a>,
+) -> Result<Making<AllocationLine<'a>>, Wrong>
     ensures { Makes result (each_line_of average.now (lines_in fields.entry)) }
 {
     let mut lines = Making::new(alloc);
@@ -192,7 +207,7 @@ fn next_line<'a>(
     average: &Option<Price>,
     line: Option<LineDraft<'a>>,
     field: Field<'a>,
-    lines: &mut Making<Line>,
+    lines: &mut Making<AllocationLine<'a>>,
 ) -> Result<Option<LineDraft<'a>>, Wrong>
     ensures { NextLine average.now (option_map draft_of line.entry) (tag_value field.entry)
         lines.old (next_draft result) lines.new }
@@ -208,10 +223,10 @@ fn next_line<'a>(
 }
 
 // Adds the open line, if there is one, after the others.
-fn push_line(
+fn push_line<'a>(
     average: &Option<Price>,
-    line: Option<LineDraft>,
-    lines: &mut Making<Line>,
+    line: Option<LineDraft<'a>>,
+    lines: &mut Making<AllocationLine<'a>>,
 ) -> Result<(), Wrong>
     ensures { Pushes average.now (option_map draft_of line.entry) lines.old result lines.new }
 {

@@ -1,13 +1,15 @@
 //! What a message asks of the book.
 ghost use Rattle.std.specs.Prelude.{◌≡◌, IfOk, map};
-ghost use Rattle.blot_fields.specs.Commands.{size_of, day_of_execution, fill_of, exec_of, alloc_of, terms_of, command_of_report, command_of_allocation, command_of};
+ghost use Rattle.blot_fields.specs.Commands.{size_of, day_of_execution, fill_of, exec_of, alloc_of, line_of, terms_of, command_of_report, command_of_allocation, command_of};
 
-use crate::{Allocation, AllocationTerms, Body, Execution, Message, OrderSize, Report};
+use crate::{
+    Allocation, AllocationLine, AllocationTerms, Body, Execution, Message, OrderSize, Report, Text,
+};
 use blot_decimal::QtySum;
 use blot_time::{Day, Moment};
 use blot_types::{
     AllocCancel, AllocKey, AllocNew, AllocReplace, Bust, Command, Correct, ExecKey, Fill, Items,
-    OrderKey, Terms, Text64, Trade,
+    Line, OrderKey, Terms, Text64, Trade,
 };
 use std::alloc::{AllocError as NoMemory, Global};
 
@@ -67,7 +69,7 @@ fn command_of_allocation(
         Allocation::New { id, terms } => {
             let terms = terms_of(alloc, peer, terms)?;
             Ok(Command::AllocNew(AllocNew {
-                key: alloc_of(peer, *id),
+                key: alloc_of(peer, id.owned()),
                 terms,
             }))
         }
@@ -78,14 +80,14 @@ fn command_of_allocation(
         } => {
             let terms = terms_of(alloc, peer, terms)?;
             Ok(Command::AllocReplace(AllocReplace {
-                key: alloc_of(peer, *id),
-                reference: alloc_of(peer, *reference),
+                key: alloc_of(peer, id.owned()),
+                reference: alloc_of(peer, reference.owned()),
                 terms,
             }))
         }
         Allocation::Cancel { id, reference } => Ok(Command::AllocCancel(AllocCancel {
-            key: alloc_of(peer, *id),
-            reference: alloc_of(peer, *reference),
+            key: alloc_of(peer, id.owned()),
+            reference: alloc_of(peer, reference.owned()),
         })),
     }
 }
@@ -95,22 +97,42 @@ fn terms_of(alloc: Global, peer: Text64, terms: &AllocationTerms) -> Result<Term
     ensures { IfOk result (λ books. books ≡ terms_of peer terms.now) }
 {
     let execs = execs_of(alloc, peer, terms.executions.as_slice())?;
-    let lines = terms.lines.try_copy(alloc)?;
+    let lines = lines_of(alloc, terms.lines.as_slice())?;
     Ok(Terms {
-        symbol: terms.symbol,
+        symbol: terms.symbol.owned(),
         sign: terms.sign,
         day: terms.day,
         block: terms.block,
         execs: Items::new(execs),
-        lines,
+        lines: Items::new(lines),
     })
 }
 
 // The keys of a peer's executions.
-fn execs_of(alloc: Global, peer: Text64, ids: &[Text64]) -> Result<Vec<ExecKey>, NoMemory>
+fn execs_of(alloc: Global, peer: Text64, ids: &[Text]) -> Result<Vec<ExecKey>, NoMemory>
     ensures { IfOk result (λ execs. execs.items ≡ map (exec_of peer) ids.now) }
 {
-    ids.iter().map(|id| exec_of(peer, *id)).collect(alloc)
+    ids.iter()
+        .map(|id| exec_of(peer, id.owned()))
+        .collect(alloc)
+}
+
+// What lines book.
+fn lines_of(alloc: Global, lines: &[AllocationLine]) -> Result<Vec<Line>, NoMemory>
+    ensures { IfOk result (λ books. books.items ≡ map line_of lines.now) }
+{
+    lines.iter().map(line_of).collect(alloc)
+}
+
+// What a line books.
+fn line_of(line: &AllocationLine) -> Line
+    ensures { result ≡ line_of line.now }
+{
+    Line {
+        account: line.account.owned(),
+        qty: line.qty,
+        price: line.price,
+    }
 }
 
 // The key of a peer's allocation.

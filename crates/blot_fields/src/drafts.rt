@@ -5,13 +5,14 @@ ghost use Rattle.blot_fields.specs.Forms.{price_form};
 ghost use Rattle.blot_fields.specs.Rows.{optional_in};
 ghost use Rattle.blot_fields.specs.Slots.{found_in};
 
+use crate::allocation::AllocationLine;
 use crate::fault::{Flaw, Wrong};
 use crate::forms::Form;
 use crate::rows::at;
 use crate::slot::Slot;
+use crate::text::Text;
 use blot_decimal::{Price, Qty};
 use blot_tag::Field;
-use blot_types::{Line, Text64};
 
 /// A line whose fields are still to come: AllocAccount(79), AllocQty(80) and AllocPrice(366).
 #[derive(Clone, Copy)]
@@ -54,17 +55,17 @@ impl<'a> LineDraft<'a> {
 
     /// The line, where no field of it is to come; without an AllocPrice it takes the average.
     #[tactic(auto, unfolding(crate::specs::Drafts::line_from))]
-    pub(crate) fn line(self, average: Option<Price>) -> Result<Line, Wrong>
+    pub(crate) fn line(self, average: Option<Price>) -> Result<AllocationLine<'a>, Wrong>
         ensures { result ≡ line_from average (draft_of self.entry) }
     {
-        let account = at(79, Text64::from_value(self.account))?;
+        let account = at(79, Text::from_value(self.account))?;
         let qty = at(80, self.qty.lone())?.ok_or(Wrong::new(80, Flaw::RequiredTagMissing))?;
         let qty = at(80, Qty::from_value(qty))?;
         let own = own_price(self.price)?;
         let price = own
             .or(average)
             .ok_or(Wrong::new(366, Flaw::RequiredTagMissing))?;
-        Ok(Line {
+        Ok(AllocationLine {
             account,
             qty,
             price,

@@ -7,7 +7,7 @@ use crate::text::Text;
 use blot_decimal::{DecimalFault, Price, Qty};
 use blot_tag::{is_number, number_of};
 use blot_time::{Day, Moment, TimeFault};
-use blot_types::{Sign, Text64};
+use blot_types::Sign;
 
 /// A type of values that has one form.
 pub(crate) trait Form<'a>: Sized {
@@ -30,18 +30,6 @@ impl<'a> Form<'a> for Text<'a> {
     #[tactic(auto, unfolding(crate::specs::Forms::text_form))]
     fn from_value(value: &'a [u8]) -> Result<Text<'a>, Flaw> {
         Text::read(value).ok_or(Flaw::ValueIncorrect)
-    }
-}
-
-/// The same, owned.
-impl<'a> Form<'a> for Text64 {
-    ghost use Rattle.blot_fields.specs.Forms.{text_form};
-
-    ghost form = { text_form };
-
-    #[tactic(auto, unfolding(crate::specs::Forms::text_form))]
-    fn from_value(value: &'a [u8]) -> Result<Text64, Flaw> {
-        Text64::read(value).ok_or(Flaw::ValueIncorrect)
     }
 }
 

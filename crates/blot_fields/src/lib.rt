@@ -24,7 +24,7 @@ mod sound;
 mod text;
 
 pub use admin::Admin;
-pub use allocation::{Allocation, AllocationTerms};
+pub use allocation::{Allocation, AllocationLine, AllocationTerms};
 pub use command::command_of;
 pub use decoding::{decode, is_out_of_memory};
 pub use fault::{FieldFault, FieldReason};

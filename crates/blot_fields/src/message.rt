@@ -2,7 +2,7 @@
 
 use crate::{Admin, Allocation, Head, Report};
 
-/// A message without a fault. Its texts stand in its frame; those of an allocation and of a TestRequest are its own.
+/// A message without a fault. Its texts stand in its frame.
 #[derive(Debug, Drop)]
 pub struct Message<'a> {
     pub head: Head<'a>,
@@ -24,11 +24,11 @@ impl<'a> Message<'a> {
 #[derive(Debug, Drop)]
 pub enum Body<'a> {
     /// A message of the session layer.
-    Admin(Admin),
+    Admin(Admin<'a>),
     /// An Execution Report (35=8).
     Report(Report<'a>),
     /// An Allocation Instruction (35=J).
-    Allocation(Allocation),
+    Allocation(Allocation<'a>),
     /// A message of any other type. Its fields aren't read.
     Other,
 }

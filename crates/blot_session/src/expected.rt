@@ -54,7 +54,8 @@ fn admin_row(state: State, number: u64, message: &Admin) -> Row
     match message {
         Admin::Logon { .. } | Admin::Heartbeat | Admin::Reject => Row::silent(state.counted()),
         Admin::TestRequest { id } => {
-            Row::sends(Outbound::Heartbeat { id: Some(*id) }, state.counted())
+            let id = Some(id.owned());
+            Row::sends(Outbound::Heartbeat { id }, state.counted())
         }
         Admin::ResendRequest { begin, .. } => resend_row(state, number, *begin),
         Admin::SequenceReset { new_number, .. } => gap_fill_row(state, number, *new_number),
@@ -107,9 +108,9 @@ fn alloc_id_of(allocation: &Allocation) -> Text64
     ensures { result ≡ alloc_id_of allocation.now }
 {
     match allocation {
-        Allocation::New { id, .. } => *id,
-        Allocation::Replace { id, .. } => *id,
-        Allocation::Cancel { id, .. } => *id,
+        Allocation::New { id, .. } => id.owned(),
+        Allocation::Replace { id, .. } => id.owned(),
+        Allocation::Cancel { id, .. } => id.owned(),
     }
 }
 
