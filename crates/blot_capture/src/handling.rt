@@ -111,14 +111,17 @@ fn submit_report<D: TakesCommands>(
     ensures no_write { result ≢ Err ReplayFault.Write }
 {
     let Ok(message) = said else { unreachable!() };
-    match command_of(alloc, message, session.peer()) {
+    let made = command_of(alloc, message, session.peer());
+    let handled = match &made {
         Ok(Some(command)) => submit(alloc, session, command, now, desk),
         Ok(None) => unreachable!(),
         Err(_) => {
             let _ = tell(alloc, session, Err(NotTaken), now);
             Err(ReplayFault::NoMemory)
         }
-    }
+    };
+    drop(made);
+    handled
 }
 
 // Submits what these actions deliver, if they deliver a command.
@@ -144,7 +147,11 @@ fn take_delivered<D: TakesCommands>(
         return Ok(Handled::Met(actions));
     }
     match delivered(actions) {
-        Some(command) => submit(alloc, session, command, now, desk),
+        Some(command) => {
+            let handled = submit(alloc, session, &command, now, desk);
+            drop(command);
+            handled
+        }
         None => unreachable!(),
     }
 }
@@ -153,7 +160,7 @@ fn take_delivered<D: TakesCommands>(
 fn submit<D: TakesCommands>(
     alloc: Global,
     session: &mut Session,
-    command: Command,
+    command: &Command,
     now: Moment,
     desk: &mut D,
 ) -> Result<Handled, ReplayFault>
@@ -161,37 +168,19 @@ fn submit<D: TakesCommands>(
     ensures session { OnOk result (session.new ≡ (on_reply session.old (Ok Accepted) now).state) }
     ensures peer { session.new.peer ≡ session.old.peer }
     ensures idle { IsIdle session.new }
-    ensures desk { OnOk result (D.journal_of desk.new ≡ recorded_of (D.journal_of desk.old) (Submit command)) }
-    ensures handled { IfOk result (IsReplied (reply_to (D.journal_of desk.old) command) (on_told session.old (reply_to (D.journal_of desk.old) command) now).actions) }
-    ensures err { IfErr result (Stopped (D.journal_of desk.old) (D.journal_of desk.new) (command ∷ [])) }
+    ensures desk { OnOk result (D.journal_of desk.new ≡ recorded_of (D.journal_of desk.old) (Submit command.now)) }
+    ensures handled { IfOk result (IsReplied (reply_to (D.journal_of desk.old) command.now) (on_told session.old (reply_to (D.journal_of desk.old) command.now) now).actions) }
+    ensures err { IfErr result (Stopped (D.journal_of desk.old) (D.journal_of desk.new) (command.now ∷ [])) }
     ensures no_write { result ≢ Err ReplayFault.Write }
 {
-    match desk.submit(command) {
-        Ok(reply) => answer(alloc, session, &reply, now),
+    let answer = desk.submit(command);
+    let told = tell(alloc, session, seen_by(&answer), now);
+    match answer {
+        Ok(reply) => Ok(Handled::Replied(reply, told?)),
         Err(fault) => {
-            let _ = tell(alloc, session, Err(NotTaken), now);
+            drop(told);
             Err(fault_of(fault))
         }
-    }
-}
-
-// Tells a session the reply to the command that it delivered.
-fn answer(
-    alloc: Global,
-    session: &mut Session,
-    reply: &Reply,
-    now: Moment,
-) -> Result<Handled, ReplayFault>
-    requires { IsAwaiting session.old }
-    ensures session { OnOk result (session.new ≡ (on_told session.old reply.now now).state) }
-    ensures fault { IfErr result (λ fault. fault ≡ ReplayFault.NoMemory) }
-    ensures peer { session.new.peer ≡ session.old.peer }
-    ensures idle { IsIdle session.new }
-    ensures handled { IfOk result (IsReplied reply.now (on_told session.old reply.now now).actions) }
-{
-    match tell(alloc, session, seen_by(Ok(*reply)), now) {
-        Ok(wanted) => Ok(Handled::Replied(*reply, wanted)),
-        Err(fault) => Err(fault),
     }
 }
 

@@ -1,5 +1,5 @@
 //! A command on the heap.
-ghost use Rattle.std.specs.Prelude.{◌≡◌, IfOk, IfErr, IsOk, IsSome};
+ghost use Rattle.std.specs.Prelude.{◌≡◌, IfOk, IsOk, IsSome};
 ghost use Rattle.blot_types.specs.declared.command.Command.TheVariants.{Withdraw};
 ghost use Rattle.blot_types.specs.Refusals.{withdrawn_by};
 
@@ -7,7 +7,7 @@ use crate::entering::{enter_boxed, leave_boxed};
 use crate::withdrawing::withdraw;
 use crate::{ApplyFault, BoxedEntry, Inverse, Tables, Undoable};
 use blot_types::{Command, Entry};
-use std::alloc::Global;
+use std::alloc::{AllocError as NoMemory, Global};
 use std::marker::Model;
 
 /// A command on the heap, so that it moves as a pointer does, and becomes an entry of the book where it is. A contract sees it as
@@ -37,21 +37,23 @@ impl Model for BoxedCommand {
 }
 
 impl BoxedCommand {
-    /// Puts a command on the heap, or hands it back where memory runs out. A Withdraw needs none.
-    pub fn new(alloc: Global, command: Command) -> Result<BoxedCommand, Command>
-        ensures ok { IfOk result (λ boxed. boxed ≡ command) }
-        ensures err { IfErr result (λ back. back ≡ command) }
-        ensures withdrawal { IsSome (withdrawn_by command) → IsOk result }
+    /// A copy of a command, on the heap. An error is out of memory. A Withdraw needs none.
+    pub fn copy_of(alloc: Global, command: &Command) -> Result<BoxedCommand, NoMemory>
+        ensures copy { IfOk result (λ boxed. boxed ≡ command.now) }
+        ensures withdrawal { IsSome (withdrawn_by command.now) → IsOk result }
     {
         if let Some(number) = command.withdrawn() {
-            drop(command);
             return Ok(BoxedCommand::of_withdrawal(number));
         }
+        let command = command.try_copy(alloc)?;
         match BoxedEntry::new(alloc, Entry { number: 0, command }) {
             Ok(entry) => Ok(BoxedCommand {
                 form: Form::Enters(entry),
             }),
-            Err(back) => Err(back.command),
+            Err(back) => {
+                drop(back);
+                Err(NoMemory)
+            }
         }
     }
 

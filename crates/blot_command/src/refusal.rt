@@ -2,6 +2,7 @@
 ghost use Rattle.std.specs.Prelude.{◌≡◌, [], reverse, find, is_none};
 ghost use Rattle.std.specs.List.{list_any};
 ghost use Rattle.std.specs.Option.{option_map};
+ghost use Rattle.blot_types.specs.declared.link.Role.TheVariants.{Begins, Corrects, Busts};
 ghost use Rattle.blot_types.specs.declared.refused.Refused.TheVariants.{DuplicateAlloc};
 ghost use Rattle.blot_types.specs.Chains.{root_in, is_root, link_refusal};
 ghost use Rattle.blot_types.specs.Instructions.{alloc_taker_in};
@@ -15,7 +16,7 @@ ghost use Rattle.blot_command.specs.Slots.{entries_in};
 use crate::slots::{EntrySlot, version_numbered};
 use blot_alloc::Allocs;
 use blot_chain::Chains;
-use blot_types::{AllocKey, Command, ExecKey, Fill, Refused, Role, Terms, Version};
+use blot_types::{AllocKey, Command, ExecKey, Fill, Refused, Terms, Version};
 
 /// Why the entries in some slots, with their chains and their allocations, refuse a command as the next entry.
 pub(crate) fn refusal(
@@ -28,11 +29,9 @@ pub(crate) fn refusal(
     ensures { result ≡ entry_refusal (entries_in slots.now) command.now }
 {
     match command {
-        Command::Trade(trade) => execution_refusal(chains, &trade.key, Role::Begins),
-        Command::Correct(correct) => {
-            execution_refusal(chains, &correct.key, Role::Corrects(correct.reference))
-        }
-        Command::Bust(bust) => execution_refusal(chains, &bust.key, Role::Busts(bust.reference)),
+        Command::Trade(trade) => duplicate_exec(chains, &trade.key),
+        Command::Correct(correct) => follower_refusal(chains, &correct.key, &correct.reference),
+        Command::Bust(bust) => follower_refusal(chains, &bust.key, &bust.reference),
         Command::AllocNew(new) => {
             if let Some(refused) = duplicate_alloc(allocs, &new.key) {
                 return Some(refused);
@@ -59,16 +58,21 @@ pub(crate) fn refusal(
     }
 }
 
-// Why an execution's link is refused: its key is taken up, or else what its reference is refused for.
-fn execution_refusal(chains: &Chains, key: &ExecKey, role: Role) -> Option<Refused>
-    ensures { result ≡ link_refusal chains.now.list key.now role }
+// Whether the key of an execution is taken up, which is all that a Trade is refused for.
+fn duplicate_exec(chains: &Chains, key: &ExecKey) -> Option<Refused>
+    ensures { result ≡ link_refusal chains.now.list key.now Begins }
 {
-    if let Some(number) = chains.number_of(key) {
-        return Some(Refused::DuplicateExec(number));
-    }
-    match role {
-        Role::Begins => None,
-        Role::Corrects(reference) | Role::Busts(reference) => chain_refusal(chains, &reference),
+    chains.number_of(key).map(Refused::DuplicateExec)
+}
+
+// Why a Correct or a Bust is refused: its key is taken up, or else what its reference is refused for.
+fn follower_refusal(chains: &Chains, key: &ExecKey, reference: &ExecKey) -> Option<Refused>
+    ensures corrects { result ≡ link_refusal chains.now.list key.now (Corrects reference.now) }
+    ensures busts { result ≡ link_refusal chains.now.list key.now (Busts reference.now) }
+{
+    match duplicate_exec(chains, key) {
+        None => chain_refusal(chains, reference),
+        refused => refused,
     }
 }
 

@@ -126,8 +126,14 @@ impl Held {
 impl TakesCommands for Held {
     ghost journal_of = { λ held. held };
 
-    fn submit(&mut self, command: Command) -> Result<Reply, DeskFault> {
-        self.step(Event::Submit(command))
+    fn submit(&mut self, command: &Command) -> Result<Reply, DeskFault> {
+        if self.history.len() as u64 >= EVENTS_MAX {
+            return Err(DeskFault::Full);
+        }
+        let Ok(own) = command.try_copy(self.alloc) else {
+            return Err(DeskFault::NoMemory);
+        };
+        self.step(Event::Submit(own))
     }
 }
 

@@ -14,10 +14,11 @@ pub trait TakesCommands {
     /// The book, and the events that came with the replies to them.
     ghost journal_of: { Self → Journal };
 
-    /// Takes a command: the reply to it. Where as many events came as a day has, or memory runs out, nothing changes.
-    fn submit(&mut self, command: Command) -> Result<Reply, DeskFault>
-        ensures reply { IfOk result (λ reply. reply ≡ (step_of (journal_of self.old).book (Submit command)).reply) }
-        ensures taken { OnOk result (journal_of self.new ≡ recorded_of (journal_of self.old) (Submit command)) }
+    /// Takes a command: the reply to it. The desk keeps a copy of its own. Where as many events came as a day has, or memory runs out,
+    /// nothing changes.
+    fn submit(&mut self, command: &Command) -> Result<Reply, DeskFault>
+        ensures reply { IfOk result (λ reply. reply ≡ (step_of (journal_of self.old).book (Submit command.now)).reply) }
+        ensures taken { OnOk result (journal_of self.new ≡ recorded_of (journal_of self.old) (Submit command.now)) }
         ensures full { (result ≡ Err DeskFault.Full) ↔ (length (journal_of self.old).history ≡ EVENTS_MAX) }
         ensures faults { result ≢ Err DeskFault.Unsettled }
         ensures err { OnErr result (journal_of self.new ≡ journal_of self.old) };

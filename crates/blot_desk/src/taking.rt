@@ -9,7 +9,7 @@ use blot_types::{Command, EVENTS_MAX, Refused};
 use blot_undo::{StepFault, Steps};
 use std::alloc::{AllocError as NoMemory, Global};
 
-/// Takes an event, and gives the reply to it. The book keeps a command of its own.
+/// Takes an event, and gives the reply to it.
 pub(crate) fn take(
     steps: &mut Steps<BoxedCommand>,
     alloc: Global,
@@ -30,8 +30,8 @@ pub(crate) fn take(
     }
 }
 
-// Takes a command, or refuses it; a Correct or a Bust before it is copied.
-fn submit(
+/// Takes a command, or refuses it; a Correct or a Bust before it is copied. The book keeps a copy, on the heap, which moves as a pointer.
+pub(crate) fn submit(
     steps: &mut Steps<BoxedCommand>,
     alloc: Global,
     command: &Command,
@@ -43,48 +43,12 @@ fn submit(
     if let Some(reason) = early_refusal(steps.state(), command) {
         return Ok(Reply::Refused(reason));
     }
-    let own = command.try_copy(alloc)?;
-    apply(steps, alloc, own)
+    let own = BoxedCommand::copy_of(alloc, command)?;
+    apply(steps, own)
 }
 
-/// Takes a command that nobody else keeps, or refuses it; a Correct or a Bust before it is moved.
-pub(crate) fn enter(
-    steps: &mut Steps<BoxedCommand>,
-    alloc: Global,
-    command: Command,
-) -> Result<Reply, NoMemory>
-    requires { steps.old.next ≤ EVENTS_MAX }
-    ensures ok { IfOk result (λ reply. outcome_in steps.new reply ≡ submit_of (desk_book steps.old) command) }
-    ensures err { OnErr result (desk_book steps.new ≡ desk_book steps.old) }
-{
-    if let Some(reason) = early_refusal(steps.state(), &command) {
-        drop(command);
-        return Ok(Reply::Refused(reason));
-    }
-    apply(steps, alloc, command)
-}
-
-// Takes a command as the next step, or refuses it. It goes on the heap first, and moves as a pointer from there on.
-fn apply(
-    steps: &mut Steps<BoxedCommand>,
-    alloc: Global,
-    command: Command,
-) -> Result<Reply, NoMemory>
-    requires { steps.old.next ≤ EVENTS_MAX }
-    ensures ok { IfOk result (λ reply. outcome_in steps.new reply ≡ submit_of (desk_book steps.old) command) }
-    ensures err { OnErr result (desk_book steps.new ≡ desk_book steps.old) }
-{
-    match BoxedCommand::new(alloc, command) {
-        Ok(boxed) => apply_boxed(steps, boxed),
-        Err(back) => {
-            drop(back);
-            Err(NoMemory)
-        }
-    }
-}
-
-// The same of a command on the heap.
-fn apply_boxed(steps: &mut Steps<BoxedCommand>, command: BoxedCommand) -> Result<Reply, NoMemory>
+// Takes a command as the next step, or refuses it.
+fn apply(steps: &mut Steps<BoxedCommand>, command: BoxedCommand) -> Result<Reply, NoMemory>
     requires { steps.old.next ≤ EVENTS_MAX }
     ensures ok { IfOk result (λ reply. outcome_in steps.new reply ≡ submit_of (desk_book steps.old) command) }
     ensures err { OnErr result (desk_book steps.new ≡ desk_book steps.old) }

@@ -5,7 +5,7 @@ ghost use Rattle.blot_desk.specs.Desk.{empty_journal, list_after, with_recorded}
 
 use crate::past::Past;
 use crate::submitted::Submitted;
-use crate::taking::enter;
+use crate::taking::submit;
 use crate::{DeskFault, Reply, TakesCommands};
 use blot_command::{BoxedCommand, Tables};
 use blot_places::Remembered;
@@ -71,27 +71,27 @@ impl Unrecorded {
 impl TakesCommands for Unrecorded {
     ghost journal_of = { λ desk. desk };
 
-    fn submit(&mut self, command: Command) -> Result<Reply, DeskFault> {
+    fn submit(&mut self, command: &Command) -> Result<Reply, DeskFault> {
         if self.events == EVENTS_MAX {
-            drop(command);
             return Err(DeskFault::Full);
         }
-        let remembered = Remembered::of(&command);
-        let reply = match enter(&mut self.steps, self.alloc, command) {
+        let reply = match submit(&mut self.steps, self.alloc, command) {
             Ok(reply) => reply,
             Err(_) => return Err(DeskFault::NoMemory),
         };
         self.events += 1;
-        remember(&mut self.history, remembered, &reply);
+        remember(&mut self.history, command, &reply);
         Ok(reply)
     }
 }
 
 // Remembers a command and the reply to it after the others.
-fn remember(history: &mut Past<Submitted>, command: Remembered<Command>, reply: &Reply)
-    ensures { history.new.items ≡ with_recorded (Submit command.value) reply.now history.old.items }
+fn remember(history: &mut Past<Submitted>, command: &Command, reply: &Reply)
+    ensures { history.new.items ≡ with_recorded (Submit command.now) reply.now history.old.items }
 {
-    let reply = Remembered::of(reply);
-    let submitted = Submitted { command, reply };
+    let submitted = Submitted {
+        command: Remembered::of(command),
+        reply: Remembered::of(reply),
+    };
     *history = history.followed_by(&submitted);
 }

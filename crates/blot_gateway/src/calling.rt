@@ -110,7 +110,7 @@ fn submit<W: Wire, C: Clock, S: Sink>(
     ensures failed { IfErr result (CountsStop (W.failures wire.old) (W.failures wire.new)) }
 {
     let answer = sink.take(command);
-    tell(alloc, wire, clock, session, seen_by(answer))
+    tell(alloc, wire, clock, session, seen_by(&answer))
 }
 
 // Tells a session what became of the command that it delivered.
@@ -136,8 +136,8 @@ fn tell<W: Wire, C: Clock>(
 }
 
 /// What a session is told of the answer to a command that it delivered.
-pub fn seen_by(answer: Result<Reply, DeskFault>) -> Result<SeenReply, NotTaken>
-    ensures { result ≡ seen_by answer }
+pub fn seen_by(answer: &Result<Reply, DeskFault>) -> Result<SeenReply, NotTaken>
+    ensures { result ≡ seen_by answer.now }
 {
     match answer {
         Ok(Reply::Accepted(_)) => Ok(SeenReply::Accepted),

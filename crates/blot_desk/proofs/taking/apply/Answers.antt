@@ -1,7 +1,7 @@
 use Rattle.std.proofs.Common.{◌≡◌}
 use Rattle.blot_undo.specs.declared.fault.StepFault.TheVariants.{Refused as RefusedStep}
 use Rattle.blot_desk.proofs.DeskLemmas.{accepted_submit, refused_submit}
-use Rattle.blot_desk.proofs.taking.apply_boxed.Goals as goal
+use Rattle.blot_desk.proofs.taking.apply.Goals as goal
 
 pub returns-in-Refused-clause-ok : goal.returns-in-Refused-clause-ok
 returns-in-Refused-clause-ok c = let a = c.in-Err-Refused in let o = c.apply in
