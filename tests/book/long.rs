@@ -163,12 +163,12 @@ fn go_back(
 fn answer(
     alloc: Global,
     steps: &mut Steps<BoxedCommand>,
-    command: Command,
+    command: &Command,
 ) -> Result<Result<u64, Refused>, Fail> {
     if !steps.room() {
         return Err(Fail::new("no room"));
     }
-    let boxed = BoxedCommand::new(alloc, command).ok().ok_or("no memory")?;
+    let boxed = BoxedCommand::copy_of(alloc, command).ok().ok_or("no memory")?;
     match steps.apply(boxed) {
         Ok(number) => Ok(Ok(number)),
         Err(StepFault::Refused(_, ApplyFault::Refused(refused))) => Ok(Err(refused)),
@@ -200,7 +200,7 @@ fn send(
         Some(refused) => Err(refused),
         None => Ok(take(stack, command.try_copy(alloc)?)?),
     };
-    let found = answer(alloc, steps, command)?;
+    let found = answer(alloc, steps, &command)?;
     if found != wanted {
         return Err(Fail::new(format_args!("{found:?} for {wanted:?}")));
     }
