@@ -19,7 +19,7 @@ ghost use Rattle.blot_capture.specs.Trace.{actions_after, became_of, on_told, re
 
 use crate::handled::Handled;
 use crate::moment::sending_by;
-use blot_desk::{DeskFault, Reply, TakesCommands};
+use blot_desk::{DeskFault, TakesCommands};
 use blot_fields::{FieldFault, Message, command_of, decode, is_out_of_memory};
 use blot_gateway::seen_by;
 use blot_session::{Action, NotTaken, Phase, SeenReply, Session, delivered};
@@ -120,7 +120,6 @@ fn submit_report<D: TakesCommands>(
             Err(ReplayFault::NoMemory)
         }
     };
-    drop(made);
     handled
 }
 

@@ -1,20 +1,20 @@
 //! Each kind of event on the book.
-ghost use Rattle.std.specs.Prelude.{◌≡◌, ◌≤◌, None, IfOk, OnErr, if◌then◌else◌};
+ghost use Rattle.std.specs.Prelude.{◌≡◌, ◌≤◌, None, IfOk, IfErr, OnErr, if◌then◌else◌};
 ghost use Rattle.blot_types.specs.Legal.{entry_refusal};
 ghost use Rattle.blot_desk.specs.Desk.{corrects_or_busts, desk_book, outcome_in, step_of, submit_of, undo_of, redo_of};
 
-use crate::{Event, Reply};
+use crate::{DeskFault, Event, Reply};
 use blot_command::{ApplyFault, BoxedCommand, Tables};
 use blot_types::{Command, EVENTS_MAX, Refused};
 use blot_undo::{StepFault, Steps};
-use std::alloc::{AllocError as NoMemory, Global};
+use std::alloc::Global;
 
 /// Takes an event, and gives the reply to it.
 pub(crate) fn take(
     steps: &mut Steps<BoxedCommand>,
     alloc: Global,
     event: &Event,
-) -> Result<Reply, NoMemory>
+) -> Result<Reply, DeskFault>
     requires { steps.old.next ≤ EVENTS_MAX }
     ensures ok { IfOk result (λ reply. outcome_in steps.new reply ≡ step_of (desk_book steps.old) event.now) }
     ensures err { OnErr result (desk_book steps.new ≡ desk_book steps.old) }
@@ -35,22 +35,26 @@ pub(crate) fn submit(
     steps: &mut Steps<BoxedCommand>,
     alloc: Global,
     command: &Command,
-) -> Result<Reply, NoMemory>
+) -> Result<Reply, DeskFault>
     requires { steps.old.next ≤ EVENTS_MAX }
     ensures ok { IfOk result (λ reply. outcome_in steps.new reply ≡ submit_of (desk_book steps.old) command.now) }
+    ensures fault { IfErr result (λ fault. fault ≡ DeskFault.NoMemory) }
     ensures err { OnErr result (desk_book steps.new ≡ desk_book steps.old) }
 {
     if let Some(reason) = early_refusal(steps.state(), command) {
         return Ok(Reply::Refused(reason));
     }
-    let own = BoxedCommand::copy_of(alloc, command)?;
+    let Ok(own) = BoxedCommand::copy_of(alloc, command) else {
+        return Err(DeskFault::NoMemory);
+    };
     apply(steps, own)
 }
 
 // Takes a command as the next step, or refuses it.
-fn apply(steps: &mut Steps<BoxedCommand>, command: BoxedCommand) -> Result<Reply, NoMemory>
+fn apply(steps: &mut Steps<BoxedCommand>, command: BoxedCommand) -> Result<Reply, DeskFault>
     requires { steps.old.next ≤ EVENTS_MAX }
     ensures ok { IfOk result (λ reply. outcome_in steps.new reply ≡ submit_of (desk_book steps.old) command) }
+    ensures fault { IfErr result (λ fault. fault ≡ DeskFault.NoMemory) }
     ensures err { OnErr result (desk_book steps.new ≡ desk_book steps.old) }
 {
     match steps.apply(command) {
@@ -59,12 +63,12 @@ fn apply(steps: &mut Steps<BoxedCommand>, command: BoxedCommand) -> Result<Reply
             drop(back);
             match fault {
                 ApplyFault::Refused(reason) => Ok(Reply::Refused(reason)),
-                ApplyFault::NoMemory => Err(NoMemory),
+                ApplyFault::NoMemory => Err(DeskFault::NoMemory),
             }
         }
         Err(StepFault::NoMemory(back)) => {
             drop(back);
-            Err(NoMemory)
+            Err(DeskFault::NoMemory)
         }
     }
 }
@@ -99,13 +103,13 @@ fn undo(steps: &mut Steps<BoxedCommand>, newest: u64) -> Reply
 }
 
 // Does the step that was undone last again.
-fn redo(steps: &mut Steps<BoxedCommand>) -> Result<Reply, NoMemory>
+fn redo(steps: &mut Steps<BoxedCommand>) -> Result<Reply, DeskFault>
     ensures ok { IfOk result (λ reply. outcome_in steps.new reply ≡ redo_of (desk_book steps.old)) }
     ensures err { OnErr result (desk_book steps.new ≡ desk_book steps.old) }
 {
     match steps.redo() {
         Ok(Some(number)) => Ok(Reply::Redone(number)),
         Ok(None) => Ok(Reply::Refused(Refused::NothingToRedo)),
-        Err(fault) => Err(fault),
+        Err(_) => Err(DeskFault::NoMemory),
     }
 }

@@ -75,13 +75,12 @@ impl TakesCommands for Unrecorded {
         if self.events == EVENTS_MAX {
             return Err(DeskFault::Full);
         }
-        let reply = match submit(&mut self.steps, self.alloc, command) {
-            Ok(reply) => reply,
-            Err(_) => return Err(DeskFault::NoMemory),
-        };
-        self.events += 1;
-        remember(&mut self.history, command, &reply);
-        Ok(reply)
+        let answer = submit(&mut self.steps, self.alloc, command);
+        if let Ok(reply) = &answer {
+            self.events += 1;
+            remember(&mut self.history, command, reply);
+        }
+        answer
     }
 }
 

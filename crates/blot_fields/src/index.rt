@@ -128,6 +128,9 @@ fn note<'a>(slots: &mut [Slot<'a>; ROWS], field: Field<'a>)
 {
     let row = row_of(field.tag);
     if row < ROWS {
-        slots[row] = slots[row].with(field.value);
+        match slots[row] {
+            Slot::Missing => slots[row] = Slot::Once(field.value),
+            Slot::Once(_) | Slot::Repeated => slots[row] = Slot::Repeated,
+        }
     }
 }
