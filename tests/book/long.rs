@@ -168,7 +168,7 @@ fn answer(
     if !steps.room() {
         return Err(Fail::new("no room"));
     }
-    let boxed = BoxedCommand::copy_of(alloc, command).ok().ok_or("no memory")?;
+    let boxed = BoxedCommand::copy_of(alloc, command)?;
     match steps.apply(boxed) {
         Ok(number) => Ok(Ok(number)),
         Err(StepFault::Refused(_, ApplyFault::Refused(refused))) => Ok(Err(refused)),
