@@ -37,7 +37,7 @@ fn out(table: &mut SlotTable, name: &str) -> Result<Session, Fail> {
 
 // A session comes back, whose peer is out.
 fn back(table: &mut SlotTable, session: Session) -> Result<(), Fail> {
-    match table.check_out(&session.peer()) {
+    match table.check_out(session.peer()) {
         Err(SlotFault::AlreadyOn) => {
             table.check_in(session);
             Ok(())
@@ -61,7 +61,7 @@ fn expect_kept(
 /// A session is this peer's, waits for a Logon, and expects this number.
 pub fn expect_waiting(session: &Session, name: &str, number: u64) -> Result<(), Fail> {
     let (phase, expected) = (session.phase(), session.expected());
-    let is_its = session.peer() == text(name.as_bytes())?;
+    let is_its = *session.peer() == text(name.as_bytes())?;
     if !is_its || phase != Phase::Waiting || expected != number {
         return Err(Fail::new(format_args!("{name}: {phase:?}, number {expected}")));
     }

@@ -112,15 +112,14 @@ fn submit_report<D: TakesCommands>(
 {
     let Ok(message) = said else { unreachable!() };
     let made = command_of(alloc, message, session.peer());
-    let handled = match &made {
+    match &made {
         Ok(Some(command)) => submit(alloc, session, command, now, desk),
         Ok(None) => unreachable!(),
         Err(_) => {
             let _ = tell(alloc, session, Err(NotTaken), now);
             Err(ReplayFault::NoMemory)
         }
-    };
-    handled
+    }
 }
 
 // Submits what these actions deliver, if they deliver a command.

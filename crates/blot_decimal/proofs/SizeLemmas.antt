@@ -1,6 +1,6 @@
 -- The digits of a size, their number, and the zeros that fill up the places.
-use Rattle.std.proofs.Common.{◌≡◌, ℕ, zero, suc, ◌+◌, ◌-◌, ◌^◌, ◌<◌, ◌≤◌, min, true, false, ◌&&◌, Ok, Err, List, [], ◌∷◌, ◌++◌, length, take, drop, replicate, refl, sym, ap, ◌∙◌, arith, fold}
-use Rattle.std.proofs.lemmas.List.{drop-replicate, take-replicate, take_min, drop_min}
+use Rattle.std.proofs.Common.{◌≡◌, ℕ, zero, suc, ◌-◌, ◌*◌, ◌^◌, ◌<◌, ◌≤◌, min, true, false, ◌&&◌, Ok, Err, List, [], ◌∷◌, ◌++◌, length, take, drop, replicate, refl, sym, ap, ◌∙◌, arith, fold, mul_right_comm, mul_assoc, pow-suc}
+use Rattle.std.proofs.lemmas.List.{take_min, drop_min}
 use Rattle.std.proofs.lemmas.Grind.{fold-append}
 use Rattle.std.proofs.lemmas.Bool.{lt-ltb, le-ltb, and_parts, and_from}
 use Rattle.blot_decimal.specs.declared.fault.DecimalFault.TheVariants.{Format, TooFine, TooLarge}
@@ -42,23 +42,27 @@ kept_of-take_min places fraction =
     ap (λ n. kept_of places (take n fraction)) (let e : min (length fraction) places ≡ min places (length fraction) = omega arith in e)
     ∙ ap (kept_of places) (take_min places fraction) ∙ kept_of-take places fraction
 
--- a part of eight zeros
-pub part_of_zeros : (start count : ℕ) → start + count ≤ 8 → take {A = ℕ} count (drop start (48 ∷ 48 ∷ 48 ∷ 48 ∷ 48 ∷ 48 ∷ 48 ∷ 48 ∷ [])) ≡ replicate count 48
-part_of_zeros start count fits =
-    ap (λ (zeros : List ℕ). take count zeros) (drop-replicate start 8 48) ∙ take-replicate count (8 - start) 48 (omega arith)
+-- zeros after a number
+fold-zeros : (number count : ℕ) → fold with_digit number (replicate count 48) ≡ number * 10 ^ count
+fold-zeros number zero = omega arith
+fold-zeros number (suc count) =
+    let digit : with_digit number 48 ≡ number * 10 = omega arith in
+    fold-zeros (with_digit number 48) count ∙ ap (λ n. n * 10 ^ count) digit ∙ mul_right_comm number 10 (10 ^ count) ∙ mul_assoc number (10 ^ count) 10
+    ∙ ap (λ power. number * power) (sym (pow-suc 10 count))
 
 -- zeros are digits
 pub are_digits-replicate : (count : ℕ) → are_digits (replicate count 48) ≡ true
 are_digits-replicate zero = refl
 are_digits-replicate (suc count) = are_digits-replicate count
 
--- the digits before the point, those after it and the zeros, read one after another up to a limit
+-- the digits before the point and those after it, read one after another up to a limit, and the zeros
 pub units_by_parts : (limit places : ℕ) (whole kept : List ℕ) → length kept ≤ places →
-    min (fold with_digit (min (fold with_digit (min (number_of whole) limit) kept) limit) (replicate (places - length kept) 48)) limit
+    min (min (fold with_digit (min (number_of whole) limit) kept) limit * 10 ^ (places - length kept)) limit
     ≡ min (number_of (whole ++ kept_of places kept)) limit
 units_by_parts limit places whole kept fits =
     let zeros : List ℕ = replicate (places - length kept) 48 in
-    min-fold_with_digit limit (fold with_digit (min (number_of whole) limit) kept) zeros
+    ap (λ n. min n limit) (sym (fold-zeros (min (fold with_digit (min (number_of whole) limit) kept) limit) (places - length kept)))
+    ∙ min-fold_with_digit limit (fold with_digit (min (number_of whole) limit) kept) zeros
     ∙ ap (λ n. min n limit) (sym (fold-append with_digit (min (number_of whole) limit) kept zeros))
     ∙ min-fold_with_digit limit (number_of whole) (kept ++ zeros)
     ∙ ap (λ n. min n limit) (sym (fold-append with_digit 0 whole (kept ++ zeros)))

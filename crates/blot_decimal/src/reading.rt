@@ -1,5 +1,5 @@
 //! Reads the size of a number from an unsigned text.
-ghost use Rattle.std.specs.Prelude.{◌≡◌, ◌≤◌, ◌++◌, length, min, fold, IsTrue};
+ghost use Rattle.std.specs.Prelude.{◌≡◌, ◌*◌, ◌^◌, ◌≤◌, ◌++◌, length, min, fold, IsTrue};
 ghost use Rattle.std.specs.List.{position_or_len};
 ghost use Rattle.blot_decimal.specs.Text.{is_negative, unsigned_of, is_point, whole_of, fraction_of, are_digits, are_zeros, are_parts, with_digit, number_of};
 ghost use Rattle.blot_decimal.specs.Meaning.{kept_of, size_of, limited};
@@ -12,8 +12,10 @@ pub(crate) const SIZE_LIMIT: u64 = 10_000_000_000_000_000;
 // The most decimals of a quantity or a price.
 const PLACES_MAX: usize = 8;
 
-// The decimals that a text leaves out.
-const ZEROS: [u8; PLACES_MAX] = *b"00000000";
+// What the zeros that a text leaves out are worth.
+const POWERS: [u64; PLACES_MAX + 1] = [
+    1, 10, 100, 1000, 10000, 100000, 1000000, 10000000, 100000000,
+];
 
 /// Splits a minus sign off: whether there is one, and the rest.
 pub(crate) fn split_sign(text: &[u8]) -> (bool, &[u8])
@@ -81,6 +83,14 @@ fn with_digits(number: u64, digits: &[u8]) -> u64
     value
 }
 
+// The number with more zeros after it, or `SIZE_LIMIT` where it is that or more.
+fn with_zeros(number: u64, zeros: usize) -> u64
+    requires { zeros ≤ PLACES_MAX }
+    ensures { result ≡ min (number * 10 ^ zeros) (SIZE_LIMIT) }
+{
+    number.saturating_mul(POWERS[zeros]).min(SIZE_LIMIT)
+}
+
 // The units of 10^-places that digits before and after a point write, or `SIZE_LIMIT` where they
 // are that or more.
 fn units_of(whole: &[u8], kept: &[u8], places: usize) -> u64
@@ -91,7 +101,7 @@ fn units_of(whole: &[u8], kept: &[u8], places: usize) -> u64
     ensures { result ≡ min (number_of (whole.now ++ kept_of places kept.now)) (SIZE_LIMIT) }
 {
     let units = with_digits(with_digits(0, whole), kept);
-    with_digits(units, &ZEROS[kept.len()..places])
+    with_zeros(units, places - kept.len())
 }
 
 /// Reads the size of a number, in units of 10^-places, from an unsigned text.

@@ -18,9 +18,9 @@ use std::alloc::{AllocError as NoMemory, Global};
 pub fn command_of(
     alloc: Global,
     message: &Message,
-    peer: Text64,
+    peer: &Text64,
 ) -> Result<Option<Command>, NoMemory>
-    ensures { IfOk result (λ command. command ≡ command_of message.now peer) }
+    ensures { IfOk result (λ command. command ≡ command_of message.now peer.now) }
 {
     match &message.body {
         Body::Report(report) => Ok(command_of_report(peer, message.head.sending, report)),
@@ -33,25 +33,25 @@ pub fn command_of(
 }
 
 // The command of a peer's Execution Report.
-fn command_of_report(peer: Text64, sending: Moment, report: &Report) -> Option<Command>
-    ensures { result ≡ command_of_report peer sending report.now }
+fn command_of_report(peer: &Text64, sending: Moment, report: &Report) -> Option<Command>
+    ensures { result ≡ command_of_report peer.now sending report.now }
 {
     match report {
         Report::Trade(execution) => Some(Command::Trade(Trade {
-            key: exec_of(peer, execution.id.owned()),
+            key: exec_of(peer, &execution.id),
             fill: fill_of(peer, sending, execution),
         })),
         Report::Correct {
             reference,
             execution,
         } => Some(Command::Correct(Correct {
-            key: exec_of(peer, execution.id.owned()),
-            reference: exec_of(peer, reference.owned()),
+            key: exec_of(peer, &execution.id),
+            reference: exec_of(peer, reference),
             fill: fill_of(peer, sending, execution),
         })),
         Report::Bust { id, reference } => Some(Command::Bust(Bust {
-            key: exec_of(peer, id.owned()),
-            reference: exec_of(peer, reference.owned()),
+            key: exec_of(peer, id),
+            reference: exec_of(peer, reference),
         })),
         Report::Other => None,
     }
@@ -60,16 +60,16 @@ fn command_of_report(peer: Text64, sending: Moment, report: &Report) -> Option<C
 // The command of a peer's Allocation Instruction.
 fn command_of_allocation(
     alloc: Global,
-    peer: Text64,
+    peer: &Text64,
     allocation: &Allocation,
 ) -> Result<Command, NoMemory>
-    ensures { IfOk result (λ command. command ≡ command_of_allocation peer allocation.now) }
+    ensures { IfOk result (λ command. command ≡ command_of_allocation peer.now allocation.now) }
 {
     match allocation {
         Allocation::New { id, terms } => {
             let terms = terms_of(alloc, peer, terms)?;
             Ok(Command::AllocNew(AllocNew {
-                key: alloc_of(peer, id.owned()),
+                key: alloc_of(peer, id),
                 terms,
             }))
         }
@@ -80,21 +80,21 @@ fn command_of_allocation(
         } => {
             let terms = terms_of(alloc, peer, terms)?;
             Ok(Command::AllocReplace(AllocReplace {
-                key: alloc_of(peer, id.owned()),
-                reference: alloc_of(peer, reference.owned()),
+                key: alloc_of(peer, id),
+                reference: alloc_of(peer, reference),
                 terms,
             }))
         }
         Allocation::Cancel { id, reference } => Ok(Command::AllocCancel(AllocCancel {
-            key: alloc_of(peer, id.owned()),
-            reference: alloc_of(peer, reference.owned()),
+            key: alloc_of(peer, id),
+            reference: alloc_of(peer, reference),
         })),
     }
 }
 
 // What an allocation books: its executions are the peer's.
-fn terms_of(alloc: Global, peer: Text64, terms: &AllocationTerms) -> Result<Terms, NoMemory>
-    ensures { IfOk result (λ books. books ≡ terms_of peer terms.now) }
+fn terms_of(alloc: Global, peer: &Text64, terms: &AllocationTerms) -> Result<Terms, NoMemory>
+    ensures { IfOk result (λ books. books ≡ terms_of peer.now terms.now) }
 {
     let execs = execs_of(alloc, peer, terms.executions.as_slice())?;
     let lines = lines_of(alloc, terms.lines.as_slice())?;
@@ -109,12 +109,10 @@ fn terms_of(alloc: Global, peer: Text64, terms: &AllocationTerms) -> Result<Term
 }
 
 // The keys of a peer's executions.
-fn execs_of(alloc: Global, peer: Text64, ids: &[Text]) -> Result<Vec<ExecKey>, NoMemory>
-    ensures { IfOk result (λ execs. execs.items ≡ map (exec_of peer) ids.now) }
+fn execs_of(alloc: Global, peer: &Text64, ids: &[Text]) -> Result<Vec<ExecKey>, NoMemory>
+    ensures { IfOk result (λ execs. execs.items ≡ map (exec_of peer.now) ids.now) }
 {
-    ids.iter()
-        .map(|id| exec_of(peer, id.owned()))
-        .collect(alloc)
+    ids.iter().map(|id| exec_of(peer, id)).collect(alloc)
 }
 
 // What lines book.
@@ -136,26 +134,32 @@ fn line_of(line: &AllocationLine) -> Line
 }
 
 // The key of a peer's allocation.
-fn alloc_of(peer: Text64, id: Text64) -> AllocKey
-    ensures { result ≡ alloc_of peer id }
+fn alloc_of(peer: &Text64, id: &Text) -> AllocKey
+    ensures { result ≡ alloc_of peer.now id.now }
 {
-    AllocKey { peer, id }
+    AllocKey {
+        peer: *peer,
+        id: id.owned(),
+    }
 }
 
 // The key of a peer's execution.
-fn exec_of(peer: Text64, id: Text64) -> ExecKey
-    ensures { result ≡ exec_of peer id }
+fn exec_of(peer: &Text64, id: &Text) -> ExecKey
+    ensures { result ≡ exec_of peer.now id.now }
 {
-    ExecKey { peer, id }
+    ExecKey {
+        peer: *peer,
+        id: id.owned(),
+    }
 }
 
 // What an execution brings to its order.
-fn fill_of(peer: Text64, sending: Moment, execution: &Execution) -> Fill
-    ensures { result ≡ fill_of peer sending execution.now }
+fn fill_of(peer: &Text64, sending: Moment, execution: &Execution) -> Fill
+    ensures { result ≡ fill_of peer.now sending execution.now }
 {
     Fill {
         order: OrderKey {
-            peer,
+            peer: *peer,
             id: execution.order.owned(),
         },
         account: account_of(execution),

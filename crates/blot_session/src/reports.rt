@@ -65,7 +65,7 @@ pub(crate) fn hand_on(
     ensures same { OnOk result (state.new ≡ state.old) }
     ensures err { OnErr result (state.new ≡ closed state.old) }
 {
-    let actions = delivery_of(alloc, said, state.peer);
+    let actions = delivery_of(alloc, said, &state.peer);
     if actions.is_err() {
         *state = state.closed();
     }
@@ -120,9 +120,9 @@ fn is_of_report(awaited: &Option<Awaited>) -> bool
 fn delivery_of(
     alloc: Global,
     said: &Result<Message, FieldFault>,
-    peer: Text64,
+    peer: &Text64,
 ) -> Result<Vec<Action>, NoMemory>
-    ensures { IfOk result (λ actions. actions.items ≡ ending Delivers (command_said said.now peer)) }
+    ensures { IfOk result (λ actions. actions.items ≡ ending Delivers (command_said said.now peer.now)) }
 {
     let Ok(message) = said else {
         return Ok(Vec::new(alloc));

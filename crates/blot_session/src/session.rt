@@ -61,10 +61,10 @@ impl Session {
     }
 
     /// The peer's CompID.
-    pub fn peer(&self) -> Text64
-        ensures { result ≡ self.now.peer }
+    pub fn peer(&self) -> &Text64
+        ensures { result.now ≡ self.now.peer }
     {
-        self.state.peer
+        &self.state.peer
     }
 
     /// Whether these bytes are the peer's CompID. Neither is copied.

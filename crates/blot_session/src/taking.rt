@@ -131,7 +131,7 @@ fn command_delivered(
     ensures { IfOk result (λ command. ending row.now.end command ≡ ending row.now.end (command_said said.now state.now.peer)) }
 {
     match (row.end, said) {
-        (End::Delivers, Ok(message)) => command_of(alloc, message, state.peer),
+        (End::Delivers, Ok(message)) => command_of(alloc, message, &state.peer),
         _ => Ok(None),
     }
 }

@@ -88,7 +88,7 @@ impl SlotTable {
         ensures out { slot_of self.old session.peer ≡ Some None → self.new ≡ with_slot session.peer (Some (waiting_again session)) self.old }
         ensures other { (slot_of self.old session.peer ≡ Some None → ⊥) → self.new ≡ self.old }
     {
-        if is_out(&self.slots, &session.peer()) {
+        if is_out(&self.slots, session.peer()) {
             self.check_in(session);
         }
     }
@@ -125,8 +125,7 @@ fn put_in(slots: &mut IndexMap<Text64, Option<Session>>, session: Session)
     requires { is_some (lookup (same_text session.peer) slots.old.entries) ≡ true }
     ensures { slots.new.entries ≡ set_value (same_text session.peer) slots.old.entries (Some session) }
 {
-    let peer = session.peer();
-    let slot = slots.get_mut(&peer).unwrap();
+    let slot = slots.get_mut(session.peer()).unwrap();
     *slot = Some(session);
 }
 
