@@ -3,7 +3,7 @@ use Rattle.std.proofs.Common.{◌≡◌, ℕ, Bool, true, false, List, [], ◌�
 use Rattle.std.specs.Prelude.{ℤ, pos, is_some, IfOk, if◌then◌else◌}
 use Rattle.std.specs.Option.{option_map, option_map_or}
 use Rattle.std.specs.Result.{result_unwrap_or}
-use Rattle.std.proofs.lemmas.Bool.{cond_both, cases_Bool, false≢true}
+use Rattle.std.proofs.lemmas.Bool.{and_parts, cond_both, cases_Bool, false≢true}
 use Rattle.std.proofs.lemmas.List.{append-nil}
 use Rattle.blot_time.specs.Moment.{moment_of}
 use Rattle.blot_time.specs.declared.fault.TimeFault.{TimeFault}
@@ -27,6 +27,7 @@ use Rattle.blot_fields.specs.declared.fault.FieldFault.{FieldFault}
 use Rattle.blot_fields.specs.declared.message.Message.{Message}
 use Rattle.blot_session.specs.declared.met.Met.{Met}
 use Rattle.blot_session.specs.Met.{met_of}
+use Rattle.blot_session.specs.InTurn.{is_report_said}
 use Rattle.blot_session.specs.Rows.{reply_row}
 use Rattle.blot_session.specs.Runs.{Numbered, outcome, said_by, delivered_by, taken_behind, taken_of}
 use Rattle.blot_session.specs.States.{awaited_of, phase_of}
@@ -35,7 +36,7 @@ use Rattle.blot_session.proofs.ActionLemmas.{delivered-none}
 use Rattle.blot_session.proofs.OneLemmas.{AtMostOne, one-frame}
 use Rattle.blot_capture.specs.Capture.{frame_call, reply_calls, waiting_calls, behind_frame, behind_reply, calls_of, taken_by, moment_at, is_closed_phase}
 use Rattle.blot_capture.specs.declared.handled.Handled.{Handled}
-use Rattle.blot_capture.specs.Handling.{IsHandled, IsHandledBy, delivered_in, delivery_of, report_actions}
+use Rattle.blot_capture.specs.Handling.{IsHandled, IsHandledBy, delivered_in, delivery_of, report_actions, says_fill}
 use Rattle.blot_capture.specs.Trace.{actions_after, became_of}
 
 -- ---- what is delivered
@@ -46,6 +47,14 @@ commands-same number [] = refl
 commands-same number (Send bytes ∷ actions) = commands-same number actions
 commands-same number (Deliver command ∷ actions) = ap (λ more. command ∷ more) (commands-same number actions)
 commands-same number (Close reason ∷ actions) = commands-same number actions
+
+-- a report in its turn is about a fill
+pub said-fill : (state : State) (said : Result Message FieldFault) → is_report_said state said ≡ true → says_fill said ≡ true
+said-fill state (Err fault) is = is
+said-fill state (Ok message) is =
+    let turn = and_parts _ _ is in
+    let number = and_parts _ _ turn.0 in
+    (and_parts _ _ number.0).1
 
 -- ---- the reply
 

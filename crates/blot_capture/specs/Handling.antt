@@ -1,5 +1,5 @@
 -- What a capture's sessions say came of a frame.
-use Rattle.std.specs.Prelude.{◌≡◌, ℕ, List, [], ◌∷◌, map, Option, Some, None, Result}
+use Rattle.std.specs.Prelude.{◌≡◌, ℕ, Bool, true, false, List, [], ◌∷◌, map, Option, Some, None, Result, Ok, Err}
 use Rattle.std.specs.Option.{option_map}
 use Rattle.blot_fields.specs.declared.fault.FieldFault.{FieldFault}
 use Rattle.blot_fields.specs.declared.message.Message.{Message}
@@ -9,6 +9,7 @@ use Rattle.blot_session.specs.declared.action.Action.TheVariants.{Deliver}
 use Rattle.blot_session.specs.declared.met.Met.{Met}
 use Rattle.blot_session.specs.declared.state.State.{State}
 use Rattle.blot_session.specs.Calls.{command_said}
+use Rattle.blot_session.specs.InTurn.{is_about_fill}
 use Rattle.blot_session.specs.Met.{met_of}
 use Rattle.blot_session.specs.Runs.{delivered_by, said_by}
 use Rattle.blot_desk.specs.declared.event.Reply.{Reply}
@@ -30,7 +31,12 @@ abbrev pub delivery_of : Option Command → List Action
 delivery_of (Some command) = Deliver command ∷ []
 delivery_of None = []
 
--- so of one that takes a report
+-- whether a frame says an Execution Report about a fill
+abbrev pub says_fill : Result Message FieldFault → Bool
+says_fill (Ok message) = is_about_fill message.body
+says_fill (Err fault) = false
+
+-- the actions of a call that takes a report
 abbrev pub report_actions : Result Message FieldFault → List ℕ → List Action
 report_actions said peer = delivery_of (command_said said peer)
 

@@ -1,10 +1,10 @@
 //! A frame at the session of its sender, and what that delivers at the desk.
-ghost use Rattle.std.specs.Prelude.{◌≡◌, ◌≢◌, [], ◌∷◌, true, Ok, Err, Some, is_some, OnOk, IfOk, IfErr};
+ghost use Rattle.std.specs.Prelude.{◌≡◌, ◌≢◌, [], ◌∷◌, true, Ok, Err, Some, OnOk, IfOk, IfErr};
 ghost use Rattle.blot_tag.specs.Fields.{fields_of};
 ghost use Rattle.blot_tag.specs.Views.{text_of};
 ghost use Rattle.blot_fields.specs.First.{IsSentAt};
 ghost use Rattle.blot_fields.specs.Numbers.{IsNumbered};
-ghost use Rattle.blot_session.specs.Calls.{Awaits, DeliversAlone, command_said, on_reply};
+ghost use Rattle.blot_session.specs.Calls.{Awaits, DeliversAlone, on_reply};
 ghost use Rattle.blot_session.specs.declared.met.Met.{Met};
 ghost use Rattle.blot_session.specs.declared.replies.SeenReply.TheVariants.{Accepted};
 ghost use Rattle.blot_session.specs.Runs.{behind_calls, said_by};
@@ -13,14 +13,14 @@ ghost use Rattle.blot_desk.specs.declared.event.Event.TheVariants.{Submit};
 ghost use Rattle.blot_desk.specs.Desk.{recorded_of};
 ghost use Rattle.blot_gateway.specs.Serving.{seen_by};
 ghost use Rattle.blot_capture.specs.Capture.{behind_all, behind_reply, reply_calls, waiting_calls, taken_by};
-ghost use Rattle.blot_capture.specs.Handling.{IsHandled, IsHandledBy, IsReplied, delivered_in, report_actions};
+ghost use Rattle.blot_capture.specs.Handling.{IsHandled, IsHandledBy, IsReplied, delivered_in, report_actions, says_fill};
 ghost use Rattle.blot_capture.specs.Replay.{submitted, Stopped, fault_of};
 ghost use Rattle.blot_capture.specs.Trace.{actions_after, became_of, on_told, reply_to};
 
 use crate::handled::Handled;
 use crate::moment::sending_by;
 use blot_desk::{DeskFault, TakesCommands};
-use blot_fields::{FieldFault, Message, command_of, decode, is_out_of_memory};
+use blot_fields::{Body, FieldFault, Message, command_of_report, decode, is_out_of_memory};
 use blot_gateway::seen_by;
 use blot_session::{Action, NotTaken, Phase, SeenReply, Session, delivered};
 use blot_stream::ReplayFault;
@@ -90,7 +90,7 @@ fn take_said<D: TakesCommands>(
     take_delivered(alloc, session, actions, now, desk)
 }
 
-// Submits the command of a report that the session took. Where there is no memory for it, the session is told that it wasn't taken.
+// Submits the command of a report that the session took.
 fn submit_report<D: TakesCommands>(
     alloc: Global,
     session: &mut Session,
@@ -99,7 +99,7 @@ fn submit_report<D: TakesCommands>(
     desk: &mut D,
 ) -> Result<Handled, ReplayFault>
     requires awaiting { IsAwaiting session.old }
-    requires brings { is_some (command_said said.now session.old.peer) ≡ true }
+    requires fill { says_fill said.now ≡ true }
     ensures session { OnOk result (session.new ≡ behind_calls session.old (reply_calls session.old now)) }
     ensures peer { session.new.peer ≡ session.old.peer }
     ensures idle { IsIdle session.new }
@@ -111,14 +111,12 @@ fn submit_report<D: TakesCommands>(
     ensures no_write { result ≢ Err ReplayFault.Write }
 {
     let Ok(message) = said else { unreachable!() };
-    let made = command_of(alloc, message, session.peer());
-    match &made {
-        Ok(Some(command)) => submit(alloc, session, command, now, desk),
-        Ok(None) => unreachable!(),
-        Err(_) => {
-            let _ = tell(alloc, session, Err(NotTaken), now);
-            Err(ReplayFault::NoMemory)
-        }
+    let Body::Report(report) = &message.body else {
+        unreachable!()
+    };
+    match &command_of_report(session.peer(), message.head.sending, report) {
+        Some(command) => submit(alloc, session, command, now, desk),
+        None => unreachable!(),
     }
 }
 

@@ -32,8 +32,8 @@ pub fn command_of(
     }
 }
 
-// The command of a peer's Execution Report.
-fn command_of_report(peer: &Text64, sending: Moment, report: &Report) -> Option<Command>
+/// The command that a peer's Execution Report, sent at this moment, gives the book; none for one that leaves the book alone. It takes no memory.
+pub fn command_of_report(peer: &Text64, sending: Moment, report: &Report) -> Option<Command>
     ensures { result ≡ command_of_report peer.now sending report.now }
 {
     match report {

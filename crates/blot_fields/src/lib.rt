@@ -25,7 +25,7 @@ mod text;
 
 pub use admin::Admin;
 pub use allocation::{Allocation, AllocationLine, AllocationTerms};
-pub use command::command_of;
+pub use command::{command_of, command_of_report};
 pub use decoding::{decode, is_out_of_memory};
 pub use fault::{FieldFault, FieldReason};
 pub use first::{first_text, first_value};

@@ -172,7 +172,7 @@ impl Session {
     }
 
     /// A frame came that says this: whether it is an Execution Report about a fill that came in its turn. Then it is taken, and
-    /// the reply to the command that its message brings (`blot_fields::command_of`) is awaited. Otherwise nothing has changed,
+    /// the reply to the command that its message brings (`blot_fields::command_of_report`) is awaited. Otherwise nothing has changed,
     /// and it is for `on_said`. It takes no memory.
     pub fn on_report(&mut self, said: &Result<Message, FieldFault>, now: Moment) -> bool
         requires idle { IsIdle self.old }

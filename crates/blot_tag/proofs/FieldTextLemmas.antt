@@ -12,7 +12,7 @@ use Rattle.std.proofs.lemmas.List.Quantifiers.{position-Some}
 use Rattle.std.proofs.lemmas.List.Sums.{split_at_first, fails_before_first, passes_at_first, position_or_len_is}
 use Rattle.std.proofs.lemmas.Str.Parse.{IsNumeralModel, numerals_by_fold}
 use Rattle.std.proofs.Math.Seq.{drop-cons}
-use Rattle.blot_tag.specs.Bytes.{soh, is_soh, equals, is_equals, is_number, is_tag, with_digit, number_of, tag_number}
+use Rattle.blot_tag.specs.Bytes.{soh, is_soh, EndsWithSoh, equals, is_equals, is_number, is_tag, with_digit, number_of, tag_number}
 use Rattle.blot_tag.specs.Fields.{TagValue, Item, no_tag, wrong_length, length_before, first_tag, data_value, value_of, first_field, and_then_others, first_items, items_behind, fields_of, fields_before_fault, fault_of}
 use Rattle.blot_tag.specs.FieldText.{field_text, fields_text, IsSlice, EndsBehind, EachEnds}
 use Rattle.blot_tag.specs.Frames.{three_digits, front_of, IsFrame}
@@ -22,10 +22,6 @@ use Rattle.blot_tag.proofs.ByteLemmas.{tag_number-lt}
 use Rattle.blot_tag.proofs.FieldLemmas.{length-first_field}
 
 -- ---- texts that end with SOH
-
--- the text is empty, or its last byte is SOH
-abbrev pub EndsWithSoh : List ℕ → Type 0
-EndsWithSoh text = 0 < length text → get_or text (length text - 1) 0 ≡ soh
 
 EndsWithSoh-rest : (front rest : List ℕ) → EndsWithSoh (front ++ rest) → EndsWithSoh rest
 EndsWithSoh-rest front rest ends some =
@@ -102,6 +98,23 @@ first_tag-text text tag is = by_place (position is_equals text) refl is
         split_at_byte equals text (omega (arith, same, first.0))
         ∙ ap (λ front. front ++ equals ∷ after_first is_equals text) digits
 
+-- what stands behind the tag of a text that ends with SOH is some text that ends with it
+behind_tag : (text : List ℕ) (tag : ℕ) → EndsWithSoh text → first_tag text ≡ Some tag
+    → (0 < length (after_first is_equals text)) × EndsWithSoh (after_first is_equals text)
+behind_tag text tag ends is =
+    let rest : List ℕ = after_first is_equals text in
+    let front_ends = subst EndsWithSoh (first_tag-text text tag is) ends in (
+      length-behind_equals (decimal tag) rest front_ends,
+      EndsWithSoh-rest (decimal tag ++ equals ∷ []) rest (subst EndsWithSoh (simp append_assoc) front_ends),
+    )
+
+-- so an SOH stands behind the tag of a text that ends with one
+pub soh_behind_tag : (text : List ℕ) (tag : ℕ) → EndsWithSoh text → first_tag text ≡ Some tag
+    → position_or_len is_soh (after_first is_equals text) < length (after_first is_equals text)
+soh_behind_tag text tag ends is =
+    let behind = behind_tag text tag ends is in
+    first_soh-inside (after_first is_equals text) behind.1 behind.0
+
 -- ---- a value
 
 -- a value, SOH and what stands after it
@@ -143,10 +156,10 @@ value_of-cut (Some digits) tag rest cut ends some is = by_value (data_value digi
 -- ---- a field, and those after it
 
 -- the field begins the text and ends where it has to, and a text that ends with SOH is left
-record IsFirst (before : Option TagValue) (text : List ℕ) (split : TagValue × List ℕ) : Type 0 where
-  whole : text ≡ field_text split.0 ++ split.1
-  ends : EndsBehind before split.0
-  later : EndsWithSoh split.1
+pub record IsFirst (before : Option TagValue) (text : List ℕ) (split : TagValue × List ℕ) : Type 0 where
+  pub whole : text ≡ field_text split.0 ++ split.1
+  pub ends : EndsBehind before split.0
+  pub later : EndsWithSoh split.1
 
 field_first : (before : Option TagValue) (text rest : List ℕ) (tag : ℕ) (cut : List ℕ × List ℕ) → EndsWithSoh text → text ≡ decimal tag ++ equals ∷ rest → IsCut (length_before before tag) rest cut → IsFirst before text (record { tag = tag; value = cut.0 }, cut.1)
 field_first before text rest tag cut ends tag_is is =
@@ -158,7 +171,7 @@ field_first before text rest tag cut ends tag_is is =
       later = EndsWithSoh-rest (field_text field) cut.1 (subst EndsWithSoh whole ends);
     }
 
-first_field-first : (before : Option TagValue) (text : List ℕ) (split : TagValue × List ℕ) → EndsWithSoh text → first_field before text ≡ Ok split → IsFirst before text split
+pub first_field-first : (before : Option TagValue) (text : List ℕ) (split : TagValue × List ℕ) → EndsWithSoh text → first_field before text ≡ Ok split → IsFirst before text split
 unfolding first_field
 first_field-first before text split ends is = by_tag (first_tag text) refl is
   where
@@ -171,12 +184,9 @@ first_field-first before text split ends is = by_tag (first_tag text) refl is
     by_value tag at (Err fault) got found = cc
     by_value tag at (Ok cut) got found =
         let same : (record { tag = tag; value = cut.0 }, cut.1) ≡ split = cc in
-        let whole = first_tag-text text tag at in
-        let front_ends = subst EndsWithSoh whole ends in
-        let some = length-behind_equals (decimal tag) rest front_ends in
-        let rest_ends = EndsWithSoh-rest (decimal tag ++ equals ∷ []) rest (subst EndsWithSoh (simp append_assoc) front_ends) in
+        let behind = behind_tag text tag ends at in
         subst (IsFirst before text) same
-        (field_first before text rest tag cut ends whole (value_of-cut (length_before before tag) tag rest cut rest_ends some got))
+        (field_first before text rest tag cut ends (first_tag-text text tag at) (value_of-cut (length_before before tag) tag rest cut behind.1 behind.0 got))
 
     by_tag : (tag : Option ℕ) → first_tag text ≡ tag → (do
       tag ← ok_or tag no_tag
@@ -246,7 +256,7 @@ EndsWithSoh-push front some =
     let whole = length-append front (soh ∷ []) in
     get_or_at front soh [] 0 (length (front ++ soh ∷ []) - 1) (omega arith)
 
-EndsWithSoh-frame : (text : List ℕ) → IsFrame text → EndsWithSoh text
+pub EndsWithSoh-frame : (text : List ℕ) → IsFrame text → EndsWithSoh text
 EndsWithSoh-frame text is =
     let front = front_of is.digits is.body in
     let trailer = codes "10=" ++ three_digits (sum front % 256) in

@@ -12,6 +12,10 @@ soh = 1
 abbrev pub is_soh : ℕ → Bool
 is_soh byte = byte == soh
 
+-- the text is empty, or its last byte is SOH
+abbrev pub EndsWithSoh : List ℕ → Type 0
+EndsWithSoh text = 0 < length text → slice_index text (length text - 1) ≡ soh
+
 -- `b'='`, which stands between a tag and its value
 abbrev pub equals : ℕ
 equals = 61

@@ -1,6 +1,7 @@
 //! The fields of a frame, one at a time.
 ghost use Rattle.std.specs.Prelude.{◌≡◌, Option, Some, None};
 ghost use Rattle.std.specs.Iterator.{YieldsFirstBy, item_count};
+ghost use Rattle.blot_tag.specs.Bytes.{EndsWithSoh};
 ghost use Rattle.blot_tag.specs.Fields.{fields_of};
 ghost use Rattle.blot_tag.specs.Views.{item_of};
 
@@ -20,16 +21,20 @@ impl<'a> Model for Fields<'a> {
     ghost use Rattle.std.specs.Prelude.{List};
     ghost use Rattle.std.specs.Option.{option_map};
     ghost use Rattle.blot_tag.specs.Fields.{Item, items_behind};
+    ghost use Rattle.blot_tag.specs.Bytes.{EndsWithSoh};
     ghost use Rattle.blot_tag.specs.Views.{tag_value};
 
     ghost Value = { List Item };
 
     ghost view = { λ fields. items_behind (option_map tag_value fields.before) fields.rest.now };
+
+    ghost invariant = { λ fields. EndsWithSoh fields.rest.now };
 }
 
 impl<'a> Fields<'a> {
-    /// The fields of a whole text.
+    /// The fields of a whole text, which ends with SOH.
     pub(crate) fn of(text: &'a [u8]) -> Fields<'a>
+        requires { EndsWithSoh text.now }
         ensures { result ≡ fields_of text.now }
     {
         Fields {

@@ -1,8 +1,8 @@
 //! Splits the first field off a text.
-ghost use Rattle.std.specs.Prelude.{◌≡◌, Option, Some, None, IfSome};
+ghost use Rattle.std.specs.Prelude.{◌≡◌, ◌<◌, Option, Some, None, IfSome, length};
 ghost use Rattle.std.specs.Option.{option_map, option_copied};
-ghost use Rattle.std.specs.List.{before_first, after_first};
-ghost use Rattle.blot_tag.specs.Bytes.{is_soh, is_equals};
+ghost use Rattle.std.specs.List.{before_first, after_first, position_or_len};
+ghost use Rattle.blot_tag.specs.Bytes.{is_soh, is_equals, EndsWithSoh};
 ghost use Rattle.blot_tag.specs.Fields.{no_tag, wrong_length, data_tag_of, length_before, first_tag, data_value, first_field};
 ghost use Rattle.blot_tag.specs.Views.{tag_value, split_of};
 
@@ -27,10 +27,13 @@ fn wrong_length(tag: u32) -> SplitFault
     }
 }
 
-/// The tag of the data that goes with a length tag. FIX 4.4 volume 6.
+/// The tag of the data that goes with a length tag. Most tags are below all of those. FIX 4.4 volume 6.
 pub(crate) fn data_tag(length_tag: u32) -> Option<u32>
     ensures { result ≡ data_tag_of length_tag }
 {
+    if length_tag < 90 {
+        return None;
+    }
     match length_tag {
         90 => Some(91),
         93 => Some(89),
@@ -106,18 +109,15 @@ fn split_tag(text: &[u8]) -> Option<(u32, &[u8])>
     split_any_tag(text)
 }
 
-// The bytes up to the next SOH, and those after it.
+// The bytes up to the next SOH, which stands in the text, and those after it.
 #[inline(always)]
 fn split_at_soh(text: &[u8]) -> (&[u8], &[u8])
+    requires { position_or_len is_soh text.now < length text.now }
     ensures before { result.0.now ≡ before_first is_soh text.now }
     ensures after { result.1.now ≡ after_first is_soh text.now }
 {
     let place = place_of_soh(text);
-    if place < text.len() {
-        (&text[..place], &text[place + 1..])
-    } else {
-        (text, &[])
-    }
+    (&text[..place], &text[place + 1..])
 }
 
 // As many bytes as the digits say, and the text after the SOH that follows them.
@@ -143,6 +143,7 @@ pub(crate) fn first_field<'a>(
     before: Option<Field<'a>>,
     text: &'a [u8],
 ) -> Result<(Field<'a>, &'a [u8]), SplitFault>
+    requires { EndsWithSoh text.now }
     ensures { split_of result ≡ first_field (option_map tag_value before.entry) text.now }
 {
     let Some((tag, text)) = split_tag(text) else {

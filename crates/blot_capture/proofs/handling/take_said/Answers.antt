@@ -3,8 +3,11 @@ use Rattle.std.specs.Prelude.{is_some, OnOk, IfErr}
 use Rattle.blot_tag.specs.Views.{text_of}
 use Rattle.blot_session.specs.States.{awaited_of}
 use Rattle.blot_capture.specs.Replay.{Stopped, submitted}
-use Rattle.blot_capture.proofs.SessionLemmas.{frame-takes, given-after, handled-frame, handled-report, report-takes}
+use Rattle.blot_capture.proofs.SessionLemmas.{frame-takes, given-after, handled-frame, handled-report, report-takes, said-fill}
 use Rattle.blot_capture.proofs.handling.take_said.Goals as goal
+
+pub submit_report-requires-clause-fill : goal.submit_report-requires-clause-fill
+submit_report-requires-clause-fill g c = said-fill c.args.session.now c.args.said.now (sym c.on_report.ensures.report ∙ c.if-on_report.true)
 
 pub returns-then-on_report-clause-desk : goal.returns-then-on_report-clause-desk
 returns-then-on_report-clause-desk g c =

@@ -3,7 +3,11 @@ use Rattle.std.specs.Option.{option_map}
 use Rattle.std.proofs.lemmas.List.{nil_from_length}
 use Rattle.blot_tag.specs.Views.{tag_value}
 use Rattle.blot_tag.proofs.FieldLemmas.{items_behind-nil, items_behind-of}
+use Rattle.blot_tag.proofs.FieldTextLemmas.{first_field-first}
 use Rattle.blot_tag.proofs.fields.FieldsIterator.next.Goals as goal
+
+pub invariant_of-self : goal.invariant_of-self
+invariant_of-self c = (first_field-first _ _ _ c.self.invariant (sym c.in-Ok.ensures)).later
 
 pub returns-then-is_empty-clause-steps : goal.returns-then-is_empty-clause-steps
 returns-then-is_empty-clause-steps c =

@@ -1,8 +1,11 @@
 use Rattle.std.proofs.Common.{None, length, ap, arith}
 use Rattle.blot_tag.proofs.FieldLemmas.{length-items_behind}
-use Rattle.blot_tag.proofs.FieldTextLemmas.{frame_fields-stand, StandIn-slices, StandIn-whole}
+use Rattle.blot_tag.proofs.FieldTextLemmas.{EndsWithSoh-frame, frame_fields-stand, StandIn-slices, StandIn-whole}
 use Rattle.blot_tag.proofs.FrameLemmas.{frame_kept, length-frame-le}
 use Rattle.blot_tag.proofs.frame.Frame.fields.Goals as goal
+
+pub of-requires : goal.of-requires
+of-requires c = EndsWithSoh-frame c.args.self.now.text.now (frame_kept c.args.self.now.text.now c.args.self.now.valid)
 
 pub returns-clause-few : goal.returns-clause-few
 returns-clause-few c =
