@@ -36,7 +36,7 @@ use Rattle.blot_session.proofs.ActionLemmas.{delivered-none}
 use Rattle.blot_session.proofs.OneLemmas.{AtMostOne, one-frame}
 use Rattle.blot_capture.specs.Capture.{frame_call, reply_calls, waiting_calls, behind_frame, behind_reply, calls_of, taken_by, moment_at, is_closed_phase}
 use Rattle.blot_capture.specs.declared.handled.Handled.{Handled}
-use Rattle.blot_capture.specs.Handling.{IsHandled, IsHandledBy, delivered_in, delivery_of, report_actions, says_fill}
+use Rattle.blot_capture.specs.Handling.{IsHandled, IsHandledBy, delivered_in, delivery_of, report_actions, is_fill_said}
 use Rattle.blot_capture.specs.Trace.{actions_after, became_of}
 
 -- ---- what is delivered
@@ -49,7 +49,7 @@ commands-same number (Deliver command ∷ actions) = ap (λ more. command ∷ mo
 commands-same number (Close reason ∷ actions) = commands-same number actions
 
 -- a report in its turn is about a fill
-pub said-fill : (state : State) (said : Result Message FieldFault) → is_report_said state said ≡ true → says_fill said ≡ true
+pub said-fill : (state : State) (said : Result Message FieldFault) → is_report_said state said ≡ true → is_fill_said said ≡ true
 said-fill state (Err fault) is = is
 said-fill state (Ok message) is =
     let turn = and_parts _ _ is in

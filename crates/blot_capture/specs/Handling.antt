@@ -32,9 +32,9 @@ delivery_of (Some command) = Deliver command ∷ []
 delivery_of None = []
 
 -- whether a frame says an Execution Report about a fill
-abbrev pub says_fill : Result Message FieldFault → Bool
-says_fill (Ok message) = is_about_fill message.body
-says_fill (Err fault) = false
+abbrev pub is_fill_said : Result Message FieldFault → Bool
+is_fill_said (Ok message) = is_about_fill message.body
+is_fill_said (Err fault) = false
 
 -- the actions of a call that takes a report
 abbrev pub report_actions : Result Message FieldFault → List ℕ → List Action

@@ -13,7 +13,7 @@ ghost use Rattle.blot_desk.specs.declared.event.Event.TheVariants.{Submit};
 ghost use Rattle.blot_desk.specs.Desk.{recorded_of};
 ghost use Rattle.blot_gateway.specs.Serving.{seen_by};
 ghost use Rattle.blot_capture.specs.Capture.{behind_all, behind_reply, reply_calls, waiting_calls, taken_by};
-ghost use Rattle.blot_capture.specs.Handling.{IsHandled, IsHandledBy, IsReplied, delivered_in, report_actions, says_fill};
+ghost use Rattle.blot_capture.specs.Handling.{IsHandled, IsHandledBy, IsReplied, delivered_in, report_actions, is_fill_said};
 ghost use Rattle.blot_capture.specs.Replay.{submitted, Stopped, fault_of};
 ghost use Rattle.blot_capture.specs.Trace.{actions_after, became_of, on_told, reply_to};
 
@@ -99,7 +99,7 @@ fn submit_report<D: TakesCommands>(
     desk: &mut D,
 ) -> Result<Handled, ReplayFault>
     requires awaiting { IsAwaiting session.old }
-    requires fill { says_fill said.now ≡ true }
+    requires fill { is_fill_said said.now ≡ true }
     ensures session { OnOk result (session.new ≡ behind_calls session.old (reply_calls session.old now)) }
     ensures peer { session.new.peer ≡ session.old.peer }
     ensures idle { IsIdle session.new }
@@ -114,7 +114,7 @@ fn submit_report<D: TakesCommands>(
     let Body::Report(report) = &message.body else {
         unreachable!()
     };
-    match &command_of_report(session.peer(), message.head.sending, report) {
+    match &command_of_report(report, message.head.sending, session.peer()) {
         Some(command) => submit(alloc, session, command, now, desk),
         None => unreachable!(),
     }

@@ -14,7 +14,7 @@ pub trait TakesCommands {
     /// The book, and the events that came with the replies to them.
     ghost journal_of: { Self → Journal };
 
-    /// Takes a command: the reply to it. The desk keeps a copy of its own. Where as many events came as a day has, or memory runs out,
+    /// Takes a command: the reply to it. What the desk keeps of it is a copy. Where as many events came as a day has, or memory runs out,
     /// nothing changes.
     fn submit(&mut self, command: &Command) -> Result<Reply, DeskFault>
         ensures reply { IfOk result (λ reply. reply ≡ (step_of (journal_of self.old).book (Submit command.now)).reply) }

@@ -23,7 +23,7 @@ pub fn command_of(
     ensures { IfOk result (λ command. command ≡ command_of message.now peer.now) }
 {
     match &message.body {
-        Body::Report(report) => Ok(command_of_report(peer, message.head.sending, report)),
+        Body::Report(report) => Ok(command_of_report(report, message.head.sending, peer)),
         Body::Allocation(allocation) => {
             let command = command_of_allocation(alloc, peer, allocation)?;
             Ok(Some(command))
@@ -32,8 +32,9 @@ pub fn command_of(
     }
 }
 
-/// The command that a peer's Execution Report, sent at this moment, gives the book; none for one that leaves the book alone. It takes no memory.
-pub fn command_of_report(peer: &Text64, sending: Moment, report: &Report) -> Option<Command>
+/// The command that a peer's Execution Report, sent at this moment, gives the book; none for one that leaves the book
+/// alone. It takes no memory.
+pub fn command_of_report(report: &Report, sending: Moment, peer: &Text64) -> Option<Command>
     ensures { result ≡ command_of_report peer.now sending report.now }
 {
     match report {

@@ -5,6 +5,7 @@ mod FieldTextLemmas
 mod MatchLemmas
 mod SizeLemmas
 mod StepLemmas
+mod SumLemmas
 mod TagLemmas
 mod OutcomeLemmas
 pub mod FrameLemmas

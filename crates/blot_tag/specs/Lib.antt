@@ -1,5 +1,6 @@
 -- Frames of FIX 4.4 and their fields.
 pub mod Bytes
+pub mod Sums
 pub mod Results
 pub mod Fields
 pub mod FieldText

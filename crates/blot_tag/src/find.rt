@@ -4,6 +4,7 @@ ghost use Rattle.blot_tag.specs.Finding.{IsFound, IsNextStart};
 
 use crate::bytes::find_byte;
 use crate::look::{Miss, look};
+use crate::sums::Summed;
 
 /// Where a frame begins, or a part of one that reaches to the end of the text.
 #[derive(Clone, Copy)]
@@ -29,8 +30,9 @@ pub(crate) fn find(text: &[u8]) -> Found
     ensures { IsFound text.now result }
 {
     let mut place = 0;
+    let mut known = Summed::none(text);
     loop {
-        match look(&text[place..]) {
+        match look(text, place, &mut known) {
             Ok(length) => {
                 return Found {
                     place,

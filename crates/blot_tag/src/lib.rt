@@ -16,6 +16,7 @@ mod lanes;
 mod look;
 mod reader;
 mod split;
+mod sums;
 mod write_fault;
 
 pub use digits::{is_number, number_of};

@@ -1,10 +1,13 @@
 //! What stands at the beginning of a text: a frame, a part of one, or neither.
-ghost use Rattle.std.specs.Prelude.{◌≡◌, ℕ, ◌+◌, ◌-◌, ◌<◌, ◌≤◌, ◌%◌, ◌++◌, sum, length, take, drop, Ok, OnOk, IfOk};
+ghost use Rattle.std.specs.Prelude.{◌≡◌, ℕ, ◌+◌, ◌-◌, ◌<◌, ◌≤◌, [], ◌∷◌, ◌++◌, length, take, drop, Ok, OnOk, IfOk};
 ghost use Rattle.std.specs.Result.{result_map_both};
-ghost use Rattle.blot_tag.specs.Frames.{head, check_sum};
+ghost use Rattle.blot_tag.specs.Bytes.{soh};
+ghost use Rattle.blot_tag.specs.Frames.{head, check_sum, three_digits};
 ghost use Rattle.blot_tag.specs.Looking.{behind, longer_size, whole_size, open_size, size_of, trailer_look, body_look, length_look, look_of};
+ghost use Rattle.blot_tag.specs.Sums.{IsSummed};
 
 use crate::bytes::{CHECK_SUM_LENGTH, SOH};
+use crate::sums::{Summed, sum_of};
 
 /// What begins a frame.
 pub(crate) const HEAD: &[u8] = b"8=FIX.4.4\x019=";
@@ -98,41 +101,50 @@ fn size_of(rest: &[u8]) -> Result<(usize, usize), Miss>
     Err(open_size(rest.len(), size))
 }
 
-// The sum of the bytes modulo 256.
-fn sum_of(bytes: &[u8]) -> u8
-    ensures { result ≡ sum bytes.now % 256 }
-{
-    let mut sum: u8 = 0;
-    for byte in bytes {
-        sum = sum.wrapping_add(*byte);
-    }
-    sum
-}
-
 /// What stands after `10=` in a frame: three digits and SOH.
 pub(crate) fn check_sum(front: &[u8]) -> [u8; 4]
     ensures { result ≡ check_sum front.now }
 {
-    let sum = sum_of(front);
+    sum_text(sum_of(front))
+}
+
+// The three digits of a sum, and SOH.
+fn sum_text(sum: u8) -> [u8; 4]
+    ensures { result ≡ three_digits sum ++ soh ∷ [] }
+{
     [b'0' + sum / 100, b'0' + sum / 10 % 10, b'0' + sum % 10, SOH]
 }
 
-// The length of the frame whose CheckSum this is.
+// The length of the frame that begins at `place`, and whose CheckSum stands at `end`.
 #[tactic(auto, unfolding(crate::specs::Looking::trailer_look))]
-fn trailer_look(front: &[u8], rest: &[u8]) -> Result<usize, Miss>
-    ensures { result ≡ trailer_look front.now rest.now }
+fn trailer_look(text: &[u8], place: usize, end: usize, known: &mut Summed) -> Result<usize, Miss>
+    requires order { place ≤ end }
+    requires inside { end ≤ length text.now }
+    requires known { IsSummed text.now known.old }
+    ensures value { result ≡ trailer_look (take (end - place) (drop place text.now)) (drop end text.now) }
+    ensures known { IsSummed text.now known.new }
 {
-    let digits = behind(b"10=", rest)?;
-    behind(&check_sum(front), digits)?;
-    Ok(front.len() + CHECK_SUM_LENGTH)
+    let digits = behind(b"10=", &text[end..])?;
+    *known = known.moved(text, place, end);
+    behind(&sum_text(known.sum), digits)?;
+    Ok(end - place + CHECK_SUM_LENGTH)
 }
 
-// The length of the frame whose body begins at `start` and has this size.
+// The length of the frame that begins at `place`, and whose body begins at `start` and has this size.
 #[tactic(auto, unfolding(crate::specs::Looking::body_look))]
-fn body_look(text: &[u8], start: usize, size: usize) -> Result<usize, Miss>
+fn body_look(
+    text: &[u8],
+    place: usize,
+    start: usize,
+    size: usize,
+    known: &mut Summed,
+) -> Result<usize, Miss>
+    requires order { place ≤ start }
     requires inside { start ≤ length text.now }
     requires low { SIZE_MIN ≤ size }
-    ensures { result ≡ body_look (take start text.now) size (drop start text.now) }
+    requires known { IsSummed text.now known.old }
+    ensures value { result ≡ body_look (take (start - place) (drop place text.now)) size (drop start text.now) }
+    ensures known { IsSummed text.now known.new }
 {
     let rest = &text[start..];
     behind(b"35=", rest)?;
@@ -142,16 +154,19 @@ fn body_look(text: &[u8], start: usize, size: usize) -> Result<usize, Miss>
     if rest[size - 1] != SOH {
         return Err(Miss::Neither);
     }
-    let (front, rest) = text.split_at(start + size);
-    trailer_look(front, rest)
+    trailer_look(text, place, start + size, known)
 }
 
-/// The length of the frame that begins the text.
+/// The length of the frame that begins at a place. What is summed for it, and what is summed already, is kept for the next place.
 #[tactic(auto, unfolding(crate::specs::Looking::look_of, crate::specs::Looking::length_look))]
-pub(crate) fn look(text: &[u8]) -> Result<usize, Miss>
-    ensures { result ≡ look_of text.now }
+pub(crate) fn look(text: &[u8], place: usize, known: &mut Summed) -> Result<usize, Miss>
+    requires inside { place ≤ length text.now }
+    requires known { IsSummed text.now known.old }
+    ensures value { result ≡ look_of (drop place text.now) }
+    ensures known { IsSummed text.now known.new }
 {
-    let rest = behind(HEAD, text)?;
+    let rest = behind(HEAD, &text[place..])?;
     let (size, digits) = size_of(rest)?;
-    body_look(text, HEAD.len() + digits + 1, size)
+    let start = place + HEAD.len() + digits + 1;
+    body_look(text, place, start, size, known)
 }
