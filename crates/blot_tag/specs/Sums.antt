@@ -6,7 +6,7 @@ use Rattle.blot_tag.specs.declared.sums.Summed.{Summed}
 abbrev pub sum_between : List ℕ → ℕ → ℕ → ℕ
 sum_between text start end = sum (take (end - start) (drop start text))
 
--- the stretch lies in the text, and its sum is known
+-- the stretch lies in the text, and the sum beside it is its own, modulo 256
 pub record IsSummed (text : List ℕ) (known : Summed) : Type 0 where
   pub order : known.start ≤ known.end
   pub inside : known.end ≤ length text

@@ -30,7 +30,7 @@ pub(crate) fn find(text: &[u8]) -> Found
     ensures { IsFound text.now result }
 {
     let mut place = 0;
-    let mut known = Summed::none(text);
+    let mut known = Summed::empty();
     loop {
         match look(text, place, &mut known) {
             Ok(length) => {

@@ -1,4 +1,4 @@
-//! What stands at the beginning of a text: a frame, a part of one, or neither.
+//! What stands at a place of a text: a frame, a part of one, or neither.
 ghost use Rattle.std.specs.Prelude.{◌≡◌, ℕ, ◌+◌, ◌-◌, ◌<◌, ◌≤◌, [], ◌∷◌, ◌++◌, length, take, drop, Ok, OnOk, IfOk};
 ghost use Rattle.std.specs.Result.{result_map_both};
 ghost use Rattle.blot_tag.specs.Bytes.{soh};
@@ -157,7 +157,7 @@ fn body_look(
     trailer_look(text, place, start + size, known)
 }
 
-/// The length of the frame that begins at a place. What is summed for it, and what is summed already, is kept for the next place.
+/// The length of the frame that begins at a place. The stretch that was summed last is kept for the next place.
 #[tactic(auto, unfolding(crate::specs::Looking::look_of, crate::specs::Looking::length_look))]
 pub(crate) fn look(text: &[u8], place: usize, known: &mut Summed) -> Result<usize, Miss>
     requires inside { place ≤ length text.now }

@@ -27,7 +27,7 @@ fn wrong_length(tag: u32) -> SplitFault
     }
 }
 
-/// The tag of the data that goes with a length tag. Most fields of a report have a tag below all of those. FIX 4.4 volume 6.
+/// The tag of the data that goes with a length tag. Most fields of a report have a tag below every length tag. FIX 4.4 volume 6.
 pub(crate) fn data_tag(length_tag: u32) -> Option<u32>
     ensures { result ≡ data_tag_of length_tag }
 {

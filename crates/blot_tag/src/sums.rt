@@ -1,5 +1,5 @@
 //! The sums of the stretches of a text, modulo 256.
-ghost use Rattle.std.specs.Prelude.{◌≡◌, ◌≤◌, ◌%◌, sum, length, true};
+ghost use Rattle.std.specs.Prelude.{◌≡◌, ◌≤◌, ◌%◌, sum, length, true, ℕ, List};
 ghost use Rattle.blot_tag.specs.Sums.{IsSummed, sum_between};
 
 /// A stretch of a text, and its sum modulo 256.
@@ -22,9 +22,9 @@ pub(crate) fn sum_of(bytes: &[u8]) -> u8
 }
 
 impl Summed {
-    /// The stretch before the first byte.
-    pub(crate) fn none(text: &[u8]) -> Summed
-        ensures { IsSummed text.now result }
+    /// The empty stretch at the beginning of any text.
+    pub(crate) fn empty() -> Summed
+        ensures { (text : List ℕ) → IsSummed text result }
     {
         Summed {
             start: 0,
@@ -33,7 +33,8 @@ impl Summed {
         }
     }
 
-    /// Another stretch of the same text. Where most of it is summed already, only the bytes by which they differ are.
+    /// Another stretch of the same text, and its sum. Where it differs from this one by fewer bytes than it has, only those
+    /// are summed.
     pub(crate) fn moved(self, text: &[u8], start: usize, end: usize) -> Summed
         requires known { IsSummed text.now self }
         requires order { start ≤ end }
@@ -50,13 +51,12 @@ impl Summed {
         Summed { start, end, sum }
     }
 
-    // Whether another stretch begins within this one, and differs from it by fewer bytes than it has.
+    // Whether another stretch begins within this one, and differs from it by fewer bytes than that other has.
     fn is_near(self, start: usize, end: usize) -> bool
         requires { start ≤ end }
         ensures { result ≡ true → (self.start ≤ start) × (start ≤ self.end) }
     {
         self.start <= start
-            && start <= self.end
             && start - self.start < end - start
             && self.end.abs_diff(end) < end - start - (start - self.start)
     }
@@ -70,11 +70,11 @@ impl Summed {
         requires inside { end ≤ length text.now }
         ensures { result ≡ sum_between text.now start end % 256 }
     {
-        let behind = self.sum.wrapping_sub(sum_of(&text[self.start..start]));
+        let kept = self.sum.wrapping_sub(sum_of(&text[self.start..start]));
         if self.end <= end {
-            behind.wrapping_add(sum_of(&text[self.end..end]))
+            kept.wrapping_add(sum_of(&text[self.end..end]))
         } else {
-            behind.wrapping_sub(sum_of(&text[end..self.end]))
+            kept.wrapping_sub(sum_of(&text[end..self.end]))
         }
     }
 }
