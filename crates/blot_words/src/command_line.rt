@@ -4,6 +4,8 @@ use clap::builder::ValueParser;
 use clap::{Arg, Command};
 use std::alloc::{AllocError, Global};
 
+/// The version of the program, which `blotter --version` tells.
+pub const VERSION: &str = "1.0.0";
 /// The subcommand that replays a capture.
 pub const REPLAY: &str = "replay";
 /// The subcommand that keeps a desk for its operator.
@@ -37,6 +39,7 @@ pub const PEER: &str = "peer";
 pub fn command<'a>(alloc: Global) -> Result<Command<'a>, AllocError> {
     let blotter = Command::new(alloc, "blotter")
         .bin_name("blotter")?
+        .version(VERSION)
         .about(
             "Keeps a middle office's record of a trading day from its brokers' FIX 4.4 drop copies.",
         )

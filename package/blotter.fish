@@ -1,0 +1,16 @@
+# Completion of blotter's words for fish.
+complete -c blotter -f
+complete -c blotter -n __fish_use_subcommand -a replay -d 'Read a capture and print the report of a day'
+complete -c blotter -n __fish_use_subcommand -a desk -d 'Read a capture and answer lines'
+complete -c blotter -n __fish_use_subcommand -a audit -d 'Tell what became of each message of a capture'
+complete -c blotter -n __fish_use_subcommand -a serve -d 'Serve the brokers that connect'
+complete -c blotter -n __fish_use_subcommand -a help -d 'Print help'
+complete -c blotter -n '__fish_seen_subcommand_from help' -a 'replay desk audit serve'
+complete -c blotter -s h -l help -d 'Print help'
+complete -c blotter -n __fish_use_subcommand -s V -l version -d 'Print the version'
+complete -c blotter -n '__fish_seen_subcommand_from replay desk audit serve' -l own -x -d 'Your own CompID'
+complete -c blotter -n '__fish_seen_subcommand_from replay serve' -l day -x -a '(date +%Y%m%d)' -d 'The trading day'
+complete -c blotter -n '__fish_seen_subcommand_from desk' -l capture -r -F -d 'The file with the capture'
+complete -c blotter -n '__fish_seen_subcommand_from serve' -l port -x -d 'The TCP port'
+complete -c blotter -n '__fish_seen_subcommand_from serve' -l sessions -x -d 'Connections of a round'
+complete -c blotter -n '__fish_seen_subcommand_from serve' -l rounds -x -d 'Rounds of the day'
