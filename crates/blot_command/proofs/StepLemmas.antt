@@ -89,6 +89,7 @@ adds old entry above =
       brings = carries_numbers entry.number old (with_entry entry old) carries;
       own = tt;
       earlier = keeps_earlier-entry entry.number old (with_entry entry old) carries;
+      stays = refl;
     }
 
 -- and that the book accepts
@@ -129,6 +130,7 @@ takes_out old new inverse entry is above list earlier command number undoes =
         | inr listed ↦ number_gone number old.list (subst (λ l. Contains (numbers_of l) number) (list ∙ ap (λ n. without n old.list) undoes.step.inverse_is) listed)
       ];
       earlier = keeps_earlier-entry number old new carries;
+      stays = sym (ap (λ (shown : Shown). shown.kept) is);
     }
 
 -- the same, for a kind of command
@@ -147,4 +149,4 @@ takes_out_kind embed project old new inverse takes list c number undoes =
       kept = tt;
       latest = undoes.latest;
     }) in
-    record { brings_none = leaves.brings_none; gone = leaves.gone; earlier = leaves.earlier }
+    record { brings_none = leaves.brings_none; gone = leaves.gone; earlier = leaves.earlier; stays = leaves.stays }

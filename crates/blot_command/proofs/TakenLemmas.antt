@@ -1,9 +1,9 @@
 -- A step of any kind of command on the book: as an entry, or as an entry taken out of the middle.
 use Rattle.std.proofs.Common.{◌≡◌, ℕ, ◌<◌, ◌≤◌, ◌+◌, Bool, true, false, List, [], ◌∷◌, ◌++◌, reverse, Option, Some, None, ◌⊎◌, refl, sym, ap, subst, ◌∙◌, arith, inl, inr}
-use Rattle.std.specs.Prelude.{All, Contains, find, not, nat_lt, ◌&&◌}
+use Rattle.std.specs.Prelude.{All, Contains, find, not, nat_eq, nat_lt, ◌&&◌}
 use Rattle.std.specs.List.{cons_option, list_all}
 use Rattle.std.specs.Option.{option_map, option_map_or}
-use Rattle.std.proofs.lemmas.Bool.{cases_Bool, and_parts, and_from, le-ltb}
+use Rattle.std.proofs.lemmas.Bool.{cases_Bool, and_parts, and_from, eq-eqb, le-ltb}
 use Rattle.std.proofs.lemmas.List.{reverse-append}
 use Rattle.std.proofs.lemmas.List.Elements.{All-nil, All-cons, All-head, All-tail, All-append, All-same, All-weaker, All-contains, All-contains_itself, Contains-append_right}
 use Rattle.blot_types.specs.declared.command.Command.{Command}
@@ -24,7 +24,8 @@ use Rattle.blot_types.proofs.ChainOutLemmas.{key-out}
 use Rattle.blot_types.proofs.EntryLemmas.{chained-links}
 use Rattle.blot_types.proofs.LawLemmas.{all, book_parts}
 use Rattle.blot_types.proofs.LinkOutLemmas.{links-whole, links-rest}
-use Rattle.blot_places.specs.Shown.{item_at, without as without_item}
+use Rattle.blot_places.specs.Shown.{item_at, with_item, without as without_item}
+use Rattle.blot_places.proofs.ShownLemmas.{with_item-here, with_item-on, without-here, without-on}
 use Rattle.blot_command.specs.declared.fault.ApplyFault.TheVariants.{Refused as RefusedBy}
 use Rattle.blot_command.specs.declared.inverse.Inverse.TheVariants.{Number, Taken}
 use Rattle.blot_command.specs.Book.{Shown, entry_number, has_number, numbers_of, after, inverse_of}
@@ -44,6 +45,7 @@ adds_as old new command number inverse is adds = record {
   brings = adds.brings;
   own = adds.own;
   earlier = keeps_earlier number old new (subst (Carries number old) (sym is) (carries_push old (record { number = number; command = command })));
+  stays = adds.stays;
 }
 
 -- an inverse that is a number undoes the step of an entry
@@ -88,6 +90,7 @@ takes_out_as old new inverse list kept takes earlier command number given =
       brings_none = leaves.brings_none;
       gone = leaves.gone;
       earlier = keeps_earlier number old new (subst (λ shown. Carries number shown new) is (carries_pop new entry));
+      stays = kept;
     }
 
 -- ---- an entry taken out of the middle
@@ -217,6 +220,40 @@ untaken-above entry number (other ∷ entries) free latest =
     not_and true = refl
     not_and false = refl
 
+-- the entries without one, behind one more
+without_behind :
+    (n : ℕ) (first : Entry) (entries kept : List Entry) → without_item entry_number n entries ≡ without_item entry_number n kept
+    → without_item entry_number n (first ∷ entries) ≡ without_item entry_number n (first ∷ kept)
+without_behind n first entries kept same =
+    elim (cases_Bool (nat_eq first.number n)) [
+      | inl here ↦ without-here entry_number n first entries here ∙ same ∙ sym (without-here entry_number n first kept here)
+      | inr other ↦ without-on entry_number n first entries other ∙ ap (λ rest. first ∷ rest) same ∙ sym (without-on entry_number n first kept other)
+    ]
+
+-- the entries without one are the same where it was put in among them, and where it was taken out of them
+without_with : (entry : Entry) (kept : List Entry) → without_item entry_number entry.number (with_item entry_number entry kept) ≡ without_item entry_number entry.number kept
+without_with entry [] = without-here entry_number entry.number entry [] (eq-eqb entry.number entry.number refl)
+without_with entry (first ∷ kept) =
+    let n = entry.number in
+    elim (cases_Bool (nat_lt n first.number)) [
+      | inl less ↦
+          ap (without_item entry_number n) (with_item-on entry_number entry first kept less)
+          ∙ without_behind n first (with_item entry_number entry kept) kept (without_with entry kept)
+      | inr more ↦
+          ap (without_item entry_number n) (with_item-here entry_number entry first kept more)
+          ∙ without-here entry_number n entry (first ∷ kept) (eq-eqb n n refl)
+    ]
+
+without_twice : (n : ℕ) (kept : List Entry) → without_item entry_number n (without_item entry_number n kept) ≡ without_item entry_number n kept
+without_twice n [] = refl
+without_twice n (first ∷ kept) =
+    elim (cases_Bool (nat_eq first.number n)) [
+      | inl here ↦ ap (without_item entry_number n) (without-here entry_number n first kept here) ∙ without_twice n kept ∙ sym (without-here entry_number n first kept here)
+      | inr other ↦
+          ap (without_item entry_number n) (without-on entry_number n first kept other)
+          ∙ without-on entry_number n first (without_item entry_number n kept) other ∙ ap (λ rest. first ∷ rest) (without_twice n kept) ∙ sym (without-on entry_number n first kept other)
+    ]
+
 -- what the state keeps for a step that took an entry out, and for the earlier ones
 pub withdraw_adds :
     (old new : Shown) (taken number : ℕ) (entry : Entry) → is_book old.list ≡ true → find (has_number taken) old.list ≡ Some entry
@@ -242,6 +279,7 @@ withdraw_adds old new taken number entry book found is can above =
         free = λ within. (let below : number < number = less number (was number within) in omega (arith, below));
       };
       earlier = keeps_earlier number old new carries;
+      stays = ap (λ (shown : Shown). without_item entry_number entry.number shown.kept) is ∙ without_with entry old.kept;
     }
 
 -- ---- an entry put back
@@ -311,6 +349,7 @@ puts_back old new entry is list command number undoes =
       brings_none = was;
       gone = λ within. took.keeps.free (was number within);
       earlier = keeps_earlier number old new (subst (Carries number old) (sym whole) (carries_in entry list old.list took.parts old.kept kept number));
+      stays = ap (λ (shown : Shown). without_item entry_number entry.number shown.kept) is ∙ without_twice entry.number old.kept;
     }
 
 -- whatever step it was

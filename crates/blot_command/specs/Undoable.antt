@@ -11,6 +11,8 @@ pub record Meaning (S L C I R : Type 0) : Type 1 where
   pub spare : S → List ℕ
   -- whether a state keeps what taking back the step of a number, by its inverse, needs besides the list
   pub kept : S → ℕ → I → Type 0
+  -- whether all else that a state keeps is as it was, once a step by an inverse is taken, or taken back
+  pub stays : I → S → S → Type 0
   -- the lists that there are
   pub is_valid : L → Bool
   -- the numbers in a list
@@ -72,17 +74,20 @@ abbrev pub KeepsEarlier : {S L C I R : Type 0} → Meaning S L C I R → ℕ →
 KeepsEarlier {I = I} m number old new = (n : ℕ) (inverse : I) → n < number → m.kept old n inverse → m.kept new n inverse
 
 -- a step brings no number but its own into the state, and keeps what taking it back needs, and what the earlier
--- steps need
+-- steps need; all else that is kept stays as it was
 pub record Adds {S L C I R : Type 0} (m : Meaning S L C I R) (number : ℕ) (inverse : I) (old new : S) : Type 0 where
   pub brings : (k : ℕ) → Contains (numbers_in m new) k → Contains (numbers_in m old) k ⊎ (k ≡ number)
   pub own : m.kept new number inverse
   pub earlier : KeepsEarlier m number old new
+  pub stays : m.stays inverse old new
 
--- taking a step back brings no number into the state, takes the step's own out, and keeps what the earlier steps need
-pub record Leaves {S L C I R : Type 0} (m : Meaning S L C I R) (number : ℕ) (old new : S) : Type 0 where
+-- taking a step back brings no number into the state, takes the step's own out, and keeps what the earlier steps need; all
+-- else that is kept stays as it was
+pub record Leaves {S L C I R : Type 0} (m : Meaning S L C I R) (number : ℕ) (inverse : I) (old new : S) : Type 0 where
   pub brings_none : (k : ℕ) → Contains (numbers_in m new) k → Contains (numbers_in m old) k
   pub gone : Contains (numbers_in m new) number → ⊥
   pub earlier : KeepsEarlier m number old new
+  pub stays : m.stays inverse old new
 
 -- a refusal: the command comes back and the state is as it was; the reason is the list's own, or where the list
 -- accepts the command and that may want memory, out of memory
@@ -110,4 +115,4 @@ Undoes {S} {L} {C} m inverse state = (list : L) × (command : C) × (number : �
 
 -- whichever step an inverse undoes, its number is out
 abbrev pub TakesOut : {S L C I R : Type 0} → Meaning S L C I R → I → S → S → Type 0
-TakesOut {S} {L} {C} m inverse old new = (list : L) (command : C) (number : ℕ) → UndoesStep m list command number inverse old → Leaves m number old new
+TakesOut {S} {L} {C} m inverse old new = (list : L) (command : C) (number : ℕ) → UndoesStep m list command number inverse old → Leaves m number inverse old new

@@ -35,6 +35,10 @@ lifted entry shown = record { list = without entry.number shown.list; kept = wit
 abbrev pub returned : Entry → Shown → Shown
 returned entry shown = record { list = put_back entry shown.list; kept = without_item entry_number entry.number shown.kept }
 
+-- of the entries that are kept, all but this one stay
+abbrev pub StaysBut : Entry → Shown → Shown → Type 0
+StaysBut entry old new = without_item entry_number entry.number new.kept ≡ without_item entry_number entry.number old.kept
+
 -- whether an entry takes up the execution of a key
 abbrev pub takes_exec : ExecKey → Entry → Bool
 takes_exec key entry = option_map_or (λ own. same_exec own key) (exec_key entry.command) false

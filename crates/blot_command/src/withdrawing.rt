@@ -1,6 +1,7 @@
 //! An entry taken out of the middle of the book.
 ghost use Rattle.std.specs.Prelude.{◌≡◌, find, Some, None, OnErr, OnOk, IfOk, IfErr, IsTrue};
 ghost use Rattle.blot_types.specs.Legal.{is_book, withdrawal_refusal};
+ghost use Rattle.blot_types.specs.Withdrawal.{IsPutBack};
 ghost use Rattle.blot_command.specs.Book.{has_number};
 ghost use Rattle.blot_command.specs.Withdrawing.{lifted, CanReturn};
 
@@ -17,6 +18,9 @@ pub fn withdraw(tables: &mut Tables, number: u64) -> Result<BoxedEntry, Refused>
     ensures refused { IfErr result (λ refused. withdrawal_refusal tables.old.list number ≡ Some refused) }
     ensures err { OnErr result (tables.new ≡ tables.old) }
     ensures book { IsTrue (is_book tables.old.list) }
+
+    // An entry of the list that is taken out and put back stands where it stood.
+    ensures back { IsPutBack tables.old.list }
 {
     if tables.entry(number).is_none() {
         return Err(Refused::NotLive(number));

@@ -116,7 +116,7 @@ more_done m lawful old new command number inverse done step adds lead keeps numb
 pub one_undone :
     {S L C I R : Type 0} (m : Meaning S L C I R) → IsLawful m → (old new : S) (step : Done I) (earlier : List (Done I)) (undone : List (Undone C)) (next : ℕ) (command : C)
     → IsStack m old (step ∷ earlier) undone next
-    → m.list_of new ≡ m.before (m.list_of old) step.inverse → m.command_of (m.list_of old) step.inverse ≡ Some command → Leaves m step.number old new
+    → m.list_of new ≡ m.before (m.list_of old) step.inverse → m.command_of (m.list_of old) step.inverse ≡ Some command → Leaves m step.number step.inverse old new
     → IsStack m new earlier (record { number = step.number; command = command } ∷ undone) next
 one_undone {C = C} m lawful old new step earlier undone next command stack list back leaves =
     let list0 = m.before (m.list_of old) step.inverse in

@@ -1,13 +1,13 @@
 -- A Withdraw is a step as the command of that name is.
-use Rattle.std.proofs.Common.{◌≡◌, ℕ, ◌≤◌, true, false, List, Some, None, refl, sym, ap, ◌∙◌}
-use Rattle.std.specs.Prelude.{find, if◌then◌else◌}
+use Rattle.std.proofs.Common.{◌≡◌, ℕ, ◌≤◌, true, List, Some, None, refl, sym, ap, ◌∙◌}
+use Rattle.std.specs.Prelude.{find}
 use Rattle.std.specs.Option.{option_map, option_map_or}
 use Rattle.blot_types.specs.declared.command.Command.TheVariants.{Withdraw as WithdrawCommand}
 use Rattle.blot_types.specs.declared.command.Entry.{Entry}
 use Rattle.blot_types.specs.declared.TheConstants.{EVENTS_MAX}
 use Rattle.blot_types.specs.Legal.{is_book, withdrawal_refusal, without}
 use Rattle.blot_command.specs.declared.fault.ApplyFault.TheVariants.{Refused}
-use Rattle.blot_command.specs.declared.inverse.Inverse.TheVariants.{Number, Taken}
+use Rattle.blot_command.specs.declared.inverse.Inverse.TheVariants.{Taken}
 use Rattle.blot_command.specs.Book.{Shown, has_number, numbers_of, taken_of}
 use Rattle.blot_command.specs.Law.{has_entry}
 use Rattle.blot_command.specs.Meanings.{command_meaning}
@@ -33,7 +33,7 @@ pub withdraw_keeps :
     → IsAboveNumbers withdraw_meaning number old → Adds withdraw_meaning number entry old new
 withdraw_keeps old new taken number entry book found is can above =
     let adds = withdraw_adds old new taken number entry book found is can above in
-    record { brings = adds.brings; own = adds.own; earlier = λ n other below kept. adds.earlier n (Taken other) below kept }
+    record { brings = adds.brings; own = adds.own; earlier = λ n other below kept. adds.earlier n (Taken other) below kept; stays = adds.stays }
 
 -- what it takes back
 undoes_command :
@@ -62,4 +62,4 @@ can_return entry state (list, withdraw, number, undoes) =
 pub withdraw_returns : (old new : Shown) (entry : Entry) → new ≡ returned entry old → TakesOut withdraw_meaning entry old new
 withdraw_returns old new entry is list withdraw number undoes =
     let leaves = puts_back old new entry is list (WithdrawCommand withdraw.0) number (undoes_command list withdraw number entry old undoes) in
-    record { brings_none = leaves.brings_none; gone = leaves.gone; earlier = λ n other below kept. leaves.earlier n (Taken other) below kept }
+    record { brings_none = leaves.brings_none; gone = leaves.gone; earlier = λ n other below kept. leaves.earlier n (Taken other) below kept; stays = leaves.stays }

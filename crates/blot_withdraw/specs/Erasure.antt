@@ -1,5 +1,5 @@
 -- A list of entries without one chain of executions, and when a chain can be taken out of it.
-use Rattle.std.specs.Prelude.{◌≡◌, ℕ, ◌⊎◌, Bool, not, List, filter, find, Option, Some, None, is_none, if◌then◌else◌, Contains}
+use Rattle.std.specs.Prelude.{◌≡◌, ℕ, ◌⊎◌, Bool, not, List, filter, find, Option, Some, None, is_none, if◌then◌else◌}
 use Rattle.std.specs.List.{list_any}
 use Rattle.std.specs.Option.{option_map, option_map_or, option_and_then}
 use Rattle.blot_types.specs.declared.command.Command.{Command}
@@ -12,7 +12,6 @@ use Rattle.blot_types.specs.Order.{order_of}
 use Rattle.blot_types.specs.Position.{position_of}
 use Rattle.blot_types.specs.Refusals.{listed_by}
 use Rattle.blot_types.specs.Survivors.{links_of, root_of}
-use Rattle.blot_command.specs.Book.{Shown, numbers_of}
 use Rattle.blot_withdraw.specs.declared.fault.EraseFault.{EraseFault}
 use Rattle.blot_withdraw.specs.declared.fault.EraseFault.TheVariants.{UnknownExec, NotBusted, Named, NoMemory}
 
@@ -61,10 +60,6 @@ erase_fault list key = fault_by list (root_of list key)
 -- the first fault that applies; or none applies, and memory ran out
 abbrev pub IsEraseFault : List Entry → ExecKey → EraseFault → Type 0
 IsEraseFault list key fault = erase_fault list key ≡ Some fault ⊎ ((erase_fault list key ≡ None) × (fault ≡ NoMemory))
-
--- what a book keeps beside its list has no number but those of its list
-abbrev pub HasOnlyListed : Shown → Type 0
-HasOnlyListed book = (number : ℕ) → Contains (numbers_of book.kept) number → Contains (numbers_of book.list) number
 
 -- each order has the line by one list that it has by another; so has each position
 abbrev pub SameOrders : List Entry → List Entry → Type 0

@@ -12,7 +12,7 @@ use Rattle.blot_command.specs.Book.{has_number, numbers_of}
 use Rattle.blot_command.specs.Law.{Takes, takes}
 use Rattle.blot_command.specs.Meanings.{BookMeaning}
 use Rattle.blot_command.specs.Undoable.{IsNext, IsLawful}
-use Rattle.blot_command.specs.Withdrawing.{Keeps}
+use Rattle.blot_command.specs.Withdrawing.{Keeps, StaysBut}
 use Rattle.blot_withdraw.specs.declared.withdrawing.Withdraw.{Withdraw}
 
 -- the entry of a number, which is taken out; where there is none, which is refused, the command itself under that number
@@ -25,6 +25,7 @@ withdraw_meaning = record {
   list_of = λ book. book.list;
   spare = λ book. numbers_of book.kept;
   kept = Keeps;
+  stays = StaysBut;
   is_valid = is_book;
   numbers = numbers_of;
   refused = λ list withdraw. option_map Refused (refusal_of list (WithdrawCommand withdraw.0));

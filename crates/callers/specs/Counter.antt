@@ -13,6 +13,7 @@ add_meaning = record {
   list_of = λ total. total;
   spare = λ total. [];
   kept = λ total number amount. Unit {0};
+  stays = λ amount old new. Unit {0};
   is_valid = λ total. true;
   numbers = λ total. [];
   refused = λ total add. if nat_le (total + add.amount) TOTAL_MAX then None else Some TooLarge;

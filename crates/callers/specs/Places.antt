@@ -16,6 +16,7 @@ put_meaning = record {
   list_of = λ places. places;
   spare = λ places. [];
   kept = λ places number was. Unit {0};
+  stays = λ was old new. Unit {0};
   is_valid = λ places. true;
   numbers = λ places. [];
   refused = λ places put. if nat_lt put.place (length places) then None else Some NoPlace;

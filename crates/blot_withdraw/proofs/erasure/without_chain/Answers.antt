@@ -1,11 +1,11 @@
 -- The entries that stay, up to this one, are the front of a book.
-use Rattle.std.proofs.Common.{◌≡◌, ℕ, ◌+◌, ◌<◌, Bool, true, false, List, [], ◌∷◌, ◌++◌, length, take, get_or, ◌∙◌, refl, sym, ap, subst}
+use Rattle.std.proofs.Common.{◌≡◌, ℕ, ◌+◌, ◌<◌, Bool, true, false, List, [], ◌∷◌, ◌++◌, length, take, get_or, ◌∙◌, refl, sym, ap}
 use Rattle.std.proofs.lemmas.List.{append-nil, take_all, take_more}
 use Rattle.std.proofs.lemmas.List.Elements.{filter-append}
 use Rattle.std.specs.Prelude.{not, filter}
 use Rattle.blot_types.specs.declared.command.Entry.{Entry}
 use Rattle.blot_command.specs.Book.{Shown}
-use Rattle.blot_withdraw.specs.Erasure.{is_of_chain, HasOnlyListed}
+use Rattle.blot_withdraw.specs.Erasure.{is_of_chain}
 use Rattle.blot_withdraw.proofs.ErasureLemmas.{next-book}
 use Rattle.blot_withdraw.proofs.erasure.without_chain.Goals as goal
 use Rattle.blot_withdraw.proofs.erasure.without_chain.Goals.{then-not-is_of_chain+in_ok-put, else-not-is_of_chain}
@@ -39,18 +39,18 @@ loop-entry-preserved c =
       | then-not-is_of_chain+in_ok-put w ↦ record {
         list = more stays c.args.list.now c.loop-entry.tables.list c.if-not-is_of_chain.tables.list c.loop-entry.entry-index c.entry-item.result c.loop-entry-test.true c.entry-item.is
             c.loop-entry.invariant.list (ap not (sym w.if-not-is_of_chain.ensures)) (ap (λ (book : Shown). book.list) w.tables-is ∙ w.in_ok-put.ensures.list);
-        listed = subst HasOnlyListed (sym w.tables-is) w.in_ok-put.ensures.listed;
+        none_kept = ap (λ (book : Shown). book.kept) w.tables-is ∙ w.in_ok-put.ensures.none_kept;
       }
       | else-not-is_of_chain w ↦ record {
         list = ap (λ (book : Shown). book.list) w.tables-is
             ∙ same stays c.args.list.now c.loop-entry.tables.list c.loop-entry.entry-index c.entry-item.result c.loop-entry-test.true c.entry-item.is
             c.loop-entry.invariant.list (ap not (sym w.if-not-is_of_chain.ensures));
-        listed = subst HasOnlyListed (sym w.tables-is) c.loop-entry.invariant.listed;
+        none_kept = ap (λ (book : Shown). book.kept) w.tables-is ∙ c.loop-entry.invariant.none_kept;
       }
     ]
 
-pub returns : goal.returns
-returns c =
+pub returns-clause-list : goal.returns-clause-list
+returns-clause-list c =
     c.loop-entry.invariant.list
     ∙ ap (filter (λ entry. not (is_of_chain c.args.list.now c.args.root.now entry)))
     (take_all c.loop-entry.entry-index c.args.list.now c.loop-entry-test.false)
