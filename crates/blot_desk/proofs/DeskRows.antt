@@ -8,7 +8,7 @@ use Rattle.blot_types.specs.declared.refused.Refused.TheVariants.{NotLive}
 use Rattle.blot_desk.specs.declared.event.Event.{Event}
 use Rattle.blot_desk.specs.declared.event.Event.TheVariants.{Submit, Undo, Redo}
 use Rattle.blot_desk.specs.declared.event.Reply.TheVariants.{Accepted, Refused, Undone, Redone}
-use Rattle.blot_desk.specs.Desk.{run_of}
+use Rattle.blot_desk.specs.Desk.{after_redos, after_undos, run_of}
 
 abbrev exec : ℕ → ExecKey
 exec n = record { peer = 66 ∷ []; id = 69 ∷ n ∷ [] }
@@ -41,3 +41,10 @@ replies = refl
 
 live : map (λ entry. entry.number) (run_of events).book.list ≡ 1 ∷ 3 ∷ []
 live = refl
+
+-- two undos lead back to the list before the second trade, and two redos to the last again
+back : map (λ entry. entry.number) (after_undos 2 (run_of events).book).list ≡ 1 ∷ 2 ∷ []
+back = refl
+
+again : map (λ entry. entry.number) (after_redos 2 (after_undos 2 (run_of events).book)).list ≡ 1 ∷ 3 ∷ []
+again = refl

@@ -1,3 +1,4 @@
+pub mod BackLemmas
 pub mod DeskLemmas
 pub mod DeskRows
 pub mod EqualLemmas

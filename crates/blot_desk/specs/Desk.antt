@@ -1,7 +1,7 @@
 -- What a desk does: one event on the book, and a run of events from the empty book.
-use Rattle.std.specs.Prelude.{◌≡◌, ℕ, ◌+◌, ◌≤◌, ◌==◌, Bool, true, false, List, [], ◌∷◌, ◌++◌, length, map, fold, Option, Some, None, if◌then◌else◌}
+use Rattle.std.specs.Prelude.{◌≡◌, ℕ, zero, suc, ◌+◌, ◌≤◌, ◌==◌, Bool, true, false, List, [], ◌∷◌, ◌++◌, length, map, fold, Option, Some, None, if◌then◌else◌}
 use Rattle.std.specs.List.{last_or}
-use Rattle.std.specs.Option.{option_map}
+use Rattle.std.specs.Option.{option_map, option_map_or}
 use Rattle.blot_types.specs.declared.command.Command.{Command}
 use Rattle.blot_types.specs.declared.command.Command.TheVariants.{Trade, Correct, Bust, AllocNew, AllocReplace, AllocCancel, Withdraw}
 use Rattle.blot_types.specs.declared.command.Entry.{Entry}
@@ -14,6 +14,7 @@ use Rattle.blot_types.specs.Position.{position_of}
 use Rattle.blot_command.specs.declared.inverse.Inverse.{Inverse}
 use Rattle.blot_command.specs.Book.{Shown}
 use Rattle.blot_command.specs.Meanings.{command_meaning}
+use Rattle.blot_undo.specs.Laws.{GoesBack}
 use Rattle.blot_undo.specs.Book.{Book, Stack, book_of, apply_of, undo_of as undone_book, redo_of as redone_book, newest_done, newest_undone}
 use Rattle.blot_desk.specs.declared.event.Event.{Event}
 use Rattle.blot_desk.specs.declared.event.Event.TheVariants.{Submit, Undo, Redo, AskOrder, AskPosition}
@@ -95,6 +96,31 @@ step_of book (Undo newest) = undo_of book newest
 step_of book Redo = redo_of book
 step_of book (AskOrder order) = record { book = book; reply = Order (order_of book.list order) }
 step_of book (AskPosition account symbol) = record { book = book; reply = Position (position_of book.list account symbol) }
+
+-- ---- undos and redos, one after the other
+
+-- the book after an undo that names its newest done step; where no step is done, the undo is refused
+abbrev pub undone_once : DeskBook → DeskBook
+undone_once book = (step_of book (Undo (option_map_or (λ number. number) (newest_done book.done) 0))).book
+
+-- the book after a count of such undos, and after a count of redos
+abbrev pub after_undos : ℕ → DeskBook → DeskBook
+after_undos zero book = book
+after_undos (suc count) book = undone_once (after_undos count book)
+
+abbrev pub after_redos : ℕ → DeskBook → DeskBook
+after_redos zero book = book
+after_redos (suc count) book = (step_of (after_redos count book) Redo).book
+
+-- any count of undos leads back to the list that stood so many done steps before; these steps are then undone
+abbrev pub UndosGoBack : DeskBook → Type 0
+UndosGoBack book = (count : ℕ) → count ≤ length book.done → GoesBack command_meaning count book (after_undos count book)
+
+-- and as many redos after them lead to the book again
+abbrev pub RedosReturn : DeskBook → Type 0
+RedosReturn book = (count : ℕ) → count ≤ length book.done → after_redos count (after_undos count book) ≡ book
+
+-- ---- a run
 
 -- a run of events: the book after them, and the reply to each
 pub record Run : Type 0 where

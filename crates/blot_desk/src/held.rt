@@ -3,7 +3,9 @@ ghost use Rattle.std.specs.Prelude.{◌≡◌, ◌≢◌, ◌↔◌, Err, All, I
 ghost use Rattle.blot_types.specs.Legal.{is_book};
 ghost use Rattle.blot_types.specs.Order.{order_of};
 ghost use Rattle.blot_types.specs.Position.{position_of};
-ghost use Rattle.blot_desk.specs.Desk.{empty_journal, list_after, newest_entry_of, step_of, recorded_of, with_recorded, IsRun};
+ghost use Rattle.blot_command.specs.Meanings.{command_meaning};
+ghost use Rattle.blot_undo.specs.Laws.{LeadTo};
+ghost use Rattle.blot_desk.specs.Desk.{empty_journal, list_after, newest_entry_of, step_of, recorded_of, with_recorded, IsRun, UndosGoBack, RedosReturn};
 
 use crate::taking::take;
 use crate::{DeskFault, Event, Recorded, Reply, Snapshot, TakesCommands};
@@ -118,7 +120,15 @@ impl Held {
         ensures history { result.now ≡ self.now.history }
         ensures run { IsRun self.now }
         ensures few { length self.now.history ≤ EVENTS_MAX }
+
+        // Each done step led from the list before it to the list after it. Any count of undos leads back to the list before so many steps,
+        // and as many redos to the book as it is.
+        ensures lead { LeadTo command_meaning self.now.book.done self.now.book.list }
+        ensures undos { UndosGoBack self.now.book }
+        ensures redos { RedosReturn self.now.book }
     {
+        // The steps promise it of themselves.
+        let _ = self.steps.done();
         &self.history
     }
 }
