@@ -1,5 +1,5 @@
 //! The bytes that a reader holds.
-ghost use Rattle.std.specs.Prelude.{◌≡◌, ℕ, ◌+◌, ◌≤◌, length, drop, unwrap_or, vec_len, IfSome, OnOk, OnErr};
+ghost use Rattle.std.specs.Prelude.{◌≡◌, ℕ, ◌+◌, ◌*◌, ◌≤◌, length, drop, unwrap_or, vec_len, IfSome, OnOk, OnErr};
 ghost use Rattle.std.specs.Option.{option_map};
 ghost use Rattle.blot_tag.specs.Frames.{IsFrame};
 ghost use Rattle.blot_tag.specs.Reading.{Advances, fed};
@@ -41,10 +41,11 @@ impl Buffer {
     ghost use Rattle.blot_tag.specs.Buffers.{reading_of, bytes_at, IsWithin, span_of, behind_found};
 
     /// Adds a piece at the end of the unread bytes. Where those that were read are at least as many, they are given up,
-    /// and the unread ones move to the front.
+    /// and the unread ones move to the front. So no more bytes are held than twice the unread ones.
     pub(crate) fn extend(&mut self, piece: &[u8]) -> Result<(), NoMemory>
         ensures ok { OnOk result (reading_of self.new ≡ fed (reading_of self.old) piece.now) }
         ensures err { OnErr result (reading_of self.new ≡ reading_of self.old) }
+        ensures held { vec_len self.new.bytes ≤ 2 * length (reading_of self.new).unread }
     {
         if self.start >= self.bytes.len() - self.start {
             drop_front(&mut self.bytes, self.start);
