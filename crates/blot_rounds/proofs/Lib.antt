@@ -1,1 +1,2 @@
+mod ClockLemmas
 mod RoundLemmas

@@ -1,5 +1,5 @@
 -- How many rounds there were.
-use Rattle.std.proofs.Common.{◌≡◌, ℕ, ◌+◌, ◌<◌, List, subst, sym, arith, zero, suc}
+use Rattle.std.proofs.Common.{◌≡◌, ℕ, ◌+◌, ◌<◌, List, subst, sym, arith, suc}
 use Rattle.std.specs.Prelude.{◌≢◌}
 use Rattle.blot_desk.specs.declared.receipt.Receipt.{Receipt}
 use Rattle.blot_rounds.specs.Rounds.{FewerLead, RoundsLead}

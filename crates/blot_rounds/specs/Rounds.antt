@@ -1,10 +1,12 @@
 -- What a round of connections does to the seats, and what rounds do.
-use Rattle.std.specs.Prelude.{◌≡◌, ◌≢◌, ◌<◌, ℕ, zero, suc, List, map, Option}
+use Rattle.std.specs.Prelude.{◌≡◌, ◌≢◌, ◌<◌, ℕ, zero, suc, List, map, Option, Some, None}
+use Rattle.std.specs.declared.io.ErrorKind.{ErrorKind}
+use Rattle.std.specs.declared.io.ErrorKind.TheVariants.{ConnectionAborted, Interrupted, OutOfMemory}
 use Rattle.blot_desk.specs.declared.receipt.Receipt.{Receipt}
 use Rattle.blot_gateway.specs.AtOnce.{EachServed}
 use Rattle.blot_gateway.specs.declared.ended.Ended.{Ended}
 use Rattle.blot_stream.specs.declared.outcome.ServeFault.{ServeFault}
-use Rattle.blot_stream.specs.declared.outcome.ServeFault.TheVariants.{NoMemory}
+use Rattle.blot_stream.specs.declared.outcome.ServeFault.TheVariants.{Connection, NoMemory}
 use Rattle.blot_rounds.specs.Sockets.{ClockTicks, SocketDoes}
 use Rattle.blot_rounds.specs.declared.socket.Socket.{Socket}
 use Rattle.blot_rounds.specs.declared.system_clock.SystemClock.{SystemClock}
@@ -28,3 +30,15 @@ abbrev pub FewerLead : (List (List Receipt) → List (List Receipt) → Type 0)
     → ℕ → List (List Receipt) → List (List Receipt) → ServeFault → Type 0
 FewerLead round rounds before after fault =
     fault ≢ NoMemory → (count : ℕ) × (count < rounds) × RoundsLead round count before after
+
+-- the fault by which an error of `accept` ends the rounds: none where the connection is gone, or the call was interrupted
+abbrev pub accept_fault : ErrorKind → Option ServeFault
+accept_fault Interrupted = None
+accept_fault ConnectionAborted = None
+accept_fault OutOfMemory = Some NoMemory
+accept_fault _ = Some Connection
+
+-- the fault by which an error of setting up an accepted connection does: none but where memory ran out
+abbrev pub setting_fault : ErrorKind → Option ServeFault
+setting_fault OutOfMemory = Some NoMemory
+setting_fault _ = None

@@ -1,6 +1,8 @@
 -- What a connection tells of its stream, and a clock of its moments.
-use Rattle.std.specs.Prelude.{◌≡◌, ℕ, ℤ, List, Option}
+use Rattle.std.specs.Prelude.{◌≡◌, ◌/◌, ℕ, ℤ, List, Option, pos}
+use Rattle.std.specs.Duration.{as_nanos}
 use Rattle.std.specs.Io.KnownBytes.{Appends, Consumes, IsAtEnd, Keeps}
+use Rattle.std.specs.declared.time.Duration.{Duration}
 use Rattle.blot_gateway.specs.Wires.{Did}
 use Rattle.blot_gateway.specs.Wires.Did.{Gave, Took, Refused}
 use Rattle.blot_gateway.specs.Wires.Read.{Piece, Silence, AtEnd, Failed}
@@ -24,3 +26,7 @@ SocketDoes remaining contents before did after = Conveys remaining contents befo
 -- a clock tells what is then its last moment
 abbrev pub ClockTicks : {R : Type 0} → SystemClock R → ℤ → SystemClock R → Type 0
 ClockTicks before moment after = after.last ≡ moment
+
+-- how many whole milliseconds a time has
+abbrev pub millis_in : Duration → ℤ
+millis_in time = pos (as_nanos time / 1_000_000)

@@ -1,6 +1,6 @@
 //! Rounds of connections, each served at once.
 ghost use Rattle.std.specs.Prelude.{◌≡◌, ◌≢◌, IfErr, IfOk, OnOk, map, vec_len};
-ghost use Rattle.blot_rounds.specs.Rounds.{FewerLead, RoundsLead, ServesRound};
+ghost use Rattle.blot_rounds.specs.Rounds.{FewerLead, RoundsLead, ServesRound, accept_fault, setting_fault};
 
 use crate::{Socket, SystemClock};
 use blot_desk::{Desk, Seat};
@@ -119,22 +119,40 @@ where
     N::Stream: OpenStream,
 {
     for _ in 0..u64::MAX {
-        match listener.accept() {
+        let fault = match listener.accept() {
             Ok((stream, _)) => match Socket::new(stream) {
                 Ok(socket) => return Ok(socket),
-                Err(error) if error.kind() == ErrorKind::OutOfMemory => {
-                    return Err(ServeFault::NoMemory);
-                }
-                Err(_) => {}
+                Err(error) => setting_fault(error.kind()),
             },
-            Err(error) => match error.kind() {
-                ErrorKind::Interrupted | ErrorKind::ConnectionAborted => {}
-                ErrorKind::OutOfMemory => return Err(ServeFault::NoMemory),
-                _ => return Err(ServeFault::Connection),
-            },
+            Err(error) => accept_fault(error.kind()),
+        };
+        if let Some(fault) = fault {
+            return Err(fault);
         }
     }
     Err(ServeFault::Connection)
+}
+
+// The fault that ends the rounds where a connection can't be accepted. There is none where it is gone already, or the call was
+// interrupted: then the next one is taken.
+fn accept_fault(error: ErrorKind) -> Option<ServeFault>
+    ensures { result ≡ accept_fault error }
+{
+    match error {
+        ErrorKind::Interrupted | ErrorKind::ConnectionAborted => None,
+        ErrorKind::OutOfMemory => Some(ServeFault::NoMemory),
+        _ => Some(ServeFault::Connection),
+    }
+}
+
+// The same where a connection that was accepted can't be set up. There is none but where memory ran out.
+fn setting_fault(error: ErrorKind) -> Option<ServeFault>
+    ensures { result ≡ setting_fault error }
+{
+    match error {
+        ErrorKind::OutOfMemory => Some(ServeFault::NoMemory),
+        _ => None,
+    }
 }
 
 // So many clocks of a system.

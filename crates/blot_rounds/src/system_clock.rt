@@ -1,9 +1,11 @@
 //! The moments of the system's clock.
-ghost use Rattle.std.specs.Prelude.{◌≡◌, pos};
+ghost use Rattle.std.specs.Prelude.{◌≡◌, ◌↔◌, IfSome, IsSome, pos};
+ghost use Rattle.blot_rounds.specs.Sockets.{millis_in};
+ghost use Rattle.blot_time.specs.Moment.{IsMoment};
 
 use blot_gateway::{Clock, first_moment};
 use blot_time::Moment;
-use std::time::{self, SystemTime};
+use std::time::{self, Duration, SystemTime};
 
 /// The system's clock. Where it can't be read, or shows no moment, it tells its last moment again, at first 19700101-00:00:00.
 #[derive(Drop)]
@@ -37,9 +39,19 @@ impl<'a, R: time::Clock> Clock for SystemClock<'a, R> {
     }
 }
 
-// The moment that a system's clock shows, to the millisecond.
+// The moment that a system's clock shows.
 fn shown_by<R: time::Clock>(system: &R) -> Option<Moment> {
     let shown = SystemTime::now(system).ok()?;
-    let since_1970 = shown.duration_since(SystemTime::UNIX_EPOCH).ok()?;
-    Moment::from_millis(i64::try_from(since_1970.as_millis()).ok()?)
+    moment_after(shown.duration_since(SystemTime::UNIX_EPOCH).ok()?)
+}
+
+// The moment so long after 1970 began, to the millisecond; none after the year 9999.
+fn moment_after(since_1970: Duration) -> Option<Moment>
+    ensures within { IsSome result ↔ IsMoment (millis_in since_1970) }
+    ensures value { IfSome result (λ moment. moment ≡ millis_in since_1970) }
+{
+    match i64::try_from(since_1970.as_millis()) {
+        Ok(millis) => Moment::from_millis(millis),
+        Err(_) => None,
+    }
 }
