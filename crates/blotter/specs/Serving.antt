@@ -3,6 +3,8 @@ use Rattle.std.specs.Prelude.{◌≡◌, ◌<◌, ℕ, ℤ, Bool, true, List, []
 use Rattle.std.specs.List.{list_all}
 use Rattle.std.specs.Io.KnownBytes.{Appends}
 use Rattle.blot_desk.specs.declared.event.Recorded.{Recorded}
+use Rattle.blot_desk.specs.declared.fault.DeskFault.{DeskFault}
+use Rattle.blot_desk.specs.declared.fault.DeskFault.TheVariants as desk
 use Rattle.blot_desk.specs.declared.receipt.Receipt.{Receipt}
 use Rattle.blot_desk.specs.Desk.{events_of, replies_of, run_of}
 use Rattle.blot_desk.specs.Receipts.{IsSettled}
@@ -10,6 +12,8 @@ use Rattle.blot_gateway.specs.AtOnce.{is_submit}
 use Rattle.blot_operator.specs.Dialogue.{TellsOf, seat_ways}
 use Rattle.blot_report.specs.Text.{report_of}
 use Rattle.blot_rounds.specs.Rounds.{RoundsLead}
+use Rattle.blot_stream.specs.declared.outcome.ServeFault.{ServeFault}
+use Rattle.blot_stream.specs.declared.outcome.ServeFault.TheVariants as fault
 
 -- whether all these receipts are of submits
 abbrev pub are_submits : List Receipt → Bool
@@ -42,3 +46,9 @@ abbrev pub DayCutShort : (List (List Receipt) → List (List Receipt) → Type 0
     → ℕ → Option (List ℕ) → ℕ → ℤ → Option (List ℕ) → Option (List ℕ) → Type 0
 DayCutShort round rounds input sessions day before after =
     (count : ℕ) × (count < rounds) × DayServed round count input sessions day before after
+
+-- what is told of a desk that isn't settled: receipts that disagree are told as that, and never as want of memory
+abbrev pub settling_fault : DeskFault → ServeFault
+settling_fault desk.Unsettled = fault.Unsettled
+settling_fault desk.NoMemory = fault.NoMemory
+settling_fault desk.Full = fault.NoMemory

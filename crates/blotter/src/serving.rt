@@ -6,7 +6,7 @@ ghost use Rattle.blot_desk.specs.Desk.{IsRun, list_after};
 ghost use Rattle.blot_desk.specs.Receipts.{IsSettled};
 ghost use Rattle.blot_report.specs.Text.{report_of};
 ghost use Rattle.blot_rounds.specs.Rounds.{FewerLead, RoundsLead, ServesRound};
-ghost use Rattle.blotter.specs.Serving.{DayCutShort, DayServed, Reported};
+ghost use Rattle.blotter.specs.Serving.{DayCutShort, DayServed, Reported, settling_fault};
 
 use crate::meanwhile::{Lines, Task, take_back};
 use blot_desk::{Closed, Desk, DeskFault, Held, Seat, Settled};
@@ -221,10 +221,17 @@ fn held_of<L: Ledger>(settled: Settled<L>) -> Held
 
 // Why a desk that is handed back isn't settled.
 fn unsettled<L: Ledger>(refused: (DeskFault, Closed<L>, Vec<Seat<L>>)) -> ServeFault
-    ensures { result ≢ ServeFault.Connection }
+    ensures told { result ≡ settling_fault refused.0 }
 {
     let fault = refused.0;
     drop(refused);
+    settling_fault(fault)
+}
+
+// What is told of a desk that isn't settled: that the receipts disagree, or else that memory ran out, since settling asks for no event.
+fn settling_fault(fault: DeskFault) -> ServeFault
+    ensures { result ≡ settling_fault fault }
+{
     match fault {
         DeskFault::Unsettled => ServeFault::Unsettled,
         DeskFault::Full | DeskFault::NoMemory => ServeFault::NoMemory,
