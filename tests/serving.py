@@ -10,6 +10,7 @@ the case runs is checked by itself.
 import collections
 import datetime
 import itertools
+import os
 import queue
 import re
 import socket
@@ -26,6 +27,7 @@ MOMENT = re.compile(rb'\x0152=(\d{8}-\d\d:\d\d:\d\d\.\d{3})\x01')
 DEED = re.compile(r'(\S+) (connects|hangs up|breaks off|is closed)')
 NOBODY = re.compile(r'nobody listens at (\S+)')
 ROOM = re.compile(r'the program has (\d+) (MB|open files)')
+SOON = re.compile(r'the program ends within (\d+) seconds')
 GETS = re.compile(r'(\S+) gets (35=.*)')
 
 
@@ -55,12 +57,35 @@ def put_lines(stream, lines):
     lines.put(None)
 
 
-def begin(command, room):
-    """The program, begun. Where its room is said, in megabytes or in open files, the system refuses it more."""
+def conditions(lines):
+    """What the first lines of a body say of the whole: how many lines that is, and what they say."""
+    found = {'port': False, 'lines': True, 'room': None, 'seconds': None}
+    for count, text in enumerate(lines):
+        room, soon = ROOM.fullmatch(text), SOON.fullmatch(text)
+        if text == 'the port is taken':
+            found['port'] = True
+        elif text == "the operator's lines can't be read":
+            found['lines'] = False
+        elif room:
+            found['room'] = room
+        elif soon:
+            found['seconds'] = int(soon[1])
+        else:
+            return count, found
+    return len(lines), found
+
+
+def begin(command, said):
+    """The program, begun. Where its room is said, in megabytes or in open files, the system refuses it more. Lines that can't be read are those of
+    a folder."""
+    room = said['room']
     if room:
         limit = f'-v {1024 * int(room[1])}' if room[2] == 'MB' else f'-n {room[1]}'
         command = ['sh', '-c', f'ulimit {limit} && exec "$@"', 'sh', *command]
-    process = subprocess.Popen(command, stdin=subprocess.PIPE, stdout=subprocess.PIPE, stderr=subprocess.PIPE)
+    source = subprocess.PIPE if said['lines'] else os.open('/', os.O_RDONLY)
+    process = subprocess.Popen(command, stdin=source, stdout=subprocess.PIPE, stderr=subprocess.PIPE)
+    if not said['lines']:
+        os.close(source)
     lines, errors = queue.Queue(), []
     threads = [threading.Thread(target=put_lines, args=(process.stdout, lines)),
                threading.Thread(target=lambda: errors.append(process.stderr.read()))]
@@ -215,8 +240,13 @@ def deed_of(talk, port, number, text):
 
 def end_lines(talk, answers):
     """The operator's lines end: what is printed then stands at the program's end."""
-    talk['process'].stdin.close()
+    close_lines(talk)
     talk['wanted_rest'] = answers
+
+
+def close_lines(talk):
+    if talk['process'].stdin:
+        talk['process'].stdin.close()
 
 
 def kind_of(line):
@@ -234,8 +264,7 @@ def converse(talk, port, body):
         else:
             for number, text, _ in lines:
                 deed_of(talk, port, number, text)
-    if not talk['process'].stdin.closed:
-        talk['process'].stdin.close()
+    close_lines(talk)
 
 
 def leave(talk):
@@ -257,20 +286,22 @@ def finish(talk):
 
 def played(command, port, body, seconds):
     """Plays a body, a list of lines with their numbers and answers, to its end or until the seconds are over."""
-    first = body[0][1] if body else ''
-    is_taken, room = first == 'the port is taken', ROOM.fullmatch(first)
-    taken = take(port) if is_taken else None
-    talk = begin(command, room)
+    first, said = conditions([text for _, text, _ in body])
+    taken = take(port) if said['port'] else None
+    talk, begun = begin(command, said), time.monotonic()
     alarm = threading.Timer(seconds, talk['process'].kill)
     alarm.start()
     try:
-        converse(talk, port, body[1:] if is_taken or room else body)
+        converse(talk, port, body[first:])
         leave(talk)
     except Exception as error:
         talk['differences'].append((None, b'the conversation to its end', f'{type(error).__name__}: {error}'.encode()))
         talk['process'].kill()
     found = finish(talk)
     alarm.cancel()
+    took = time.monotonic() - begun
+    if said['seconds'] and took > said['seconds']:
+        found.differences.append((body[0][0], b'an end within %d seconds' % said['seconds'], b'an end after %.1f seconds' % took))
     if taken:
         taken.close()
     return found

@@ -16,7 +16,7 @@ struct Reading {
 }
 
 // One reading after another.
-const READINGS: [Reading; 7] = [
+const READINGS: [Reading; 9] = [
     Reading {
         name: "no clock",
         shown: Err(ErrorKind::PermissionDenied),
@@ -38,14 +38,24 @@ const READINGS: [Reading; 7] = [
         told: b"20240105-10:00:00.250",
     },
     Reading {
+        name: "a clock that was set back, by a millisecond",
+        shown: Ok((1_704_448_800, 249)),
+        told: b"20240105-10:00:00.249",
+    },
+    Reading {
+        name: "a clock that was set back, by an hour",
+        shown: Ok((1_704_445_200, 250)),
+        told: b"20240105-09:00:00.250",
+    },
+    Reading {
         name: "the year 10000",
         shown: Ok((253_402_300_800, 0)),
-        told: b"20240105-10:00:00.250",
+        told: b"20240105-09:00:00.250",
     },
     Reading {
         name: "more than 2^63 milliseconds",
         shown: Ok((1 << 62, 0)),
-        told: b"20240105-10:00:00.250",
+        told: b"20240105-09:00:00.250",
     },
     Reading {
         name: "the last moment",
