@@ -1,0 +1,6 @@
+mod BatchLemmas
+mod HeadLemmas
+mod JournalLemmas
+mod MomentLemmas
+mod RecoveryLemmas
+mod WriteLemmas

@@ -1,0 +1,5 @@
+-- What the file of a journal stands for, and what a crash may leave of it.
+pub mod Device
+pub mod File
+pub mod Journal
+pub mod Recovery

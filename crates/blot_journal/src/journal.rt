@@ -1,0 +1,227 @@
+//! An open journal.
+ghost use Rattle.std.specs.Prelude.{◌≡◌, ◌↔◌, ◌+◌, ◌<◌, ◌≤◌, ◌^◌, ◌++◌, [], ℕ, List, false, true, length, take, drop, Err, IfErr, IfOk, IsErrOf, IsOk, IsTrue, OnErr, OnOk};
+ghost use Rattle.blot_journal.specs.declared.journal.JournalFault.TheVariants.{NoMemory as OutOfMemory};
+ghost use Rattle.blot_journal.specs.Device.{LeavesOnly};
+ghost use Rattle.blot_journal.specs.File.{IsWhole, Stands, StandsBeforeOrAfter, text_of};
+ghost use Rattle.blot_journal.specs.Journal.{text_in_journal, told_by_journal};
+ghost use Rattle.blot_journal.specs.Recovery.{IsFaultOf, IsLeft, SameOrWas, is_of_file};
+
+use crate::batch::{HEAD, make_durable};
+use crate::recovery::recover;
+use crate::{Device, DeviceFault, RecoveryFault};
+use std::alloc::{AllocError as NoMemory, Global};
+use std::marker::Model;
+
+// The longest text.
+const SIZE_MAX: usize = 1 << 40;
+
+/// Why nothing is appended or made durable.
+#[derive(Clone, Copy, Debug, PartialEq, Eq)]
+pub enum JournalFault {
+    NoMemory,
+    /// The disk failed, or has no room. From then on the journal is broken: recover the file anew.
+    Failed,
+    /// The text would have more than 2^40 bytes.
+    Full,
+    /// A sync failed before.
+    Broken,
+}
+
+impl From<NoMemory> for JournalFault {
+    ghost from_gives = { λ _ fault. fault ≡ OutOfMemory };
+
+    fn from(_fault: NoMemory) -> JournalFault {
+        JournalFault::NoMemory
+    }
+}
+
+impl From<DeviceFault> for JournalFault {
+    ghost from_gives = { λ fault told. told ≡ told_by_journal fault };
+
+    fn from(fault: DeviceFault) -> JournalFault {
+        match fault {
+            DeviceFault::NoMemory => JournalFault::NoMemory,
+            DeviceFault::Failed => JournalFault::Failed,
+        }
+    }
+}
+
+/// A text in a file, durable as far as it was synced, and more of it that waits for the next sync.
+#[derive(Drop)]
+pub struct Journal<D: Device> {
+    device: D,
+    second: bool,
+    size: usize,
+    waiting: Vec<u8>,
+    is_broken: bool,
+}
+
+impl<D: Device> Model for Journal<D> {
+    ghost use Rattle.std.specs.Prelude.{◌≡◌, ◌-◌, false, length, vec_capacity, vec_len};
+    ghost use Rattle.blot_journal.specs.Journal.{IsOpen, Open, room_of};
+
+    ghost Value = { Open D };
+
+    ghost view = { λ journal. record {
+      device = journal.device;
+      waiting = journal.waiting.items;
+      is_broken = journal.is_broken;
+      room = room_of journal.is_broken journal.size (vec_len journal.waiting) (vec_capacity journal.waiting - vec_len journal.waiting);
+    } };
+
+    ghost invariant = { λ journal. journal.is_broken ≡ false
+        → IsOpen D.seen D.may_leave journal.device journal.second journal.size (length journal.waiting.items) };
+}
+
+impl<D: Device> Journal<D> {
+    /// Takes up a file that a crash may have left: makes it durable as it is, and cuts off what stands behind the text that counts.
+    /// A fault hands the file back, and at NoJournal and Damaged it is left as it was. It may crash too.
+    pub fn recover(alloc: Global, device: D) -> Result<Journal<D>, (RecoveryFault, D)>
+        requires readable { IsTrue (D.is_readable device) }
+        ensures text { IfOk result (λ journal. text_in_journal D.seen journal ≡ text_of (D.seen device)) }
+        ensures waiting { IfOk result (λ journal. journal.waiting ≡ []) }
+        ensures open { IfOk result (λ journal. journal.is_broken ≡ false) }
+        ensures readable { IfOk result (λ journal. IsTrue (D.is_readable journal.device)) }
+        ensures whole { OnOk result (IsWhole (D.seen device)) }
+
+        // A crash at any moment leaves the same text, or what the crash before might have left.
+        ensures any_moment { IfOk result (λ journal. LeavesOnly D.moment D.left_since device journal.device (SameOrWas (D.seen device) (D.may_leave device))) }
+        ensures any_moment_err { IfErr result (λ refused. LeavesOnly D.moment D.left_since device refused.1 (SameOrWas (D.seen device) (D.may_leave device))) }
+
+        ensures refused { IfErr result (λ refused. IsFaultOf (D.seen device) refused.0) }
+        ensures untouched { IfErr result (λ refused. IsTrue (is_of_file refused.0) → IsLeft D.seen D.may_leave D.moment D.left_since device refused.1) }
+        ensures cause { IfErr result (λ refused. refused.0 ≡ RecoveryFault.Failed → D.failures device < D.failures refused.1) }
+    {
+        let mut device = device;
+        match recover(alloc, &mut device) {
+            Ok(counted) => Ok(Journal {
+                device,
+                second: counted.second,
+                size: counted.size,
+                waiting: Vec::new(alloc),
+                is_broken: false,
+            }),
+            Err(fault) => Err((fault, device)),
+        }
+    }
+
+    /// How long the text is that is durable.
+    pub fn len(&self) -> usize
+        ensures len { self.now.is_broken ≡ false → result ≡ length (text_in_journal D.seen self.now) }
+
+        // A crash now leaves that text, whole.
+        ensures crash { self.now.is_broken ≡ false → (file : List ℕ) → D.may_leave self.now.device file → Stands (text_in_journal D.seen self.now) file }
+    {
+        self.size
+    }
+
+    /// Whether a sync has failed.
+    pub fn is_broken(&self) -> bool
+        ensures { result ≡ self.now.is_broken }
+    {
+        self.is_broken
+    }
+
+    /// What waits for the next sync.
+    pub fn waiting(&self) -> &[u8]
+        ensures { result.now ≡ self.now.waiting }
+    {
+        &self.waiting
+    }
+
+    /// The file.
+    pub fn device(&self) -> &D
+        ensures { result.now ≡ self.now.device }
+    {
+        &self.device
+    }
+
+    /// Reads a piece of the durable text, from a place on, as much as the buffer takes.
+    pub fn read(&mut self, at: usize, buffer: &mut [u8]) -> Result<(), DeviceFault>
+        requires unbroken { self.old.is_broken ≡ false }
+        requires within { at + length buffer.old ≤ length (text_in_journal D.seen self.old) }
+        requires readable { IsTrue (D.is_readable self.old.device) }
+        ensures bytes { OnOk result (buffer.new ≡ take (length buffer.old) (drop at (text_in_journal D.seen self.old))) }
+        ensures text { text_in_journal D.seen self.new ≡ text_in_journal D.seen self.old }
+        ensures same { self.new ≡ record self.old { device = self.new.device } }
+        ensures readable { IsTrue (D.is_readable self.new.device) }
+        ensures any_moment { LeavesOnly D.moment D.left_since self.old.device self.new.device (Stands (text_in_journal D.seen self.old)) }
+        ensures cause { IsErrOf result DeviceFault.Failed → D.failures self.old.device < D.failures self.new.device }
+    {
+        self.device.read_at(at + HEAD, buffer)
+    }
+
+    /// Makes room for so many bytes more. The file isn't touched.
+    pub fn reserve(&mut self, bytes: usize) -> Result<(), JournalFault>
+        ensures room { OnOk result (bytes ≤ self.new.room) }
+        ensures same { self.new ≡ record self.old { room = self.new.room } }
+        ensures broken { IsErrOf result JournalFault.Broken ↔ (self.old.is_broken ≡ true) }
+        ensures full { IsErrOf result JournalFault.Full → 2 ^ 40 < length (text_in_journal D.seen self.old) + length self.old.waiting + bytes }
+        ensures failed { IsErrOf result JournalFault.Failed → ⊥ }
+    {
+        if self.is_broken {
+            return Err(JournalFault::Broken);
+        }
+        if bytes
+            > SIZE_MAX
+                .saturating_sub(self.size)
+                .saturating_sub(self.waiting.len())
+        {
+            return Err(JournalFault::Full);
+        }
+        self.waiting.reserve(bytes)?;
+        Ok(())
+    }
+
+    /// Puts bytes behind what waits, for which there is room. No memory is taken, and the file isn't touched.
+    pub fn append(&mut self, bytes: &[u8])
+        requires { length bytes.now ≤ self.old.room }
+        ensures waiting { self.new.waiting ≡ self.old.waiting ++ bytes.now }
+        ensures device { self.new.device ≡ self.old.device }
+        ensures broken { self.new.is_broken ≡ self.old.is_broken }
+        ensures room { self.old.room ≤ self.new.room + length bytes.now }
+    {
+        let _appended = self.waiting.extend_from_slice(bytes);
+    }
+
+    /// Makes all durable that waits. Where nothing waits, the file isn't touched. After a fault the journal is broken, since nobody can tell
+    /// what of the batch is on the disk, and a sync that is tried again can't be believed: recover the file anew.
+    pub fn sync(&mut self) -> Result<(), JournalFault>
+        ensures text { OnOk result (text_in_journal D.seen self.new ≡ text_in_journal D.seen self.old ++ self.old.waiting) }
+        ensures waiting { OnOk result (self.new.waiting ≡ []) }
+        ensures open { OnOk result (self.new.is_broken ≡ false) }
+        ensures broken { OnErr result (self.new.is_broken ≡ true) }
+
+        // From then on each crash leaves the whole text so far.
+        ensures crash { OnOk result ((file : List ℕ) → D.may_leave self.new.device file → Stands (text_in_journal D.seen self.old ++ self.old.waiting) file) }
+
+        // A crash at any moment of the call leaves the text from before it, with all that waits or with none of it.
+        ensures any_moment { self.old.is_broken ≡ false
+            → LeavesOnly D.moment D.left_since self.old.device self.new.device (StandsBeforeOrAfter (text_in_journal D.seen self.old) self.old.waiting) }
+
+        ensures nothing { self.old.is_broken ≡ false → self.old.waiting ≡ [] → IsOk result × (self.new.device ≡ self.old.device) }
+
+        // What is broken stays so, and its file isn't touched.
+        ensures stays { self.old.is_broken ≡ true → (result ≡ Err JournalFault.Broken) × (self.new.device ≡ self.old.device) }
+
+        // An error has a cause.
+        ensures failed { IsErrOf result JournalFault.Failed → D.failures self.old.device < D.failures self.new.device }
+        ensures was_broken { IsErrOf result JournalFault.Broken → self.old.is_broken ≡ true }
+        ensures full { IsErrOf result JournalFault.Full → ⊥ }
+    {
+        if self.is_broken {
+            return Err(JournalFault::Broken);
+        }
+        if self.waiting.is_empty() {
+            return Ok(());
+        }
+        // Until all is done nothing is known of the file.
+        self.is_broken = true;
+        make_durable(&mut self.device, self.second, self.size, &self.waiting)?;
+        self.second = !self.second;
+        self.size += self.waiting.len();
+        self.waiting.clear();
+        self.is_broken = false;
+        Ok(())
+    }
+}

@@ -1,0 +1,161 @@
+//! A file that a crash may have left.
+ghost use Rattle.std.specs.Prelude.{◌≡◌, ◌↔◌, ◌<◌, ◌≤◌, ◌+◌, ◌^◌, length, IfErr, IfOk, IsErrOf, IsTrue, OnOk};
+ghost use Rattle.blot_journal.specs.declared.recovery.RecoveryFault.TheVariants.{NoMemory as OutOfMemory};
+ghost use Rattle.blot_journal.specs.Device.{HasCause, LeavesOnly, Only};
+ghost use Rattle.blot_journal.specs.File.{HasHead, IsWhole, SameText, signature, signed_in, size_in, text_of};
+ghost use Rattle.blot_journal.specs.Recovery.{IsCounted, IsFaultOf, IsHeadFault, IsLeft, SameOrWas, is_of_file, told_fault};
+
+use crate::batch::{HEAD, place};
+use crate::{Device, DeviceFault};
+use std::alloc::{AllocError as NoMemory, Global};
+
+// The bytes by which a journal is known, and where they stand.
+const SIGNATURE: &[u8; 16] = b"blotter journal\n";
+
+const SIGNED_AT: usize = 1536;
+
+/// Why a file isn't taken up. At NoJournal and Damaged it is left as it was.
+#[derive(Clone, Copy, Debug, PartialEq, Eq)]
+pub enum RecoveryFault {
+    NoMemory,
+    /// The disk failed.
+    Failed,
+    /// It doesn't begin with the head of a journal.
+    NoJournal,
+    /// It ends here, before its text does.
+    Damaged(usize),
+}
+
+impl From<DeviceFault> for RecoveryFault {
+    ghost from_gives = { λ fault told. told ≡ told_fault fault };
+
+    fn from(fault: DeviceFault) -> RecoveryFault {
+        match fault {
+            DeviceFault::NoMemory => RecoveryFault::NoMemory,
+            DeviceFault::Failed => RecoveryFault::Failed,
+        }
+    }
+}
+
+impl From<NoMemory> for RecoveryFault {
+    ghost from_gives = { λ _ fault. fault ≡ OutOfMemory };
+
+    fn from(_fault: NoMemory) -> RecoveryFault {
+        RecoveryFault::NoMemory
+    }
+}
+
+/// Which length of a file counts, and how long the text is by it.
+#[derive(Clone, Copy, Debug)]
+pub(crate) struct Counted {
+    pub second: bool,
+    pub size: usize,
+}
+
+/// Makes a file durable as it is, finds the text that counts, and cuts off what stands behind it. It may crash too.
+pub(crate) fn recover<D: Device>(alloc: Global, device: &mut D) -> Result<Counted, RecoveryFault>
+    requires readable { IsTrue (D.is_readable device.old) }
+    ensures head { IfOk result (λ counted. HasHead counted.second counted.size (D.seen device.new)) }
+    ensures fits { IfOk result (λ counted. counted.size + 4096 < 2 ^ 64) }
+    ensures same { OnOk result (text_of (D.seen device.new) ≡ text_of (D.seen device.old)) }
+    ensures durable { OnOk result (Only (D.seen device.new) (D.may_leave device.new)) }
+    ensures readable { D.is_readable device.new ≡ D.is_readable device.old }
+    ensures whole { OnOk result (IsWhole (D.seen device.old)) }
+    ensures any_moment { LeavesOnly D.moment D.left_since device.old device.new (SameOrWas (D.seen device.old) (D.may_leave device.old)) }
+    ensures refused { IfErr result (IsFaultOf (D.seen device.old)) }
+    ensures untouched { IfErr result (λ fault. IsTrue (is_of_file fault) → IsLeft D.seen D.may_leave D.moment D.left_since device.old device.new) }
+    ensures cause { IsErrOf result RecoveryFault.Failed → D.failures device.old < D.failures device.new }
+{
+    let mut head = make_buffer(alloc, HEAD)?;
+    device.sync()?;
+    let counted = find(device, &mut head)?;
+    trim(device, counted)?;
+    Ok(counted)
+}
+
+// Reads the head of a file, and finds the text that counts.
+fn find<D: Device>(device: &mut D, head: &mut [u8]) -> Result<Counted, RecoveryFault>
+    requires head { length head.old ≡ 4096 }
+    requires durable { Only (D.seen device.old) (D.may_leave device.old) }
+    requires readable { IsTrue (D.is_readable device.old) }
+    ensures head { IfOk result (λ counted. HasHead counted.second counted.size (D.seen device.old)) }
+    ensures fits { IfOk result (λ counted. counted.size + 4096 < 2 ^ 64) }
+    ensures seen { D.seen device.new ≡ D.seen device.old }
+    ensures durable { Only (D.seen device.old) (D.may_leave device.new) }
+    ensures readable { D.is_readable device.new ≡ D.is_readable device.old }
+    ensures any_moment { LeavesOnly D.moment D.left_since device.old device.new (λ file. file ≡ D.seen device.old) }
+    ensures refused { IfErr result (IsFaultOf (D.seen device.old)) }
+    ensures later { D.failures device.old ≤ D.failures device.new }
+    ensures cause { IsErrOf result RecoveryFault.Failed → D.failures device.old < D.failures device.new }
+{
+    let len = device.len();
+    if len < HEAD {
+        return Err(RecoveryFault::NoJournal);
+    }
+    device.read_at(0, head)?;
+    counted_in(head, len)
+}
+
+// A buffer of zeros.
+fn make_buffer(alloc: Global, len: usize) -> Result<Vec<u8>, NoMemory>
+    ensures { IfOk result (λ buffer. length buffer.items ≡ len) }
+{
+    vec![in alloc; 0; len]
+}
+
+// What the head of a file of this length says.
+fn counted_in(head: &[u8], len: usize) -> Result<Counted, RecoveryFault>
+    requires head { length head.now ≡ 4096 }
+    requires len { 4096 ≤ len }
+    ensures counted { IfOk result (λ counted. IsCounted head.now len counted.second counted.size) }
+    ensures refused { IfErr result (IsHeadFault head.now len) }
+{
+    if !is_signed(head) {
+        return Err(RecoveryFault::NoJournal);
+    }
+    let second = head[0] == 1;
+    let size = size_in(head, second);
+    if size > (len - HEAD) as u64 {
+        return Err(RecoveryFault::Damaged(len));
+    }
+    Ok(Counted {
+        second,
+        size: size as usize,
+    })
+}
+
+// Whether a head has the signature.
+fn is_signed(head: &[u8]) -> bool
+    requires { length head.now ≡ 4096 }
+    ensures { IsTrue result ↔ (signed_in head.now ≡ signature) }
+{
+    &head[SIGNED_AT..SIGNED_AT + 16] == SIGNATURE.as_slice()
+}
+
+// The first or the second length.
+fn size_in(head: &[u8], second: bool) -> u64
+    requires { length head.now ≡ 4096 }
+    ensures { result ≡ size_in second head.now }
+{
+    let at = place(second);
+    let size = &head[at..at + 8];
+    u64::from_le_bytes([
+        size[0], size[1], size[2], size[3], size[4], size[5], size[6], size[7],
+    ])
+}
+
+// Cuts off what stands behind the text.
+fn trim<D: Device>(device: &mut D, counted: Counted) -> Result<(), DeviceFault>
+    requires head { HasHead counted.second counted.size (D.seen device.old) }
+    requires fits { counted.size + 4096 < 2 ^ 64 }
+    requires durable { Only (D.seen device.old) (D.may_leave device.old) }
+    ensures head { OnOk result (HasHead counted.second counted.size (D.seen device.new)) }
+    ensures same { OnOk result (text_of (D.seen device.new) ≡ text_of (D.seen device.old)) }
+    ensures durable { OnOk result (Only (D.seen device.new) (D.may_leave device.new)) }
+    ensures readable { D.is_readable device.new ≡ D.is_readable device.old }
+    ensures any_moment { LeavesOnly D.moment D.left_since device.old device.new (SameText (D.seen device.old)) }
+    ensures cause { HasCause (D.failures device.old) (D.failures device.new) result }
+{
+    device.cut(counted.size + HEAD)?;
+    device.sync()
+}
