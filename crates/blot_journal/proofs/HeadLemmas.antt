@@ -1,10 +1,10 @@
 -- What a file stands for after each write to it.
-use Rattle.std.proofs.Common.{◌≡◌, inl, inr, ℕ, ◌+◌, ◌≤◌, ◌==◌, Bool, true, false, not, List, length, get_or, take, drop, refl, sym, ◌∙◌, ap, arith}
+use Rattle.std.proofs.Common.{◌≡◌, inl, inr, ℕ, ◌+◌, ◌≤◌, ◌==◌, Bool, true, false, not, List, length, get_or, take, drop, replicate, [], ◌++◌, subst, refl, sym, ◌∙◌, ap, arith}
 use Rattle.std.proofs.lemmas.List.{get_or-take, take-take, length-take-le}
 use Rattle.std.proofs.lemmas.Bool.{cases_Bool}
 use Rattle.std.specs.Int.{w64, from_le_bytes}
 use Rattle.blot_journal.specs.Device.{Torn, Cut}
-use Rattle.blot_journal.specs.File.{is_second, place, signed_in, size_in, text_in, text_of, IsWhole, SameText, HasHead, Turned}
+use Rattle.blot_journal.specs.File.{is_second, place, signed_in, signature, size_in, text_in, text_of, IsWhole, SameText, Stands, HasHead, Turned}
 use Rattle.blot_journal.proofs.WriteLemmas.{part_less, drop_less, torn}
 
 -- the switch is in a front
@@ -66,9 +66,10 @@ module _ (old : List ℕ) (second : Bool) (size : ℕ) (head : HasHead second si
 
   pub cut_behind : (file : List ℕ) → Cut (size + 4096) old file → SameText old file
   cut_behind file cut =
+      let long : size + 4096 ≤ length file = omega (arith, cut.no_shorter, head.room) in
       let same : take (size + 4096) file ≡ take (size + 4096) old =
-      sym (ap (λ (l : List ℕ). take (size + 4096) l) cut.front) ∙ take-take (size + 4096) (length file) old cut.no_shorter in
-      same_front file same cut.no_shorter
+      sym (ap (λ (l : List ℕ). take (size + 4096) l) cut.front) ∙ take-take (size + 4096) (length file) old long in
+      same_front file same long
 
   -- what is cut there keeps its head and its text
   pub trimmed : HasHead second size (take (size + 4096) old) × (text_of (take (size + 4096) old) ≡ text_of old)
@@ -163,3 +164,10 @@ torn_switch other old file switch whole room torn = elim (cases_Bool (is_second 
     by_cases true false now was is = kept (now ∙ sym was)
     by_cases false true now was is = kept (now ∙ sym was)
     by_cases false false now was is = turned (now ∙ is)
+
+-- a head alone stands for the empty text
+pub empty_stands : (front name back file : List ℕ) → front ≡ replicate 1536 0 → name ≡ signature → back ≡ replicate 2544 0 → file ≡ (front ++ name) ++ back → Stands [] file
+empty_stands front name back file is_front is_name is_back is = subst (Stands []) (sym (is ∙ (λ i. (is_front i ++ is_name i) ++ is_back i))) (record {
+  says = refl;
+  whole = record { journal = record { head = omega arith; signed = refl }; room = omega arith };
+})

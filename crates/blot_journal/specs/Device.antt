@@ -1,5 +1,5 @@
 -- A file on a disk: what its calls do to it, and what a crash may leave of them.
-use Rattle.std.specs.Prelude.{◌≡◌, ◌⊎◌, ℕ, ◌+◌, ◌<◌, ◌≤◌, max, List, ◌++◌, length, take, drop, Result, IsErrOf}
+use Rattle.std.specs.Prelude.{◌≡◌, ◌⊎◌, ℕ, ◌+◌, ◌<◌, ◌≤◌, max, min, List, ◌++◌, length, take, drop, Result, IsErrOf}
 use Rattle.blot_journal.specs.declared.device.DeviceFault.{DeviceFault}
 use Rattle.blot_journal.specs.declared.device.DeviceFault.TheVariants.{Failed}
 
@@ -14,9 +14,9 @@ pub record Torn (at count : ℕ) (old new : List ℕ) : Type 0 where
   pub no_shorter : length old ≤ length new
   pub no_longer : length new ≤ max (length old) (at + count)
 
--- a cut that a crash cut short: some length between
+-- a cut that a crash cut short: some length between. What was shorter, since an earlier write was lost, stays so
 pub record Cut (size : ℕ) (old new : List ℕ) : Type 0 where
-  pub no_shorter : size ≤ length new
+  pub no_shorter : min size (length old) ≤ length new
   pub front : take (length new) old ≡ new
 
 -- what a crash may leave now is what it might have left before, and a step

@@ -2,19 +2,10 @@
 //! count, and once both are on the disk the switch is turned.
 ghost use Rattle.std.specs.Prelude.{◌≡◌, ◌+◌, ◌≤◌, ◌<◌, ◌^◌, ◌++◌, not, length, OnOk};
 ghost use Rattle.blot_journal.specs.Device.{HasCause, LeavesOnly, Only};
-ghost use Rattle.blot_journal.specs.File.{HasHead, IsStaged, IsWhole, SameText, StandsBeforeOrAfter, Turned, is_second, place, size_in, switch_for, text_in, text_of};
+ghost use Rattle.blot_journal.specs.File.{HasHead, IsStaged, IsWhole, SameText, StandsBeforeOrAfter, Turned, is_second, size_in, switch_for, text_in, text_of};
 
+use crate::head::{HEAD, place};
 use crate::{Device, DeviceFault};
-
-/// The bytes of the head.
-pub(crate) const HEAD: usize = 4096;
-
-/// Where the first or the second length stands.
-pub(crate) fn place(second: bool) -> usize
-    ensures { result ≡ place second }
-{
-    if second { 1024 } else { 512 }
-}
 
 // The switch that says which length counts.
 fn switch_for(second: bool) -> u8

@@ -6,7 +6,8 @@ ghost use Rattle.blot_journal.specs.File.{IsWhole, Stands, StandsBeforeOrAfter, 
 ghost use Rattle.blot_journal.specs.Journal.{text_in_journal, told_by_journal};
 ghost use Rattle.blot_journal.specs.Recovery.{IsFaultOf, IsLeft, SameOrWas, is_of_file};
 
-use crate::batch::{HEAD, make_durable};
+use crate::batch::make_durable;
+use crate::head::HEAD;
 use crate::recovery::recover;
 use crate::{Device, DeviceFault, RecoveryFault};
 use std::alloc::{AllocError as NoMemory, Global};

@@ -4,9 +4,17 @@
 
 mod batch;
 mod device;
+mod file;
+mod head;
 mod journal;
+mod memory;
+mod opening;
+mod record;
 mod recovery;
 
 pub use device::{Device, DeviceFault};
+pub use file::{FileDevice, FileFault};
 pub use journal::{Journal, JournalFault};
+pub use memory::{Change, MemoryDevice};
+pub use opening::open_file;
 pub use recovery::RecoveryFault;

@@ -1,18 +1,13 @@
 //! A file that a crash may have left.
-ghost use Rattle.std.specs.Prelude.{◌≡◌, ◌↔◌, ◌<◌, ◌≤◌, ◌+◌, ◌^◌, length, IfErr, IfOk, IsErrOf, IsTrue, OnOk};
+ghost use Rattle.std.specs.Prelude.{◌≡◌, ◌<◌, ◌≤◌, ◌+◌, ◌^◌, length, IfErr, IfOk, IsErrOf, IsTrue, OnOk};
 ghost use Rattle.blot_journal.specs.declared.recovery.RecoveryFault.TheVariants.{NoMemory as OutOfMemory};
 ghost use Rattle.blot_journal.specs.Device.{HasCause, LeavesOnly, Only};
-ghost use Rattle.blot_journal.specs.File.{HasHead, IsWhole, SameText, signature, signed_in, size_in, text_of};
+ghost use Rattle.blot_journal.specs.File.{HasHead, IsWhole, SameText, text_of};
 ghost use Rattle.blot_journal.specs.Recovery.{IsCounted, IsFaultOf, IsHeadFault, IsLeft, SameOrWas, is_of_file, told_fault};
 
-use crate::batch::{HEAD, place};
+use crate::head::{HEAD, is_signed, size_in, zeros};
 use crate::{Device, DeviceFault};
 use std::alloc::{AllocError as NoMemory, Global};
-
-// The bytes by which a journal is known, and where they stand.
-const SIGNATURE: &[u8; 16] = b"blotter journal\n";
-
-const SIGNED_AT: usize = 1536;
 
 /// Why a file isn't taken up. At NoJournal and Damaged it is left as it was.
 #[derive(Clone, Copy, Debug, PartialEq, Eq)]
@@ -66,7 +61,7 @@ pub(crate) fn recover<D: Device>(alloc: Global, device: &mut D) -> Result<Counte
     ensures untouched { IfErr result (λ fault. IsTrue (is_of_file fault) → IsLeft D.seen D.may_leave D.moment D.left_since device.old device.new) }
     ensures cause { IsErrOf result RecoveryFault.Failed → D.failures device.old < D.failures device.new }
 {
-    let mut head = make_buffer(alloc, HEAD)?;
+    let mut head = zeros(alloc, HEAD)?;
     device.sync()?;
     let counted = find(device, &mut head)?;
     trim(device, counted)?;
@@ -96,13 +91,6 @@ fn find<D: Device>(device: &mut D, head: &mut [u8]) -> Result<Counted, RecoveryF
     counted_in(head, len)
 }
 
-// A buffer of zeros.
-fn make_buffer(alloc: Global, len: usize) -> Result<Vec<u8>, NoMemory>
-    ensures { IfOk result (λ buffer. length buffer.items ≡ len) }
-{
-    vec![in alloc; 0; len]
-}
-
 // What the head of a file of this length says.
 fn counted_in(head: &[u8], len: usize) -> Result<Counted, RecoveryFault>
     requires head { length head.now ≡ 4096 }
@@ -122,26 +110,6 @@ fn counted_in(head: &[u8], len: usize) -> Result<Counted, RecoveryFault>
         second,
         size: size as usize,
     })
-}
-
-// Whether a head has the signature.
-fn is_signed(head: &[u8]) -> bool
-    requires { length head.now ≡ 4096 }
-    ensures { IsTrue result ↔ (signed_in head.now ≡ signature) }
-{
-    &head[SIGNED_AT..SIGNED_AT + 16] == SIGNATURE.as_slice()
-}
-
-// The first or the second length.
-fn size_in(head: &[u8], second: bool) -> u64
-    requires { length head.now ≡ 4096 }
-    ensures { result ≡ size_in second head.now }
-{
-    let at = place(second);
-    let size = &head[at..at + 8];
-    u64::from_le_bytes([
-        size[0], size[1], size[2], size[3], size[4], size[5], size[6], size[7],
-    ])
 }
 
 // Cuts off what stands behind the text.
