@@ -1,4 +1,8 @@
 //! The file of a journal, opened, or made where it isn't there.
+ghost use Rattle.std.specs.Prelude.{IfOk, IsTrue};
+ghost use Rattle.blot_journal.specs.Calls.{is_readable_after, leaves_after, left_after, seen_after};
+ghost use Rattle.blot_journal.specs.Device.{Only};
+
 use crate::head::{HEAD, empty_file};
 use crate::{FileDevice, FileFault};
 use std::alloc::Global;
@@ -7,7 +11,11 @@ use std::io::{self, Write};
 use std::os::unix::fs::OpenOptionsExt;
 
 /// Opens the file of a journal for this process alone, and makes it where it isn't there.
-pub fn open_file(rt: &HostRuntime, path: &str) -> Result<FileDevice, FileFault> {
+pub fn open_file(rt: &HostRuntime, path: &str) -> Result<FileDevice, FileFault>
+    ensures readable { IfOk result (λ device. IsTrue (is_readable_after device)) }
+    ensures durable { IfOk result (λ device. Only (seen_after device) (leaves_after device)) }
+    ensures fresh { IfOk result (λ device. Only (seen_after device) (left_after device 0)) }
+{
     let file = match open(rt, path) {
         Err(error) if error.kind() == io::ErrorKind::NotFound => {
             make(rt, path)?;

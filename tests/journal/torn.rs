@@ -1,0 +1,115 @@
+//! Each call of a run fails in turn, and each image that a crash may then leave is taken up.
+use crate::images::images;
+use crate::runs::{BATCH_CALLS, BATCHES, RECOVERY_CALLS, append, read, run, text_of};
+use blot_journal::{Journal, JournalFault, MemoryDevice};
+use std::alloc::Global;
+use std::test::Fail;
+
+// Takes an image up: the text is that of the durable batches, or of one more. Then the run goes on to its end.
+fn expect_image(alloc: Global, image: &[u8], durable: usize) -> Result<(), Fail> {
+    let device = MemoryDevice::new(alloc, image, None)?;
+    let Ok(mut journal) = Journal::recover(alloc, device) else {
+        return Err(Fail::new(format_args!("not taken up behind {durable} batches")));
+    };
+    let text = read(alloc, &mut journal)?;
+    let found = if text == text_of(alloc, durable)? {
+        durable
+    } else if durable < BATCHES.len() && text == text_of(alloc, durable + 1)? {
+        durable + 1
+    } else {
+        return Err(Fail::new(format_args!("another text behind {durable} batches")));
+    };
+    if found < BATCHES.len() {
+        if !append(&mut journal, BATCHES[found])?
+            || journal.len() != text_of(alloc, found + 1)?.len()
+        {
+            return Err(Fail::new(format_args!("it doesn't go on behind {found} batches")));
+        }
+    }
+    Ok(())
+}
+
+// The recovery itself fails at each call, and what that leaves is taken up.
+fn expect_recovery(alloc: Global, image: &[u8], durable: usize) -> Result<(), Fail> {
+    for call in 0..RECOVERY_CALLS {
+        let device = MemoryDevice::new(alloc, image, Some(call))?;
+        let Err((_, device)) = Journal::recover(alloc, device) else {
+            return Err(Fail::new(format_args!("call {call} didn't fail")));
+        };
+        for left in images(alloc, &device)?.iter() {
+            expect_image(alloc, left, durable)?;
+        }
+    }
+    Ok(())
+}
+
+// Call by call, of the calls from one on to another.
+fn expect_calls(alloc: Global, from: u64, to: u64) -> Result<(), Fail> {
+    for call in from..to {
+        let ended = run(alloc, Some(call))?;
+        let Some(mut journal) = ended.journal else {
+            continue;
+        };
+        if ended.durable as u64 != (call - RECOVERY_CALLS) / BATCH_CALLS || !journal.is_broken() {
+            return Err(Fail::new(format_args!("{} batches at call {call}", ended.durable)));
+        }
+        if !matches!(journal.sync(), Err(JournalFault::Broken))
+            || !matches!(journal.reserve(1), Err(JournalFault::Broken))
+        {
+            return Err(Fail::new(format_args!("not broken after call {call}")));
+        }
+        let left = images(alloc, journal.device())?;
+        for image in left.iter() {
+            expect_image(alloc, image, ended.durable)?;
+        }
+        expect_recovery(alloc, &left[left.len() / 2], ended.durable)?;
+    }
+    Ok(())
+}
+
+#[test]
+fn each_call_of_the_first_batches(rt: HostRuntime) -> Result<(), Fail> {
+    expect_calls(rt.alloc(), 0, RECOVERY_CALLS + 4 * BATCH_CALLS)
+}
+
+#[test]
+fn each_call_of_the_next_batches(rt: HostRuntime) -> Result<(), Fail> {
+    expect_calls(
+        rt.alloc(),
+        RECOVERY_CALLS + 4 * BATCH_CALLS,
+        RECOVERY_CALLS + 8 * BATCH_CALLS,
+    )
+}
+
+#[test]
+fn each_call_of_the_last_batches(rt: HostRuntime) -> Result<(), Fail> {
+    expect_calls(
+        rt.alloc(),
+        RECOVERY_CALLS + 8 * BATCH_CALLS,
+        RECOVERY_CALLS + 12 * BATCH_CALLS,
+    )
+}
+
+#[test]
+fn nothing_fails(rt: HostRuntime) -> Result<(), Fail> {
+    let alloc = rt.alloc();
+    let ended = run(alloc, None)?;
+    let Some(mut journal) = ended.journal else {
+        return Err(Fail::new(format_args!("not taken up")));
+    };
+    if ended.durable != BATCHES.len()
+        || journal.len() != text_of(alloc, BATCHES.len())?.len()
+        || !journal.waiting().is_empty()
+    {
+        return Err(Fail::new(format_args!("{} batches", ended.durable)));
+    }
+    // Where nothing waits, the file isn't touched.
+    let before = journal.device().bytes().to_vec(alloc)?;
+    if journal.sync().is_err()
+        || before.as_slice() != journal.device().bytes()
+        || !journal.device().changes().is_empty()
+    {
+        return Err(Fail::new(format_args!("a sync of nothing")));
+    }
+    expect_image(alloc, &before, BATCHES.len())
+}
