@@ -1,4 +1,7 @@
 //! What the program does.
+ghost use Rattle.std.specs.Prelude.{◌≡◌, false, IsTrue};
+ghost use Rattle.blot_journal.specs.Calls.{is_readable_after};
+
 use crate::rows::{ROW, count_rows, row_of};
 use blot_journal::{FileDevice, FileFault, Journal, JournalFault, RecoveryFault, open_file};
 use std::{env, io};
@@ -52,7 +55,10 @@ fn go_on(
     journal: &mut Journal<FileDevice>,
     batches: u64,
     rows: u64,
-) -> io::Result<bool> {
+) -> io::Result<bool>
+    requires unbroken { journal.old.is_broken ≡ false }
+    requires readable { IsTrue (is_readable_after journal.old.device) }
+{
     let mut text = vec![in rt.alloc(); 0; journal.len()]?;
     if journal.read(0, &mut text).is_err() {
         println!(rt; "can't be read")?;
