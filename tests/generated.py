@@ -43,7 +43,8 @@ BAD_LINES = ('', 'undo', 'undo\tx', 'undo\t1\t2', 'undo\t1234567890', 'Undo\t1',
              'order\tBRKA\t', 'order\tBRKA', 'position\t*', 'position\tA\x7f\tXYZ', 'report\t20240230', 'report\t2024', 'report',
              'redo\r', 'withdraw', 'withdraw\tx', 'withdraw\t1\t2', 'withdraw\t0000000001', 'mine\t', 'mine\t1',
              'allocate\tBRKA\tAL9\tXYZ', 'allocate\tBRKA\tAL9\tXYZ\tB\t20240105\t10\t0', 'undo\t' + '1' * 65531,
-             'undo\t' + '1' * 65532)
+             'undo\t' + '1' * 65532, 'entry', 'entry\tx', 'needs\t1234567890', 'execution\tBRKA', 'execution\t\tE1', 'allocation\tBRKA\t',
+             'orders\t', 'orders\tBRKA\tO1', 'positions\tA\x7f', 'steps', 'steps\t0', 'steps\t1001', 'refusals\t', 'refusals\t-1', 'entries')
 
 
 def bytes_of(text):
@@ -54,7 +55,7 @@ class Drawing:
     """What is drawn from one seed."""
 
     def __init__(self, seed):
-        self.random = random.Random(seed)
+        self.seed, self.random = seed, random.Random(seed)
         self.day = plain.Day(OWN, PEERS)
         self.moment = 0
 
@@ -263,12 +264,26 @@ class Drawing:
             ['position', self.pick(('*', 'A', 'A1', 'B', 'Z')), self.symbol()], ['position', '*', 'XYZ'],
             ['report', self.pick((*DAYS, '20240107'))], self.allocate(), self.allocate(), [self.pick(BAD_LINES)])))
 
+    def questions(self, draw):
+        """A line of each question. What it asks of is mostly there."""
+        entries = self.day.desk.entries
+        numbers, keys = [it.number for it in [*entries, *self.day.desk.done]] or [1], [it.key for it in entries] or [('BRKA', 'E1')]
+        number, key, other = str(draw.choice(numbers)), draw.choice(keys), draw.choice((('BRKA', 'E1'), ('BRKB', 'AL99')))
+        key = key if draw.randrange(8) else other
+        return ['\t'.join(it) for it in (
+            ['entry', number], ['needs', number], ['execution', *key], ['allocation', *key],
+            ['orders', *draw.choice(([], [draw.choice(PEERS)]))], ['positions', *draw.choice(([], [draw.choice(('*', 'A', 'Z'))]))],
+            ['steps', draw.choice(('1', '3', '01000'))], ['refusals', draw.choice(('1', '3', '1000'))])]
+
     def lines(self):
-        """Lines, and at times after them undos of all that is done and redos of all that is undone, one more of each."""
-        drawn = []
+        """Lines, in one of four seeds each with all questions after it; and at times after them undos of all that is done and redos of all
+        that is undone, one more of each."""
+        drawn, draw = [], random.Random(f'{self.seed} asks')
+        asks = draw.randrange(4) == 0
         for _ in range(LINES):
             drawn.append(self.line())
             answered(self.day.desk, drawn[-1])
+            drawn += self.questions(draw) if asks else []
         if self.once_in(4):
             undos = [f'undo\t{it.number}' for it in reversed(self.day.desk.done)] + ['undo\t1']
             redos = ['redo'] * (len(self.day.desk.done) + len(self.day.desk.undone) + 1)
@@ -378,6 +393,8 @@ EACH = [
     *(f'sent 35={it}' for it in ('A', '0', '2', '3', '4', '5', 'P', 'j')),
     'sent 141=Y', 'sent 371', 'sent 373=9', 'sent 87=0', 'sent 88=1', 'sent 88=7', 'sent 88=10', 'skipped', 'rest',
     *(f'answer {it}' for it in ('accepted', 'undone', 'redone', 'order', 'position', 'none', 'report', 'end')),
+    *(f'answer {it.lower()}' for it in COMMANDS),
+    *(f'answer {it}' for it in ('withdraw', 'withdrawn', 'execution', 'busted', 'survivor', 'allocated', 'allocation', 'ended', 'free', 'needed', 'refusal')),
     *(f'answer refused {it}' for it in (2, 5, 6, 7, 8, 9, 10, 11, 12, 13, 14, 15)),
     *(f'{what} {it}' for it in COMMANDS for what in ('withdrawn', 'returned', 'needed') if (what, it) != ('needed', 'Bust')),
     *(f'answer bad {it}' for it in (1, 2, 3, 4))]

@@ -640,6 +640,7 @@ class Desk:
 
     def __init__(self):
         self.entries, self.done, self.undone, self.next_number = [], [], [], 1
+        self.history = []   # each event: a command with its refusal, none where it was taken; an undo, a redo or an ask as None
 
     def do(self, number, command):
         self.done.append(Step(number, command, self.entries))
@@ -647,6 +648,7 @@ class Desk:
 
     def submit(self, command):
         refusal = refusal_of(self.entries, command)
+        self.history.append((command, refusal))
         if refusal:
             return 'refused', *refusal
         self.do(self.next_number, command)
@@ -654,6 +656,7 @@ class Desk:
         return 'accepted', self.done[-1].number
 
     def undo(self, number):
+        self.history.append(None)
         if not self.done:
             return 'refused', 13, 'NothingToUndo'
         if self.done[-1].number != number:
@@ -663,6 +666,7 @@ class Desk:
         return 'undone', number
 
     def redo(self):
+        self.history.append(None)
         if not self.undone:
             return 'refused', 15, 'NothingToRedo'
         step = self.undone.pop()
@@ -724,6 +728,104 @@ def report_of(entries, dated):
     return [('report', dated), *lines, ('end', len(lines))]
 
 
+# Questions: what an operator asks that is no event
+
+def entry_line(entry):
+    """An entry by its number, its key and what its command says."""
+    words = entry.kind.lower(), entry.number, *entry.key, *([entry.reference[1]] if entry.reference else [])
+    if entry.fill:
+        fill = entry.fill
+        return (*words, fill.order[1], fill.account or '*', fill.symbol, fill.side, shown(fill.quantity), shown(fill.price), fill.day, shown(fill.size))
+    if entry.terms:
+        terms = entry.terms
+        lines = [word for it in terms.lines for word in (it.account, shown(it.quantity), shown(it.price))]
+        return (*words, terms.symbol, terms.side, terms.day, shown(terms.block), len(terms.executions), *(it[1] for it in terms.executions), len(terms.lines), *lines)
+    return words
+
+
+def ended(first, lines):
+    return [*first, *lines, ('end', len(lines))]
+
+
+def numbered(word, entry):
+    return [(word, entry.number)] if entry else []
+
+
+def execution_of(entries, key):
+    """The chain of an execution, what ended it or its last version, and the live allocation that names it."""
+    found = next((it for it in entries if it.kind in EXECUTIONS and it.key == key), None)
+    if not found:
+        return [('none',)]
+    chain = {it.number: root_of(entries, it.reference if it.kind == 'Bust' else it.key) for it in entries if it.kind in EXECUTIONS}
+    root = chain[found.number]
+    bust = bust_of(entries, root)
+    allocated_by = next((it for it in live_allocations(entries) if root in named_roots(entries, it.terms)), None)
+    lines = [entry_line(it) for it in entries if chain.get(it.number) == root]
+    lines += numbered('busted', bust) or numbered('survivor', last_version(entries, root))
+    return ended([('execution', *key)], lines + numbered('allocated', allocated_by))
+
+
+def allocation_of(entries, key):
+    found = next((it for it in entries if it.kind in ALLOCATIONS + ENDINGS and it.key == key), None)
+    return ended([('allocation', *key)], [entry_line(found), *numbered('ended', ending_of(entries, key))]) if found else [('none',)]
+
+
+def needs_of(entries, number):
+    refusal = refusal_of(entries, Withdraw(number))
+    return ('free',) if not refusal else ('needed', refusal[2]) if refusal[0] == 12 else ('refused', *refusal)
+
+
+def step_line(entries, step):
+    if isinstance(step.command, Withdraw):
+        return 'withdraw', step.number, step.command.withdrawn
+    return next((entry_line(it) for it in entries if it.number == step.number), ('withdrawn', step.number))
+
+
+def refusal_lines(history):
+    """The refused commands, the oldest first."""
+    for place, event in enumerate(history, 1):
+        if event and event[1]:
+            command, refusal = event
+            key = ('withdraw', command.withdrawn) if isinstance(command, Withdraw) else (command.kind.lower(), *command.key)
+            yield 'refusal', place, *key, *refusal
+
+
+def orders_of(entries, peer):
+    fills = [it.fill for it in survivors(entries) if peer in (None, it.key[0])]
+    return ended([], [order_line(fills, order) for order in sorted({it.order for it in fills})])
+
+
+def positions_of(entries, account):
+    parts = [it for it in parts_of(entries) if account in (None, it.account)]
+    return ended([], [position_line(parts, *place) for place in sorted({(it.account, it.symbol) for it in parts})])
+
+
+def some_rows(value):
+    if not is_digits(value) or not 1 <= number_of(value) <= 1000:
+        raise Wrong(6)
+    return number_of(value)
+
+
+def found(desk, words):
+    """The answer to a question."""
+    if words[0] in ('entry', 'needs'):
+        number = value_at(words, 1, short_number)
+        return [needs_of(desk.entries, number)] if words[0] == 'needs' else [entry_line(it) for it in desk.entries if it.number == number] or [('none',)]
+    if words[0] in ('steps', 'refusals'):
+        count = value_at(words, 1, some_rows)
+        rows = [step_line(desk.entries, it) for it in desk.done] if words[0] == 'steps' else list(refusal_lines(desk.history))
+        return ended([], rows[::-1][:count])
+    if words[0] in ('orders', 'positions'):
+        wanted = value_at(words, 1, text) if len(words) > 1 else None
+        return orders_of(desk.entries, wanted) if words[0] == 'orders' else positions_of(desk.entries, wanted)
+    key = value_at(words, 1, text), value_at(words, 2, text)
+    return execution_of(desk.entries, key) if words[0] == 'execution' else allocation_of(desk.entries, key)
+
+
+# How many words each question's line has.
+QUESTIONS = {'entry': [2], 'execution': [3], 'allocation': [3], 'needs': [2], 'orders': [1, 2], 'positions': [1, 2], 'steps': [2], 'refusals': [2]}
+
+
 # An operator's lines
 
 class Bad(Exception):
@@ -773,15 +875,17 @@ def allocated(words):
 def answer(desk, line):
     """The answer to one line: the words of its lines. It may change the desk."""
     words = line.split('\t')
-    wanted = {'undo': 2, 'redo': 1, 'withdraw': 2, 'mine': 1, 'order': 3, 'position': 3, 'report': 2}.get(words[0])
+    wanted = {'undo': [2], 'redo': [1], 'withdraw': [2], 'mine': [1], 'order': [3], 'position': [3], 'report': [2], **QUESTIONS}.get(words[0])
     if len(line) > 65536:
         raise Bad(4)
     if words[0] == 'allocate':
         return [desk.submit(allocated(words))]
     if wanted is None:
         raise Bad(1)
-    if len(words) != wanted:
+    if len(words) not in wanted:
         raise Bad(2)
+    if words[0] in QUESTIONS:
+        return found(desk, words)
     if words[0] == 'undo':
         return [desk.undo(value_at(words, 1, short_number))]
     if words[0] == 'redo':
@@ -793,6 +897,7 @@ def answer(desk, line):
     if words[0] == 'report':
         return report_of(desk.entries, value_at(words, 1, day))
     key = value_at(words, 1, text), value_at(words, 2, text)
+    desk.history.append(None)
     if words[0] == 'order':
         return [order_line([it.fill for it in survivors(desk.entries)], key) or ('none',)]
     return [position_line(list(parts_of(desk.entries)), *key) or ('none',)]

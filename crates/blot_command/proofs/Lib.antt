@@ -3,6 +3,7 @@ pub mod AllocNeedLemmas
 pub mod ApartLemmas
 pub mod BlockedLemmas
 pub mod BoundLemmas
+pub mod ChainEntryLemmas
 pub mod ChangeListLemmas
 pub mod CorrectNeedLemmas
 pub mod EachLemmas
@@ -12,6 +13,7 @@ pub mod HoldLemmas
 pub mod HouseCellLemmas
 pub mod HouseLemmas
 pub mod KeepsLemmas
+pub mod KeyEntryLemmas
 pub mod LastSlotLemmas
 pub mod LeftLemmas
 pub mod LiftLemmas

@@ -7,6 +7,7 @@ pub mod Kinds
 pub mod Law
 pub mod Linking
 pub mod Meanings
+pub mod Questions
 pub mod Refusing
 pub mod Shown
 pub mod Slots

@@ -10,19 +10,21 @@ ghost use Rattle.blot_types.specs.Standing.{chain_by, standing};
 ghost use Rattle.blot_types.specs.Survivors.{links_of};
 ghost use Rattle.blot_command.specs.Book.{has_number};
 ghost use Rattle.blot_command.specs.Shown.{version_replaced, terms_of_key, terms_keyed, roots_keyed};
+ghost use Rattle.blot_command.specs.Questions.{allocation_of, execution_of};
 ghost use Rattle.blot_command.specs.Slots.{entries_in};
 ghost use Rattle.blot_command.specs.Standings.{standings_of, told_of};
 ghost use Rattle.blot_command.specs.Withdrawing.{with_entry, HasLast, lifted, returned, CanReturn};
 
 use crate::blocked::blocked;
 use crate::linking::{lift_entry, link_entry, un_lift_entry, unlink_entry};
+use crate::questions::{allocation, chain_by, copy_entry, execution};
 use crate::refusal::{current_version, refusal};
 use crate::slots::{EntrySlot, entry_numbered, newest_number, put_in, take_out, version_numbered};
 use crate::standing::standings_in;
-use crate::{BoxedEntry, Standing, Told};
+use crate::{AllocationAnswer, BoxedEntry, ExecutionAnswer, Standing, Told};
 use blot_alloc::Allocs;
 use blot_chain::Chains;
-use blot_types::{AllocKey, Command, Entry, ExecKey, Link, Refused, Role, Terms, Version};
+use blot_types::{AllocKey, Command, Entry, ExecKey, Link, Refused, Terms, Version};
 use std::alloc::{AllocError as NoMemory, Global};
 use std::marker::Model;
 
@@ -82,7 +84,7 @@ impl LiveList {
         let mut copies = Vec::with_capacity(alloc, self.slots.len())?;
         for slot in &self.slots {
             if let Some(entry) = slot.entry() {
-                let copy = copy_of(alloc, entry)?;
+                let copy = copy_entry(alloc, entry)?;
                 copies.push(copy)?;
             }
         }
@@ -148,6 +150,22 @@ impl LiveList {
         blocked(&self.slots, &self.chains, &self.allocs, number)
     }
 
+    /// What is told of the execution of a key.
+    pub(crate) fn execution(&self, key: &ExecKey) -> Result<Option<ExecutionAnswer>, NoMemory>
+        ensures answer { IfOk result (λ answer. answer ≡ execution_of self.now.list key.now) }
+        ensures book { IsTrue (is_book self.now.list) }
+    {
+        execution(self.alloc(), &self.slots, &self.chains, &self.allocs, key)
+    }
+
+    /// What is told of the allocation of a key.
+    pub(crate) fn allocation(&self, key: &AllocKey) -> Result<Option<AllocationAnswer>, NoMemory>
+        ensures answer { IfOk result (λ answer. answer ≡ allocation_of self.now.list key.now) }
+        ensures book { IsTrue (is_book self.now.list) }
+    {
+        allocation(self.alloc(), &self.slots, &self.allocs, key)
+    }
+
     /// The version whose place an entry takes, or which it busts.
     pub(crate) fn replaced(&self, entry: &Entry) -> Option<Version>
         ensures { result ≡ version_replaced self.now.list entry.now }
@@ -177,15 +195,7 @@ impl LiveList {
     pub(crate) fn chain_of(&self, link: &Option<Link>) -> Option<ExecKey>
         ensures { result ≡ chain_by (links_of self.now.list) link.now }
     {
-        match link {
-            None => None,
-            Some(link) => match link.role {
-                Role::Begins => Some(link.key),
-                Role::Corrects(reference) | Role::Busts(reference) => {
-                    self.chains.root_of(&reference)
-                }
-            },
-        }
+        chain_by(&self.chains, link)
     }
 
     /// The version that stands of a chain, if there is one.
@@ -293,17 +303,6 @@ impl LiveList {
         un_lift_entry(&mut self.chains, &mut self.allocs, entry.as_entry());
         put_in(&mut self.slots, entry);
     }
-}
-
-// An equal entry.
-fn copy_of(alloc: Global, entry: &Entry) -> Result<Entry, NoMemory>
-    ensures { IfOk result (λ copy. copy ≡ entry.now) }
-{
-    let command = entry.command.try_copy(alloc)?;
-    Ok(Entry {
-        number: entry.number,
-        command,
-    })
 }
 
 // The terms of a command, where it brings the allocation of a key.

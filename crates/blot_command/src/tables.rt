@@ -3,20 +3,22 @@ ghost use Rattle.std.specs.Prelude.{◌≡◌, ◌<◌, [], ◌∷◌, ◌++◌,
 ghost use Rattle.std.specs.List.{last_or};
 ghost use Rattle.std.specs.Option.{option_copied, option_map};
 ghost use Rattle.blot_types.specs.Laws.{HasBoundedTotals, IsConserving};
-ghost use Rattle.blot_types.specs.Legal.{is_above_entries, is_book, entry_refusal, least_needing, without};
+ghost use Rattle.blot_types.specs.Legal.{is_above_entries, is_book, entry_refusal, least_needing, refusal_of, without};
 ghost use Rattle.blot_types.specs.Order.{order_of};
 ghost use Rattle.blot_types.specs.Position.{position_of};
 ghost use Rattle.blot_types.specs.Survivors.{version_of};
 ghost use Rattle.blot_command.specs.Book.{has_number};
 ghost use Rattle.blot_command.specs.Kinds.{trade_of};
+ghost use Rattle.blot_types.specs.declared.command.Command.TheVariants.{Withdraw};
+ghost use Rattle.blot_command.specs.Questions.{allocation_of, execution_of};
 ghost use Rattle.blot_command.specs.Shown.{chain_numbered, with_put, with_kept, IsPut, IsKept, CanPut};
 ghost use Rattle.blot_command.specs.Withdrawing.{with_entry, HasLast, lifted, returned, CanReturn};
 
 use crate::accounts::Accounts;
-use crate::{BoxedEntry, Reported, Snapshot, Standing, Told};
+use crate::{AllocationAnswer, BoxedEntry, ExecutionAnswer, Reported, Snapshot, Standing, Told};
 use blot_order::Orders;
 use blot_types::{
-    Command, Entry, ExecKey, OrderKey, OrderLine, PositionLine, Refused, Text64, Version,
+    AllocKey, Command, Entry, ExecKey, OrderKey, OrderLine, PositionLine, Refused, Text64, Version,
 };
 use std::alloc::{AllocError as NoMemory, Global};
 use std::marker::Model;
@@ -91,6 +93,37 @@ impl Tables {
         ensures book { IsTrue (is_book self.now.list) }
     {
         self.accounts.live().blocked(number)
+    }
+
+    /// What is told of the execution of a key: its whole chain, what ended it or its last version, and the live allocation that names
+    /// it. None where no entry takes the key up. It takes look-ups, and a step for each version and each entry that was taken out of
+    /// the chain. An error is out of memory. This project's rule.
+    pub fn execution(&self, key: &ExecKey) -> Result<Option<ExecutionAnswer>, NoMemory>
+        ensures answer { IfOk result (λ answer. answer ≡ execution_of self.now.list key.now) }
+        ensures book { IsTrue (is_book self.now.list) }
+    {
+        self.accounts.live().execution(key)
+    }
+
+    /// What is told of the allocation of a key: its entry, and the one that replaced or cancelled it. None where no entry takes the key
+    /// up. An error is out of memory. This project's rule.
+    pub fn allocation(&self, key: &AllocKey) -> Result<Option<AllocationAnswer>, NoMemory>
+        ensures answer { IfOk result (λ answer. answer ≡ allocation_of self.now.list key.now) }
+        ensures book { IsTrue (is_book self.now.list) }
+    {
+        self.accounts.live().allocation(key)
+    }
+
+    /// Why the withdrawal of the entry of a number would be refused; none where it would be accepted. No memory is taken. This project's
+    /// rule.
+    pub fn needs(&self, number: u64) -> Option<Refused>
+        ensures refusal { result ≡ refusal_of self.now.list (Withdraw number) }
+        ensures book { IsTrue (is_book self.now.list) }
+    {
+        if self.entry(number).is_none() {
+            return Some(Refused::NotLive(number));
+        }
+        self.blocked(number).map(Refused::Needed)
     }
 
     /// The greatest number of the live list, which is that of its last entry, or none where the list is empty. No memory is taken.

@@ -8,6 +8,7 @@ use Rattle.blot_decimal.specs.Printed.{fraction_digits, printed}
 use Rattle.blot_decimal.specs.Text.{are_parts}
 use Rattle.blot_desk.specs.declared.event.Event.TheVariants.{Submit, Undo, Redo, AskOrder, AskPosition}
 use Rattle.blot_desk.specs.declared.event.Reply.TheVariants as replies
+use Rattle.blot_desk.specs.declared.question.Question.TheVariants.{Entry, Execution}
 use Rattle.blot_time.specs.Calendar.{day_number}
 use Rattle.blot_time.specs.Day.{day_of, civil_day}
 use Rattle.blot_types.specs.declared.allocation.Line.{Line}
@@ -18,14 +19,15 @@ use Rattle.blot_types.specs.declared.keys.OrderKey.{OrderKey}
 use Rattle.blot_types.specs.declared.refused.Refused.TheVariants.{NotLive, NothingToUndo, Moved, UnknownExec, Quantity}
 use Rattle.blot_console.specs.declared.answer.Answer.TheVariants as answers
 use Rattle.blot_console.specs.declared.ask.Ask.{Ask}
-use Rattle.blot_console.specs.declared.ask.Ask.TheVariants.{Step, Report, Mine}
+use Rattle.blot_console.specs.declared.ask.Ask.TheVariants.{Step, Report, Mine, Look, Orders}
 use Rattle.blot_console.specs.declared.fault.LineFault.{LineFault}
 use Rattle.blot_console.specs.declared.fault.LineFault.TheVariants.{UnknownWord, WrongCount, BadValue}
 use Rattle.blot_console.specs.Allocate.{execs_counted, execs_of, line_of, lines_of, allocate_line}
 use Rattle.blot_console.specs.Answers.{answer_text}
-use Rattle.blot_console.specs.Forms.{number_form, count_form, text_form, sign_form, day_form, price_form, qty_form}
+use Rattle.blot_console.specs.Forms.{number_form, count_form, rows_form, text_form, sign_form, day_form, price_form, qty_form}
 use Rattle.blot_console.specs.Lines.{undo_line, redo_line, withdraw_line, mine_line, order_line, position_line, report_line}
-use Rattle.blot_console.specs.Parsing.{kind_of, words_line, ask_of, parsed}
+use Rattle.blot_console.specs.QuestionLines.{entry_line, execution_line, optional_text, orders_line, refusals_line, steps_line}
+use Rattle.blot_console.specs.Parsing.{kind_of, question_kind_of, words_line, ask_of, parsed}
 use Rattle.blot_console.specs.Rows.{counted, value_at}
 
 -- words with a tab between each two
@@ -86,11 +88,11 @@ unfolding parsed ask_of words_line kind_of mine_line counted
 withdraws_mine_of_one = refl
 
 flies : asks (codes "fly" ∷ []) ≡ Err UnknownWord
-unfolding parsed ask_of words_line kind_of
+unfolding parsed ask_of words_line kind_of question_kind_of
 flies = refl
 
 empty : parsed [] ≡ Err UnknownWord
-unfolding parsed ask_of words_line kind_of
+unfolding parsed ask_of words_line kind_of question_kind_of
 empty = refl
 
 asks_order : asks (codes "order" ∷ BRKA ∷ codes "O1" ∷ []) ≡ Ok (Step (AskOrder O1))
@@ -200,3 +202,25 @@ nothing = refl
 
 full : answer_text answers.Full ≡ told_line (codes "full" ∷ [])
 full = refl
+
+-- ---- questions
+
+asks_entry : asks (codes "entry" ∷ codes "08" ∷ []) ≡ Ok (Look (Entry 8))
+unfolding parsed ask_of words_line kind_of question_kind_of entry_line counted value_at number_form
+asks_entry = refl
+
+asks_execution : asks (codes "execution" ∷ BRKA ∷ codes "E1" ∷ []) ≡ Ok (Look (Execution E1))
+unfolding parsed ask_of words_line kind_of question_kind_of execution_line counted value_at text_form
+asks_execution = refl
+
+asks_orders : asks (codes "orders" ∷ []) ≡ Ok (Orders None)
+unfolding parsed ask_of words_line kind_of question_kind_of orders_line optional_text
+asks_orders = refl
+
+asks_steps_none : asks (codes "steps" ∷ codes "0" ∷ []) ≡ Err (BadValue 1)
+unfolding parsed ask_of words_line kind_of question_kind_of steps_line counted value_at rows_form
+asks_steps_none = refl
+
+asks_many_refusals : asks (codes "refusals" ∷ codes "1001" ∷ []) ≡ Err (BadValue 1)
+unfolding parsed ask_of words_line kind_of question_kind_of refusals_line counted value_at rows_form
+asks_many_refusals = refl

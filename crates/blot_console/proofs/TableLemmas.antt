@@ -9,6 +9,7 @@ use Rattle.blot_types.specs.declared.keys.ExecKey.{ExecKey}
 use Rattle.blot_types.specs.Keys.{same_text}
 use Rattle.blot_console.specs.declared.allocate.TheConstants.{EXECS_PLACE}
 use Rattle.blot_console.specs.declared.ask.Ask.{Ask}
+use Rattle.blot_console.specs.declared.ask.Ask.TheVariants.{Orders, Positions}
 use Rattle.blot_console.specs.declared.fault.LineFault.{LineFault}
 use Rattle.blot_console.specs.declared.fault.LineFault.TheVariants as faults
 use Rattle.blot_console.specs.declared.fault.Wrong.{Wrong}
@@ -17,11 +18,12 @@ use Rattle.blot_console.specs.declared.kinds.Kind.{Kind}
 use Rattle.blot_console.specs.declared.kinds.Kind.TheVariants as kinds
 use Rattle.blot_console.specs.declared.parsing.TheConstants.{LINE_MAX}
 use Rattle.blot_console.specs.Allocate.{are_pairs, counted_by, execs_counted, execs_of, line_of, lines_of, block_of, allocate_line}
-use Rattle.blot_console.specs.Forms.{number_form, count_form, text_form, sign_form, day_form, price_form, qty_form}
+use Rattle.blot_console.specs.Forms.{number_form, count_form, rows_form, text_form, sign_form, day_form, price_form, qty_form}
 use Rattle.blot_console.specs.Lines.{undo_line, redo_line, withdraw_line, mine_line, order_line, position_line, report_line}
-use Rattle.blot_console.specs.Parsing.{kind_of, line_by, words_line, ask_of, told, parsed}
+use Rattle.blot_console.specs.QuestionLines.{allocation_line, entry_line, execution_line, needs_line, optional_text, orders_line, positions_line, refusals_line, second_text, steps_line}
+use Rattle.blot_console.specs.Parsing.{kind_of, question_kind_of, line_by, words_line, ask_of, told, parsed}
 use Rattle.blot_console.specs.Rows.{counted, at, value_at}
-use Rattle.blot_console.specs.Tables.{Row, unless_read, needs, exec_rows, pair_rows, pairs_sum, block_row, rows_behind, allocate_rows, rows_of, IsFirstBad, IsBadAt}
+use Rattle.blot_console.specs.Tables.{Row, unless_read, needs, exec_rows, pair_rows, pairs_sum, block_row, rows_behind, allocate_rows, optional_rows, rows_of, IsFirstBad, IsBadAt}
 use Rattle.blot_console.specs.Words.{words_of, word_at}
 
 -- the first place that a row finds bad
@@ -96,12 +98,65 @@ report-tells : (words : List (List ℕ)) → Tells words (rows_of kinds.Report w
 unfolding report_line
 report-tells words = counted_row words 2 (rows_of kinds.Report words) _ (value_row words 1 day_form [] _ (λ day is. tt))
 
--- ---- the lists of an allocation
+-- ---- the questions
 
 -- a step within a step
 nested : {A B C : Type 0} (read : Result A Wrong) (next : A → Result B Wrong) (last : B → Result C Wrong) → ((read >>= next) >>= last) ≡ (read >>= λ value. next value >>= last)
 nested (Ok value) next last = refl
 nested (Err wrong) next last = refl
+
+entry-tells : (words : List (List ℕ)) → Tells words (rows_of kinds.Entry words) (entry_line words)
+unfolding entry_line
+entry-tells words = counted_row words 2 (rows_of kinds.Entry words) _ (value_row words 1 number_form [] _ (λ number is. tt))
+
+execution-tells : (words : List (List ℕ)) → Tells words (rows_of kinds.Execution words) (execution_line words)
+unfolding execution_line
+execution-tells words =
+    counted_row words 3 (rows_of kinds.Execution words) _ (value_row words 1 text_form (needs 2 text_form ∷ []) _ (λ peer is. value_row words 2 text_form [] _ (λ id is. tt)))
+
+allocation-tells : (words : List (List ℕ)) → Tells words (rows_of kinds.Allocation words) (allocation_line words)
+unfolding allocation_line
+allocation-tells words =
+    counted_row words 3 (rows_of kinds.Allocation words) _ (value_row words 1 text_form (needs 2 text_form ∷ []) _ (λ peer is. value_row words 2 text_form [] _ (λ id is. tt)))
+
+needs-tells : (words : List (List ℕ)) → Tells words (rows_of kinds.Needs words) (needs_line words)
+unfolding needs_line
+needs-tells words = counted_row words 2 (rows_of kinds.Needs words) _ (value_row words 1 number_form [] _ (λ number is. tt))
+
+steps-tells : (words : List (List ℕ)) → Tells words (rows_of kinds.Steps words) (steps_line words)
+unfolding steps_line
+steps-tells words = counted_row words 2 (rows_of kinds.Steps words) _ (value_row words 1 rows_form [] _ (λ count is. tt))
+
+refusals-tells : (words : List (List ℕ)) → Tells words (rows_of kinds.Refusals words) (refusals_line words)
+unfolding refusals_line
+refusals-tells words = counted_row words 2 (rows_of kinds.Refusals words) _ (value_row words 1 rows_form [] _ (λ count is. tt))
+
+second-tells : {A : Type 0} (words : List (List ℕ)) (next : Option (List ℕ) → A) → Tells words (needs 1 text_form ∷ []) (second_text words >>= λ text. Ok (next text))
+unfolding second_text
+second-tells words next =
+    subst (λ read. Tells words (needs 1 text_form ∷ []) read) (sym (nested (counted 2 words) (λ done. value_at 1 text_form words >>= λ text. Ok (Some text)) (λ text. Ok (next text))))
+    (counted_row words 2 (needs 1 text_form ∷ []) _
+    (subst (λ read. Tells words (needs 1 text_form ∷ []) read) (sym (nested (value_at 1 text_form words) (λ text. Ok (Some text)) (λ text. Ok (next text))))
+    (value_row words 1 text_form [] _ (λ text is. tt))))
+
+optional-tells : {A : Type 0} (words : List (List ℕ)) (next : Option (List ℕ) → A) → Tells words (optional_rows words) (optional_text words >>= λ text. Ok (next text))
+unfolding optional_text
+optional-tells words next = by_count (length words == 1) (second-tells words next)
+  where
+    by_count : (one : Bool) → Tells words (needs 1 text_form ∷ []) (second_text words >>= λ text. Ok (next text))
+        → Tells words (if one then [] else needs 1 text_form ∷ []) ((if one then Ok None else second_text words) >>= λ text. Ok (next text))
+    by_count true second = tt
+    by_count false second = second
+
+orders-tells : (words : List (List ℕ)) → Tells words (rows_of kinds.Orders words) (orders_line words)
+unfolding orders_line
+orders-tells words = optional-tells words Orders
+
+positions-tells : (words : List (List ℕ)) → Tells words (rows_of kinds.Positions words) (positions_line words)
+unfolding positions_line
+positions-tells words = optional-tells words Positions
+
+-- ---- the lists of an allocation
 
 execs-tell : {C : Type 0} (words : List (List ℕ)) (peer : List ℕ) (place : ℕ) (execs : List (List ℕ)) (rows : List Row) (next : List ExecKey → Result C Wrong)
     → ((read : List ExecKey) → Tells words rows (next read)) → Tells words (exec_rows place execs ++ rows) (execs_of peer place execs >>= next)
@@ -202,6 +257,14 @@ line-tells kinds.Order words = order-tells words
 line-tells kinds.Position words = position-tells words
 line-tells kinds.Report words = report-tells words
 line-tells kinds.Allocate words = allocate-tells words
+line-tells kinds.Entry words = entry-tells words
+line-tells kinds.Execution words = execution-tells words
+line-tells kinds.Allocation words = allocation-tells words
+line-tells kinds.Needs words = needs-tells words
+line-tells kinds.Orders words = orders-tells words
+line-tells kinds.Positions words = positions-tells words
+line-tells kinds.Steps words = steps-tells words
+line-tells kinds.Refusals words = refusals-tells words
 
 -- the place that is found is that of the first row at fault
 first_of_rows : (words : List (List ℕ)) (rows : List Row) (place : ℕ) → first_bad words rows ≡ Some place → IsFirstBad words rows place
@@ -216,13 +279,39 @@ first_of_rows words (row ∷ rows) place some = by_row (row words) refl some (fi
     by_row (Some other) is some others = record { before = []; row = row; behind = rows; table = refl; well = tt; found = is ∙ some }
 
 -- the first word is never told as a bad value
+question_never : (word : List ℕ) (place : ℕ) → question_kind_of word ≡ Err (BadValue place) → ⊥
+unfolding question_kind_of
+question_never word place is =
+    by_word (same_text word (codes "entry")) (same_text word (codes "execution")) (same_text word (codes "allocation")) (same_text word (codes "needs"))
+    (same_text word (codes "orders")) (same_text word (codes "positions")) (same_text word (codes "steps")) (same_text word (codes "refusals")) is
+  where
+    by_word : (entry execution allocation needs orders positions steps refusals : Bool)
+        → (if entry then Ok kinds.Entry
+        else (if execution then Ok kinds.Execution
+        else (if allocation then Ok kinds.Allocation
+        else (if needs then Ok kinds.Needs
+        else (if orders then Ok kinds.Orders
+        else (if positions then Ok kinds.Positions
+        else (if steps then Ok kinds.Steps
+        else (if refusals then Ok kinds.Refusals
+        else Err UnknownWord)))))))) ≡ Err (BadValue place) → ⊥
+    by_word true execution allocation needs orders positions steps refusals is = cc
+    by_word false true allocation needs orders positions steps refusals is = cc
+    by_word false false true needs orders positions steps refusals is = cc
+    by_word false false false true orders positions steps refusals is = cc
+    by_word false false false false true positions steps refusals is = cc
+    by_word false false false false false true steps refusals is = cc
+    by_word false false false false false false true refusals is = cc
+    by_word false false false false false false false true is = cc
+    by_word false false false false false false false false is = cc
+
 kind_never : (word : List ℕ) (place : ℕ) → kind_of word ≡ Err (BadValue place) → ⊥
 unfolding kind_of
 kind_never word place is =
     by_word (same_text word (codes "undo")) (same_text word (codes "redo")) (same_text word (codes "withdraw")) (same_text word (codes "mine"))
-    (same_text word (codes "order")) (same_text word (codes "position")) (same_text word (codes "report")) (same_text word (codes "allocate")) is
+    (same_text word (codes "order")) (same_text word (codes "position")) (same_text word (codes "report")) (same_text word (codes "allocate")) (question_kind_of word) (question_never word place) is
   where
-    by_word : (undo redo withdraw mine order position report allocate : Bool)
+    by_word : (undo redo withdraw mine order position report allocate : Bool) (rest : Result Kind Wrong) → (rest ≡ Err (BadValue place) → ⊥)
         → (if undo then Ok kinds.Undo
         else (if redo then Ok kinds.Redo
         else (if withdraw then Ok kinds.Withdraw
@@ -231,16 +320,16 @@ kind_never word place is =
         else (if position then Ok kinds.Position
         else (if report then Ok kinds.Report
         else (if allocate then Ok kinds.Allocate
-        else Err UnknownWord)))))))) ≡ Err (BadValue place) → ⊥
-    by_word true redo withdraw mine order position report allocate is = cc
-    by_word false true withdraw mine order position report allocate is = cc
-    by_word false false true mine order position report allocate is = cc
-    by_word false false false true order position report allocate is = cc
-    by_word false false false false true position report allocate is = cc
-    by_word false false false false false true report allocate is = cc
-    by_word false false false false false false true allocate is = cc
-    by_word false false false false false false false true is = cc
-    by_word false false false false false false false false is = cc
+        else rest)))))))) ≡ Err (BadValue place) → ⊥
+    by_word true redo withdraw mine order position report allocate rest never is = cc
+    by_word false true withdraw mine order position report allocate rest never is = cc
+    by_word false false true mine order position report allocate rest never is = cc
+    by_word false false false true order position report allocate rest never is = cc
+    by_word false false false false true position report allocate rest never is = cc
+    by_word false false false false false true report allocate rest never is = cc
+    by_word false false false false false false true allocate rest never is = cc
+    by_word false false false false false false false true rest never is = cc
+    by_word false false false false false false false false rest never is = never is
 
 -- a bad value of a line of words
 abbrev refused_at : ℕ → Result Ask Wrong

@@ -10,6 +10,7 @@ use Rattle.blot_types.specs.declared.TheConstants.{ITEMS_MAX}
 use Rattle.blot_types.specs.Keys.{same_text}
 use Rattle.blot_types.specs.Text.{is_text}
 use Rattle.blot_console.specs.declared.digits.TheConstants.{DIGITS_MAX}
+use Rattle.blot_console.specs.declared.forms.TheConstants.{ROWS_MAX}
 
 -- one or more digits
 abbrev pub is_number : List ℕ → Bool
@@ -23,6 +24,10 @@ number_form word = if is_number word && nat_le (length word) DIGITS_MAX then Som
 unfoldable pub count_form : List ℕ → Option ℕ
 count_form word =
     if is_number word && nat_le 1 (number_of word) && nat_le (number_of word) ITEMS_MAX then Some (number_of word) else None
+
+-- how many rows are asked for: digits, leading zeros accepted, of a number from 1 to `ROWS_MAX`
+unfoldable pub rows_form : List ℕ → Option ℕ
+rows_form word = if is_number word && nat_le 1 (number_of word) && nat_le (number_of word) ROWS_MAX then Some (number_of word) else None
 
 -- 1 to 64 printable bytes
 unfoldable pub text_form : List ℕ → Option (List ℕ)

@@ -3,10 +3,14 @@ pub mod Answers
 pub mod Asks
 pub mod Block
 pub mod Faults
+pub mod Entries
 pub mod FaultText
 pub mod Forms
+pub mod Founds
 pub mod Lines
 pub mod Parsing
+pub mod QuestionLines
+pub mod Replies
 pub mod Rows
 pub mod Tables
 pub mod Words

@@ -14,7 +14,21 @@ use Rattle.blot_console.specs.declared.parsing.TheConstants.{LINE_MAX}
 use Rattle.blot_console.specs.Allocate.{allocate_line}
 use Rattle.blot_console.specs.Faults.{fault_of}
 use Rattle.blot_console.specs.Lines.{undo_line, redo_line, withdraw_line, mine_line, order_line, position_line, report_line}
+use Rattle.blot_console.specs.QuestionLines.{allocation_line, entry_line, execution_line, needs_line, orders_line, positions_line, refusals_line, steps_line}
 use Rattle.blot_console.specs.Words.{words_of, word_at}
+
+-- the kind of question that a first word names
+unfoldable pub question_kind_of : List ℕ → Result Kind Wrong
+question_kind_of word =
+    if same_text word (codes "entry") then Ok kinds.Entry
+    else (if same_text word (codes "execution") then Ok kinds.Execution
+    else (if same_text word (codes "allocation") then Ok kinds.Allocation
+    else (if same_text word (codes "needs") then Ok kinds.Needs
+    else (if same_text word (codes "orders") then Ok kinds.Orders
+    else (if same_text word (codes "positions") then Ok kinds.Positions
+    else (if same_text word (codes "steps") then Ok kinds.Steps
+    else (if same_text word (codes "refusals") then Ok kinds.Refusals
+    else Err UnknownWord)))))))
 
 -- the kind of line that a first word names
 unfoldable pub kind_of : List ℕ → Result Kind Wrong
@@ -27,7 +41,7 @@ kind_of word =
     else (if same_text word (codes "position") then Ok kinds.Position
     else (if same_text word (codes "report") then Ok kinds.Report
     else (if same_text word (codes "allocate") then Ok kinds.Allocate
-    else Err UnknownWord)))))))
+    else question_kind_of word)))))))
 
 -- a line of a kind
 abbrev pub line_by : Kind → List (List ℕ) → Result Ask Wrong
@@ -39,6 +53,14 @@ line_by kinds.Order words = order_line words
 line_by kinds.Position words = position_line words
 line_by kinds.Report words = report_line words
 line_by kinds.Allocate words = allocate_line words
+line_by kinds.Entry words = entry_line words
+line_by kinds.Execution words = execution_line words
+line_by kinds.Allocation words = allocation_line words
+line_by kinds.Needs words = needs_line words
+line_by kinds.Orders words = orders_line words
+line_by kinds.Positions words = positions_line words
+line_by kinds.Steps words = steps_line words
+line_by kinds.Refusals words = refusals_line words
 
 -- a line of words
 unfoldable pub words_line : List (List ℕ) → Result Ask Wrong

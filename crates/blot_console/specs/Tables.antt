@@ -1,11 +1,11 @@
 -- The rows of each line as a table, and what it means that a place is the first bad one.
-use Rattle.std.specs.Prelude.{◌≡◌, ℕ, pos, ◌+◌, ◌-◌, List, [], ◌∷◌, ◌++◌, length, take, drop, Option, Some, None, unwrap_or, is_some, Ok, if◌then◌else◌}
+use Rattle.std.specs.Prelude.{◌≡◌, ℕ, pos, ◌+◌, ◌-◌, ◌==◌, List, [], ◌∷◌, ◌++◌, length, take, drop, Option, Some, None, unwrap_or, is_some, Ok, if◌then◌else◌}
 use Rattle.std.specs.List.{AllByRecursion}
 use Rattle.blot_decimal.specs.Meaning.{qty_units}
 use Rattle.blot_console.specs.declared.allocate.TheConstants.{EXECS_PLACE}
 use Rattle.blot_console.specs.declared.kinds.Kind.{Kind}
 use Rattle.blot_console.specs.declared.kinds.Kind.TheVariants as kinds
-use Rattle.blot_console.specs.Forms.{number_form, count_form, text_form, sign_form, day_form, price_form, qty_form}
+use Rattle.blot_console.specs.Forms.{number_form, count_form, rows_form, text_form, sign_form, day_form, price_form, qty_form}
 use Rattle.blot_console.specs.Parsing.{kind_of}
 use Rattle.blot_console.specs.Words.{words_of, word_at}
 
@@ -56,6 +56,10 @@ allocate_rows words =
     needs 1 text_form ∷ needs 2 text_form ∷ needs 3 text_form ∷ needs 4 sign_form ∷ needs 5 day_form ∷ needs 6 price_form
     ∷ needs 7 count_form ∷ rows_behind (count_form (word_at 7 words)) words
 
+-- the row of a word that may be left out
+abbrev pub optional_rows : List (List ℕ) → List Row
+optional_rows words = if length words == 1 then [] else needs 1 text_form ∷ []
+
 -- the rows of a kind of line
 abbrev pub rows_of : Kind → List (List ℕ) → List Row
 rows_of kinds.Undo words = needs 1 number_form ∷ []
@@ -66,6 +70,14 @@ rows_of kinds.Order words = needs 1 text_form ∷ needs 2 text_form ∷ []
 rows_of kinds.Position words = needs 1 text_form ∷ needs 2 text_form ∷ []
 rows_of kinds.Report words = needs 1 day_form ∷ []
 rows_of kinds.Allocate words = allocate_rows words
+rows_of kinds.Entry words = needs 1 number_form ∷ []
+rows_of kinds.Execution words = needs 1 text_form ∷ needs 2 text_form ∷ []
+rows_of kinds.Allocation words = needs 1 text_form ∷ needs 2 text_form ∷ []
+rows_of kinds.Needs words = needs 1 number_form ∷ []
+rows_of kinds.Orders words = optional_rows words
+rows_of kinds.Positions words = optional_rows words
+rows_of kinds.Steps words = needs 1 rows_form ∷ []
+rows_of kinds.Refusals words = needs 1 rows_form ∷ []
 
 -- the words are well by each row
 abbrev pub AreWell : List (List ℕ) → List Row → Type 0

@@ -1,12 +1,17 @@
 //! What an operator is answered.
 ghost use Rattle.std.specs.Prelude.{◌≡◌, IfOk};
 ghost use Rattle.blot_console.specs.Answers.{order_answer, position_answer, bad_text, answer_text, CanBeTold};
+ghost use Rattle.blot_console.specs.Founds.{orders_answer, positions_answer};
 
 use crate::LineFault;
+use crate::found::{found_text, put_end};
 use crate::telling::{put_number, reply_text, word_line};
-use blot_desk::Reply;
-use blot_report::{DayLines, put_order_line, put_position_line, report_text};
-use blot_types::{OrderKey, OrderLine, PositionLine, Text64};
+use blot_command::Rows;
+use blot_desk::{Found, Reply};
+use blot_report::{
+    DayLines, OrderRow, PositionRow, put_order_line, put_position_line, report_text,
+};
+use blot_types::{OrderKey, OrderLine, PositionKey, PositionLine, Text64};
 use std::alloc::{AllocError as NoMemory, Global};
 
 /// What an operator is answered.
@@ -26,6 +31,12 @@ pub enum Answer {
     Full,
     /// No entry is there to be withdrawn.
     Nothing,
+    /// What the desk found to a question.
+    Found(Found),
+    /// Lines of orders.
+    Orders(Rows<OrderRow>),
+    /// Lines of positions.
+    Positions(Rows<PositionRow>),
 }
 
 /// The text of an answer, whole lines. A reply to a question has to come with the key that was asked for, as `Order` or
@@ -42,6 +53,9 @@ pub fn answer_text(alloc: Global, answer: &Answer) -> Result<Vec<u8>, NoMemory>
         Answer::Bad(fault) => bad_text(alloc, *fault),
         Answer::Full => word_line(alloc, b"full"),
         Answer::Nothing => word_line(alloc, b"none"),
+        Answer::Found(found) => found_text(alloc, found),
+        Answer::Orders(rows) => orders_text(alloc, rows.as_slice()),
+        Answer::Positions(rows) => positions_text(alloc, rows.as_slice()),
     }
 }
 
@@ -75,6 +89,31 @@ fn position_answer(
     };
     let mut text = Vec::new(alloc);
     put_position_line(alloc, &mut text, account, symbol, line)?;
+    Ok(text)
+}
+
+// Lines of orders, and how many they are.
+fn orders_text(alloc: Global, rows: &[OrderRow]) -> Result<Vec<u8>, NoMemory>
+    ensures { IfOk result (λ text. text.items ≡ orders_answer rows.now) }
+{
+    let mut text = Vec::new(alloc);
+    for row in rows {
+        put_order_line(alloc, &mut text, &row.order, &row.line)?;
+    }
+    put_end(alloc, &mut text, rows.len())?;
+    Ok(text)
+}
+
+// Lines of positions, and how many they are.
+fn positions_text(alloc: Global, rows: &[PositionRow]) -> Result<Vec<u8>, NoMemory>
+    ensures { IfOk result (λ text. text.items ≡ positions_answer rows.now) }
+{
+    let mut text = Vec::new(alloc);
+    for row in rows {
+        let PositionKey { account, symbol } = &row.position;
+        put_position_line(alloc, &mut text, account, symbol, &row.line)?;
+    }
+    put_end(alloc, &mut text, rows.len())?;
     Ok(text)
 }
 

@@ -1,12 +1,15 @@
 //! The forms of words, each read without regard to its place.
 ghost use Rattle.std.specs.Prelude.{◌≡◌, ◌≤◌, IfSome};
 ghost use Rattle.blot_types.specs.declared.TheConstants.{ITEMS_MAX};
-ghost use Rattle.blot_console.specs.Forms.{number_form, count_form};
+ghost use Rattle.blot_console.specs.Forms.{number_form, count_form, rows_form};
 
 use crate::digits::{DIGITS_MAX, is_number, number_of};
 use blot_decimal::{Price, Qty};
 use blot_time::Day;
 use blot_types::{ITEMS_MAX, Sign, Text64};
+
+/// The most rows that a question asks for. This project's rule.
+pub(crate) const ROWS_MAX: u16 = 1_000;
 
 /// A type of values that has one form.
 pub(crate) trait Form: Sized {
@@ -104,6 +107,22 @@ pub(crate) fn count_form(word: &[u8]) -> Option<usize>
     let number = number_of(word);
     if 1 <= number && number <= ITEMS_MAX as u64 {
         Some(number as usize)
+    } else {
+        None
+    }
+}
+
+/// How many rows are asked for.
+#[tactic(auto, unfolding(crate::specs::Forms::rows_form))]
+pub(crate) fn rows_form(word: &[u8]) -> Option<u16>
+    ensures { result ≡ rows_form word.now }
+{
+    if !is_number(word) {
+        return None;
+    }
+    let number = number_of(word);
+    if 1 <= number && number <= u64::from(ROWS_MAX) {
+        Some(number as u16)
     } else {
         None
     }

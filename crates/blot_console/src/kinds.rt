@@ -1,7 +1,7 @@
 //! Which line it is, by its first word.
 ghost use Rattle.std.specs.Prelude.{◌≡◌};
 ghost use Rattle.blot_types.specs.Keys.{same_text};
-ghost use Rattle.blot_console.specs.Parsing.{kind_of};
+ghost use Rattle.blot_console.specs.Parsing.{kind_of, question_kind_of};
 
 use crate::fault::Wrong;
 
@@ -16,6 +16,14 @@ pub(crate) enum Kind {
     Position,
     Report,
     Allocate,
+    Entry,
+    Execution,
+    Allocation,
+    Needs,
+    Orders,
+    Positions,
+    Steps,
+    Refusals,
 }
 
 /// The kind of line that a first word names.
@@ -39,6 +47,32 @@ pub(crate) fn kind_of(word: &[u8]) -> Result<Kind, Wrong>
         Ok(Kind::Report)
     } else if is_word(word, b"allocate") {
         Ok(Kind::Allocate)
+    } else {
+        question_kind_of(word)
+    }
+}
+
+// The kind of question that a first word names.
+#[tactic(auto, unfolding(crate::specs::Parsing::question_kind_of))]
+fn question_kind_of(word: &[u8]) -> Result<Kind, Wrong>
+    ensures { result ≡ question_kind_of word.now }
+{
+    if is_word(word, b"entry") {
+        Ok(Kind::Entry)
+    } else if is_word(word, b"execution") {
+        Ok(Kind::Execution)
+    } else if is_word(word, b"allocation") {
+        Ok(Kind::Allocation)
+    } else if is_word(word, b"needs") {
+        Ok(Kind::Needs)
+    } else if is_word(word, b"orders") {
+        Ok(Kind::Orders)
+    } else if is_word(word, b"positions") {
+        Ok(Kind::Positions)
+    } else if is_word(word, b"steps") {
+        Ok(Kind::Steps)
+    } else if is_word(word, b"refusals") {
+        Ok(Kind::Refusals)
     } else {
         Err(Wrong::UnknownWord)
     }

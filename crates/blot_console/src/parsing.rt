@@ -10,6 +10,10 @@ use crate::kinds::{Kind, kind_of};
 use crate::lines::{
     mine_line, order_line, position_line, redo_line, report_line, undo_line, withdraw_line,
 };
+use crate::questions::{
+    allocation_line, entry_line, execution_line, needs_line, orders_line, positions_line,
+    refusals_line, steps_line,
+};
 use crate::words::Words;
 use crate::{Ask, LineFault};
 use std::alloc::Global;
@@ -59,6 +63,14 @@ fn words_line(alloc: Global, words: &Words) -> Result<Ask, Refusal>
         Kind::Position => position_line(words)?,
         Kind::Report => report_line(words)?,
         Kind::Allocate => allocate_line(alloc, words)?,
+        Kind::Entry => entry_line(words)?,
+        Kind::Execution => execution_line(words)?,
+        Kind::Allocation => allocation_line(words)?,
+        Kind::Needs => needs_line(words)?,
+        Kind::Orders => orders_line(words)?,
+        Kind::Positions => positions_line(words)?,
+        Kind::Steps => steps_line(words)?,
+        Kind::Refusals => refusals_line(words)?,
     };
     Ok(ask)
 }

@@ -1,6 +1,6 @@
 //! How replies and refusals are told.
 ghost use Rattle.std.specs.Prelude.{◌≡◌, ◌++◌, IfOk, OnOk};
-ghost use Rattle.blot_console.specs.Answers.{told, number_text, exec_text, quantities_text, values_text, refused_text, word_line, number_line, reply_text, IsTold};
+ghost use Rattle.blot_console.specs.Replies.{told, number_text, exec_text, quantities_text, values_text, refused_text, word_line, number_line, reply_text, IsTold};
 
 use blot_decimal::QtySum;
 use blot_desk::Reply;
@@ -31,8 +31,8 @@ pub(crate) fn word_line(alloc: Global, name: &[u8]) -> Result<Vec<u8>, NoMemory>
     Ok(text)
 }
 
-// A line of a word and a number.
-fn number_line(alloc: Global, name: &[u8], number: u64) -> Result<Vec<u8>, NoMemory>
+/// A line of a word and a number.
+pub(crate) fn number_line(alloc: Global, name: &[u8], number: u64) -> Result<Vec<u8>, NoMemory>
     ensures { IfOk result (λ text. text.items ≡ number_line name.now number) }
 {
     let mut text = Vec::new(alloc);
@@ -42,8 +42,8 @@ fn number_line(alloc: Global, name: &[u8], number: u64) -> Result<Vec<u8>, NoMem
     Ok(text)
 }
 
-// The line of a refusal: its number, its name and its values.
-fn refused_text(alloc: Global, refused: &Refused) -> Result<Vec<u8>, NoMemory>
+/// The line of a refusal: its number, its name and its values.
+pub(crate) fn refused_text(alloc: Global, refused: &Refused) -> Result<Vec<u8>, NoMemory>
     ensures { IfOk result (λ text. text.items ≡ refused_text refused.now) }
 {
     let mut text = Vec::new(alloc);
@@ -55,8 +55,12 @@ fn refused_text(alloc: Global, refused: &Refused) -> Result<Vec<u8>, NoMemory>
     Ok(text)
 }
 
-// Adds what a refusal tells after its name to the end of a text.
-fn put_values(alloc: Global, text: &mut Vec<u8>, refused: Refused) -> Result<(), NoMemory>
+/// Adds what a refusal tells after its name to the end of a text.
+pub(crate) fn put_values(
+    alloc: Global,
+    text: &mut Vec<u8>,
+    refused: Refused,
+) -> Result<(), NoMemory>
     ensures { OnOk result (text.new.items ≡ text.old.items ++ values_text refused) }
 {
     match refused {
@@ -85,8 +89,8 @@ pub(crate) fn put_number(alloc: Global, text: &mut Vec<u8>, number: u64) -> Resu
     Ok(())
 }
 
-// Adds a tab and a word at the end of a text.
-fn put_word(text: &mut Vec<u8>, word: &[u8]) -> Result<(), NoMemory>
+/// Adds a tab and a word at the end of a text.
+pub(crate) fn put_word(text: &mut Vec<u8>, word: &[u8]) -> Result<(), NoMemory>
     ensures { OnOk result (text.new.items ≡ text.old.items ++ told word.now) }
 {
     text.push(b'\t')?;
@@ -94,8 +98,8 @@ fn put_word(text: &mut Vec<u8>, word: &[u8]) -> Result<(), NoMemory>
     Ok(())
 }
 
-// Adds an execution at the end of a text.
-fn put_exec(text: &mut Vec<u8>, key: &ExecKey) -> Result<(), NoMemory>
+/// Adds an execution at the end of a text.
+pub(crate) fn put_exec(text: &mut Vec<u8>, key: &ExecKey) -> Result<(), NoMemory>
     ensures { OnOk result (text.new.items ≡ text.old.items ++ exec_text key.now) }
 {
     put_word(text, key.peer.bytes())?;

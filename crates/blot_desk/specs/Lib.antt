@@ -1,3 +1,4 @@
 pub mod Desk
 pub mod Marks
+pub mod Questions
 pub mod Receipts

@@ -2,10 +2,11 @@
 ghost use Rattle.std.specs.Prelude.{◌≡◌, ◌≢◌, ◌<◌, [], All, Err, IfOk, IsTrue, OnErr, length};
 ghost use Rattle.blot_types.specs.Legal.{is_book};
 ghost use Rattle.blot_desk.specs.Desk.{IsReply};
+ghost use Rattle.blot_desk.specs.Questions.{IsFound};
 ghost use Rattle.blot_desk.specs.Receipts.{IsOneMore};
 
 use crate::counted::Counted;
-use crate::{Closed, DeskFault, Event, Held, Reply, Seat, Snapshot};
+use crate::{Closed, DeskFault, Event, Found, Held, Question, Reply, Seat, Snapshot};
 use std::alloc::{AllocError as NoMemory, Global};
 use std::sync::ledger::{Blank, Ledger, Share};
 use std::sync::{Mutex, Wait};
@@ -59,6 +60,14 @@ impl<L: Ledger> Desk<L> {
         ensures { IfOk result (λ snapshot. IsTrue (is_book snapshot)) }
     {
         self.counted.lock(rt).held.snapshot()
+    }
+
+    /// What a question is answered: what was found in what the desk held then. Nothing is recorded of it, and nothing changes. What is
+    /// told is copied under the lock, and no text is made there. An error is out of memory.
+    pub fn look(&self, rt: &impl Wait, question: &Question) -> Result<Found, NoMemory>
+        ensures { IfOk result (IsFound question.now) }
+    {
+        self.counted.lock(rt).held.look(question)
     }
 
     /// What the desk held at last.

@@ -6,10 +6,12 @@ ghost use Rattle.blot_types.specs.Position.{position_of};
 ghost use Rattle.blot_command.specs.Meanings.{command_meaning};
 ghost use Rattle.blot_undo.specs.Laws.{LeadTo};
 ghost use Rattle.blot_desk.specs.Desk.{empty_journal, list_after, newest_entry_of, step_of, recorded_of, with_recorded, IsRun, UndosGoBack, RedosReturn};
+ghost use Rattle.blot_desk.specs.Questions.{found_of};
 
+use crate::looking::{entry, newest_refusals, newest_steps};
 use crate::taking::take;
-use crate::{DeskFault, Event, Recorded, Reply, Snapshot, TakesCommands};
-use blot_command::{BoxedCommand, Tables};
+use crate::{DeskFault, Event, Found, Question, Recorded, Reply, Snapshot, TakesCommands};
+use blot_command::{BoxedCommand, Rows, Tables};
 use blot_types::{Command, EVENTS_MAX, OrderKey, Text64};
 use blot_undo::Steps;
 use std::alloc::{AllocError as NoMemory, Global};
@@ -90,6 +92,28 @@ impl Held {
         ensures run { result ≡ newest_entry_of (list_after self.now.history) }
     {
         self.steps.state().newest()
+    }
+
+    /// What a question is answered. Nothing is recorded of it, and nothing changes. An error is out of memory.
+    pub fn look(&self, question: &Question) -> Result<Found, NoMemory>
+        ensures found { IfOk result (λ found. found ≡ found_of self.now question.now) }
+        ensures run { IsRun self.now }
+    {
+        let tables = self.steps.state();
+        match question {
+            Question::Entry(number) => Ok(Found::Entry(entry(self.alloc, tables, *number)?)),
+            Question::Execution(key) => Ok(Found::Execution(*key, tables.execution(key)?)),
+            Question::Allocation(key) => Ok(Found::Allocation(*key, tables.allocation(key)?)),
+            Question::Needs(number) => Ok(Found::Needs(tables.needs(*number))),
+            Question::Steps(count) => {
+                let rows = newest_steps(self.alloc, &self.steps, *count)?;
+                Ok(Found::Steps(Rows::new(rows)))
+            }
+            Question::Refusals(count) => {
+                let rows = newest_refusals(self.alloc, &self.history, *count)?;
+                Ok(Found::Refusals(Rows::new(rows)))
+            }
+        }
     }
 
     /// The live list as it is now.

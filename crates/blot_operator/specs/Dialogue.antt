@@ -15,7 +15,10 @@ use Rattle.blot_desk.specs.declared.fault.DeskFault.TheVariants.{Full}
 use Rattle.blot_desk.specs.declared.receipt.Receipt.{Receipt}
 use Rattle.blot_desk.specs.Desk.{Journal, newest_entry_of, step_of, recorded_of}
 use Rattle.blot_desk.specs.Receipts.{IsOneMore, newest_of}
-use Rattle.blot_report.specs.Lines.{day_lines_of}
+use Rattle.blot_desk.specs.declared.question.Found.{Found}
+use Rattle.blot_desk.specs.declared.question.Question.{Question}
+use Rattle.blot_desk.specs.Questions.{IsFound, found_of}
+use Rattle.blot_report.specs.Lines.{day_lines_of, order_lines_of, position_lines_of}
 use Rattle.blot_console.specs.declared.answer.Answer.{Answer}
 use Rattle.blot_console.specs.declared.answer.Answer.TheVariants as answers
 use Rattle.blot_console.specs.declared.ask.Ask.{Ask}
@@ -34,6 +37,8 @@ pub record Ways (S : Type 0) : Type 1 where
   pub newest : S → Option ℕ
   -- a list that it may show
   pub shows : S → List Entry → Type 0
+  -- what it may find to a question
+  pub finds : S → Question → Found → Type 0
 
 -- ---- one line
 
@@ -66,11 +71,31 @@ pub record AnswersReport {S : Type 0} (ways : Ways S) (before : S) (day : ℤ) (
   pub shown : ways.shows before list
   pub answer_is : answer ≡ answers.Report (day_lines_of list day)
 
+-- a question is answered by what is found
+pub record AnswersQuestion {S : Type 0} (ways : Ways S) (before : S) (question : Question) (answer : Answer) : Type 0 where
+  pub found : Found
+  pub finds : ways.finds before question found
+  pub answer_is : answer ≡ answers.Found found
+
+-- the lines of all orders, or of all positions, are made of a list that may be shown
+pub record AnswersOrders {S : Type 0} (ways : Ways S) (before : S) (peer : Option (List ℕ)) (answer : Answer) : Type 0 where
+  pub list : List Entry
+  pub shown : ways.shows before list
+  pub answer_is : answer ≡ answers.Orders (order_lines_of list peer)
+
+pub record AnswersPositions {S : Type 0} (ways : Ways S) (before : S) (account : Option (List ℕ)) (answer : Answer) : Type 0 where
+  pub list : List Entry
+  pub shown : ways.shows before list
+  pub answer_is : answer ≡ answers.Positions (position_lines_of list account)
+
 -- what a line asks, or its fault, is answered: only an event is submitted, and `mine` submits one
 abbrev pub AnswersAsk : {S : Type 0} → Ways S → S → Result Ask LineFault → Answer → S → Type 0
 AnswersAsk ways before (Ok (asks.Step event)) answer after = AnswersEvent ways before event answer after
 AnswersAsk ways before (Ok (asks.Report day)) answer after = (after ≡ before) × AnswersReport ways before day answer
 AnswersAsk ways before (Ok asks.Mine) answer after = AnswersMine ways before (ways.newest before) answer after
+AnswersAsk ways before (Ok (asks.Look question)) answer after = (after ≡ before) × AnswersQuestion ways before question answer
+AnswersAsk ways before (Ok (asks.Orders peer)) answer after = (after ≡ before) × AnswersOrders ways before peer answer
+AnswersAsk ways before (Ok (asks.Positions account)) answer after = (after ≡ before) × AnswersPositions ways before account answer
 AnswersAsk ways before (Err fault) answer after = (after ≡ before) × (answer ≡ answers.Bad fault)
 
 -- a line is answered
@@ -172,7 +197,12 @@ OwnList journal list = list ≡ journal.book.list
 
 -- its ways
 abbrev pub own_ways : Ways Journal
-own_ways = record { steps = OwnStep; newest = λ journal. newest_entry_of journal.book.list; shows = OwnList }
+own_ways = record {
+  steps = OwnStep;
+  newest = λ journal. newest_entry_of journal.book.list;
+  shows = OwnList;
+  finds = λ journal question found. found ≡ found_of journal question;
+}
 
 -- an event of a seat at a desk of many: a reply adds the receipt of it, and a fault none
 pub record SeatStep (before : List Receipt) (event : Event) (given : Result Reply DeskFault) (after : List Receipt) : Type 0 where
@@ -183,6 +213,6 @@ pub record SeatStep (before : List Receipt) (event : Event) (given : Result Repl
 abbrev pub SeatList : List Receipt → List Entry → Type 0
 SeatList receipts list = IsTrue (is_book list)
 
--- the ways of a seat
+-- the ways of a seat; to a question it may find what a desk held after some events: that of the moment, which others change
 abbrev pub seat_ways : Ways (List Receipt)
-seat_ways = record { steps = SeatStep; newest = newest_of; shows = SeatList }
+seat_ways = record { steps = SeatStep; newest = newest_of; shows = SeatList; finds = λ receipts. IsFound }

@@ -9,7 +9,8 @@ use Rattle.blot_desk.specs.declared.event.Event.TheVariants.{Submit, AskOrder, A
 use Rattle.blot_desk.specs.declared.event.Reply.{Reply}
 use Rattle.blot_desk.specs.declared.event.Reply.TheVariants as replies
 use Rattle.blot_desk.specs.Desk.{Journal, newest_entry_of, step_of, recorded_of}
-use Rattle.blot_report.specs.Lines.{day_lines_of}
+use Rattle.blot_desk.specs.Questions.{found_of}
+use Rattle.blot_report.specs.Lines.{day_lines_of, order_lines_of, position_lines_of}
 use Rattle.blot_console.specs.declared.answer.Answer.{Answer}
 use Rattle.blot_console.specs.declared.answer.Answer.TheVariants as answers
 use Rattle.blot_console.specs.declared.ask.Ask.{Ask}
@@ -58,6 +59,9 @@ abbrev pub told_ask : Journal → Result Ask LineFault → Told
 told_ask journal (Ok (asks.Step event)) = told_event journal event
 told_ask journal (Ok (asks.Report day)) = telling journal (answers.Report (day_lines_of journal.book.list day))
 told_ask journal (Ok asks.Mine) = told_mine journal (newest_entry_of journal.book.list)
+told_ask journal (Ok (asks.Look question)) = telling journal (answers.Found (found_of journal question))
+told_ask journal (Ok (asks.Orders peer)) = telling journal (answers.Orders (order_lines_of journal.book.list peer))
+told_ask journal (Ok (asks.Positions account)) = telling journal (answers.Positions (position_lines_of journal.book.list account))
 told_ask journal (Err fault) = telling journal (answers.Bad fault)
 
 -- a line

@@ -2,13 +2,13 @@
 ghost use Rattle.std.specs.Prelude.{◌≡◌, ◌≢◌, None, IsOk, OnOk, OnErr, IfOk, Ok, Err};
 ghost use Rattle.blot_console.specs.Answers.{CanBeTold};
 ghost use Rattle.blot_console.specs.Parsing.{parsed};
-ghost use Rattle.blot_operator.specs.Dialogue.{AnswersEvent, AnswersMine, AnswersAsk, AnswersLine, AnswersReport, Declines, TellsLine, StopsAtLine};
+ghost use Rattle.blot_operator.specs.Dialogue.{AnswersEvent, AnswersMine, AnswersAsk, AnswersLine, AnswersOrders, AnswersPositions, AnswersReport, Declines, TellsLine, StopsAtLine};
 ghost use Rattle.blot_operator.specs.Operating.{asked_by, with_key};
 
 use crate::operated::Operated;
 use blot_console::{Answer, Ask, LineFault, answer_text, parse_line};
 use blot_desk::{DeskFault, Event, Reply};
-use blot_report::day_lines;
+use blot_report::{day_lines, order_lines, position_lines};
 use blot_stream::{ReplayFault, write_text};
 use blot_time::Day;
 use blot_types::{Command, OrderKey, Text64};
@@ -75,6 +75,9 @@ fn answer_ask<D: Operated>(
         Ask::Step(event) => answer_event(desk, state, event),
         Ask::Report(day) => report(alloc, desk, state, day),
         Ask::Mine => withdraw_newest(desk, state),
+        Ask::Look(question) => Ok(Answer::Found(desk.look(state, &question)?)),
+        Ask::Orders(peer) => orders(alloc, desk, state, &peer),
+        Ask::Positions(account) => positions(alloc, desk, state, &account),
     }
 }
 
@@ -146,4 +149,32 @@ fn report<D: Operated>(
 {
     let snapshot = desk.snapshot(state)?;
     Ok(Answer::Report(day_lines(alloc, &snapshot, day)?))
+}
+
+// The lines of all orders, or of those of a peer.
+fn orders<D: Operated>(
+    alloc: Global,
+    desk: &D,
+    state: &D::State,
+    peer: &Option<Text64>,
+) -> Result<Answer, NoMemory>
+    ensures ok { IfOk result (λ answer. AnswersOrders D.ways state.now peer.now answer) }
+    ensures tellable { IfOk result CanBeTold }
+{
+    let snapshot = desk.snapshot(state)?;
+    Ok(Answer::Orders(order_lines(alloc, &snapshot, peer)?))
+}
+
+// The lines of all positions, or of those of an account.
+fn positions<D: Operated>(
+    alloc: Global,
+    desk: &D,
+    state: &D::State,
+    account: &Option<Text64>,
+) -> Result<Answer, NoMemory>
+    ensures ok { IfOk result (λ answer. AnswersPositions D.ways state.now account.now answer) }
+    ensures tellable { IfOk result CanBeTold }
+{
+    let snapshot = desk.snapshot(state)?;
+    Ok(Answer::Positions(position_lines(alloc, &snapshot, account)?))
 }

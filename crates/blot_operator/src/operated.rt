@@ -4,7 +4,7 @@ ghost use Rattle.blot_console.specs.Answers.{CanBeTold};
 ghost use Rattle.blot_operator.specs.Dialogue.{Ways};
 ghost use Rattle.blot_operator.specs.Operating.{asked_by, with_key};
 
-use blot_desk::{Desk, DeskFault, Event, Held, Reply, Seat, Snapshot};
+use blot_desk::{Desk, DeskFault, Event, Found, Held, Question, Reply, Seat, Snapshot};
 use std::alloc::AllocError as NoMemory;
 use std::sync::Wait;
 use std::sync::ledger::Ledger;
@@ -30,6 +30,10 @@ pub(crate) trait Operated {
     /// A live list.
     fn snapshot(&self, state: &Self::State) -> Result<Snapshot, NoMemory>
         ensures { IfOk result (λ snapshot. ways.shows state.now snapshot) };
+
+    /// What it finds to a question.
+    fn look(&self, state: &Self::State, question: &Question) -> Result<Found, NoMemory>
+        ensures { IfOk result (λ found. ways.finds state.now question.now found) };
 }
 
 /// A desk of one's own.
@@ -53,6 +57,10 @@ impl Operated for Own {
 
     fn snapshot(&self, held: &Held) -> Result<Snapshot, NoMemory> {
         held.snapshot()
+    }
+
+    fn look(&self, held: &Held, question: &Question) -> Result<Found, NoMemory> {
+        held.look(question)
     }
 }
 
@@ -80,5 +88,9 @@ impl<R: Wait, L: Ledger> Operated for Shared<'_, R, L> {
 
     fn snapshot(&self, _seat: &Seat<L>) -> Result<Snapshot, NoMemory> {
         self.desk.snapshot(self.rt)
+    }
+
+    fn look(&self, _seat: &Seat<L>, question: &Question) -> Result<Found, NoMemory> {
+        self.desk.look(self.rt, question)
     }
 }

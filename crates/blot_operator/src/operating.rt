@@ -17,10 +17,11 @@ use std::sync::Wait;
 use std::sync::ledger::Ledger;
 
 /// Answers an operator's lines to the end of the input. Each line's answer is written and flushed before the next line
-/// is taken. `mine` withdraws the newest entry of the desk; where there is none it is no event, and answered by `none`. A line
-/// that asks nothing is answered by its fault, and an event that the desk has no room for by `full`; both leave what the desk
-/// holds as it is, and the next line is taken. It ends early where a read, a write or a flush fails, where memory runs out,
-/// and after 2^30 reads; never as `Full`.
+/// is taken. `mine` withdraws the newest entry of the desk; where there is none it is no event, and answered by `none`. A
+/// line that asks a question is answered by what is found, and is no event. A line that asks nothing is answered by its
+/// fault, and an event that the desk has no room for by `full`; each leaves what the desk holds as it is, and the next line
+/// is taken. It ends early where a read, a write or a flush fails, where memory runs out, and after 2^30 reads; never as
+/// `Full`.
 pub fn desk_lines<R: Read, W: Write>(
     alloc: Global,
     input: &mut R,

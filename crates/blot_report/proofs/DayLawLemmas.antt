@@ -1,5 +1,5 @@
 -- Where all that stands is of one day, the lines of that day are the book's.
-use Rattle.std.proofs.Common.{◌≡◌, ℤ, Bool, true, List, [], ◌∷◌, ◌++◌, map, refl, ap, ◌∙◌}
+use Rattle.std.proofs.Common.{◌≡◌, ℤ, Bool, true, List, [], ◌∷◌, ◌++◌, map, Some, refl, ap, ◌∙◌}
 use Rattle.std.specs.Prelude.{filter, All}
 use Rattle.std.specs.List.{flat_map}
 use Rattle.std.proofs.lemmas.Bool.Decides.{Decides-int_eq}
@@ -21,15 +21,15 @@ filter-all p (x ∷ xs) passes =
     let here : p x ≡ true = All-head (λ y. p y ≡ true) x xs passes in
     rw here (ap (λ rest. x ∷ rest) (filter-all p xs (All-tail (λ y. p y ≡ true) x xs passes)))
 
-all-survivors : (list : List Entry) (day : ℤ) → IsOfOneDay list day → survivors_on list day ≡ survivors list
+all-survivors : (list : List Entry) (day : ℤ) → IsOfOneDay list day → survivors_on list (Some day) ≡ survivors list
 all-survivors list day one =
-    filter-all (is_on day) (survivors list)
-    (All-weaker (λ (v : Version). v.fill.day ≡ day) (λ v. is_on day v ≡ true) (λ v is. (Decides-int_eq v.fill.day day).1 is) (survivors list) one.fills)
+    filter-all (is_on (Some day)) (survivors list)
+    (All-weaker (λ (v : Version). v.fill.day ≡ day) (λ v. is_on (Some day) v ≡ true) (λ v is. (Decides-int_eq v.fill.day day).1 is) (survivors list) one.fills)
 
-all-allocations : (list : List Entry) (day : ℤ) → IsOfOneDay list day → allocations_on list day ≡ live_allocations list
+all-allocations : (list : List Entry) (day : ℤ) → IsOfOneDay list day → allocations_on list (Some day) ≡ live_allocations list
 all-allocations list day one =
-    filter-all (is_allocated_on day) (live_allocations list)
-    (All-weaker (λ (a : Allocation). a.terms.day ≡ day) (λ a. is_allocated_on day a ≡ true) (λ a is. (Decides-int_eq a.terms.day day).1 is) (live_allocations list) one.allocations)
+    filter-all (is_allocated_on (Some day)) (live_allocations list)
+    (All-weaker (λ (a : Allocation). a.terms.day ≡ day) (λ a. is_allocated_on (Some day) a ≡ true) (λ a is. (Decides-int_eq a.terms.day day).1 is) (live_allocations list) one.allocations)
 
 -- lines that show such a day show the book
 pub shows-book : (list : List Entry) (day : ℤ) (lines : DayLines) → ShowsDay list day lines → IsOfOneDay list day → ShowsBook list lines

@@ -254,7 +254,7 @@ turned false false c d = refl
 cut : (list : List Entry) (middle : ℕ) → list ≡ between list 0 middle ++ between list middle (length list)
 cut list middle = sym (ap (λ back. take middle list ++ drop middle back) (take_all (length list) list (omega arith)) ∙ take-append-drop middle list)
 
-pub parts-cut : (list : List Entry) (day : ℤ) (middle : ℕ) → AreOfBoth (parts_between list day 0 middle) (parts_between list day middle (length list)) (day_parts_of list day)
+pub parts-cut : (list : List Entry) (day : Option ℤ) (middle : ℕ) → AreOfBoth (parts_between list day 0 middle) (parts_between list day middle (length list)) (day_parts_of list day)
 parts-cut list day middle =
     let front = between list 0 middle in
     let back = between list middle (length list) in
@@ -279,5 +279,5 @@ parts-cut list day middle =
     }
 
 -- all entries bring the parts of the day
-pub parts-whole : (list : List Entry) (day : ℤ) → parts_between list day 0 (length list) ≡ day_parts_of list day
+pub parts-whole : (list : List Entry) (day : Option ℤ) → parts_between list day 0 (length list) ≡ day_parts_of list day
 parts-whole list day = ap (λ entries. parts_among list day entries ++ moves_among list day entries) (take_all (length list) list (omega arith)) ∙ day_parts-told list day

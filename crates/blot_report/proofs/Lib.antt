@@ -12,3 +12,4 @@ mod SortedLemmas
 mod StandingLemmas
 mod TextLemmas
 mod WeightLemmas
+pub mod WholeLemmas

@@ -34,20 +34,20 @@ moves-next initial items middle after terms lines index line part taken within i
 -- ---- the parts of a day
 
 -- they are those of its fills, and then the moves
-pub day_parts-told : (list : List Entry) (day : ℤ) → (parts_among list day list ++ moves_among list day list) ≡ day_parts_of list day
+pub day_parts-told : (list : List Entry) (day : Option ℤ) → (parts_among list day list ++ moves_among list day list) ≡ day_parts_of list day
 day_parts-told list day =
     (λ i. parts-told list day i ++ flat_map moves_of (terms-told list day i))
     ∙ ap (λ moves. survivor_parts_on list day ++ moves) (flat-mapped moves_of (λ (a : Allocation). a.terms) (allocations_on list day))
 
 -- the terms of some entries book their blocks
-books-told : (list : List Entry) (day : ℤ) (first after : ℕ) → is_book list ≡ true → All Books (terms_among list day (between list first after))
+books-told : (list : List Entry) (day : Option ℤ) (first after : ℕ) → is_book list ≡ true → All Books (terms_among list day (between list first after))
 books-told list day first after book =
     All-between Books (λ e. terms_on day (standing_of list e) e) list first after
     (subst (All Books) (sym (terms-told list day)) (all-mapped Books (λ (a : Allocation). a.terms) (allocations_on list day) (books-on list day book)))
 
 -- what the fills of some entries add is light, with what the allocations of some move
 pub light-told :
-    (list : List Entry) (day : ℤ) (first after place : ℕ) → is_book list ≡ true → All IsSmall (parts_among list day (between list first after))
+    (list : List Entry) (day : Option ℤ) (first after place : ℕ) → is_book list ≡ true → All IsSmall (parts_among list day (between list first after))
     → All TermsFit (terms_among list day (between list first place))
     → IsLight (parts_among list day (between list first after) ++ moves_among list day (between list first place))
 light-told list day first after place book small fit =
@@ -60,7 +60,7 @@ light-told list day first after place book small fit =
     (books-told list day first place book) (omega (arith, terms, others, entries))
 
 -- and so are the fills alone
-pub light-fills : (list : List Entry) (day : ℤ) (first after : ℕ) → is_book list ≡ true → All IsSmall (parts_among list day (between list first after)) → IsLight (parts_among list day (between list first after))
+pub light-fills : (list : List Entry) (day : Option ℤ) (first after : ℕ) → is_book list ≡ true → All IsSmall (parts_among list day (between list first after)) → IsLight (parts_among list day (between list first after))
 light-fills list day first after book small =
     let none : terms_among list day (between list first first) ≡ [] = ap (filter_map (λ e. terms_on day (standing_of list e) e)) (between-none list first) in
     light-front (parts_among list day (between list first after)) (moves_among list day (between list first first))
@@ -78,7 +78,7 @@ light-moves done moves index part light within is =
 
 -- what the allocations of some entries move, with one more that brings terms
 pub moved-more :
-    (list : List Entry) (day : ℤ) (before after : List Entry) (entry : Entry) (terms : Terms) → after ≡ before ++ entry ∷ [] → terms_on day (standing_of list entry) entry ≡ Some terms
+    (list : List Entry) (day : Option ℤ) (before after : List Entry) (entry : Entry) (terms : Terms) → after ≡ before ++ entry ∷ [] → terms_on day (standing_of list entry) entry ≡ Some terms
     → moves_among list day after ≡ moves_among list day before ++ moves_of terms
 moved-more list day before after entry terms next brought =
     let f : Entry → Option Terms = λ e. terms_on day (standing_of list e) e in

@@ -111,7 +111,7 @@ no-line fills order none =
     ∙ any-mapped (λ k. same_order k order) (λ (f : Fill). f.order) fills in
     ap line_of (filter-none (λ (f : Fill). same_order f.order order) fills (sym among ∙ none))
 
-orders-found : (fills : List Fill) (order : OrderKey) → order_line_in (order_rows fills) order ≡ line_of (fills_of fills order)
+pub orders-found : (fills : List Fill) (order : OrderKey) → order_line_in (order_rows fills) order ≡ line_of (fills_of fills order)
 orders-found fills order =
     let line : OrderKey → Option OrderLine = λ k. line_of (fills_of fills k) in
     let row : OrderKey → OrderLine → OrderRow = λ k l. record { order = k; line = l } in
@@ -138,7 +138,7 @@ no-parts parts account symbol none =
     ∙ any-mapped (is_position account symbol) position_key parts in
     ap position_by (filter-none (is_at account symbol) parts (sym among ∙ none))
 
-positions-found : (parts : List Part) (account symbol : List ℕ) → position_line_in (position_rows parts) account symbol ≡ position_by (filter (is_at account symbol) parts)
+pub positions-found : (parts : List Part) (account symbol : List ℕ) → position_line_in (position_rows parts) account symbol ≡ position_by (filter (is_at account symbol) parts)
 positions-found parts account symbol =
     let line : PositionKey → Option PositionLine = λ k. position_by (filter (is_at k.account k.symbol) parts) in
     let row : PositionKey → PositionLine → PositionRow = λ k l. record { position = k; line = l } in
@@ -151,8 +151,8 @@ positions-found parts account symbol =
 
 shows : (list : List Entry) (day : ℤ) → ShowsDay list day (day_lines_of list day)
 shows list day = record {
-  orders = λ order. orders-found (fills_on list day) order;
-  positions = λ account symbol. positions-found (day_parts_of list day) account symbol;
+  orders = λ order. orders-found (fills_on list (Some day)) order;
+  positions = λ account symbol. positions-found (day_parts_of list (Some day)) account symbol;
 }
 
 pub shows-day : (list : List Entry) (day : ℤ) (lines : DayLines) → lines ≡ day_lines_of list day → ShowsDay list day lines
@@ -160,6 +160,6 @@ shows-day list day lines is = subst (ShowsDay list day) (sym is) (shows list day
 
 -- the rows of a day's fills and of its parts are the lines of the day
 pub lines-found :
-    (list : List Entry) (day : ℤ) (orders : List OrderRow) (positions : List PositionRow) → orders ≡ order_rows (fills_on list day)
-    → positions ≡ position_rows (day_parts_of list day) → record { day = day; orders = orders; positions = positions } ≡ day_lines_of list day
+    (list : List Entry) (day : ℤ) (orders : List OrderRow) (positions : List PositionRow) → orders ≡ order_rows (fills_on list (Some day))
+    → positions ≡ position_rows (day_parts_of list (Some day)) → record { day = day; orders = orders; positions = positions } ≡ day_lines_of list day
 lines-found list day orders positions ordered placed = λ i. record { day = day; orders = ordered i; positions = placed i }

@@ -25,21 +25,21 @@ use Rattle.blot_report.specs.Standings.{AreTold, day_terms, entries_in, fill_by,
 
 -- ---- the survivors of a day
 
-no-fill : (day : ℤ) (standing : Standing) → fill_by day standing None ≡ None
+no-fill : (day : Option ℤ) (standing : Standing) → fill_by day standing None ≡ None
 no-fill day (Stands named) = refl
 no-fill day Live = refl
 no-fill day Neither = refl
 
-no-part : (day : ℤ) (standing : Standing) → part_by day standing None ≡ None
+no-part : (day : Option ℤ) (standing : Standing) → part_by day standing None ≡ None
 no-part day (Stands named) = refl
 no-part day Live = refl
 no-part day Neither = refl
 
-abbrev kept_on : List Link → ℤ → List Version → List Version
+abbrev kept_on : List Link → Option ℤ → List Version → List Version
 kept_on links day versions = filter (is_on day) (filter (stands_in links) versions)
 
 fill-kept :
-    (links : List Link) (instructions : List Instruction) (day : ℤ) (found : Option Version) (other : Option Allocation) (rest : List Version)
+    (links : List Link) (instructions : List Instruction) (day : Option ℤ) (found : Option Version) (other : Option Allocation) (rest : List Version)
     → cons_option (fill_by day (standing_by links instructions found other) found) (map (λ (v : Version). v.fill) (kept_on links day rest))
     ≡ map (λ (v : Version). v.fill) (kept_on links day (cons_option found rest))
 fill-kept links instructions day None other rest =
@@ -59,7 +59,7 @@ abbrev part_at : List Link → List Instruction → Version → Part
 part_at links instructions version = part_of_fill (is_named_in links instructions version.key) version.fill
 
 part-kept :
-    (links : List Link) (instructions : List Instruction) (day : ℤ) (found : Option Version) (other : Option Allocation) (rest : List Version)
+    (links : List Link) (instructions : List Instruction) (day : Option ℤ) (found : Option Version) (other : Option Allocation) (rest : List Version)
     → cons_option (part_by day (standing_by links instructions found other) found) (map (part_at links instructions) (kept_on links day rest))
     ≡ map (part_at links instructions) (kept_on links day (cons_option found rest))
 part-kept links instructions day None other rest =
@@ -75,7 +75,7 @@ part-kept links instructions day (Some version) other rest =
     ]
 
 fills-found :
-    (links : List Link) (instructions : List Instruction) (day : ℤ) (list : List Entry)
+    (links : List Link) (instructions : List Instruction) (day : Option ℤ) (list : List Entry)
     → filter_map (λ e. fill_by day (standing_in links instructions e) (version_of e)) list ≡ map (λ (v : Version). v.fill) (kept_on links day (filter_map version_of list))
 fills-found links instructions day [] = refl
 fills-found links instructions day (entry ∷ list) =
@@ -83,7 +83,7 @@ fills-found links instructions day (entry ∷ list) =
     ∙ fill-kept links instructions day (version_of entry) (allocation_of entry.command) (filter_map version_of list)
 
 parts-found :
-    (links : List Link) (instructions : List Instruction) (day : ℤ) (list : List Entry)
+    (links : List Link) (instructions : List Instruction) (day : Option ℤ) (list : List Entry)
     → filter_map (λ e. part_by day (standing_in links instructions e) (version_of e)) list ≡ map (part_at links instructions) (kept_on links day (filter_map version_of list))
 parts-found links instructions day [] = refl
 parts-found links instructions day (entry ∷ list) =
@@ -91,28 +91,28 @@ parts-found links instructions day (entry ∷ list) =
     ∙ part-kept links instructions day (version_of entry) (allocation_of entry.command) (filter_map version_of list)
 
 -- the fills of a day, and what they add
-pub fills-told : (list : List Entry) (day : ℤ) → fills_among list day list ≡ fills_on list day
+pub fills-told : (list : List Entry) (day : Option ℤ) → fills_among list day list ≡ fills_on list day
 fills-told list day = fills-found (links_of list) (instructions_of list) day list
 
-pub parts-told : (list : List Entry) (day : ℤ) → parts_among list day list ≡ survivor_parts_on list day
+pub parts-told : (list : List Entry) (day : Option ℤ) → parts_among list day list ≡ survivor_parts_on list day
 parts-told list day = parts-found (links_of list) (instructions_of list) day list
 
 -- ---- the live allocations of a day
 
-abbrev live_on : List Instruction → ℤ → List Allocation → List Allocation
+abbrev live_on : List Instruction → Option ℤ → List Allocation → List Allocation
 live_on instructions day allocations = filter (is_allocated_on day) (filter (λ a. is_none (ended_in instructions a.key)) allocations)
 
 -- the terms of an allocation, where it is live and of a day
-abbrev live_by : List Instruction → ℤ → Option Allocation → Option Terms
+abbrev live_by : List Instruction → Option ℤ → Option Allocation → Option Terms
 live_by instructions day None = None
 live_by instructions day (Some a) = if is_none (ended_in instructions a.key) then day_terms day (Some a) else None
 
-no-terms : (day : ℤ) (standing : Standing) → terms_by day standing None ≡ None
+no-terms : (day : Option ℤ) (standing : Standing) → terms_by day standing None ≡ None
 no-terms day (Stands named) = refl
 no-terms day Live = refl
 no-terms day Neither = refl
 
-terms-of : (instructions : List Instruction) (day : ℤ) (a : Allocation) → terms_by day (allocation_standing instructions a.key) (Some a) ≡ live_by instructions day (Some a)
+terms-of : (instructions : List Instruction) (day : Option ℤ) (a : Allocation) → terms_by day (allocation_standing instructions a.key) (Some a) ≡ live_by instructions day (Some a)
 terms-of instructions day a =
     elim (cases_Bool (is_none (ended_in instructions a.key))) [
       | inl live ↦ rw live refl
@@ -120,7 +120,7 @@ terms-of instructions day a =
     ]
 
 terms-by :
-    (links : List Link) (instructions : List Instruction) (day : ℤ) (number : ℕ) (command : Command)
+    (links : List Link) (instructions : List Instruction) (day : Option ℤ) (number : ℕ) (command : Command)
     → terms_by day (standing_by links instructions (version_by number command) (allocation_of command)) (allocation_of command) ≡ live_by instructions day (allocation_of command)
 terms-by links instructions day number (Trade trade) = no-terms day _
 terms-by links instructions day number (Correct correct) = no-terms day _
@@ -131,7 +131,7 @@ terms-by links instructions day number (AllocCancel cancel) = refl
 terms-by links instructions day number (Withdraw withdrawn) = refl
 
 terms-kept :
-    (instructions : List Instruction) (day : ℤ) (found : Option Allocation) (rest : List Allocation)
+    (instructions : List Instruction) (day : Option ℤ) (found : Option Allocation) (rest : List Allocation)
     → cons_option (live_by instructions day found) (map (λ a. a.terms) (live_on instructions day rest)) ≡ map (λ a. a.terms) (live_on instructions day (cons_option found rest))
 terms-kept instructions day None rest = refl
 terms-kept instructions day (Some a) rest =
@@ -145,7 +145,7 @@ terms-kept instructions day (Some a) rest =
     ]
 
 terms-found :
-    (links : List Link) (instructions : List Instruction) (day : ℤ) (list : List Entry)
+    (links : List Link) (instructions : List Instruction) (day : Option ℤ) (list : List Entry)
     → filter_map (λ e. terms_by day (standing_in links instructions e) (allocation_of e.command)) list
     ≡ map (λ a. a.terms) (live_on instructions day (filter_map (λ e. allocation_of e.command) list))
 terms-found links instructions day [] = refl
@@ -153,7 +153,7 @@ terms-found links instructions day (entry ∷ list) =
     (λ i. cons_option (terms-by links instructions day entry.number entry.command i) (terms-found links instructions day list i))
     ∙ terms-kept instructions day (allocation_of entry.command) (filter_map (λ (e : Entry). allocation_of e.command) list)
 
-pub terms-told : (list : List Entry) (day : ℤ) → terms_among list day list ≡ map (λ (a : Allocation). a.terms) (allocations_on list day)
+pub terms-told : (list : List Entry) (day : Option ℤ) → terms_among list day list ≡ map (λ (a : Allocation). a.terms) (allocations_on list day)
 terms-told list day = terms-found (links_of list) (instructions_of list) day list
 
 -- what the items of a mapped list hold

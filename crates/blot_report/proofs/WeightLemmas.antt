@@ -1,5 +1,5 @@
 -- The parts of a day are light.
-use Rattle.std.proofs.Common.{◌≡◌, ◌+◌, ◌*◌, ◌^◌, ◌≤◌, arith, true, ℤ, pos, List, [], ◌∷◌, ◌++◌, length}
+use Rattle.std.proofs.Common.{◌≡◌, ◌+◌, ◌*◌, ◌^◌, ◌≤◌, arith, true, ℤ, pos, Option, List, [], ◌∷◌, ◌++◌, length}
 use Rattle.std.specs.Prelude.{is_none, All}
 use Rattle.std.specs.List.{flat_map}
 use Rattle.std.proofs.lemmas.Bool.{and_parts}
@@ -96,7 +96,7 @@ light-front front back light =
     record { small = All-front IsSmall front back light.small; few = omega (arith, long, few); light = omega (arith, heavy, limit) }
 
 -- the lines of a day's live allocations book their blocks
-pub books-on : (list : List Entry) (day : ℤ) → is_book list ≡ true → All (λ a. Books a.terms) (allocations_on list day)
+pub books-on : (list : List Entry) (day : Option ℤ) → is_book list ≡ true → All (λ a. Books a.terms) (allocations_on list day)
 books-on list day book =
     All-filter (is_allocated_on day) BooksBlock (live_allocations list)
     (All-filter (λ a. is_none (ended_in (instructions_of list) a.key)) BooksBlock (allocations_in list) (books_blocks list (and_parts _ _ book).1))

@@ -1,5 +1,5 @@
 -- The lines of a day: each order and each position that is shown, once, in the order of its key.
-use Rattle.std.specs.Prelude.{ℤ, List, [], map, filter, fold, Option}
+use Rattle.std.specs.Prelude.{ℕ, ℤ, Bool, true, List, [], map, filter, fold, Option, Some, None}
 use Rattle.std.specs.BTreeSet.{insert_key}
 use Rattle.std.specs.Cmp.Lexicographic.{slice_cmp}
 use Rattle.std.specs.List.{filter_map}
@@ -10,7 +10,7 @@ use Rattle.blot_types.specs.declared.command.Entry.{Entry}
 use Rattle.blot_types.specs.declared.fill.Fill.{Fill}
 use Rattle.blot_types.specs.declared.keys.OrderKey.{OrderKey}
 use Rattle.blot_types.specs.declared.part.Part.{Part}
-use Rattle.blot_types.specs.Keys.{position_at, position_cmp}
+use Rattle.blot_types.specs.Keys.{position_at, position_cmp, same_text}
 use Rattle.blot_types.specs.Order.{line_of, fills_of}
 use Rattle.blot_types.specs.Position.{is_at, position_by}
 use Rattle.blot_report.specs.declared.lines.DayLines.{DayLines}
@@ -62,4 +62,17 @@ position_rows parts = filter_map (position_row parts) (positions_among parts)
 
 -- the lines of a day
 abbrev pub day_lines_of : List Entry → ℤ → DayLines
-day_lines_of list day = record { day = day; orders = order_rows (fills_on list day); positions = position_rows (day_parts_of list day) }
+day_lines_of list day = record { day = day; orders = order_rows (fills_on list (Some day)); positions = position_rows (day_parts_of list (Some day)) }
+
+-- whether a key's first text is the one that is asked for, where one is
+abbrev pub is_of : List ℕ → Option (List ℕ) → Bool
+is_of own None = true
+is_of own (Some wanted) = same_text own wanted
+
+-- the lines of the orders of a list over all days, of all peers or of one
+abbrev pub order_lines_of : List Entry → Option (List ℕ) → List OrderRow
+order_lines_of list peer = filter (λ row. is_of row.order.peer peer) (order_rows (fills_on list None))
+
+-- the lines of its positions, of all accounts or of one
+abbrev pub position_lines_of : List Entry → Option (List ℕ) → List PositionRow
+position_lines_of list account = filter (λ row. is_of row.position.account account) (position_rows (day_parts_of list None))

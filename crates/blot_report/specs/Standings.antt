@@ -1,4 +1,4 @@
--- What stands on a day, as the standing of each entry tells it.
+-- What stands on a day, or on all days, as the standing of each entry tells it.
 use Rattle.std.specs.Prelude.{◌≡◌, ℕ, ℤ, true, List, map, ◌++◌, take, drop, Option, Some, None, if◌then◌else◌}
 use Rattle.std.specs.List.{filter_map, flat_map}
 use Rattle.std.specs.Option.{option_map}
@@ -26,59 +26,59 @@ pub record AreTold (told : List Told) : Type 0 where
   pub each : told ≡ told_of (entries_in told)
 
 -- the fill of a version, if there is one and it is of a day
-abbrev pub day_fill : ℤ → Option Version → Option Fill
+abbrev pub day_fill : Option ℤ → Option Version → Option Fill
 day_fill day None = None
 day_fill day (Some version) = if is_on day version then Some version.fill else None
 
 -- that of an entry of a standing, if it stands; and what it adds to the positions
-abbrev pub fill_by : ℤ → Standing → Option Version → Option Fill
+abbrev pub fill_by : Option ℤ → Standing → Option Version → Option Fill
 fill_by day (Stands named) found = day_fill day found
 fill_by day Live found = None
 fill_by day Neither found = None
 
-abbrev pub part_by : ℤ → Standing → Option Version → Option Part
+abbrev pub part_by : Option ℤ → Standing → Option Version → Option Part
 part_by day (Stands named) found = option_map (part_of_fill named) (day_fill day found)
 part_by day Live found = None
 part_by day Neither found = None
 
-abbrev pub fill_on : ℤ → Standing → Entry → Option Fill
+abbrev pub fill_on : Option ℤ → Standing → Entry → Option Fill
 fill_on day standing entry = fill_by day standing (version_of entry)
 
-abbrev pub part_on : ℤ → Standing → Entry → Option Part
+abbrev pub part_on : Option ℤ → Standing → Entry → Option Part
 part_on day standing entry = part_by day standing (version_of entry)
 
 -- the terms of an allocation, if there is one and it is of a day
-abbrev pub day_terms : ℤ → Option Allocation → Option Terms
+abbrev pub day_terms : Option ℤ → Option Allocation → Option Terms
 day_terms day None = None
 day_terms day (Some allocation) = if is_allocated_on day allocation then Some allocation.terms else None
 
 -- those of an entry of a standing, if it is live
-abbrev pub terms_by : ℤ → Standing → Option Allocation → Option Terms
+abbrev pub terms_by : Option ℤ → Standing → Option Allocation → Option Terms
 terms_by day (Stands named) found = None
 terms_by day Live found = day_terms day found
 terms_by day Neither found = None
 
-abbrev pub terms_on : ℤ → Standing → Entry → Option Terms
+abbrev pub terms_on : Option ℤ → Standing → Entry → Option Terms
 terms_on day standing entry = terms_by day standing (allocation_of entry.command)
 
 -- ---- of some entries of a list, in their order
 
-abbrev pub fills_among : List Entry → ℤ → List Entry → List Fill
+abbrev pub fills_among : List Entry → Option ℤ → List Entry → List Fill
 fills_among list day entries = filter_map (λ entry. fill_on day (standing_of list entry) entry) entries
 
-abbrev pub parts_among : List Entry → ℤ → List Entry → List Part
+abbrev pub parts_among : List Entry → Option ℤ → List Entry → List Part
 parts_among list day entries = filter_map (λ entry. part_on day (standing_of list entry) entry) entries
 
 -- the terms of the live allocations, and what their lines move
-abbrev pub terms_among : List Entry → ℤ → List Entry → List Terms
+abbrev pub terms_among : List Entry → Option ℤ → List Entry → List Terms
 terms_among list day entries = filter_map (λ entry. terms_on day (standing_of list entry) entry) entries
 
-abbrev pub moves_among : List Entry → ℤ → List Entry → List Part
+abbrev pub moves_among : List Entry → Option ℤ → List Entry → List Part
 moves_among list day entries = flat_map moves_of (terms_among list day entries)
 
 -- the entries from one place to before another, and all parts that they bring
 abbrev pub between : List Entry → ℕ → ℕ → List Entry
 between list first after = drop first (take after list)
 
-abbrev pub parts_between : List Entry → ℤ → ℕ → ℕ → List Part
+abbrev pub parts_between : List Entry → Option ℤ → ℕ → ℕ → List Part
 parts_between list day first after = parts_among list day (between list first after) ++ moves_among list day (between list first after)

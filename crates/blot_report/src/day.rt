@@ -3,10 +3,10 @@ ghost use Rattle.std.specs.Prelude.{◌≡◌, IfOk};
 ghost use Rattle.blot_report.specs.Laws.{IsOfOneDay, ShowsDay, ShowsBook};
 ghost use Rattle.blot_report.specs.Lines.{day_lines_of};
 
+use crate::DayLines;
 use crate::orders::order_rows;
 use crate::positions::position_rows;
-use crate::{DayLines, Rows};
-use blot_command::Reported;
+use blot_command::{Reported, Rows};
 use blot_time::Day;
 use std::alloc::{AllocError as NoMemory, Global};
 
@@ -23,8 +23,8 @@ pub fn day_lines<B: Reported>(alloc: Global, book: &B, day: Day) -> Result<DayLi
 {
     let standings = book.standings(alloc)?;
     let told = book.told(alloc, &standings)?;
-    let orders = order_rows(alloc, &told, day)?;
-    let positions = position_rows(alloc, &told, day)?;
+    let orders = order_rows(alloc, &told, &Some(day))?;
+    let positions = position_rows(alloc, &told, &Some(day))?;
     Ok(DayLines {
         day,
         orders: Rows::new(orders),

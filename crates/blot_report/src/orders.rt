@@ -25,9 +25,13 @@ type Lines = IndexMap<OrderKey, OrderLine>;
 
 /// The rows of the orders that the executions of a day fill, of those that stand, by peer and then by OrderID. An error is out of
 /// memory.
-pub(crate) fn order_rows(alloc: Global, told: &[Told], day: Day) -> Result<Vec<OrderRow>, NoMemory>
+pub(crate) fn order_rows(
+    alloc: Global,
+    told: &[Told],
+    day: &Option<Day>,
+) -> Result<Vec<OrderRow>, NoMemory>
     requires { AreTold told.now }
-    ensures { IfOk result (λ rows. rows.items ≡ order_rows (fills_on (entries_in told.now) day)) }
+    ensures { IfOk result (λ rows. rows.items ≡ order_rows (fills_on (entries_in told.now) day.now)) }
 {
     let lines = lines_of(alloc, told, day)?;
     let keys = sorted_orders(alloc, &lines)?;
@@ -40,10 +44,10 @@ pub(crate) fn order_rows_in_pieces<R: Threads + Sync, B: Reported>(
     alloc: Global,
     book: &B,
     standings: &[Standing],
-    day: Day,
+    day: &Option<Day>,
 ) -> Result<Vec<OrderRow>, NoMemory>
     requires { standings.now ≡ standings_of (B.list_of book.now) }
-    ensures { IfOk result (λ rows. rows.items ≡ order_rows (fills_on (B.list_of book.now) day)) }
+    ensures { IfOk result (λ rows. rows.items ≡ order_rows (fills_on (B.list_of book.now) day.now)) }
 {
     let told = book.told(alloc, standings)?;
     let lines = lines_of(alloc, &told, day)?;
@@ -71,9 +75,9 @@ fn rows_in_pieces<R: Threads + Sync>(
 }
 
 // The lines of the orders that the executions of a day fill, of those that stand.
-fn lines_of(alloc: Global, told: &[Told], day: Day) -> Result<Lines, NoMemory>
+fn lines_of(alloc: Global, told: &[Told], day: &Option<Day>) -> Result<Lines, NoMemory>
     requires { AreTold told.now }
-    ensures { IfOk result (λ lines. AreLinesOf lines.entries (fills_on (entries_in told.now) day)) }
+    ensures { IfOk result (λ lines. AreLinesOf lines.entries (fills_on (entries_in told.now) day.now)) }
 {
     let mut lines = IndexMap::new(alloc);
     for place in 0..told.len() {

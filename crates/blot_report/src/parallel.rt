@@ -1,5 +1,5 @@
 //! The lines of a day, from several threads.
-ghost use Rattle.std.specs.Prelude.{◌≡◌, IfOk};
+ghost use Rattle.std.specs.Prelude.{◌≡◌, IfOk, Some};
 ghost use Rattle.blot_report.specs.Day.{day_parts_of, fills_on};
 ghost use Rattle.blot_report.specs.Laws.{IsOfOneDay, ShowsDay, ShowsBook};
 ghost use Rattle.blot_report.specs.Lines.{day_lines_of, order_rows, position_rows};
@@ -7,8 +7,8 @@ ghost use Rattle.blot_command.specs.Standings.{standings_of};
 
 use crate::orders::order_rows_in_pieces;
 use crate::positions::position_rows_in_pieces;
-use crate::{DayLines, OrderRow, PositionRow, Rows};
-use blot_command::Reported;
+use crate::{DayLines, OrderRow, PositionRow};
+use blot_command::{Reported, Rows};
 use blot_time::Day;
 use std::alloc::{AllocError as NoMemory, Global};
 use std::thread::{Threads, join};
@@ -29,16 +29,17 @@ pub fn day_lines_parallel<R: Threads + Sync, B: Reported + Sync>(
 {
     let standings = book.standings(alloc)?;
     let standings = standings.as_slice();
+    let wanted = &Some(day);
     let (orders, positions) = join(
         rt,
         || -> Result<Vec<OrderRow>, NoMemory>
             requires { standings.now ≡ standings_of (B.list_of book.now) }
-            ensures { IfOk result (λ rows. rows.items ≡ order_rows (fills_on (B.list_of book.entry.now) day)) }
-        { order_rows_in_pieces(rt, alloc, book, standings, day) },
+            ensures { IfOk result (λ rows. rows.items ≡ order_rows (fills_on (B.list_of book.entry.now) wanted.entry.now)) }
+        { order_rows_in_pieces(rt, alloc, book, standings, wanted) },
         || -> Result<Vec<PositionRow>, NoMemory>
             requires { standings.now ≡ standings_of (B.list_of book.now) }
-            ensures { IfOk result (λ rows. rows.items ≡ position_rows (day_parts_of (B.list_of book.entry.now) day)) }
-        { position_rows_in_pieces(rt, alloc, book, standings, day) },
+            ensures { IfOk result (λ rows. rows.items ≡ position_rows (day_parts_of (B.list_of book.entry.now) wanted.entry.now)) }
+        { position_rows_in_pieces(rt, alloc, book, standings, wanted) },
     );
     let orders = orders?;
     let positions = positions?;

@@ -17,9 +17,13 @@ use std::thread::{Threads, join};
 
 /// The positions of a day: what its executions that stand add, and then what the lines of its live allocations move. An error is out
 /// of memory.
-pub(crate) fn positions_on(alloc: Global, told: &[Told], day: Day) -> Result<Positions, NoMemory>
+pub(crate) fn positions_on(
+    alloc: Global,
+    told: &[Told],
+    day: &Option<Day>,
+) -> Result<Positions, NoMemory>
     requires { AreTold told.now }
-    ensures { IfOk result (ShowsParts (day_parts_of (entries_in told.now) day)) }
+    ensures { IfOk result (ShowsParts (day_parts_of (entries_in told.now) day.now)) }
 {
     positions_between(alloc, told, day, 0, told.len())
 }
@@ -30,10 +34,10 @@ pub(crate) fn positions_in_halves<R: Threads + Sync, B: Reported + Sync>(
     alloc: Global,
     book: &B,
     standings: &[Standing],
-    day: Day,
+    day: &Option<Day>,
 ) -> Result<Positions, NoMemory>
     requires { standings.now ≡ standings_of (B.list_of book.now) }
-    ensures { IfOk result (ShowsParts (day_parts_of (B.list_of book.now) day)) }
+    ensures { IfOk result (ShowsParts (day_parts_of (B.list_of book.now) day.now)) }
 {
     let after = standings.len();
     let middle = after / 2;
@@ -41,11 +45,11 @@ pub(crate) fn positions_in_halves<R: Threads + Sync, B: Reported + Sync>(
         rt,
         || -> Result<Positions, NoMemory>
             requires { (standings.now ≡ standings_of (B.list_of book.now)) × (middle ≤ length standings.now) }
-            ensures { IfOk result (IsOfParts (parts_between (B.list_of book.entry.now) day 0 middle)) }
+            ensures { IfOk result (IsOfParts (parts_between (B.list_of book.entry.now) day.entry.now 0 middle)) }
         { positions_of(alloc, book, standings, day, 0, middle) },
         || -> Result<Positions, NoMemory>
             requires { (standings.now ≡ standings_of (B.list_of book.now)) × (middle ≤ after) × (after ≤ length standings.now) }
-            ensures { IfOk result (IsOfParts (parts_between (B.list_of book.entry.now) day middle after)) }
+            ensures { IfOk result (IsOfParts (parts_between (B.list_of book.entry.now) day.entry.now middle after)) }
         { positions_of(alloc, book, standings, day, middle, after) },
     );
     let mut positions = first?;
@@ -59,14 +63,14 @@ fn positions_of<B: Reported>(
     alloc: Global,
     book: &B,
     standings: &[Standing],
-    day: Day,
+    day: &Option<Day>,
     first: usize,
     after: usize,
 ) -> Result<Positions, NoMemory>
     requires standings { standings.now ≡ standings_of (B.list_of book.now) }
     requires rising { first ≤ after }
     requires within { after ≤ length standings.now }
-    ensures { IfOk result (IsOfParts (parts_between (B.list_of book.now) day first after)) }
+    ensures { IfOk result (IsOfParts (parts_between (B.list_of book.now) day.now first after)) }
 {
     let told = book.told(alloc, standings)?;
     positions_between(alloc, &told, day, first, after)
@@ -76,14 +80,14 @@ fn positions_of<B: Reported>(
 fn positions_between(
     alloc: Global,
     told: &[Told],
-    day: Day,
+    day: &Option<Day>,
     first: usize,
     after: usize,
 ) -> Result<Positions, NoMemory>
     requires told { AreTold told.now }
     requires rising { first ≤ after }
     requires within { after ≤ length (entries_in told.now) }
-    ensures { IfOk result (IsOfParts (parts_between (entries_in told.now) day first after)) }
+    ensures { IfOk result (IsOfParts (parts_between (entries_in told.now) day.now first after)) }
 {
     let mut positions = Positions::new(alloc);
     add_fills(&mut positions, told, day, first, after)?;
@@ -95,7 +99,7 @@ fn positions_between(
 fn add_fills(
     positions: &mut Positions,
     told: &[Told],
-    day: Day,
+    day: &Option<Day>,
     first: usize,
     after: usize,
 ) -> Result<(), NoMemory>
@@ -103,8 +107,8 @@ fn add_fills(
     requires rising { first ≤ after }
     requires within { after ≤ length (entries_in told.now) }
     requires none { MadeOf [] positions.old }
-    ensures made { OnOk result (MadeOf (parts_among (entries_in told.now) day (between (entries_in told.now) first after)) positions.new) }
-    ensures small { OnOk result (All IsSmall (parts_among (entries_in told.now) day (between (entries_in told.now) first after))) }
+    ensures made { OnOk result (MadeOf (parts_among (entries_in told.now) day.now (between (entries_in told.now) first after)) positions.new) }
+    ensures small { OnOk result (All IsSmall (parts_among (entries_in told.now) day.now (between (entries_in told.now) first after))) }
 {
     for place in first..after {
         if let Some(part) = part_on(told_at(told, place), day) {
@@ -120,16 +124,16 @@ fn add_moves(
     positions: &mut Positions,
     alloc: Global,
     told: &[Told],
-    day: Day,
+    day: &Option<Day>,
     first: usize,
     after: usize,
 ) -> Result<(), NoMemory>
     requires told { AreTold told.now }
     requires rising { first ≤ after }
     requires within { after ≤ length (entries_in told.now) }
-    requires made { MadeOf (parts_among (entries_in told.now) day (between (entries_in told.now) first after)) positions.old }
-    requires small { All IsSmall (parts_among (entries_in told.now) day (between (entries_in told.now) first after)) }
-    ensures { OnOk result (IsOfParts (parts_between (entries_in told.now) day first after) positions.new) }
+    requires made { MadeOf (parts_among (entries_in told.now) day.now (between (entries_in told.now) first after)) positions.old }
+    requires small { All IsSmall (parts_among (entries_in told.now) day.now (between (entries_in told.now) first after)) }
+    ensures { OnOk result (IsOfParts (parts_between (entries_in told.now) day.now first after) positions.new) }
 {
     let mut moves = Vec::new(alloc);
     for place in first..after {

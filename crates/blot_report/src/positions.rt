@@ -20,10 +20,10 @@ use std::thread::Threads;
 pub(crate) fn position_rows(
     alloc: Global,
     told: &[Told],
-    day: Day,
+    day: &Option<Day>,
 ) -> Result<Vec<PositionRow>, NoMemory>
     requires { AreTold told.now }
-    ensures { IfOk result (λ rows. rows.items ≡ position_rows (day_parts_of (entries_in told.now) day)) }
+    ensures { IfOk result (λ rows. rows.items ≡ position_rows (day_parts_of (entries_in told.now) day.now)) }
 {
     let positions = positions_on(alloc, told, day)?;
     let keys = sorted_positions(alloc, &positions)?;
@@ -36,10 +36,10 @@ pub(crate) fn position_rows_in_pieces<R: Threads + Sync, B: Reported + Sync>(
     alloc: Global,
     book: &B,
     standings: &[Standing],
-    day: Day,
+    day: &Option<Day>,
 ) -> Result<Vec<PositionRow>, NoMemory>
     requires { standings.now ≡ standings_of (B.list_of book.now) }
-    ensures { IfOk result (λ rows. rows.items ≡ position_rows (day_parts_of (B.list_of book.now) day)) }
+    ensures { IfOk result (λ rows. rows.items ≡ position_rows (day_parts_of (B.list_of book.now) day.now)) }
 {
     let positions = positions_in_halves(rt, alloc, book, standings, day)?;
     let keys = sorted_positions(alloc, &positions)?;

@@ -4,6 +4,7 @@ ghost use Rattle.std.specs.Option.{option_copied};
 ghost use Rattle.blot_types.specs.Position.{IsSmall};
 ghost use Rattle.blot_types.specs.Survivors.{version_of};
 ghost use Rattle.blot_command.specs.Standings.{standing_of};
+ghost use Rattle.blot_report.specs.Day.{is_day};
 ghost use Rattle.blot_report.specs.Standings.{AreTold, day_fill, entries_in, fill_on, part_on, terms_on};
 
 use blot_command::{Standing, Told};
@@ -21,8 +22,8 @@ pub(crate) fn told_at<'a, 't>(told: &'t [Told<'a>], place: usize) -> &'t Told<'a
 }
 
 /// The fill that an entry brings, where it stands and is of a day.
-pub(crate) fn fill_on<'a>(told: &Told<'a>, day: Day) -> Option<&'a Fill>
-    ensures { option_copied result ≡ fill_on day told.now.standing told.now.entry }
+pub(crate) fn fill_on<'a>(told: &Told<'a>, day: &Option<Day>) -> Option<&'a Fill>
+    ensures { option_copied result ≡ fill_on day.now told.now.standing told.now.entry }
 {
     match told.standing() {
         Standing::Stands { .. } => day_fill(told.entry(), day),
@@ -31,8 +32,8 @@ pub(crate) fn fill_on<'a>(told: &Told<'a>, day: Day) -> Option<&'a Fill>
 }
 
 /// What it adds to the positions.
-pub(crate) fn part_on(told: &Told, day: Day) -> Option<Part>
-    ensures part { result ≡ part_on day told.now.standing told.now.entry }
+pub(crate) fn part_on(told: &Told, day: &Option<Day>) -> Option<Part>
+    ensures part { result ≡ part_on day.now told.now.standing told.now.entry }
     ensures small { IfSome result IsSmall }
 {
     let Standing::Stands { is_named } = told.standing() else {
@@ -45,15 +46,15 @@ pub(crate) fn part_on(told: &Told, day: Day) -> Option<Part>
 }
 
 /// The terms of the allocation that an entry brings, where it is live and of a day.
-pub(crate) fn terms_on<'a>(told: &Told<'a>, day: Day) -> Option<&'a Terms>
-    ensures { option_copied result ≡ terms_on day told.now.standing told.now.entry }
+pub(crate) fn terms_on<'a>(told: &Told<'a>, day: &Option<Day>) -> Option<&'a Terms>
+    ensures { option_copied result ≡ terms_on day.now told.now.standing told.now.entry }
 {
     if told.standing() != Standing::Live {
         return None;
     }
     match &told.entry().command {
-        Command::AllocNew(new) if new.terms.day == day => Some(&new.terms),
-        Command::AllocReplace(replace) if replace.terms.day == day => Some(&replace.terms),
+        Command::AllocNew(new) if is_day(new.terms.day, day) => Some(&new.terms),
+        Command::AllocReplace(replace) if is_day(replace.terms.day, day) => Some(&replace.terms),
         Command::Trade(_)
         | Command::Correct(_)
         | Command::Bust(_)
@@ -65,12 +66,12 @@ pub(crate) fn terms_on<'a>(told: &Told<'a>, day: Day) -> Option<&'a Terms>
 }
 
 // The fill that an entry brings, where it is of a day.
-fn day_fill(entry: &Entry, day: Day) -> Option<&Fill>
-    ensures { option_copied result ≡ day_fill day (version_of entry.now) }
+fn day_fill<'a>(entry: &'a Entry, day: &Option<Day>) -> Option<&'a Fill>
+    ensures { option_copied result ≡ day_fill day.now (version_of entry.now) }
 {
     match &entry.command {
-        Command::Trade(trade) if trade.fill.day == day => Some(&trade.fill),
-        Command::Correct(correct) if correct.fill.day == day => Some(&correct.fill),
+        Command::Trade(trade) if is_day(trade.fill.day, day) => Some(&trade.fill),
+        Command::Correct(correct) if is_day(correct.fill.day, day) => Some(&correct.fill),
         Command::Trade(_)
         | Command::Correct(_)
         | Command::Bust(_)
@@ -78,5 +79,15 @@ fn day_fill(entry: &Entry, day: Day) -> Option<&Fill>
         | Command::AllocReplace(_)
         | Command::AllocCancel(_)
         | Command::Withdraw(_) => None,
+    }
+}
+
+// Whether a day is the one that is asked for, where one is.
+fn is_day(own: Day, day: &Option<Day>) -> bool
+    ensures { result ≡ is_day day.now own }
+{
+    match day {
+        None => true,
+        Some(day) => own == *day,
     }
 }

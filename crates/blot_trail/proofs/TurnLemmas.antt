@@ -13,7 +13,7 @@ use Rattle.blot_session.specs.declared.state.State.{State}
 use Rattle.blot_session.specs.Met.{met_of}
 use Rattle.blot_session.specs.Runs.{said_by}
 use Rattle.blot_desk.specs.Desk.{DeskBook, Journal, submit_by}
-use Rattle.blot_console.specs.Answers.{IsTold, told}
+use Rattle.blot_console.specs.Replies.{IsTold, told}
 use Rattle.blot_capture.specs.declared.became.Became.{Became}
 use Rattle.blot_capture.specs.declared.handled.Handled.{Handled}
 use Rattle.blot_capture.specs.declared.handled.Handled.TheVariants as handled

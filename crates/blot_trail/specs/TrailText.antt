@@ -13,7 +13,7 @@ use Rattle.blot_session.specs.declared.met.Met.{Met}
 use Rattle.blot_session.specs.declared.met.Met.TheVariants as met
 use Rattle.blot_session.specs.Runs.{said_by}
 use Rattle.blot_session.specs.Told.{close_name, close_number}
-use Rattle.blot_console.specs.Answers.{IsTold, number_line, number_text, reply_text, told, word_line}
+use Rattle.blot_console.specs.Replies.{IsTold, number_line, number_text, reply_text, told, word_line}
 use Rattle.blot_desk.specs.declared.event.Reply.{Reply}
 use Rattle.blot_desk.specs.declared.event.Reply.TheVariants.{Accepted}
 use Rattle.blot_capture.specs.declared.became.Became.{Became}

@@ -4,7 +4,7 @@ ghost use Rattle.blot_tag.specs.Fields.{fields_of};
 ghost use Rattle.blot_tag.specs.Views.{text_of};
 ghost use Rattle.blot_fields.specs.Numbers.{head_in};
 ghost use Rattle.blot_fields.specs.Sender.{sender_of};
-ghost use Rattle.blot_console.specs.Answers.{told, number_text};
+ghost use Rattle.blot_console.specs.Replies.{told, number_text};
 ghost use Rattle.blot_trail.specs.TrailText.{IsToldOf};
 ghost use Rattle.blot_trail.specs.TrailText.{became_text, bytes_text, head_text, id_by, id_tag_of, met_text, sent_text, shown_byte, sum_text, word_or_dash};
 

@@ -1,8 +1,10 @@
 -- Steps in one row, with a place that divides the done ones from the undone ones.
-use Rattle.std.proofs.Common.{◌≡◌, ℕ, ◌<◌, ◌≤◌, ◌+◌, List, [], ◌∷◌, ◌++◌, Option, Some, None, length, map, take, reverse, get_or, set, refl, sym, ap, ◌∙◌, arith, append_assoc}
+use Rattle.std.proofs.Common.{◌≡◌, ℕ, zero, suc, ◌<◌, ◌≤◌, ◌+◌, ◌-◌, List, [], ◌∷◌, ◌++◌, Option, Some, None, length, map, take, reverse, get_or, set, refl, sym, ap, ◌∙◌, arith, append_assoc}
+use Rattle.std.specs.Prelude.{slice_get}
 use Rattle.std.specs.List.{filter_map}
-use Rattle.std.proofs.lemmas.List.{append-nil, map_push, reverse-append, reverse-reverse, length-map, length-reverse, length-append, get_or_at, set_at, take_at, nil_from_length, set-get_or}
+use Rattle.std.proofs.lemmas.List.{append-nil, map_push, reverse-append, reverse-reverse, length-map, length-reverse, length-append, get_or_append_left, get_or_at, get_or-reverse, set_at, take_at, nil_from_length, set-get_or}
 use Rattle.std.proofs.lemmas.List.Elements.{filter_map-append}
+use Rattle.std.proofs.lemmas.Option.{get_or_from_slice_get, slice_get-get_or, slice_get_past}
 use Rattle.blot_undo.specs.declared.step.Done.{Done}
 use Rattle.blot_undo.specs.declared.step.Undone.{Undone}
 use Rattle.blot_undo.specs.declared.step.Step.{Step}
@@ -153,3 +155,30 @@ added {C = C} {I = I} row new place end done undone now stands is at_end =
       row_is = whole ∙ sym (newest_last now done none);
       place_is = omega (arith, at_end, ap length whole, length-append front (DoneStep now ∷ []), long done front refl);
     }
+
+-- ---- the done step at a place
+
+written_at : {A B : Type 0} (write : A → B) (xs : List A) (i : ℕ) (d : B) → i < length xs → (x : A) × (slice_get xs i ≡ Some x) × (get_or (map write xs) i d ≡ write x)
+written_at write [] i d within = absurd (omega arith)
+written_at write (x ∷ xs) zero d within = (x, refl, refl)
+written_at write (x ∷ xs) (suc i) d within = written_at write xs i d (omega arith)
+
+pub back_at : {C I : Type 0} (row : List (Step C I)) (place back at : ℕ) (done : List (Done I)) (undone : List (Undone C)) (found : Step C I)
+    → StandFor row place done undone → back < place → at + back + 1 ≡ place → found ≡ get_or row at found
+    → (step : Done I) × (found ≡ DoneStep step) × (slice_get done back ≡ Some step)
+back_at {C = C} {I = I} row place back at done undone found stands less is_at is =
+    let front : List (Step C I) = map DoneStep (reverse done) in
+    let turned : length (reverse done) ≡ length done = length-reverse done in
+    let within : at < length (reverse done) = omega (arith, turned, stands.place_is) in
+    let there = written_at {A = Done I} {B = Step C I} DoneStep (reverse done) at found within in
+    let own : get_or (reverse done) at there.0 ≡ there.0 = get_or_from_slice_get (reverse done) at there.0 there.0 there.1 in
+    let mirrored : get_or (reverse done) at there.0 ≡ get_or done (length done - 1 - at) there.0 = get_or-reverse done at there.0 (omega (arith, within, turned)) in
+    let back_is : length done - 1 - at ≡ back = omega (arith, stands.place_is) in
+    let same : get_or done back there.0 ≡ there.0 = ap (λ n. get_or done n there.0) (sym back_is) ∙ sym mirrored ∙ own in (
+      there.0,
+      is ∙ ap (λ r. get_or r at found) stands.row_is ∙ get_or_append_left front (map UndoneStep undone) found at (omega (arith, within, long done front refl)) ∙ there.2,
+      slice_get-get_or done back there.0 (omega (arith, less, stands.place_is)) ∙ ap Some same,
+    )
+
+pub none_back : {C I : Type 0} (row : List (Step C I)) (place back : ℕ) (done : List (Done I)) (undone : List (Undone C)) → StandFor row place done undone → place ≤ back → slice_get done back ≡ None
+none_back row place back done undone stands more = slice_get_past done back (omega (arith, more, stands.place_is))

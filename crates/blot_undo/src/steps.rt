@@ -1,6 +1,7 @@
 //! The stack of steps.
-ghost use Rattle.std.specs.Prelude.{◌≡◌, ◌≤◌, ◌<◌, List, [], IsTrue, ◌↔◌, IfOk, IfErr, OnOk, OnErr, length, slice_set, vec_len, vec_capacity};
+ghost use Rattle.std.specs.Prelude.{◌≡◌, ◌≤◌, ◌<◌, List, [], IsTrue, ◌↔◌, IfOk, IfErr, OnOk, OnErr, length, slice_get, slice_set, vec_len, vec_capacity};
 ghost use Rattle.std.specs.List.{swap_remove};
+ghost use Rattle.std.specs.Option.{option_copied};
 ghost use Rattle.blot_command.specs.Undoable.{numbers_in};
 ghost use Rattle.blot_undo.specs.Book.{Accepts, book_of, book_redone, book_rewound, book_undone, book_with, list_before, list_in, newest_done, newest_undone};
 ghost use Rattle.blot_undo.specs.Laws.{LeadTo, GoesBack, RoundTrips};
@@ -82,6 +83,19 @@ impl<C: Undoable> Steps<C> {
         let place = self.place.checked_sub(1)?;
         match &self.steps[place] {
             Step::Done(step) => Some(step.number),
+            Step::Undone(_) => unreachable!(),
+        }
+    }
+
+    /// The done step that stands so many before the newest one: the newest itself for 0. None where there aren't so many.
+    pub fn done_before(&self, back: usize) -> Option<&Done<C::Inverse>>
+        ensures { option_copied result ≡ slice_get self.now.done back }
+    {
+        if back >= self.place {
+            return None;
+        }
+        match &self.steps[self.place - 1 - back] {
+            Step::Done(step) => Some(step),
             Step::Undone(_) => unreachable!(),
         }
     }

@@ -258,6 +258,13 @@ The words of a line are divided by tabs (shown here as spaces):
   withdraw 1                takes command 1 out of the book, whatever came after it, where none of that
                             needs it; this is a step too, and can be undone
   mine                      withdraws the newest command in the book
+  execution BRKA E1         the commands of an execution's chain with their numbers, and what became of it
+  allocation BRKA AL1       the command of an allocation, and the one that ended it
+  entry 2                   command 2
+  needs 2                   what would stand in the way of withdraw 2
+  orders, orders BRKA       the lines of all orders, or of those of BRKA; likewise positions, positions A1
+  steps 10                  the newest ten steps, the newest first
+  refusals 10               the newest ten commands that the book didn't take, and why
   allocate BRKA AL1 XYZ B 20240105 10.5 1 E1 A1 60 A2 40
                             books executions to accounts: broker, AllocID, symbol, side (B or S), day,
                             price, how many executions and their ExecIDs, and then each account with
@@ -268,7 +275,13 @@ The answers:
                                       value (the sum of quantity times price)
   position A1 XYZ 100 1050            account, symbol, quantity and value; negative where it sold
   report 20240105 ..                  lines of orders and positions, and end with their count
-  none                                no such order or position; nothing that mine could withdraw
+  none                                no such order, position or command; nothing that mine could withdraw
+  trade 1 BRKA E1 O1 A1 XYZ B 100 10.5 20240105 300
+                                      command 1: broker, ExecID, OrderID, account, symbol, side, quantity,
+                                      price, day and the order's size; other commands likewise
+  survivor 5, busted 6, allocated 7   of an execution: its last version, the bust that ended it, the
+                                      allocation that names it
+  needed 7, free                      command 7 needs it; nothing does
   accepted 2, undone 1, redone 1      what was done, with its number
   refused 10 Quantity 100 90          the book doesn't take it: the refusal's number, its name, and
                                       what it names

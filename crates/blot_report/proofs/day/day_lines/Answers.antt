@@ -1,4 +1,4 @@
-use Rattle.std.proofs.Common.{ap, ◌∙◌}
+use Rattle.std.proofs.Common.{Some, ap, ◌∙◌}
 use Rattle.blot_report.specs.Day.{day_parts_of, fills_on}
 use Rattle.blot_report.specs.Lines.{order_rows, position_rows}
 use Rattle.blot_report.proofs.DayLawLemmas.{shows-book}
@@ -17,9 +17,9 @@ returns g c =
     let list = g.B.Reported.list_of c.args.book.now in
     let day = c.args.day in
     let ordered = c.new.ensures ∙ c.in_ok-orders.ensures
-    ∙ ap (λ entries. order_rows (fills_on entries day)) (entries-told c.deref-2.result.now list (c.deref-2.ensures.value ∙ c.in_ok-told.ensures.told)) in
+    ∙ ap (λ entries. order_rows (fills_on entries (Some day))) (entries-told c.deref-2.result.now list (c.deref-2.ensures.value ∙ c.in_ok-told.ensures.told)) in
     let placed = c.new-2.ensures ∙ c.in_ok-positions.ensures
-    ∙ ap (λ entries. position_rows (day_parts_of entries day)) (entries-told c.deref-3.result.now list (c.deref-3.ensures.value ∙ c.in_ok-told.ensures.told)) in
+    ∙ ap (λ entries. position_rows (day_parts_of entries (Some day))) (entries-told c.deref-3.result.now list (c.deref-3.ensures.value ∙ c.in_ok-told.ensures.told)) in
     let lines = lines-found list day c.new.result c.new-2.result ordered placed in
     let shown = shows-day list day _ lines in
     record { lines = lines; shown = shown; whole = shows-book list day _ shown }

@@ -26,11 +26,11 @@ add_fill-requires c =
 pub loop-place-preserved : goal.loop-place-preserved
 loop-place-preserved c =
     let list = entries_in c.args.told.now in
-    let f : Entry → Option Fill = λ e. fill_on c.args.day (standing_of list e) e in
+    let f : Entry → Option Fill = λ e. fill_on c.args.day.now (standing_of list e) e in
     let index = c.loop-place.place in
     let entry = c.told_at.result.now.entry in
     let within : index < length list = omega (arith, as-many c.args.told.now, c.loop-place-test.true) in
-    let told = c.fill_on.ensures ∙ ap (λ (s : Standing). fill_on c.args.day s entry) c.told_at.ensures.standing in
+    let told = c.fill_on.ensures ∙ ap (λ (s : Standing). fill_on c.args.day.now s entry) c.told_at.ensures.standing in
     elim c.match-fill_on.branch [
       | in-Some+in_ok-add_fill w ↦
           subst (λ lines. HoldsFirst f lines list (index + 1)) (sym (ap (λ m. m.entries) w.lines-is))
@@ -43,5 +43,5 @@ loop-place-preserved c =
 
 pub returns : goal.returns
 returns c =
-    holds-all _ c.loop-place.lines.entries (entries_in c.args.told.now) c.loop-place.place (fills_on (entries_in c.args.told.now) c.args.day) c.loop-place.invariant
-    (take_all c.loop-place.place (entries_in c.args.told.now) (omega (arith, as-many c.args.told.now, c.loop-place-test.false))) (fills-told (entries_in c.args.told.now) c.args.day)
+    holds-all _ c.loop-place.lines.entries (entries_in c.args.told.now) c.loop-place.place (fills_on (entries_in c.args.told.now) c.args.day.now) c.loop-place.invariant
+    (take_all c.loop-place.place (entries_in c.args.told.now) (omega (arith, as-many c.args.told.now, c.loop-place-test.false))) (fills-told (entries_in c.args.told.now) c.args.day.now)

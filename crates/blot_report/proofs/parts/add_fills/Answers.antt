@@ -18,29 +18,29 @@ use Rattle.blot_report.proofs.parts.add_fills.Goals.{in-Some+in_ok-add, in_defau
 pub add-requires : goal.add-requires
 add-requires c =
     let list = entries_in c.args.told.now in
-    let f : Entry → Option Part = λ e. part_on c.args.day (standing_of list e) e in
+    let f : Entry → Option Part = λ e. part_on c.args.day.now (standing_of list e) e in
     let entry = c.told_at.result.now.entry in
     let part = c.in-Some.part in
     let before = between list c.args.first c.loop-place.place in
     let after = between list c.args.first (c.loop-place.place + 1) in
     let next = between-more list c.args.first c.loop-place.place entry c.loop-place.invariant.low (omega (arith, c.loop-place-test.true, c.requires.within)) c.told_at.ensures.own in
-    let told = c.part_on.ensures.part ∙ ap (λ (s : Standing). part_on c.args.day s entry) c.told_at.ensures.standing in
+    let told = c.part_on.ensures.part ∙ ap (λ (s : Standing). part_on c.args.day.now s entry) c.told_at.ensures.standing in
     let brought : f entry ≡ Some part = sym told ∙ c.in-Some.is in
     let small = all-found IsSmall f before after entry part next c.loop-place.invariant.small brought
     (subst (λ found. IfSome found IsSmall) c.in-Some.is c.part_on.ensures.small) in
     let light = subst IsLight (found-one f before after entry part next brought)
-    (light-fills list c.args.day c.args.first (c.loop-place.place + 1) c.requires.told.book small) in
+    (light-fills list c.args.day.now c.args.first (c.loop-place.place + 1) c.requires.told.book small) in
     record { room = room-more (filter_map f before) part c.loop-place.positions light c.loop-place.invariant.made }
 
 pub loop-place-preserved : goal.loop-place-preserved
 loop-place-preserved c =
     let list = entries_in c.args.told.now in
-    let f : Entry → Option Part = λ e. part_on c.args.day (standing_of list e) e in
+    let f : Entry → Option Part = λ e. part_on c.args.day.now (standing_of list e) e in
     let entry = c.told_at.result.now.entry in
     let before = between list c.args.first c.loop-place.place in
     let after = between list c.args.first (c.loop-place.place + 1) in
     let next = between-more list c.args.first c.loop-place.place entry c.loop-place.invariant.low (omega (arith, c.loop-place-test.true, c.requires.within)) c.told_at.ensures.own in
-    let told = c.part_on.ensures.part ∙ ap (λ (s : Standing). part_on c.args.day s entry) c.told_at.ensures.standing in
+    let told = c.part_on.ensures.part ∙ ap (λ (s : Standing). part_on c.args.day.now s entry) c.told_at.ensures.standing in
     elim c.match-part_on.branch [
       | in-Some+in_ok-add w ↦
           let part = w.in-Some.part in

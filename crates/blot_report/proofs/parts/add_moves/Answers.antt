@@ -27,7 +27,7 @@ put moves from terms empty is = is ∙ ap (λ front. front ++ moves_of terms) em
 pub add-requires : goal.add-requires
 add-requires c =
     let list = entries_in c.args.told.now in
-    let day = c.args.day in
+    let day = c.args.day.now in
     let f : Entry → Option Terms = λ e. terms_on day (standing_of list e) e in
     let entry = c.told_at.result.now.entry in
     let terms = c.in-Some.terms.now in
@@ -53,7 +53,7 @@ add-requires c =
 pub loop-part-preserved : goal.loop-part-preserved
 loop-part-preserved c =
     let list = entries_in c.args.told.now in
-    let done = parts_among list c.args.day (between list c.args.first c.args.after) ++ moves_among list c.args.day (between list c.args.first c.loop-place.place) in
+    let done = parts_among list c.args.day.now (between list c.args.first c.args.after) ++ moves_among list c.args.day.now (between list c.args.first c.loop-place.place) in
     let moves = c.deref-part-items.result.now in
     let index = c.loop-part.part-index in
     let part = c.part-item.result in
@@ -66,7 +66,7 @@ loop-part-preserved c =
 pub loop-place-preserved : goal.loop-place-preserved
 loop-place-preserved c =
     let list = entries_in c.args.told.now in
-    let day = c.args.day in
+    let day = c.args.day.now in
     let f : Entry → Option Terms = λ e. terms_on day (standing_of list e) e in
     let entry = c.told_at.result.now.entry in
     let before = between list c.args.first c.loop-place.place in
@@ -104,7 +104,7 @@ loop-place-preserved c =
 pub returns : goal.returns
 returns c =
     let list = entries_in c.args.told.now in
-    let day = c.args.day in
+    let day = c.args.day.now in
     let first = c.args.first in
     let after = c.args.after in
     let all : c.loop-place.place ≡ after = omega (arith, c.loop-place-test.false, c.loop-place.auto.place-end, c.requires.rising) in

@@ -10,7 +10,7 @@ use Rattle.blot_report.proofs.parts.positions_in_halves.Goals as goal
 pub returns : goal.returns
 returns g c =
     let list = g.B.Reported.list_of c.args.book.now in
-    let day = c.args.day in
+    let day = c.args.day.now in
     let all = length c.args.standings.now in
     let middle = all / 2 in
     let first = parts_between list day 0 middle in

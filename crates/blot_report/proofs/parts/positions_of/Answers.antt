@@ -17,5 +17,5 @@ positions_between-requires-clause-within g c =
 pub returns : goal.returns
 returns g c =
     if_ok c.positions_between.result _ _
-    (λ positions own. subst (λ entries. IsOfParts (parts_between entries c.args.day c.args.first c.args.after) positions)
+    (λ positions own. subst (λ entries. IsOfParts (parts_between entries c.args.day.now c.args.first c.args.after) positions)
     (entries-told c.deref.result.now (g.B.Reported.list_of c.args.book.now) (c.deref.ensures.value ∙ c.in_ok-told.ensures.told)) own) c.positions_between.ensures

@@ -10,7 +10,7 @@ use Rattle.blot_report.proofs.parts.positions_on.Goals as goal
 pub returns : goal.returns
 returns c =
     let list = entries_in c.args.told.now in
-    let day = c.args.day in
+    let day = c.args.day.now in
     if_ok c.positions_between.result _ _
     (λ positions own.
     subst (λ parts. ShowsParts parts positions) (parts-whole list day)

@@ -9,7 +9,7 @@ use Rattle.blot_report.proofs.positions.position_rows.Goals as goal
 
 pub returns : goal.returns
 returns c =
-    let parts = day_parts_of (entries_in c.args.told.now) c.args.day in
+    let parts = day_parts_of (entries_in c.args.told.now) c.args.day.now in
     let shows = c.in_ok-positions.ensures in
     let keys = c.deref.ensures.value ∙ c.in_ok-keys.ensures parts shows.cells in
     let rows = rows-shown parts c.in_ok-positions.positions c.deref.result.now shows ∙ ap (filter_map (position_row parts)) keys in

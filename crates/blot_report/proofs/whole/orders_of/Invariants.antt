@@ -1,0 +1,7 @@
+use Rattle.std.proofs.Common.{◌≡◌, take}
+use Rattle.std.specs.Prelude.{filter}
+use Rattle.blot_report.specs.Lines.{is_of}
+use Rattle.blot_report.proofs.whole.orders_of.Given as goal
+
+abbrev pub invariant-loop-row : goal.invariant-loop-row
+invariant-loop-row l = l.kept.items ≡ filter (λ row. is_of row.order.peer l.peer) (take l.row-index l.rows)
