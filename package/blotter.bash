@@ -4,14 +4,14 @@ _blotter() {
     case $before in
         --capture) mapfile -t COMPREPLY < <(compgen -f -- "$word"); return ;;
         --day) mapfile -t COMPREPLY < <(compgen -W "$(date +%Y%m%d)" -- "$word"); return ;;
-        --own | --port | --sessions | --rounds) COMPREPLY=(); return ;;
+        --own | --port | --lanes | --sessions | --rounds) COMPREPLY=(); return ;;
     esac
     case ${COMP_CWORD}:${COMP_WORDS[1]} in
         1:*) words='replay desk audit serve help -h --help -V --version' ;;
         *:replay) words='--own --day -h --help' ;;
         *:desk) words='--own --capture -h --help' ;;
         *:audit) words='--own -h --help' ;;
-        *:serve) words='--own --day --port --sessions --rounds -h --help' ;;
+        *:serve) words='--own --day --port --lanes --sessions --rounds -h --help' ;;
         *:help) words='replay desk audit serve' ;;
         *) words='' ;;
     esac

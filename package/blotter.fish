@@ -12,5 +12,6 @@ complete -c blotter -n '__fish_seen_subcommand_from replay desk audit serve' -l 
 complete -c blotter -n '__fish_seen_subcommand_from replay serve' -l day -x -a '(date +%Y%m%d)' -d 'The trading day'
 complete -c blotter -n '__fish_seen_subcommand_from desk' -l capture -r -F -d 'The file with the capture'
 complete -c blotter -n '__fish_seen_subcommand_from serve' -l port -x -d 'The TCP port'
+complete -c blotter -n '__fish_seen_subcommand_from serve' -l lanes -x -d 'Connections served at once'
 complete -c blotter -n '__fish_seen_subcommand_from serve' -l sessions -x -d 'Connections of a round'
 complete -c blotter -n '__fish_seen_subcommand_from serve' -l rounds -x -d 'Rounds of the day'

@@ -4,6 +4,7 @@
   report(capture, own, peers, day)       what `blotter replay` prints
   answers(capture, own, peers, lines)    what `blotter desk` prints to an operator's lines
   Day(own, peers).take(frame)            one message, with what became of it
+  journal(file)                          what a day's journal keeps: its events, the desk after them, and each peer's numbers
 
 Each rule stands once, in the order and the words of docs/FORMATS.md, docs/SESSION.md and docs/DEFINITIONS.md; where the two
 programs differ, the page says which is wrong. Nothing is kept that can be worked out: each answer is computed anew from the list
@@ -979,3 +980,110 @@ def answers(capture, own, peers, lines):
         except Bad as bad:
             told.append(('bad', *bad.args))
     return printed(told)
+
+
+# A day's journal
+
+HEAD, LENGTHS, SIGNATURE_AT, SIGNATURE = 4096, (512, 1024), 1536, 'blotter journal\n'
+KEPT_KINDS = ('UD', 'UR', 'UN', 'UL')   # of the frames that only a journal has
+
+# The events of a journal, in their order, each with its party, a pair as ('peer', 'BRKA') or ('operator', 'desk'); the desk after them; and
+# of each peer the number that is expected of it, and the next number to it.
+Journal = namedtuple('Journal', 'own day events desk numbers')
+Undo, Redo = namedtuple('Undo', 'number'), namedtuple('Redo', '')
+
+
+class NoJournal(Exception):
+    """A file that is no journal, or is damaged."""
+
+
+def text_of(file):
+    """The text that counts of a journal's file: it stands behind the head, and the switch says which length is its."""
+    if not file.startswith(SIGNATURE, SIGNATURE_AT) or len(file) < HEAD:
+        raise NoJournal('no journal')
+    place = LENGTHS[file[0] == '\x01']
+    length = int.from_bytes(file[place:place + 8].encode('latin-1'), 'little')
+    if length > len(file) - HEAD:
+        raise NoJournal('the text is cut')
+    return file[HEAD:HEAD + length]
+
+
+def event_asked(line):
+    """The event that a line asks for: none where it only asks, or is bad."""
+    words = line.split('\t')
+    if len(line) > 65536:
+        return None
+    try:
+        match words[0], len(words):
+            case 'allocate', _:
+                return allocated(words)
+            case 'redo', 1:
+                return Redo()
+            case 'undo', 2:
+                return Undo(value_at(words, 1, short_number))
+            case 'withdraw', 2:
+                return Withdraw(value_at(words, 1, short_number))
+    except Bad:
+        pass
+    return None
+
+
+def event_of(frame):
+    """The party and the event that a frame brings, none where it brings none."""
+    head, body = message_of(frame)
+    if isinstance(body, Command):
+        return ('peer', head.sender), body
+    if not head or isinstance(body, Fault) or head.kind != 'UL':
+        return None
+    fields, _ = fields_of(frame)
+    operator, line = first(fields, 50, text), first(fields, 58, anything)
+    event = event_asked(line or '')
+    return (('operator', operator), event) if operator and event is not None else None
+
+
+def numbers_named(frame):
+    """Both numbers that a 35=UN names, none where it doesn't."""
+    fields, _ = fields_of(frame)
+    named = [first(fields, tag, whole(1, 10**9)) for tag in (789, 36)]
+    return tuple(named) if all(named) else None
+
+
+def numbers_of(frames, own, peer, before=(1, 1)):
+    """The number that is expected of a peer, and the next number to it, where they were these before the frames."""
+    expected, following = before
+    for frame in frames:
+        head, body = message_of(frame)
+        if not head or isinstance(body, Fault):
+            continue
+        if head.kind == 'UN' and head.target == peer:
+            expected, following = numbers_named(frame) or (expected, following)
+        if isinstance(body, Command) and head.sender == peer:
+            expected = head.number + 1
+        if head.kind not in KEPT_KINDS and (head.sender, head.target) == (own, peer) and not head.is_duplicate:
+            following = head.number + 1
+    return expected, following
+
+
+def step(desk, event):
+    match event:
+        case Undo(number):
+            desk.undo(number)
+        case Redo():
+            desk.redo()
+        case command:
+            desk.submit(command)
+
+
+def journal(file):
+    """What a journal keeps, by its text alone: no session is asked."""
+    frames = [piece for what, _, piece in pieces_of(text_of(file)) if what == 'message']
+    heads = [head for head, _ in map(message_of, frames)]
+    if not frames or not heads[0] or heads[0].kind != 'UD':
+        raise NoJournal('no beginning')
+    own, desk = heads[0].sender, Desk()
+    events = [it for it in map(event_of, frames) if it]
+    for _, event in events:
+        step(desk, event)
+    peers = sorted({it for head in heads if head for it in (head.sender, head.target)} - {own})
+    numbers = {peer: numbers_of(frames, own, peer) for peer in peers}
+    return Journal(own, first(fields_of(frames[0])[0], 75, day), events, desk, numbers)

@@ -1,10 +1,11 @@
-"""Brokers' engines and an operator for a `serve` that is refused memory: each sends a day over several rounds, and loses nothing.
+"""Brokers' engines and an operator for a `serve` that is refused memory: each sends a day over several connections, and loses nothing.
 
-  served(command, port, environment, seconds)     what the program printed, its status and its standard error
+  served(command, port, environment, seconds, errors, is_open)     what the program printed, its status and its standard error, of an
+                                                                   open day or of rounds
 
 An engine keeps its numbers from one connection to the next, and sends again what it's asked for, with 43=Y; what isn't sent again it
 covers by a gap fill. It knows that the blotter has all when the Heartbeat comes that answers its last TestRequest, and logs out. Where
-its connection is closed before, it comes back in the next round. Whatever comes has to be a sound message for it.
+its connection is closed before, it comes back, in rounds in the next one. Whatever comes has to be a sound message for it.
 """
 import re
 import socket
@@ -27,6 +28,9 @@ REPORT = ['report 20240105', 'order BRKA O1 XYZ B 150 150 1600', 'order BRKB O7 
 LINES = [('order BRKA NONE', 'none'), ('fly', 'bad 1'), ('allocate BRKA OP1 XYZ B 20240105 10.5 1 E1 C 100', r'accepted \d+|refused 5 UnknownExec BRKA E1'),
          ('mine', r'accepted \d+|none'), ('redo', 'refused 15 NothingToRedo'), ('position C XYZ', 'none')]
 
+# What a day of rounds logs, and an open day.
+LOGGED = r'wire [01] ended [0-5]$|lanes \d+$|no connection can be accepted$|BRK[AB] on 127\.0\.0\.1:\d+$|(BRK[AB]|127\.0\.0\.1:\d+) ended [0-6] [A-Za-z]+$'
+
 
 class Closed(Exception):
     """The connection ended."""
@@ -39,9 +43,9 @@ class Wrong(Exception):
 class Engine:
     """A broker's engine: what it sent, by number, and what was acknowledged."""
 
-    def __init__(self, peer, port, is_in):
+    def __init__(self, peer, port, is_in, day):
         self.peer, self.port, self.is_in = peer, port, is_in
-        self.unsent, self.sent, self.acknowledged, self.tests = [*DAYS[peer]], [], [], 0
+        self.unsent, self.sent, self.acknowledged, self.tests = [*day], [], [], 0
         self.wire, self.came = None, b''
 
     def put(self, fields, number, *header):
@@ -165,11 +169,14 @@ class Progress:
         return self.process.poll() is not None
 
 
-def operate(process, is_in):
-    """An operator's lines, after those of BRKA, and their end."""
+def operate(process, is_in, is_open):
+    """An operator's lines, after those of BRKA, and their end, which on an open day comes after the brokers' days."""
     is_in.events['BRKA'].wait(ASKS)
     try:
         process.stdin.write(''.join(line.replace(' ', '\t') + '\n' for line, _ in LINES).encode())
+        process.stdin.flush()
+        for event in is_in.events.values() if is_open else ():
+            event.wait(WAIT)
         process.stdin.close()
     except BrokenPipeError:
         pass
@@ -189,15 +196,15 @@ def heard(stream, lines):
         lines.append(line)
 
 
-def served(command, port, environment, seconds, errors):
+def served(command, port, environment, seconds, errors, is_open=False):
     """Plays a day to its end: what the program printed, its status, its standard error, the acknowledgements, and what went wrong. The lines of
     standard error are put to `errors` as they come."""
     process = subprocess.Popen(command, stdin=subprocess.PIPE, stdout=subprocess.PIPE, stderr=subprocess.PIPE, env=environment)
     alarm = threading.Timer(seconds, process.kill)
     alarm.start()
     printed, faults, is_in = [], [], Progress(process)
-    engines = [Engine(peer, port, is_in) for peer in DAYS]
-    tasks = [*(it.run for it in engines), lambda: operate(process, is_in), lambda: printed.append(process.stdout.read()),
+    engines = [Engine(peer, port, is_in, DAYS[peer]) for peer in DAYS]
+    tasks = [*(it.run for it in engines), lambda: operate(process, is_in, is_open), lambda: printed.append(process.stdout.read()),
              lambda: heard(process.stderr, errors)]
     threads = [threading.Thread(target=guarded(it, faults)) for it in tasks]
     for thread in threads:
@@ -214,32 +221,38 @@ def served(command, port, environment, seconds, errors):
 
 
 def right_answers(printed):
-    """How many lines of the front are right answers to the operator's lines, or None where one isn't."""
+    """The lines behind the answers, where these are right answers to the operator's lines or to a front of them, or None where one isn't."""
     lines = printed.split('\n')
     if lines.pop():
         return None
-    for line, (_, wanted) in zip(lines, LINES):
-        if not re.fullmatch(wanted.replace(' ', '\t'), line):
-            return None
-    return lines
+    begin = next((place for place, line in enumerate(lines) if line.startswith('report\t')), len(lines))
+    if begin > len(LINES) or not all(re.fullmatch(wanted.replace(' ', '\t'), line) for line, (_, wanted) in zip(lines[:begin], LINES)):
+        return None
+    return begin, lines[begin:]
+
+
+def is_report_or_none(lines):
+    """Whether nothing was printed after the answers, or the whole report of what was taken."""
+    return not lines or lines[0] == REPORT[0].replace(' ', '\t') and lines[-1] == f'end\t{len(lines) - 2}'
 
 
 def fault_of(printed, status, errors, acknowledged, faults, refused):
     """What is wrong with a served day, or None."""
-    lines = right_answers(printed.decode('latin-1'))
+    found = right_answers(printed.decode('latin-1'))
     *logged, last = errors.decode('latin-1').split('\n')[:-1] or ['']
     said = f'status {status} with {printed!r} and {errors!r}, acknowledged {acknowledged}'
     if faults:
         return f'{faults}: {said}'
-    if lines is None:
+    if found is None:
         return f'a wrong answer: {said}'
+    answers, lines = found
     logged += [last] * (status == 0 and last != '')
-    if not all(re.search(r'wire [01] ended [0-5]$', it) for it in logged):
+    if not all(re.search(LOGGED, it) for it in logged):
         return f'a wrong line on standard error: {said}'
     if status == 3:
-        is_right = last == 'blotter: no memory' and len(lines) <= len(LINES) and refused
+        is_right = last == 'blotter: no memory' and is_report_or_none(lines) and refused
     else:
-        is_right = status == 0 and lines[len(LINES):] == [it.replace(' ', '\t') for it in REPORT]
+        is_right = status == 0 and answers == len(LINES) and lines == [it.replace(' ', '\t') for it in REPORT]
     taken = [('AL1', '0', None), ('AL1', '1', '7')]   # the second where it was taken before, and comes again
     is_told = all(it in taken for its in acknowledged.values() for it in its) if refused else all(it == taken[:1] for it in acknowledged.values())
     return None if is_right and is_told else said

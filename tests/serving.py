@@ -23,12 +23,14 @@ from messages import OWN, PEER, SOH, frame, message, sender_of, spelled, with_he
 
 Played = collections.namedtuple('Played', 'differences rest wanted_rest status errors')
 WAIT = 10  # seconds for one thing that is awaited
+GRACE = 1  # seconds in which a port is closed
 MOMENT = re.compile(rb'\x0152=(\d{8}-\d\d:\d\d:\d\d\.\d{3})\x01')
 DEED = re.compile(r'(\S+) (connects|hangs up|breaks off|is closed)')
+CLOSED = re.compile(r'(\S+) is closed after (\d+) to (\d+) seconds')
 NOBODY = re.compile(r'nobody listens at (\S+)')
 ROOM = re.compile(r'the program has (\d+) (MB|open files)')
 SOON = re.compile(r'the program ends within (\d+) seconds')
-GETS = re.compile(r'(\S+) gets (35=.*)')
+GETS = re.compile(r'(\S+) gets (35=.*?)(?: within (\d+) seconds)?')
 
 
 def now():
@@ -100,7 +102,7 @@ def connect(talk, label, port):
     until = time.monotonic() + WAIT
     while True:
         try:
-            talk['wires'][label] = {'socket': socket.create_connection(('127.0.0.1', port), WAIT), 'came': b'', 'is_over': False}
+            talk['wires'][label] = {'socket': socket.create_connection(('127.0.0.1', port), WAIT), 'came': b'', 'is_over': False, 'begun': time.monotonic()}
             return
         except ConnectionRefusedError:
             if time.monotonic() > until or talk['process'].poll() is not None:
@@ -163,9 +165,14 @@ def differ(talk, number, wanted, got):
         talk['differences'].append((number, wanted, got))
 
 
-def expect_message(talk, label, number, text):
-    got = came_frame(talk['wires'][label])
+def expect_message(talk, label, number, text, seconds):
+    """The next message; where seconds are said, no more than so many after the connection began."""
+    wire = talk['wires'][label]
+    got = came_frame(wire)
     differ(talk, number, wanted_frame(talk, sender_of(label)[0], text, moment_of(talk, got)), got)
+    took = time.monotonic() - wire['begun']
+    if seconds and took > int(seconds):
+        differ(talk, number, b'within %s seconds' % seconds.encode(), b'%.1f seconds' % took)
 
 
 def expect_closed(talk, label, number):
@@ -181,13 +188,25 @@ def expect_closed(talk, label, number):
     differ(talk, number, b'the end of the connection', b'the end of the connection' if is_closed else b'an open connection')
 
 
+def expect_closed_after(talk, label, number, least, most):
+    """The connection ends so many seconds after it began, and nothing comes before that."""
+    wire = talk['wires'][label]
+    wire['socket'].settimeout(most + 1)
+    expect_closed(talk, label, number)
+    took = time.monotonic() - wire['begun']
+    wanted = b'%d to %d seconds' % (least, most)
+    differ(talk, number, wanted, wanted if least <= took <= most else b'%.1f seconds' % took)
+
+
 def expect_nobody(talk, address, port, number):
-    """The program, which is there already, has the port at its own address alone."""
-    try:
-        socket.create_connection((address, port), WAIT).close()
-        got = b'a connection'
-    except ConnectionRefusedError:
-        got = b'nobody'
+    """The program, which is there already, doesn't listen at this address, or does so for a moment only."""
+    got, until = b'a connection', time.monotonic() + GRACE
+    while got != b'nobody' and time.monotonic() < until:
+        try:
+            socket.create_connection((address, port), WAIT).close()
+            time.sleep(0.02)
+        except ConnectionRefusedError:
+            got = b'nobody'
     differ(talk, number, b'nobody', got)
 
 
@@ -223,11 +242,16 @@ def label_of(text):
 
 def deed_of(talk, port, number, text):
     """What a peer does."""
-    deed, gets, nobody = DEED.fullmatch(text), GETS.fullmatch(text), NOBODY.fullmatch(text)
-    if nobody:
+    if text == 'half a second passes':
+        time.sleep(0.5)
+        return
+    deed, gets, nobody, closed = DEED.fullmatch(text), GETS.fullmatch(text), NOBODY.fullmatch(text), CLOSED.fullmatch(text)
+    if closed:
+        expect_closed_after(talk, closed[1], number, int(closed[2]), int(closed[3]))
+    elif nobody:
         expect_nobody(talk, nobody[1], port, number)
     elif gets:
-        expect_message(talk, gets[1], number, gets[2])
+        expect_message(talk, gets[1], number, gets[2], gets[3])
     elif deed and deed[2] == 'connects':
         connect(talk, deed[1], port)
     elif deed and deed[2] == 'is closed':

@@ -30,12 +30,22 @@ fault_of() {
     local program=$1 sum=$2 name=${1#"$top/"}
     if [[ ! -e $program ]]; then
         echo "there is no $name"
-    elif [[ -z $(told "$program" program) || -z $(told "$program" sources) ]]; then
-        echo "$(dirname "$name")/SUMS doesn't say which sources $name is of"
+    elif [[ -z $(told "$program" program) || -z $(told "$program" sources) || $(told "$program" kit) != rattle-kit-* ]]; then
+        echo "$(dirname "$name")/SUMS doesn't say which sources $name is of, and by which toolchain"
     elif [[ $(told "$program" sources) != "$sum" ]]; then
         echo "$name is of other sources"
     elif [[ ! -r $program || $(sha256 "$program") != "$(told "$program" program)" ]]; then
         echo "$name isn't the program that $(dirname "$name")/SUMS names: it was changed, or can't be read"
+    fi
+}
+
+# Why a program, though it is of these sources, can't be run here; nothing where it can.
+bar_of() {
+    local program=$1 name=${1#"$top/"}
+    if [[ $(uname -m) != x86_64 ]]; then
+        echo "$name is for x86-64 processors, and this is $(uname -m)"
+    elif [[ ! -x $program ]]; then
+        echo "$name may not be run here: give it the permission (chmod +x $name)"
     fi
 }
 

@@ -1,11 +1,12 @@
 //! Generated lists, each entry of each withdrawn and put back, beside the plain slow program.
 
 use crate::draws::{Draws, drawn_orders};
-use crate::model::compare;
+use crate::keys::{accounts, symbols};
+use crate::model::{compare, compare_lines, live};
 use crate::tally::{Tally, expect_each};
 use blot_command::{ApplyFault, Inverse, Tables, Undoable};
 use blot_model::blocked_of;
-use blot_types::{Command, Entry, OrderKey, Refused};
+use blot_types::{Command, Entry, OrderKey, OrderLine, PositionLine, Refused};
 use blot_withdraw::blocked_by;
 use std::alloc::Global;
 use std::test::Fail;
@@ -35,17 +36,44 @@ fn drawn_book(alloc: Global, draws: &mut Draws, tally: &mut Tally) -> Result<Tab
     Ok(tables)
 }
 
-// The book shows this list, and what the plain program says of it.
+// What a book shows: its live list, and the lines of its orders and positions.
+#[derive(PartialEq, Eq, Drop)]
+struct Shown {
+    list: Vec<Entry>,
+    orders: Vec<Option<OrderLine>>,
+    positions: Vec<Option<PositionLine>>,
+}
+
+fn what_is_shown(alloc: Global, tables: &Tables, orders: &[OrderKey]) -> Result<Shown, Fail> {
+    let mut shown = Shown {
+        list: live(alloc, tables, ENTRIES + 2)?,
+        orders: Vec::new(alloc),
+        positions: Vec::new(alloc),
+    };
+    for order in orders {
+        shown.orders.push(tables.order(order))?;
+    }
+    for account in &accounts()? {
+        for symbol in &symbols()? {
+            shown.positions.push(tables.position(account, symbol))?;
+        }
+    }
+    Ok(shown)
+}
+
+// The book shows this list, which is legal as nothing needs what was taken out of it, and what the plain program says of it.
 fn examine(
     alloc: Global,
     tables: &Tables,
     list: &[Entry],
     orders: &[OrderKey],
 ) -> Result<(), Fail> {
-    if tables.entries(alloc)?.as_slice() != list {
+    if tables.entries(alloc)?.as_slice() != list
+        || live(alloc, tables, ENTRIES + 2)?.as_slice() != list
+    {
         return Err(Fail::new("another live list"));
     }
-    compare(alloc, tables, ENTRIES + 2, orders)
+    compare_lines(alloc, tables, list, orders)
 }
 
 // The list without the entry of a number.
@@ -55,16 +83,16 @@ fn without(alloc: Global, tables: &Tables, number: u64) -> Result<Vec<Entry>, Fa
     Ok(list)
 }
 
-// The entry of a number is withdrawn and put back, or it is needed by what the plain program says: which, if by any.
+// The entry of a number is withdrawn, and put back to what was shown before, or it is needed by what the plain program says: which, if by any.
 fn withdraw(
     alloc: Global,
     tables: &mut Tables,
     number: u64,
     orders: &[OrderKey],
+    before: &Shown,
 ) -> Result<Option<u64>, Fail> {
-    let list = tables.entries(alloc)?;
     let rest = without(alloc, tables, number)?;
-    let needing = blocked_of(alloc, &list, number)?;
+    let needing = blocked_of(alloc, &before.list, number)?;
     if blocked_by(tables, number) != needing {
         return Err(Fail::new(format_args!("{number} isn't needed by {needing:?}")));
     }
@@ -84,7 +112,9 @@ fn withdraw(
             "withdraw {number}, needed by {wanted:?}"
         ))),
     }
-    examine(alloc, tables, &list, orders)?;
+    if what_is_shown(alloc, tables, orders)? != *before {
+        return Err(Fail::new(format_args!("another book after {number} was put back")));
+    }
     Ok(needing)
 }
 
@@ -109,8 +139,10 @@ fn each_entry_of_three_hundred_lists_withdrawn(rt: HostRuntime) -> Result<(), Fa
     let mut seen = [0u32; 12];
     for _ in 0..LISTS {
         let mut tables = drawn_book(rt.alloc(), &mut draws, &mut tally)?;
+        compare(rt.alloc(), &tables, ENTRIES + 2, &orders)?;
+        let before = what_is_shown(rt.alloc(), &tables, &orders)?;
         for number in 1..=ENTRIES {
-            let needing = withdraw(rt.alloc(), &mut tables, number, &orders)?;
+            let needing = withdraw(rt.alloc(), &mut tables, number, &orders, &before)?;
             let place = place_of(&tables, number, needing.is_some());
             seen[place] += 1;
         }

@@ -1,7 +1,7 @@
 //! Each call of a run fails in turn, and each image that a crash may then leave is taken up.
 use crate::images::images;
-use crate::runs::{BATCH_CALLS, BATCHES, RECOVERY_CALLS, append, read, run, text_of};
-use blot_journal::{Journal, JournalFault, MemoryDevice};
+use crate::runs::{BATCH_CALLS, BATCHES, RECOVERY_CALLS, append, empty_file, read, run, text_of};
+use blot_journal::{Change, Device, Journal, JournalFault, MemoryDevice};
 use std::alloc::Global;
 use std::test::Fail;
 
@@ -88,6 +88,54 @@ fn each_call_of_the_last_batches(rt: HostRuntime) -> Result<(), Fail> {
         RECOVERY_CALLS + 8 * BATCH_CALLS,
         RECOVERY_CALLS + 12 * BATCH_CALLS,
     )
+}
+
+// What a crash may leave is made of what the file tells.
+#[test]
+fn what_was_done_since_a_sync(rt: HostRuntime) -> Result<(), Fail> {
+    let alloc = rt.alloc();
+    let mut device = MemoryDevice::new(alloc, b"four", None)?;
+    if device.write_at(4, b"five").is_err() || device.cut(6).is_err() {
+        return Err(Fail::new("a call failed"));
+    }
+    let [Change::Write(4, bytes), Change::Cut(6)] = device.changes() else {
+        return Err(Fail::new("other changes"));
+    };
+    if bytes.as_slice() != b"five".as_slice() || device.durable() != b"four".as_slice() {
+        return Err(Fail::new("other bytes"));
+    }
+    if device.sync().is_err()
+        || !device.changes().is_empty()
+        || device.durable() != b"fourfi".as_slice()
+    {
+        return Err(Fail::new("not synced"));
+    }
+    Ok(())
+}
+
+// The first batches by one call, of which a call of the device fails.
+#[test]
+fn batches_in_one_call(rt: HostRuntime) -> Result<(), Fail> {
+    let alloc = rt.alloc();
+    let batches = ["one".as_bytes(), "two, and more".as_bytes(), "3".as_bytes()];
+    for call in RECOVERY_CALLS..RECOVERY_CALLS + 3 * BATCH_CALLS + 1 {
+        let device = MemoryDevice::new(alloc, &empty_file(alloc)?, Some(call))?;
+        let Ok(mut journal) = Journal::recover(alloc, device) else {
+            return Err(Fail::new(format_args!("not taken up")));
+        };
+        let wanted = ((call - RECOVERY_CALLS) / BATCH_CALLS) as usize;
+        let is_right = match journal.append_each(&batches) {
+            Ok(()) => wanted == batches.len(),
+            Err((durable, fault)) => durable == wanted && fault == JournalFault::Failed,
+        };
+        if !is_right {
+            return Err(Fail::new(format_args!("another end at call {call}")));
+        }
+        for image in images(alloc, journal.device())?.iter() {
+            expect_image(alloc, image, wanted)?;
+        }
+    }
+    Ok(())
 }
 
 #[test]

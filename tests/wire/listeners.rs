@@ -6,7 +6,7 @@ use crate::dialogues::captured;
 use crate::expect::text;
 use blot_slots::Slots;
 use blot_time::Day;
-use blotter::{ReplayFault, Rounds, ServeFault, serve_day};
+use blotter::{Door, ReplayFault, Rounds, ServeFault, serve_day};
 use log::Log;
 use std::alloc::Global;
 use std::io::{self, Error, ErrorKind, Read, Write};
@@ -155,11 +155,16 @@ fn served<L: Ledger + Send + Sync, R: Threads + Wait + Clock + Log + Sync>(
     let day = Day::read(b"20240105")?;
     let mut operator = operator;
     let mut told = Vec::new(alloc);
-    let ended = serve_day::<L, _, _, _, _>(
+    let door = Door::new(Peer {
+        is_set_up: true,
+        rest: &[],
+    });
+    let ended = serve_day::<L, _, _, _, _, _>(
         rt,
         alloc,
         blank,
         listener,
+        &door,
         rounds,
         &slots,
         day,

@@ -1,6 +1,6 @@
 -- An operator's lines and their answers, computed. Quantities are in units of 10^-6, prices in units of 10^-8, values in
 -- units of 10^-14.
-use Rattle.std.specs.Prelude.{◌≡◌, ℕ, ◌*◌, ◌^◌, ◌++◌, pos, List, [], ◌∷◌, codes, Some, None, Result, Ok, Err, refl}
+use Rattle.std.specs.Prelude.{◌≡◌, ℕ, ◌*◌, ◌^◌, ◌++◌, pos, true, false, List, [], ◌∷◌, codes, Option, Some, None, Result, Ok, Err, refl}
 use Rattle.std.specs.Fmt.{digits}
 use Rattle.std.specs.List.{join_with_byte}
 use Rattle.blot_decimal.specs.Meaning.{size_of, qty_of, price_of}
@@ -18,6 +18,8 @@ use Rattle.blot_types.specs.declared.keys.ExecKey.{ExecKey}
 use Rattle.blot_types.specs.declared.keys.OrderKey.{OrderKey}
 use Rattle.blot_types.specs.declared.refused.Refused.TheVariants.{NotLive, NothingToUndo, Moved, UnknownExec, Quantity}
 use Rattle.blot_console.specs.declared.answer.Answer.TheVariants as answers
+use Rattle.blot_console.specs.declared.open_day.DayAsk.{DayAsk}
+use Rattle.blot_console.specs.declared.open_day.DayAsk.TheVariants.{Close, Sessions}
 use Rattle.blot_console.specs.declared.ask.Ask.{Ask}
 use Rattle.blot_console.specs.declared.ask.Ask.TheVariants.{Step, Report, Mine, Look, Orders}
 use Rattle.blot_console.specs.declared.fault.LineFault.{LineFault}
@@ -27,6 +29,7 @@ use Rattle.blot_console.specs.Answers.{answer_text}
 use Rattle.blot_console.specs.Forms.{number_form, count_form, rows_form, text_form, sign_form, day_form, price_form, qty_form}
 use Rattle.blot_console.specs.Lines.{undo_line, redo_line, withdraw_line, mine_line, order_line, position_line, report_line}
 use Rattle.blot_console.specs.QuestionLines.{entry_line, execution_line, optional_text, orders_line, refusals_line, steps_line}
+use Rattle.blot_console.specs.OpenDay.{day_ask_of, day_parsed, day_words}
 use Rattle.blot_console.specs.Parsing.{kind_of, question_kind_of, words_line, ask_of, parsed}
 use Rattle.blot_console.specs.Rows.{counted, value_at}
 
@@ -224,3 +227,37 @@ asks_steps_none = refl
 asks_many_refusals : asks (codes "refusals" ∷ codes "1001" ∷ []) ≡ Err (BadValue 1)
 unfolding parsed ask_of words_line kind_of question_kind_of refusals_line counted value_at rows_form
 asks_many_refusals = refl
+
+-- ---- an open day
+
+abbrev asks_day : List (List ℕ) → Option (Result DayAsk LineFault)
+asks_day words = day_parsed (tabbed words)
+
+closes : asks_day (codes "close" ∷ []) ≡ Some (Ok Close)
+unfolding day_parsed day_words day_ask_of
+closes = refl
+
+closes_x : asks_day (codes "close" ∷ codes "x" ∷ []) ≡ Some (Err WrongCount)
+unfolding day_parsed day_words day_ask_of
+closes_x = refl
+
+asks_sessions : asks_day (codes "sessions" ∷ []) ≡ Some (Ok Sessions)
+unfolding day_parsed day_words day_ask_of
+asks_sessions = refl
+
+not_of_the_day : asks_day (codes "redo" ∷ []) ≡ None
+unfolding day_parsed day_words day_ask_of
+not_of_the_day = refl
+
+closes_nothing_else : asks (codes "close" ∷ codes "x" ∷ []) ≡ Err UnknownWord
+unfolding parsed ask_of words_line kind_of question_kind_of
+closes_nothing_else = refl
+
+closed : answer_text answers.Closed ≡ told_line (codes "closed" ∷ [])
+closed = refl
+
+sessions_told : answer_text (answers.Sessions (record { peer = BRKA; is_on = true; expected = 12 } ∷ record { peer = codes "BRKB"; is_on = false; expected = 1 } ∷ []))
+    ≡ told_line (codes "session" ∷ BRKA ∷ codes "on" ∷ codes "12" ∷ []) ++ told_line (codes "session" ∷ codes "BRKB" ∷ codes "off" ∷ codes "1" ∷ [])
+    ++ told_line (codes "end" ∷ codes "2" ∷ [])
+unfolding digits
+sessions_told = refl

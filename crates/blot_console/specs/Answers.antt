@@ -10,6 +10,7 @@ use Rattle.blot_console.specs.declared.fault.LineFault.{LineFault}
 use Rattle.blot_console.specs.declared.fault.LineFault.TheVariants.{UnknownWord, WrongCount, BadValue, TooLong, NoMemory}
 use Rattle.blot_console.specs.FaultText.{fault_number}
 use Rattle.blot_console.specs.Founds.{found_text, orders_answer, positions_answer}
+use Rattle.blot_console.specs.OpenDay.{sessions_answer}
 use Rattle.blot_console.specs.Replies.{IsTold, number_text, reply_text, word_line}
 
 -- the line of an order, if it has one
@@ -46,6 +47,8 @@ answer_text answers.Nothing = word_line (codes "none")
 answer_text (answers.Found found) = found_text found
 answer_text (answers.Orders rows) = orders_answer rows
 answer_text (answers.Positions rows) = positions_answer rows
+answer_text (answers.Sessions lines) = sessions_answer lines
+answer_text answers.Closed = word_line (codes "closed")
 
 -- an answer whose reply, if it is one, is told without a key
 abbrev pub CanBeTold : Answer → Type 0

@@ -5,6 +5,7 @@ ghost use Rattle.blot_console.specs.Founds.{orders_answer, positions_answer};
 
 use crate::LineFault;
 use crate::found::{found_text, put_end};
+use crate::open_day::{SessionLine, sessions_text};
 use crate::telling::{put_number, reply_text, word_line};
 use blot_command::Rows;
 use blot_desk::{Found, Reply};
@@ -37,6 +38,10 @@ pub enum Answer {
     Orders(Rows<OrderRow>),
     /// Lines of positions.
     Positions(Rows<PositionRow>),
+    /// The session of each peer of an open day.
+    Sessions(Rows<SessionLine>),
+    /// The day is closed.
+    Closed,
 }
 
 /// The text of an answer, whole lines. A reply to a question has to come with the key that was asked for, as `Order` or
@@ -56,6 +61,8 @@ pub fn answer_text(alloc: Global, answer: &Answer) -> Result<Vec<u8>, NoMemory>
         Answer::Found(found) => found_text(alloc, found),
         Answer::Orders(rows) => orders_text(alloc, rows.as_slice()),
         Answer::Positions(rows) => positions_text(alloc, rows.as_slice()),
+        Answer::Sessions(lines) => sessions_text(alloc, lines.as_slice()),
+        Answer::Closed => word_line(alloc, b"closed"),
     }
 }
 

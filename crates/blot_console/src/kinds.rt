@@ -78,8 +78,8 @@ fn question_kind_of(word: &[u8]) -> Result<Kind, Wrong>
     }
 }
 
-// Whether a word is this one.
-fn is_word(word: &[u8], name: &[u8]) -> bool
+/// Whether a word is this one.
+pub(crate) fn is_word(word: &[u8], name: &[u8]) -> bool
     ensures { result ≡ same_text word.now name.now }
 {
     word == name

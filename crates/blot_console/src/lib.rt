@@ -13,6 +13,7 @@ mod forms;
 mod found;
 mod kinds;
 mod lines;
+mod open_day;
 mod parsing;
 mod questions;
 mod rows;
@@ -21,5 +22,7 @@ mod words;
 
 pub use answer::{Answer, answer_text};
 pub use ask::Ask;
+pub use blot_command::Rows;
 pub use fault::LineFault;
+pub use open_day::{DayAsk, SessionLine, parse_day_line};
 pub use parsing::{LINE_MAX, parse_line};

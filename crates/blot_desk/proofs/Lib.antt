@@ -4,5 +4,6 @@ pub mod DeskRows
 pub mod EqualLemmas
 pub mod MarkLemmas
 pub mod QuestionLemmas
+pub mod QuestionRows
 pub mod SeatLemmas
 pub mod SeatRows

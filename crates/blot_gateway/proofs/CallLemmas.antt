@@ -12,7 +12,8 @@ use Rattle.blot_session.specs.Runs.{Call, AreMet, outcome, actions_of, behind_ca
 use Rattle.blot_gateway.specs.declared.ended.Ended.{Ended}
 use Rattle.blot_gateway.specs.declared.ended.Ended.TheVariants as ended
 use Rattle.blot_gateway.specs.Wires.{Read, Did, Answered, Steps, read_in}
-use Rattle.blot_gateway.specs.Serving.{Due, Turn, Parties, Happens, InTurn, Runs, Ends, GoesOn, HasLast, Stops, EndsWith, Cause, Wrote, call_in, did_in, due_in, reads_behind, written_in, texts_of, close_in, closed_by, moment_by, moments_of, reply_by, is_served, has_memory, seen_by}
+use Rattle.blot_gateway.specs.declared.parties.Parties.{Parties}
+use Rattle.blot_gateway.specs.Serving.{Due, Turn, Happens, InTurn, Runs, Ends, GoesOn, HasLast, Stops, EndsWith, Cause, Wrote, call_in, did_in, due_in, reads_behind, written_in, texts_of, close_in, closed_by, moment_by, moments_of, reply_by, is_served, has_memory, seen_by}
 use Rattle.blot_gateway.proofs.SendingLemmas.{steps-on}
 
 -- ---- two facts at once
@@ -91,6 +92,7 @@ stops-behind ended.NoMemory first second state one (inr two) = inr (record { unt
 stops-behind ended.End first second state one two = goes-on first second state one two
 stops-behind ended.ReadFault first second state one two = goes-on first second state one two
 stops-behind ended.TooLong first second state one two = goes-on first second state one two
+stops-behind ended.NoGreeting first second state one two = goes-on first second state one two
 
 pub wrote-behind : (end : Ended) (first sent_first second sent_second : List (List ℕ)) → first ≡ sent_first → Wrote end second sent_second → Wrote end (first ++ second) (sent_first ++ sent_second)
 wrote-behind ended.WriteFault first sent_first second sent_second one two =
@@ -107,6 +109,7 @@ wrote-behind ended.NoMemory first sent_first second sent_second one two = append
 wrote-behind ended.End first sent_first second sent_second one two = appended one two
 wrote-behind ended.ReadFault first sent_first second sent_second one two = appended one two
 wrote-behind ended.TooLong first sent_first second sent_second one two = appended one two
+wrote-behind ended.NoGreeting first sent_first second sent_second one two = appended one two
 
 with-behind : (read : Read) (first second : List Read) → EndsWith read second → EndsWith read (first ++ second)
 with-behind read first second two =
@@ -119,6 +122,7 @@ cause-behind ended.TooLong first second left two = two
 cause-behind (ended.Closed reason) first second left two = tt
 cause-behind ended.WriteFault first second left two = tt
 cause-behind ended.NoMemory first second left two = tt
+cause-behind ended.NoGreeting first second left two = tt
 
 -- ---- what happens
 

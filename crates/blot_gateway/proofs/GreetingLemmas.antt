@@ -1,5 +1,5 @@
 -- The reads up to the first message.
-use Rattle.std.proofs.Common.{◌≡◌, ℕ, ◌+◌, List, [], ◌∷◌, ◌++◌, length, map, Option, Some, None, Err, refl, sym, ap, subst, ◌∙◌, inl, inr, length-append}
+use Rattle.std.proofs.Common.{◌≡◌, ℕ, ◌+◌, ◌≤◌, List, [], ◌∷◌, ◌++◌, length, map, Option, Some, None, Err, refl, sym, ap, subst, ◌∙◌, inl, inr, length-append}
 use Rattle.std.specs.Prelude.{slice_get}
 use Rattle.std.proofs.lemmas.List.{append-nil, map-append}
 use Rattle.blot_tag.specs.Walking.{frames_of, rest_of}
@@ -83,41 +83,61 @@ nothing-more : (unread : List ℕ) (reads : List Read) (read last : Read) → re
 nothing-more unread reads read last is none =
     held-on unread reads read ∙ ap (λ bytes. rest_of (held unread reads) ++ bytes) (ap bytes_in is ∙ none) ∙ append-nil (rest_of (held unread reads))
 
-pub greets-last : {W : Type 0} (does : W → Did → W → Type 0) (own : List ℕ) (end : Ended) (a b c : W) (unread left middle next : List ℕ) (count : ℕ) → middle ≡ rest_of left
-    → Reads does a unread count b left → frames_of left ≡ [] → FeedsLast does b middle c next end → Greeted does own (Err end) a unread c next
-greets-last does own ended.End a b c unread left middle next count same one none feeds =
+few-more : {W : Type 0} (does : W → Did → W → Type 0) (a b : W) (unread left : List ℕ) (count : ℕ) (read : Read) (most : ℕ) (one : Reads does a unread count b left)
+    → count + 1 ≤ most → length (one.reads ++ read ∷ []) ≤ most
+few-more does a b unread left count read most one within =
+    subst (λ n. n ≤ most) (sym (length-append one.reads (read ∷ []) ∙ ap (λ k. k + 1) one.many)) within
+
+-- the ending of a read isn't the one of the bound
+pub not-late : {W : Type 0} (does : W → Did → W → Type 0) (before : W) (unread : List ℕ) (after : W) (left : List ℕ) (end : Ended)
+    → FeedsLast does before unread after left end → end ≡ ended.TooLong → ⊥
+not-late does before unread after left ended.TooLong feeds is = absurd feeds.ends
+not-late does before unread after left ended.NoGreeting feeds is = absurd feeds.ends
+not-late does before unread after left ended.WriteFault feeds is = absurd feeds.ends
+not-late does before unread after left (ended.Closed reason) feeds is = absurd feeds.ends
+not-late does before unread after left ended.End feeds is = absurd cc
+not-late does before unread after left ended.ReadFault feeds is = absurd cc
+not-late does before unread after left ended.NoMemory feeds is = absurd cc
+
+pub greets-last : {W : Type 0} (does : W → Did → W → Type 0) (own : List ℕ) (most : ℕ) (end : Ended) (a b c : W) (unread left middle next : List ℕ) (count : ℕ) → middle ≡ rest_of left
+    → Reads does a unread count b left → frames_of left ≡ [] → FeedsLast does b middle c next end → count + 1 ≤ most → Greeted does own most (Err end) a unread c next
+greets-last does own most ended.End a b c unread left middle next count same one none feeds within =
     let reads = one.reads ++ feeds.read ∷ [] in
     let awaits = awaits-more does a b unread left count feeds.read one none in
     record {
       reads = reads;
+      few = few-more does a b unread left count feeds.read most one within;
       steps = steps-more does a b c one.reads feeds.read one.steps feeds.gave;
       awaits = awaits;
       holds = inl (holds-by unread next reads awaits
           (feeds.holds ∙ same ∙ ap rest_of one.holds.bytes ∙ sym (nothing-more unread one.reads feeds.read AtEnd feeds.ends refl)));
       greets = with-last AtEnd feeds.read one.reads feeds.ends;
     }
-greets-last does own ended.ReadFault a b c unread left middle next count same one none feeds =
+greets-last does own most ended.ReadFault a b c unread left middle next count same one none feeds within =
     let reads = one.reads ++ feeds.read ∷ [] in
     let awaits = awaits-more does a b unread left count feeds.read one none in
     record {
       reads = reads;
+      few = few-more does a b unread left count feeds.read most one within;
       steps = steps-more does a b c one.reads feeds.read one.steps feeds.gave;
       awaits = awaits;
       holds = inl (holds-by unread next reads awaits
           (feeds.holds ∙ same ∙ ap rest_of one.holds.bytes ∙ sym (nothing-more unread one.reads feeds.read Failed feeds.ends refl)));
       greets = with-last Failed feeds.read one.reads feeds.ends;
     }
-greets-last does own ended.NoMemory a b c unread left middle next count same one none feeds =
+greets-last does own most ended.NoMemory a b c unread left middle next count same one none feeds within =
     record {
       reads = one.reads ++ feeds.read ∷ [];
+      few = few-more does a b unread left count feeds.read most one within;
       steps = steps-more does a b c one.reads feeds.read one.steps feeds.gave;
       awaits = awaits-more does a b unread left count feeds.read one none;
       holds = inr refl;
       greets = tt;
     }
-greets-last does own (ended.Closed reason) a b c unread left middle next count same one none feeds = absurd feeds.ends
-greets-last does own ended.WriteFault a b c unread left middle next count same one none feeds = absurd feeds.ends
-greets-last does own ended.TooLong a b c unread left middle next count same one none feeds = absurd feeds.ends
+greets-last does own most (ended.Closed reason) a b c unread left middle next count same one none feeds within = absurd feeds.ends
+greets-last does own most ended.WriteFault a b c unread left middle next count same one none feeds within = absurd feeds.ends
+greets-last does own most ended.NoGreeting a b c unread left middle next count same one none feeds within = absurd feeds.ends
+greets-last does own most ended.TooLong a b c unread left middle next count same one none feeds within = absurd feeds.ends
 
 -- ---- no first frame
 

@@ -3,7 +3,9 @@ mod CallLemmas
 mod DeliveredLemmas
 mod RunLemmas
 mod GreetingLemmas
+mod LentLemmas
 mod MemoryLemmas
 mod SendingLemmas
-mod ServingLemmas
+pub mod ServingLemmas
 mod StepLemmas
+mod StoppingLemmas

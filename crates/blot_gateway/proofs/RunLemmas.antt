@@ -18,7 +18,8 @@ use Rattle.blot_gateway.specs.Endings.{ended_by}
 use Rattle.blot_gateway.specs.Wires.{Read, Did, Answered, Steps, reads_of, written_of}
 use Rattle.blot_gateway.specs.Wires.Did.{Gave}
 use Rattle.blot_gateway.specs.Wires.Read.{AtEnd, Failed}
-use Rattle.blot_gateway.specs.Serving.{Due, EndsWith, Parties, parties, Happens, InTurn, Runs, Ends, GoesOn, HasLast, Stops, Cause, IsFront, Wrote, close_in, due_by, moment_by, reply_by, is_served, has_memory, seen_by, texts_of, written_in}
+use Rattle.blot_gateway.specs.declared.parties.Parties.{Parties}
+use Rattle.blot_gateway.specs.Serving.{Due, EndsWith, parties, Happens, InTurn, Runs, Ends, GoesOn, HasLast, Stops, Cause, IsFront, Wrote, close_in, due_by, moment_by, reply_by, is_served, has_memory, seen_by, texts_of, written_in}
 use Rattle.blot_gateway.specs.Serving.Due.{Fed, Came, Passed}
 use Rattle.blot_gateway.specs.Serving.Turn.{Reads, Calls}
 use Rattle.blot_gateway.specs.Sending.{Called, StopsAt, Halted, Submitted, SubmittedLast}

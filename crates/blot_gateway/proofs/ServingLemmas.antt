@@ -16,7 +16,8 @@ use Rattle.blot_gateway.specs.Wires.{Read, Did, Answered, Counts}
 use Rattle.blot_gateway.specs.Wires.Read.{AtEnd, Failed}
 use Rattle.blot_gateway.specs.Wires.Did.{Gave}
 use Rattle.blot_gateway.specs.Progress.{CountsStop, Handles}
-use Rattle.blot_gateway.specs.Serving.{Due, Parties, parties, Runs, Ends, EndsWithin, IsCounted, due_behind, due_fed, due_of}
+use Rattle.blot_gateway.specs.declared.parties.Parties.{Parties}
+use Rattle.blot_gateway.specs.Serving.{Due, parties, Runs, Ends, EndsWithin, IsCounted, due_behind, due_fed, due_of}
 use Rattle.blot_gateway.specs.Serving.Due.{Fed, Came, Passed}
 use Rattle.blot_gateway.specs.Sending.{Called, Halted}
 use Rattle.blot_gateway.proofs.CallLemmas.{runs-on, ends-behind}
@@ -105,6 +106,7 @@ counted-behind ended.ReadFault before mid after one two = counts-behind before m
 counted-behind ended.WriteFault before mid after one two = counts-behind before mid after one two
 counted-behind ended.TooLong before mid after one two = omega (arith, one, two)
 counted-behind ended.NoMemory before mid after one two = omega (arith, one, two)
+counted-behind ended.NoGreeting before mid after one two = omega (arith, one, two)
 
 -- a read, and then what is due by it
 pub runs-behind-read : {W C S : Type 0} (does : W → Did → W → Type 0) (ticks : C → ℤ → C → Type 0) (takes : S → Answered → S → Type 0)

@@ -36,11 +36,15 @@ abbrev pub is_submit : Event → Bool
 is_submit (Submit command) = true
 is_submit event = false
 
+-- whether all these receipts are of submits
+abbrev pub are_submits : List Receipt → Bool
+are_submits receipts = list_all (λ receipt. is_submit receipt.event) receipts
+
 -- the receipts after are those before, and then some of submits
 pub record AddsSubmits (before after : List Receipt) : Type 0 where
   pub more : List Receipt
   pub joined : after ≡ before ++ more
-  pub submits : list_all (λ receipt. is_submit receipt.event) more ≡ true
+  pub submits : are_submits more ≡ true
 
 -- ---- one wire
 
@@ -86,7 +90,7 @@ pub record ServesLine {W C S : Type 0} (does : W → Did → W → Type 0) (tick
   pub answer : Result (List ℕ) Ended
   pub greeted : W
   pub unread : List ℕ
-  pub greets : Greeted does own answer before.wire [] greeted unread
+  pub greets : Greeted does own READS_MAX answer before.wire [] greeted unread
   pub follows : Follows does ticks takes answer end unread (record before { wire = greeted }) after
 
 -- ---- many

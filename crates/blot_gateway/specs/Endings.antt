@@ -1,9 +1,10 @@
 -- The numbers of endings, and the stops that are endings.
-use Rattle.std.specs.Prelude.{ℕ}
+use Rattle.std.specs.Prelude.{ℕ, List, codes}
 use Rattle.blot_gateway.specs.declared.ended.Ended.{Ended}
 use Rattle.blot_gateway.specs.declared.ended.Ended.TheVariants as ended
 use Rattle.blot_gateway.specs.declared.ended.Stop.{Stop}
 use Rattle.blot_gateway.specs.declared.ended.Stop.TheVariants as stops
+use Rattle.blot_session.specs.Told.{close_name}
 
 -- the number of an ending
 abbrev pub ended_number : Ended → ℕ
@@ -13,6 +14,17 @@ ended_number ended.ReadFault = 2
 ended_number ended.WriteFault = 3
 ended_number ended.TooLong = 4
 ended_number ended.NoMemory = 5
+ended_number ended.NoGreeting = 6
+
+-- the name of an ending: of one by the session, that of its reason
+abbrev pub ended_name : Ended → List ℕ
+ended_name (ended.Closed reason) = close_name reason
+ended_name ended.End = codes "End"
+ended_name ended.ReadFault = codes "ReadFault"
+ended_name ended.WriteFault = codes "WriteFault"
+ended_name ended.TooLong = codes "TooLong"
+ended_name ended.NoMemory = codes "NoMemory"
+ended_name ended.NoGreeting = codes "NoGreeting"
 
 -- the ending of a stop
 abbrev pub ended_by : Stop → Ended

@@ -1,5 +1,5 @@
 -- The first message of a connection.
-use Rattle.std.specs.Prelude.{◌≡◌, ◌⊎◌, ℕ, List, [], ◌∷◌, ◌++◌, length, map, slice_get, Bool, true, false, Option, Some, None, Result, Ok, Err, if◌then◌else◌}
+use Rattle.std.specs.Prelude.{◌≡◌, ◌≤◌, ◌⊎◌, ℕ, List, [], ◌∷◌, ◌++◌, length, map, slice_get, Bool, true, false, Option, Some, None, Result, Ok, Err, if◌then◌else◌}
 use Rattle.blot_tag.specs.Walking.{frames_of, rest_of}
 use Rattle.blot_types.specs.Keys.{same_text}
 use Rattle.blot_fields.specs.declared.admin.Admin.TheVariants as admin
@@ -12,7 +12,6 @@ use Rattle.blot_session.specs.declared.action.CloseReason.TheVariants as reasons
 use Rattle.blot_session.specs.Runs.{said_by}
 use Rattle.blot_gateway.specs.declared.ended.Ended.{Ended}
 use Rattle.blot_gateway.specs.declared.ended.Ended.TheVariants as ended
-use Rattle.blot_gateway.specs.declared.ended.TheConstants.{READS_MAX}
 use Rattle.blot_gateway.specs.Serving.{EndsWith}
 use Rattle.blot_gateway.specs.Wires.{Read, Did, Steps}
 use Rattle.blot_gateway.specs.Wires.Did.{Gave}
@@ -91,21 +90,23 @@ pub record FeedsLast {W : Type 0} (does : W → Did → W → Type 0) (before : 
   pub ends : ReadEnds end read
   pub holds : left ≡ unread
 
--- why a greeting is answered so, after these reads, by all the bytes
-abbrev pub GreetsBy : List ℕ → Result (List ℕ) Ended → List Read → List ℕ → Type 0
-GreetsBy own (Ok sender) reads bytes = Speaks own bytes (Ok sender)
-GreetsBy own (Err (ended.Closed reason)) reads bytes = Speaks own bytes (Err reason)
-GreetsBy own (Err ended.End) reads bytes = EndsWith AtEnd reads
-GreetsBy own (Err ended.ReadFault) reads bytes = EndsWith Failed reads
-GreetsBy own (Err ended.TooLong) reads bytes = (length reads ≡ READS_MAX) × (frames_of bytes ≡ [])
-GreetsBy own (Err ended.NoMemory) reads bytes = Unit {0}
-GreetsBy own (Err ended.WriteFault) reads bytes = ⊥
+-- why a greeting of so many reads at most is answered so, after these reads, by all the bytes
+abbrev pub GreetsBy : List ℕ → ℕ → Result (List ℕ) Ended → List Read → List ℕ → Type 0
+GreetsBy own most (Ok sender) reads bytes = Speaks own bytes (Ok sender)
+GreetsBy own most (Err (ended.Closed reason)) reads bytes = Speaks own bytes (Err reason)
+GreetsBy own most (Err ended.End) reads bytes = EndsWith AtEnd reads
+GreetsBy own most (Err ended.ReadFault) reads bytes = EndsWith Failed reads
+GreetsBy own most (Err ended.TooLong) reads bytes = (length reads ≡ most) × (frames_of bytes ≡ [])
+GreetsBy own most (Err ended.NoGreeting) reads bytes = (length reads ≡ most) × (frames_of bytes ≡ [])
+GreetsBy own most (Err ended.NoMemory) reads bytes = Unit {0}
+GreetsBy own most (Err ended.WriteFault) reads bytes = ⊥
 
 -- the wire gave some reads, and nothing was written; no frame stood in all the bytes before any of them; and the reader holds the frames
 -- that stand there then, with what came after them, unless memory ran out
-pub record Greeted {W : Type 0} (does : W → Did → W → Type 0) (own : List ℕ) (answer : Result (List ℕ) Ended) (before : W) (unread : List ℕ) (after : W) (left : List ℕ) : Type 0 where
+pub record Greeted {W : Type 0} (does : W → Did → W → Type 0) (own : List ℕ) (most : ℕ) (answer : Result (List ℕ) Ended) (before : W) (unread : List ℕ) (after : W) (left : List ℕ) : Type 0 where
   pub reads : List Read
+  pub few : length reads ≤ most
   pub steps : Steps does before (map Gave reads) after
   pub awaits : AwaitsFrame unread reads
   pub holds : Holds unread reads left ⊎ (answer ≡ Err ended.NoMemory)
-  pub greets : GreetsBy own answer reads (fed unread reads)
+  pub greets : GreetsBy own most answer reads (fed unread reads)

@@ -6,3 +6,4 @@ pub mod Progress
 pub mod Sending
 pub mod Serving
 pub mod Wires
+pub mod Stopping

@@ -4,7 +4,8 @@ use Rattle.blot_gateway.specs.declared.ended.Ended.{Ended}
 use Rattle.blot_gateway.specs.declared.ended.Stop.{Stop}
 use Rattle.blot_gateway.specs.declared.ended.Stop.TheVariants as stops
 use Rattle.blot_gateway.specs.Endings.{ended_by}
-use Rattle.blot_gateway.specs.Serving.{Due, Ends, Parties, Runs, due_behind, due_fed}
+use Rattle.blot_gateway.specs.declared.parties.Parties.{Parties}
+use Rattle.blot_gateway.specs.Serving.{Due, Ends, Runs, due_behind, due_fed}
 use Rattle.blot_gateway.specs.Wires.{Answered, Counts, Did, Read}
 
 -- all of this that is due is done

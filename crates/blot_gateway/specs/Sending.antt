@@ -11,7 +11,8 @@ use Rattle.blot_session.specs.Runs.Call.{Reply}
 use Rattle.blot_gateway.specs.declared.ended.Stop.{Stop}
 use Rattle.blot_gateway.specs.declared.ended.Stop.TheVariants as stops
 use Rattle.blot_gateway.specs.Wires.{Did, Answered, Steps, reads_of, written_of}
-use Rattle.blot_gateway.specs.Serving.{IsFront, Parties, close_in, seen_by}
+use Rattle.blot_gateway.specs.declared.parties.Parties.{Parties}
+use Rattle.blot_gateway.specs.Serving.{IsFront, close_in, seen_by}
 
 -- a wire takes just these bytes
 pub record Writes {W : Type 0} (does : W → Did → W → Type 0) (before : W) (text : List ℕ) (after : W) : Type 0 where

@@ -18,6 +18,7 @@ use Rattle.blot_session.specs.Runs.Call.{Frame, Reply, Tick}
 use Rattle.blot_session.specs.States.{closed}
 use Rattle.blot_gateway.specs.declared.ended.Ended.{Ended}
 use Rattle.blot_gateway.specs.declared.ended.Ended.TheVariants as ended
+use Rattle.blot_gateway.specs.declared.parties.Parties.{Parties}
 use Rattle.blot_gateway.specs.Wires.{Read, Did, Answered, Counts, Steps, reads_of, written_of}
 use Rattle.blot_gateway.specs.Wires.Did.{Gave}
 use Rattle.blot_gateway.specs.Wires.Read.{Piece, Silence, AtEnd, Failed}
@@ -229,13 +230,7 @@ pub record InTurn (wrote : List (List ℕ) → List (List ℕ) → Type 0) (stat
 
 -- ---- the parties of a session
 
--- the wire, the clock, the sink and the session, as they are
-pub record Parties (W C S : Type 0) : Type 0 where
-  pub wire : W
-  pub clock : C
-  pub sink : S
-  pub session : State
-
+-- these, as one value
 abbrev pub parties : {W C S : Type 0} → W → C → S → State → Parties W C S
 parties wire clock sink session = record { wire = wire; clock = clock; sink = sink; session = session }
 

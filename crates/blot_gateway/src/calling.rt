@@ -1,44 +1,62 @@
 //! What is due to a session: its call, and what that comes to at the wire and at the sink.
 ghost use Rattle.std.specs.Prelude.{◌≡◌, ◌≤◌, [], ◌∷◌, Ok, Err, Some, None, IfOk, IfErr, OnOk, OnErr, is_some};
 ghost use Rattle.blot_tag.specs.Views.{text_of};
-ghost use Rattle.blot_session.specs.Runs.Call.{Frame as FrameCall, Reply as ReplyCall, Tick};
+ghost use Rattle.blot_session.specs.Runs.Call.{Frame as FrameCall, Reply as ReplyCall, Stop as StopCall, Tick};
 ghost use Rattle.blot_session.specs.States.{awaited_of, IsIdle, IsAwaiting};
 ghost use Rattle.blot_gateway.specs.Progress.{CountsStop, Handles, HandlesLast};
 ghost use Rattle.blot_gateway.specs.Sending.{Called, Halted, Submitted, SubmittedLast};
-ghost use Rattle.blot_gateway.specs.Serving.{parties, seen_by};
+ghost use Rattle.blot_gateway.specs.Serving.{seen_by};
 ghost use Rattle.blot_gateway.specs.Serving.Due.{Came};
 
 use crate::ended::Stop;
 use crate::writing::carry_out;
-use crate::{Clock, Sink, Wire};
+use crate::{Clock, Parties, Sink, Wire};
 use blot_desk::{DeskFault, Reply};
 use blot_session::{NotTaken, SeenReply, Session, delivered};
 use blot_tag::Frame;
 use blot_types::Command;
 use std::alloc::Global;
 
-/// A frame is due: it comes to the session. What the session delivers goes to the sink, and the session is told the answer.
-pub(crate) fn take_frame<W: Wire, C: Clock, S: Sink>(
-    alloc: Global,
-    wire: &mut W,
-    clock: &mut C,
-    sink: &mut S,
-    session: &mut Session,
-    frame: &Frame,
-) -> Result<(), Stop>
-    requires { IsIdle session.old }
-    ensures ok { OnOk result (Handles W.does C.ticks S.takes (parties wire.old clock.old sink.old session.old)
-        (Came (text_of frame.now) ∷ []) (parties wire.new clock.new sink.new session.new)) }
-    ensures err { IfErr result (HandlesLast W.does C.ticks S.takes (parties wire.old clock.old sink.old session.old)
-        (Came (text_of frame.now) ∷ []) (parties wire.new clock.new sink.new session.new)) }
-    ensures idle { IsIdle session.new }
-    ensures failures { W.failures wire.old ≤ W.failures wire.new }
-    ensures failed { IfErr result (CountsStop (W.failures wire.old) (W.failures wire.new)) }
-{
-    match give_frame(alloc, wire, clock, session, frame) {
-        Ok(Some(command)) => submit(alloc, wire, clock, sink, session, command),
-        Ok(None) => Ok(()),
-        Err(stop) => Err(stop),
+impl<W: Wire, C: Clock, S: Sink> Parties<W, C, S> {
+    /// A frame is due: it comes to the session. What the session delivers goes to the sink, and the session is told the answer.
+    pub(crate) fn take_frame(&mut self, alloc: Global, frame: &Frame) -> Result<(), Stop>
+        requires { IsIdle self.old.session }
+        ensures ok { OnOk result (Handles W.does C.ticks S.takes self.old (Came (text_of frame.now) ∷ []) self.new) }
+        ensures err { IfErr result (HandlesLast W.does C.ticks S.takes self.old (Came (text_of frame.now) ∷ []) self.new) }
+        ensures idle { IsIdle self.new.session }
+        ensures failures { W.failures self.old.wire ≤ W.failures self.new.wire }
+        ensures failed { IfErr result (CountsStop (W.failures self.old.wire) (W.failures self.new.wire)) }
+    {
+        match give_frame(
+            alloc,
+            &mut self.wire,
+            &mut self.clock,
+            &mut self.session,
+            frame,
+        ) {
+            Ok(Some(command)) => self.submit(alloc, command),
+            Ok(None) => Ok(()),
+            Err(stop) => Err(stop),
+        }
+    }
+
+    // Hands a delivered command to the sink, and tells the session the answer.
+    fn submit(&mut self, alloc: Global, command: Command) -> Result<(), Stop>
+        requires { IsAwaiting self.old.session }
+        ensures ok { OnOk result (Submitted W.does C.ticks S.takes command self.old self.new) }
+        ensures err { IfErr result (SubmittedLast W.does C.ticks S.takes command self.old self.new) }
+        ensures idle { IsIdle self.new.session }
+        ensures failures { W.failures self.old.wire ≤ W.failures self.new.wire }
+        ensures failed { IfErr result (CountsStop (W.failures self.old.wire) (W.failures self.new.wire)) }
+    {
+        let answer = self.sink.take(command);
+        tell(
+            alloc,
+            &mut self.wire,
+            &mut self.clock,
+            &mut self.session,
+            seen_by(&answer),
+        )
     }
 }
 
@@ -58,6 +76,27 @@ pub(crate) fn pass_moment<W: Wire, C: Clock>(
 {
     let now = clock.now();
     match session.on_tick(alloc, now) {
+        Ok(actions) => carry_out(wire, &actions),
+        Err(_) => Err(Stop::NoMemory),
+    }
+}
+
+/// The day ends.
+pub(crate) fn pass_stop<W: Wire, C: Clock>(
+    alloc: Global,
+    wire: &mut W,
+    clock: &mut C,
+    session: &mut Session,
+) -> Result<(), Stop>
+    requires { IsIdle session.old }
+    ensures ok { OnOk result (Called W.does C.ticks None StopCall wire.old clock.old session.old wire.new clock.new session.new) }
+    ensures err { IfErr result (Halted W.does C.ticks StopCall wire.old clock.old session.old wire.new clock.new session.new) }
+    ensures idle { IsIdle session.new }
+    ensures failures { W.failures wire.old ≤ W.failures wire.new }
+    ensures failed { IfErr result (CountsStop (W.failures wire.old) (W.failures wire.new)) }
+{
+    let now = clock.now();
+    match session.on_stop(alloc, now) {
         Ok(actions) => carry_out(wire, &actions),
         Err(_) => Err(Stop::NoMemory),
     }
@@ -89,28 +128,6 @@ fn give_frame<W: Wire, C: Clock>(
         Ok(()) => Ok(delivered(actions)),
         Err(stop) => Err(stop),
     }
-}
-
-// Hands a delivered command to the sink, and tells the session the answer.
-fn submit<W: Wire, C: Clock, S: Sink>(
-    alloc: Global,
-    wire: &mut W,
-    clock: &mut C,
-    sink: &mut S,
-    session: &mut Session,
-    command: Command,
-) -> Result<(), Stop>
-    requires { IsAwaiting session.old }
-    ensures ok { OnOk result (Submitted W.does C.ticks S.takes command (parties wire.old clock.old sink.old session.old)
-        (parties wire.new clock.new sink.new session.new)) }
-    ensures err { IfErr result (SubmittedLast W.does C.ticks S.takes command (parties wire.old clock.old sink.old session.old)
-        (parties wire.new clock.new sink.new session.new)) }
-    ensures idle { IsIdle session.new }
-    ensures failures { W.failures wire.old ≤ W.failures wire.new }
-    ensures failed { IfErr result (CountsStop (W.failures wire.old) (W.failures wire.new)) }
-{
-    let answer = sink.take(command);
-    tell(alloc, wire, clock, session, seen_by(&answer))
 }
 
 // Tells a session what became of the command that it delivered.

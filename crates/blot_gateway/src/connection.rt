@@ -58,8 +58,8 @@ fn serve_wire<R: Wait, W: Wire, C: Clock, S: Sink>(
     ended
 }
 
-// How a wire ends whose peer's session isn't handed out.
-fn turned_by(fault: SlotFault) -> Ended
+/// How a wire ends whose peer's session isn't handed out.
+pub fn turned_by(fault: SlotFault) -> Ended
     ensures { result ≡ turned_by fault }
 {
     match fault {

@@ -1,6 +1,6 @@
 //! How a connection ends.
 ghost use Rattle.std.specs.Prelude.{◌≡◌};
-ghost use Rattle.blot_gateway.specs.Endings.{ended_by, ended_number};
+ghost use Rattle.blot_gateway.specs.Endings.{ended_by, ended_name, ended_number};
 
 use blot_session::CloseReason;
 use std::alloc::AllocError;
@@ -23,10 +23,12 @@ pub enum Ended {
     TooLong,
     /// Memory ran out.
     NoMemory,
+    /// No first frame came within the reads of a greeting.
+    NoGreeting,
 }
 
 impl Ended {
-    /// The number of an ending, 0 to 5: Closed is 0, whatever the reason.
+    /// The number of an ending, 0 to 6: Closed is 0, whatever the reason.
     pub fn number(self) -> u8
         ensures { result ≡ ended_number self }
     {
@@ -37,6 +39,22 @@ impl Ended {
             Ended::WriteFault => 3,
             Ended::TooLong => 4,
             Ended::NoMemory => 5,
+            Ended::NoGreeting => 6,
+        }
+    }
+
+    /// The name of an ending: that of the variant, and of Closed that of its reason.
+    pub fn name(self) -> &'static [u8]
+        ensures { result.now ≡ ended_name self }
+    {
+        match self {
+            Ended::Closed(reason) => reason.name(),
+            Ended::End => b"End",
+            Ended::ReadFault => b"ReadFault",
+            Ended::WriteFault => b"WriteFault",
+            Ended::TooLong => b"TooLong",
+            Ended::NoMemory => b"NoMemory",
+            Ended::NoGreeting => b"NoGreeting",
         }
     }
 }

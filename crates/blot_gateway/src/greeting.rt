@@ -1,6 +1,7 @@
 //! The first message of a connection.
-ghost use Rattle.std.specs.Prelude.{◌≡◌, ◌<◌, ◌≤◌, [], length, IfErr, IfOk, OnErr, OnOk};
+ghost use Rattle.std.specs.Prelude.{◌≡◌, ◌≢◌, ◌<◌, ◌≤◌, [], length, IfErr, IfOk, OnErr, OnOk};
 ghost use Rattle.blot_tag.specs.Walking.{frames_of, rest_of};
+ghost use Rattle.blot_gateway.specs.declared.ended.TheConstants.{READS_MAX};
 ghost use Rattle.blot_gateway.specs.Greeting.{Feeds, FeedsLast, Greeted, PeeksBy, greeted_by};
 ghost use Rattle.blot_gateway.specs.Serving.{IsCounted};
 
@@ -22,14 +23,34 @@ pub fn greet<W: Wire>(
     reader: &mut Reader,
     own: Text64,
 ) -> Result<Text64, Ended>
-    ensures greeted { Greeted W.does own result wire.old reader.old.unread wire.new reader.new.unread }
+    ensures greeted { Greeted W.does own READS_MAX result wire.old reader.old.unread wire.new reader.new.unread }
+    ensures ending { IfErr result (λ end. end ≢ Ended.NoGreeting) }
+    ensures counted { IfErr result (IsCounted (W.failures wire.old) (W.failures wire.new)) }
+    ensures failures { W.failures wire.old ≤ W.failures wire.new }
+{
+    match greet_within(alloc, wire, reader, own, READS_MAX) {
+        Err(Ended::NoGreeting) => Err(Ended::TooLong),
+        answer => answer,
+    }
+}
+
+/// The same with this many reads at most. NoGreeting in place of TooLong: as many were made, and no frame stands there.
+pub fn greet_within<W: Wire>(
+    alloc: Global,
+    wire: &mut W,
+    reader: &mut Reader,
+    own: Text64,
+    reads: u64,
+) -> Result<Text64, Ended>
+    ensures ending { IfErr result (λ end. end ≢ Ended.TooLong) }
+    ensures greeted { Greeted W.does own reads result wire.old reader.old.unread wire.new reader.new.unread }
     ensures counted { IfErr result (IsCounted (W.failures wire.old) (W.failures wire.new)) }
     ensures failures { W.failures wire.old ≤ W.failures wire.new }
 {
     let Ok(mut buffer) = empty_piece(alloc) else {
         return Err(Ended::NoMemory);
     };
-    for _ in 0..READS_MAX {
+    for _ in 0..reads {
         if let Some(answer) = peek(alloc, reader, own) {
             return answer;
         }
@@ -43,7 +64,7 @@ pub fn greet<W: Wire>(
     }
     match peek(alloc, reader, own) {
         Some(answer) => answer,
-        None => Err(Ended::TooLong),
+        None => Err(Ended::NoGreeting),
     }
 }
 

@@ -1,4 +1,5 @@
 mod BatchLemmas
+mod BatchesLemmas
 mod HeadLemmas
 mod JournalLemmas
 mod MomentLemmas

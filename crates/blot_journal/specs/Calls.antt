@@ -68,6 +68,13 @@ leaves_after (Synced true ∷ calls) file = file ≡ seen_after calls
 leaves_after (Synced false ∷ calls) file = leaves_after calls file
 leaves_after (ReadIt done ∷ calls) file = leaves_after calls file
 
+-- what the last sync that was done left on the disk, or what it began with
+abbrev pub durable_after : List Call → List ℕ
+durable_after [] = []
+durable_after (Began bytes ∷ calls) = bytes
+durable_after (Synced true ∷ calls) = seen_after calls
+durable_after (call ∷ calls) = durable_after calls
+
 -- it can be read until the first write
 abbrev pub is_readable_after : List Call → Bool
 is_readable_after [] = true

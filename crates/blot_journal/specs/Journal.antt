@@ -1,7 +1,9 @@
 -- An open journal.
-use Rattle.std.specs.Prelude.{ℕ, ◌+◌, ◌-◌, ◌<◌, ◌≤◌, ◌^◌, min, Bool, true, false, List}
+use Rattle.std.specs.Prelude.{ℕ, ◌+◌, ◌-◌, ◌<◌, ◌≤◌, ◌^◌, min, Bool, true, false, List, ◌++◌, length, map, take}
+use Rattle.std.specs.Borrow.{Bor}
+use Rattle.std.specs.List.{concat}
 use Rattle.blot_journal.specs.Device.{Only}
-use Rattle.blot_journal.specs.File.{HasHead, text_of}
+use Rattle.blot_journal.specs.File.{HasHead, Stands, text_of}
 use Rattle.blot_journal.specs.declared.device.DeviceFault.{DeviceFault}
 use Rattle.blot_journal.specs.declared.device.DeviceFault.TheVariants as device
 use Rattle.blot_journal.specs.declared.journal.JournalFault.{JournalFault}
@@ -35,3 +37,14 @@ pub record IsOpen {D : Type 0} (seen : D → List ℕ) (may_leave : D → List �
 abbrev pub told_by_journal : DeviceFault → JournalFault
 told_by_journal device.NoMemory = NoMemory
 told_by_journal device.Failed = Failed
+
+-- the bytes of batches
+abbrev pub contents : List (Bor (List ℕ)) → List (List ℕ)
+contents batches = map (λ batch. batch.now) batches
+
+-- a file stands for a text with the first of some batches behind it, so many of them or more, each of them whole
+pub record StandsAmong (text : List ℕ) (batches : List (List ℕ)) (least : ℕ) (file : List ℕ) : Type 0 where
+  pub count : ℕ
+  pub enough : least ≤ count
+  pub few : count ≤ length batches
+  pub stands : Stands (text ++ concat (take count batches)) file

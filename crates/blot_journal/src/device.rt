@@ -1,5 +1,5 @@
 //! A file as the journal sees it: what a read returns, and what a crash may leave.
-ghost use Rattle.std.specs.Prelude.{◌≡◌, ◌+◌, ◌≤◌, Bool, List, ℕ, length, take, drop, IsTrue, OnOk};
+ghost use Rattle.std.specs.Prelude.{◌≡◌, ◌+◌, ◌<◌, ◌≤◌, Bool, List, ℕ, length, take, drop, IsErr, IsTrue, OnOk};
 ghost use Rattle.blot_journal.specs.declared.device.DeviceFault.TheVariants.{NoMemory as OutOfMemory};
 ghost use Rattle.blot_journal.specs.Device.{Cut, Elapses, Follows, HasCause, Holds, Only, Torn};
 
@@ -22,7 +22,8 @@ impl From<NoMemory> for DeviceFault {
 }
 
 /// A file on a disk, in the hands of one process. A contract sees what a read returns, and what a crash may leave: of each write and
-/// cut since the last sync anything within its range, before the others or without them.
+/// cut since the last sync anything within its range, before the others or without them. Once a call has failed, each write, cut and sync
+/// fails: nobody can tell what the file then is, and a disk may say of a later sync that all is well though it isn't.
 pub trait Device {
     /// The bytes that a read returns.
     ghost seen: { Self → List ℕ };
@@ -62,6 +63,7 @@ pub trait Device {
         requires { at ≤ length (seen self.old) }
         ensures written { OnOk result (Holds (seen self.old) at bytes.now (seen self.new)) }
         ensures crash { Follows (Torn at (length bytes.now)) (may_leave self.old) (may_leave self.new) }
+        ensures stays { 0 < failures self.old → IsErr result }
         ensures time { Elapses (moment self.old) (moment self.new) (left_since self.old) (left_since self.new) (may_leave self.new) }
         ensures cause { HasCause (failures self.old) (failures self.new) result };
 
@@ -71,6 +73,7 @@ pub trait Device {
         ensures cut { OnOk result (seen self.new ≡ take len (seen self.old)) }
         ensures readable { is_readable self.new ≡ is_readable self.old }
         ensures crash { Follows (Cut len) (may_leave self.old) (may_leave self.new) }
+        ensures stays { 0 < failures self.old → IsErr result }
         ensures time { Elapses (moment self.old) (moment self.new) (left_since self.old) (left_since self.new) (may_leave self.new) }
         ensures cause { HasCause (failures self.old) (failures self.new) result };
 
@@ -80,6 +83,7 @@ pub trait Device {
         ensures seen { seen self.new ≡ seen self.old }
         ensures readable { is_readable self.new ≡ is_readable self.old }
         ensures crash { (file : List ℕ) → may_leave self.new file → may_leave self.old file }
+        ensures stays { 0 < failures self.old → IsErr result }
         ensures time { Elapses (moment self.old) (moment self.new) (left_since self.old) (left_since self.new) (may_leave self.new) }
         ensures cause { HasCause (failures self.old) (failures self.new) result };
 

@@ -1,6 +1,6 @@
 //! A real file. What a read returned when it was opened is kept until the first write, so that what a contract says of its bytes is
 //! true of them; what a disk does with the calls is a premise, and not proved.
-ghost use Rattle.std.specs.Prelude.{◌+◌, ◌<◌, ◌^◌, length, IfOk, IsTrue, OnOk};
+ghost use Rattle.std.specs.Prelude.{◌≡◌, ◌↔◌, ◌+◌, ◌<◌, ◌^◌, length, IfOk, IsNone, IsTrue, OnOk};
 ghost use Rattle.blot_journal.specs.Device.{Only};
 ghost use Rattle.blot_journal.specs.Calls.{counts_now, failures_in, is_readable_after, leaves_after, left_after, only_now, seen_after};
 
@@ -47,23 +47,25 @@ pub struct FileDevice {
     len: usize,
     // All that was read when it was opened, until the first write.
     read: Vec<u8>,
+    // Why a call failed. From then on none is made.
     failure: Option<io::Error>,
-    record: Record,
+    noted: Record,
 }
 
 impl Model for FileDevice {
-    ghost use Rattle.std.specs.Prelude.{◌≡◌, List, length, true};
-    ghost use Rattle.blot_journal.specs.Calls.{Call, coded_calls, is_readable_after, leaves_after, seen_after};
+    ghost use Rattle.std.specs.Prelude.{◌≡◌, ◌↔◌, IsNone, List, length, true};
+    ghost use Rattle.blot_journal.specs.Calls.{Call, coded_calls, failures_in, is_readable_after, leaves_after, seen_after};
 
     ghost Value = { List Call };
 
     ghost coded = { coded_calls };
 
-    ghost view = { λ device. device.record.calls };
+    ghost view = { λ device. device.noted.calls };
 
-    ghost invariant = { λ device. (device.len ≡ length (seen_after device.record.calls))
-        × (is_readable_after device.record.calls ≡ true → device.read.items ≡ seen_after device.record.calls)
-        × leaves_after device.record.calls (seen_after device.record.calls) };
+    ghost invariant = { λ device. (device.len ≡ length (seen_after device.noted.calls))
+        × (is_readable_after device.noted.calls ≡ true → device.read.items ≡ seen_after device.noted.calls)
+        × leaves_after device.noted.calls (seen_after device.noted.calls)
+        × (IsNone device.failure ↔ (failures_in device.noted.calls ≡ 0)) };
 }
 
 impl FileDevice {
@@ -78,20 +80,22 @@ impl FileDevice {
     {
         file.sync_all()?;
         let read = read_all(alloc, &file)?;
-        let mut record = Record::new();
-        record.note(&[BEGAN, 0, 1], &read);
+        let mut noted = Record::new();
+        noted.note(&[BEGAN, 0, 1], &read);
         Ok(FileDevice {
             alloc,
             file,
             len: read.len(),
             read,
             failure: None,
-            record,
+            noted,
         })
     }
 
-    /// What the system said of the last call that failed.
-    pub fn failure(&self) -> Option<io::Error> {
+    /// What the system said of the first call that failed, where one has failed.
+    pub fn failure(&self) -> Option<io::Error>
+        ensures { IsNone result ↔ (failures_in self.now ≡ 0) }
+    {
         self.failure
     }
 }
@@ -144,16 +148,19 @@ impl Device for FileDevice {
     }
 
     fn write_at(&mut self, at: usize, bytes: &[u8]) -> Result<(), DeviceFault> {
-        let written = write(&self.file, at, bytes);
+        let written = match self.failure {
+            None => write(&self.file, at, bytes),
+            Some(error) => Err(error),
+        };
         self.read = Vec::new(self.alloc);
         match written {
             Ok(()) => {
-                self.record.note(&[WROTE, at as u64, 1], bytes);
+                self.noted.note(&[WROTE, at as u64, 1], bytes);
                 self.len = self.len.max(at + bytes.len());
                 Ok(())
             }
             Err(error) => {
-                self.record.note(&[WROTE, at as u64, 0], bytes);
+                self.noted.note(&[WROTE, at as u64, 0], bytes);
                 self.failure = Some(error);
                 Err(DeviceFault::Failed)
             }
@@ -161,15 +168,19 @@ impl Device for FileDevice {
     }
 
     fn cut(&mut self, len: usize) -> Result<(), DeviceFault> {
-        match self.file.set_len(len as u64) {
+        let cut = match self.failure {
+            None => self.file.set_len(len as u64),
+            Some(error) => Err(error),
+        };
+        match cut {
             Ok(()) => {
-                self.record.note(&[CUT, len as u64, 1], &[]);
+                self.noted.note(&[CUT, len as u64, 1], &[]);
                 self.read.truncate(len);
                 self.len = len;
                 Ok(())
             }
             Err(error) => {
-                self.record.note(&[CUT, len as u64, 0], &[]);
+                self.noted.note(&[CUT, len as u64, 0], &[]);
                 self.failure = Some(error);
                 Err(DeviceFault::Failed)
             }
@@ -177,13 +188,17 @@ impl Device for FileDevice {
     }
 
     fn sync(&mut self) -> Result<(), DeviceFault> {
-        match self.file.sync_data() {
+        let synced = match self.failure {
+            None => self.file.sync_data(),
+            Some(error) => Err(error),
+        };
+        match synced {
             Ok(()) => {
-                self.record.note(&[SYNCED, 0, 1], &[]);
+                self.noted.note(&[SYNCED, 0, 1], &[]);
                 Ok(())
             }
             Err(error) => {
-                self.record.note(&[SYNCED, 0, 0], &[]);
+                self.noted.note(&[SYNCED, 0, 0], &[]);
                 self.failure = Some(error);
                 Err(DeviceFault::Failed)
             }

@@ -1,9 +1,10 @@
 //! An open journal.
 ghost use Rattle.std.specs.Prelude.{◌≡◌, ◌↔◌, ◌+◌, ◌<◌, ◌≤◌, ◌^◌, ◌++◌, [], ℕ, List, false, true, length, take, drop, Err, IfErr, IfOk, IsErrOf, IsOk, IsTrue, OnErr, OnOk};
+ghost use Rattle.std.specs.List.{concat};
 ghost use Rattle.blot_journal.specs.declared.journal.JournalFault.TheVariants.{NoMemory as OutOfMemory};
 ghost use Rattle.blot_journal.specs.Device.{LeavesOnly};
 ghost use Rattle.blot_journal.specs.File.{IsWhole, Stands, StandsBeforeOrAfter, text_of};
-ghost use Rattle.blot_journal.specs.Journal.{text_in_journal, told_by_journal};
+ghost use Rattle.blot_journal.specs.Journal.{StandsAmong, contents, text_in_journal, told_by_journal};
 ghost use Rattle.blot_journal.specs.Recovery.{IsFaultOf, IsLeft, SameOrWas, is_of_file};
 
 use crate::batch::make_durable;
@@ -85,6 +86,9 @@ impl<D: Device> Journal<D> {
         ensures readable { IfOk result (λ journal. IsTrue (D.is_readable journal.device)) }
         ensures whole { OnOk result (IsWhole (D.seen device)) }
 
+        // Nothing is taken up by a device of which a call has failed.
+        ensures unfailed { OnOk result (D.failures device ≡ 0) }
+
         // A crash at any moment leaves the same text, or what the crash before might have left.
         ensures any_moment { IfOk result (λ journal. LeavesOnly D.moment D.left_since device journal.device (SameOrWas (D.seen device) (D.may_leave device))) }
         ensures any_moment_err { IfErr result (λ refused. LeavesOnly D.moment D.left_since device refused.1 (SameOrWas (D.seen device) (D.may_leave device))) }
@@ -157,7 +161,7 @@ impl<D: Device> Journal<D> {
         ensures room { OnOk result (bytes ≤ self.new.room) }
         ensures same { self.new ≡ record self.old { room = self.new.room } }
         ensures broken { IsErrOf result JournalFault.Broken ↔ (self.old.is_broken ≡ true) }
-        ensures full { IsErrOf result JournalFault.Full → 2 ^ 40 < length (text_in_journal D.seen self.old) + length self.old.waiting + bytes }
+        ensures full { IsErrOf result JournalFault.Full ↔ (self.old.is_broken ≡ false) × (0 < bytes) × (2 ^ 40 < length (text_in_journal D.seen self.old) + length self.old.waiting + bytes) }
         ensures failed { IsErrOf result JournalFault.Failed → ⊥ }
     {
         if self.is_broken {
@@ -207,6 +211,7 @@ impl<D: Device> Journal<D> {
 
         // An error has a cause.
         ensures failed { IsErrOf result JournalFault.Failed → D.failures self.old.device < D.failures self.new.device }
+        ensures no_fewer { D.failures self.old.device ≤ D.failures self.new.device }
         ensures was_broken { IsErrOf result JournalFault.Broken → self.old.is_broken ≡ true }
         ensures full { IsErrOf result JournalFault.Full → ⊥ }
     {
@@ -224,5 +229,47 @@ impl<D: Device> Journal<D> {
         self.waiting.clear();
         self.is_broken = false;
         Ok(())
+    }
+
+    /// Appends batches, and makes each durable before the next. A fault tells how many are durable. A crash at any moment leaves the text from before
+    /// the call with the first of the batches behind it, each of them whole, and never fewer than were durable then.
+    pub fn append_each(&mut self, batches: &[&[u8]]) -> Result<(), (usize, JournalFault)>
+        requires unbroken { self.old.is_broken ≡ false }
+        requires none_waiting { self.old.waiting ≡ [] }
+        ensures text { OnOk result (text_in_journal D.seen self.new ≡ text_in_journal D.seen self.old ++ concat (contents batches.now)) }
+        ensures open { OnOk result (self.new.is_broken ≡ false) }
+        ensures any_moment { LeavesOnly D.moment D.left_since self.old.device self.new.device (StandsAmong (text_in_journal D.seen self.old) (contents batches.now) 0) }
+        ensures all { OnOk result ((file : List ℕ) → D.may_leave self.new.device file → StandsAmong (text_in_journal D.seen self.old) (contents batches.now) (length batches.now) file) }
+        ensures never_fewer { IfErr result (λ stopped. (file : List ℕ) → D.may_leave self.new.device file → StandsAmong (text_in_journal D.seen self.old) (contents batches.now) stopped.0 file) }
+        ensures cause { IfErr result (λ stopped. stopped.1 ≡ JournalFault.Failed → D.failures self.old.device < D.failures self.new.device) }
+    {
+        // It is known that a crash now leaves the text.
+        let _ = &self.device;
+        let mut durable = 0;
+        for batch in batches {
+            if let Err(fault) = self.append_durable(batch) {
+                return Err((durable, fault));
+            }
+            durable += 1;
+        }
+        Ok(())
+    }
+
+    // Appends a batch, and makes it durable.
+    fn append_durable(&mut self, batch: &[u8]) -> Result<(), JournalFault>
+        requires unbroken { self.old.is_broken ≡ false }
+        requires none_waiting { self.old.waiting ≡ [] }
+        requires crash { (file : List ℕ) → D.may_leave self.old.device file → Stands (text_in_journal D.seen self.old) file }
+        ensures text { OnOk result (text_in_journal D.seen self.new ≡ text_in_journal D.seen self.old ++ batch.now) }
+        ensures waiting { OnOk result (self.new.waiting ≡ []) }
+        ensures open { OnOk result (self.new.is_broken ≡ false) }
+        ensures crash { OnOk result ((file : List ℕ) → D.may_leave self.new.device file → Stands (text_in_journal D.seen self.new) file) }
+        ensures any_moment { LeavesOnly D.moment D.left_since self.old.device self.new.device (StandsBeforeOrAfter (text_in_journal D.seen self.old) batch.now) }
+        ensures no_fewer { D.failures self.old.device ≤ D.failures self.new.device }
+        ensures cause { IsErrOf result JournalFault.Failed → D.failures self.old.device < D.failures self.new.device }
+    {
+        self.reserve(batch.len())?;
+        self.append(batch);
+        self.sync()
     }
 }

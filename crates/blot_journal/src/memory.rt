@@ -1,7 +1,7 @@
 //! A file in memory, for tests.
-ghost use Rattle.std.specs.Prelude.{◌≡◌, ◌≤◌, [], ◌∷◌, List, length, true, IfOk};
+ghost use Rattle.std.specs.Prelude.{◌≡◌, ◌≤◌, [], ◌∷◌, List, Some, length, true, IfOk, IsTrue};
 ghost use Rattle.blot_journal.specs.Device.{Holds};
-ghost use Rattle.blot_journal.specs.Calls.{counts_now, failures_in, leaves_after, left_after, only_now, seen_after};
+ghost use Rattle.blot_journal.specs.Calls.{counts_now, durable_after, failures_in, leaves_after, left_after, only_now, seen_after};
 ghost use Rattle.blot_journal.specs.Calls.Call.{Began};
 
 use crate::record::{BEGAN, CUT, READ, Record, SYNCED, WROTE};
@@ -26,36 +26,39 @@ pub struct MemoryDevice {
     durable: Vec<u8>,
     changes: Vec<Change>,
     fails_in: Option<u64>,
-    record: Record,
+    noted: Record,
 }
 
 impl Model for MemoryDevice {
-    ghost use Rattle.std.specs.Prelude.{◌≡◌, List};
-    ghost use Rattle.blot_journal.specs.Calls.{Call, coded_calls, leaves_after, seen_after};
+    ghost use Rattle.std.specs.Prelude.{◌≡◌, ◌<◌, List, Some};
+    ghost use Rattle.blot_journal.specs.Calls.{Call, coded_calls, durable_after, failures_in, leaves_after, seen_after};
 
     ghost Value = { List Call };
 
     ghost coded = { coded_calls };
 
-    ghost view = { λ device. device.record.calls };
+    ghost view = { λ device. device.noted.calls };
 
-    ghost invariant = { λ device. (device.bytes.items ≡ seen_after device.record.calls) × leaves_after device.record.calls (seen_after device.record.calls) };
+    ghost invariant = { λ device. (device.bytes.items ≡ seen_after device.noted.calls)
+        × (device.durable.items ≡ durable_after device.noted.calls)
+        × leaves_after device.noted.calls (seen_after device.noted.calls)
+        × (0 < failures_in device.noted.calls → device.fails_in ≡ Some 0) };
 }
 
 impl MemoryDevice {
-    /// A file with these bytes, all of them on the disk. No call of it fails, or the one after so many.
+    /// A file with these bytes, all of them on the disk. No call of it fails, or each one after so many.
     pub fn new(alloc: Global, bytes: &[u8], fails_in: Option<u64>) -> Result<MemoryDevice, NoMemory>
         ensures { IfOk result (λ device. device ≡ Began bytes.now ∷ []) }
     {
-        let mut record = Record::new();
-        record.note(&[BEGAN, 0, 1], bytes);
+        let mut noted = Record::new();
+        noted.note(&[BEGAN, 0, 1], bytes);
         Ok(MemoryDevice {
             alloc,
             bytes: bytes.to_vec(alloc)?,
             durable: bytes.to_vec(alloc)?,
             changes: Vec::new(alloc),
             fails_in,
-            record,
+            noted,
         })
     }
 
@@ -67,7 +70,9 @@ impl MemoryDevice {
     }
 
     /// The bytes as they were at the last sync.
-    pub fn durable(&self) -> &[u8] {
+    pub fn durable(&self) -> &[u8]
+        ensures { result.now ≡ durable_after self.now }
+    {
         &self.durable
     }
 
@@ -77,8 +82,11 @@ impl MemoryDevice {
     }
 }
 
-// Whether this call is the one that fails.
-fn is_due(fails_in: &mut Option<u64>) -> bool {
+// Whether this call fails: the chosen one, and each after it.
+fn is_due(fails_in: &mut Option<u64>) -> bool
+    ensures due { IsTrue result → fails_in.new ≡ Some 0 }
+    ensures stays { fails_in.old ≡ Some 0 → IsTrue result }
+{
     match *fails_in {
         None => false,
         Some(0) => true,
@@ -125,10 +133,10 @@ impl Device for MemoryDevice {
 
     fn read_at(&mut self, at: usize, buffer: &mut [u8]) -> Result<(), DeviceFault> {
         if is_due(&mut self.fails_in) {
-            self.record.note(&[READ, 0, 0], &[]);
+            self.noted.note(&[READ, 0, 0], &[]);
             return Err(DeviceFault::Failed);
         }
-        self.record.note(&[READ, 0, 1], &[]);
+        self.noted.note(&[READ, 0, 1], &[]);
         buffer.copy_from_slice(&self.bytes[at..at + buffer.len()]);
         Ok(())
     }
@@ -139,10 +147,10 @@ impl Device for MemoryDevice {
         self.changes.reserve(1)?;
         self.changes.push_reserved(change);
         if is_due(&mut self.fails_in) {
-            self.record.note(&[WROTE, at as u64, 0], bytes);
+            self.noted.note(&[WROTE, at as u64, 0], bytes);
             return Err(DeviceFault::Failed);
         }
-        self.record.note(&[WROTE, at as u64, 1], bytes);
+        self.noted.note(&[WROTE, at as u64, 1], bytes);
         self.bytes = next;
         Ok(())
     }
@@ -151,10 +159,10 @@ impl Device for MemoryDevice {
         self.changes.reserve(1)?;
         self.changes.push_reserved(Change::Cut(len));
         if is_due(&mut self.fails_in) {
-            self.record.note(&[CUT, len as u64, 0], &[]);
+            self.noted.note(&[CUT, len as u64, 0], &[]);
             return Err(DeviceFault::Failed);
         }
-        self.record.note(&[CUT, len as u64, 1], &[]);
+        self.noted.note(&[CUT, len as u64, 1], &[]);
         self.bytes.truncate(len);
         Ok(())
     }
@@ -162,10 +170,10 @@ impl Device for MemoryDevice {
     fn sync(&mut self) -> Result<(), DeviceFault> {
         let durable = self.bytes.to_vec(self.alloc)?;
         if is_due(&mut self.fails_in) {
-            self.record.note(&[SYNCED, 0, 0], &[]);
+            self.noted.note(&[SYNCED, 0, 0], &[]);
             return Err(DeviceFault::Failed);
         }
-        self.record.note(&[SYNCED, 0, 1], &[]);
+        self.noted.note(&[SYNCED, 0, 1], &[]);
         self.durable = durable;
         self.changes.clear();
         Ok(())

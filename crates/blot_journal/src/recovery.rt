@@ -56,6 +56,7 @@ pub(crate) fn recover<D: Device>(alloc: Global, device: &mut D) -> Result<Counte
     ensures durable { OnOk result (Only (D.seen device.new) (D.may_leave device.new)) }
     ensures readable { D.is_readable device.new ≡ D.is_readable device.old }
     ensures whole { OnOk result (IsWhole (D.seen device.old)) }
+    ensures unfailed { OnOk result (D.failures device.old ≡ 0) }
     ensures any_moment { LeavesOnly D.moment D.left_since device.old device.new (SameOrWas (D.seen device.old) (D.may_leave device.old)) }
     ensures refused { IfErr result (IsFaultOf (D.seen device.old)) }
     ensures untouched { IfErr result (λ fault. IsTrue (is_of_file fault) → IsLeft D.seen D.may_leave D.moment D.left_since device.old device.new) }

@@ -1,10 +1,11 @@
 -- What is told of lines at a desk of any kind, as the bytes of an input come.
-use Rattle.std.proofs.Common.{◌≡◌, ◌≢◌, ℕ, ◌+◌, List, [], ◌∷◌, ◌++◌, length, take, Option, Some, None, Result, Ok, Err, refl, sym, ap, ◌∙◌, subst, inl, inr, arith}
+use Rattle.std.proofs.Common.{◌≡◌, ◌≢◌, ℕ, ◌+◌, Bool, true, false, List, [], ◌∷◌, ◌++◌, length, take, Option, Some, None, Result, Ok, Err, refl, sym, ap, ◌∙◌, subst, inl, inr, arith}
 use Rattle.std.specs.Prelude.{◌==◌, nat_le, IfOk, OnErr, if◌then◌else◌}
 use Rattle.std.specs.Io.KnownBytes.{Appends}
+use Rattle.std.specs.List.{list_any}
 use Rattle.std.proofs.KnownBytes.{Appends-nil, Appends-trans, Keeps-refl}
 use Rattle.std.proofs.lemmas.Bool.{cases_Bool, leb-true, leb-false, lt-leb}
-use Rattle.std.proofs.lemmas.List.{append-nil, take_all, length-take-le, flat_map_more}
+use Rattle.std.proofs.lemmas.List.{append_assoc, append-nil, take_all, length-take-le, flat_map_more}
 use Rattle.blot_types.specs.declared.refused.Refused.{Refused}
 use Rattle.blot_types.specs.Legal.{refusal_of}
 use Rattle.blot_desk.specs.declared.event.Event.{Event}
@@ -14,13 +15,17 @@ use Rattle.blot_desk.specs.declared.fault.DeskFault.{DeskFault}
 use Rattle.blot_desk.specs.Desk.{DeskBook, IsReply, run_of, step_of, submit_by, undo_by, redo_by}
 use Rattle.blot_console.specs.declared.parsing.TheConstants.{LINE_MAX}
 use Rattle.blot_console.specs.declared.answer.Answer.{Answer}
+use Rattle.blot_console.specs.declared.fault.LineFault.{LineFault}
+use Rattle.blot_console.specs.declared.open_day.DayAsk.{DayAsk}
 use Rattle.blot_console.specs.Answers.{CanBeTold, answer_text}
 use Rattle.blot_console.specs.Parsing.{parsed, ask_of, told}
 use Rattle.blot_operator.specs.declared.answering.Asked.TheVariants as asks
-use Rattle.blot_operator.specs.Dialogue.{Ways, AnswersAsk, AnswersLine, TellsLine, TellsFront, StopsAtLine, AnswersLines, TellsLines, StopsAmong, HasTold}
+use Rattle.blot_operator.specs.Dialogue.{Ways, AnswersAsk, AnswersBy, AnswersLine, TellsLine, TellsFront, StopsAtLine, AnswersLines, TellsLines, StopsAmong, HasTold, Closes, ComesOn}
 use Rattle.blot_operator.specs.Lines.{lines_of, split_of, kept}
+use Rattle.blot_operator.specs.OpenDay.{closes_by, day_ask_by, heard_by}
 use Rattle.blot_operator.specs.Operating.{asked_by, with_key}
 use Rattle.blot_operator.proofs.LineLemmas.{last_line, onto, lines_of-append, lines_of-ended, lines_of-last, split_of-end, split_of-more, kept-nil, kept-none, kept-byte, lines_of-begun}
+use Rattle.blot_operator.proofs.OpenDayLemmas.{heard-all, heard-last, heard-close, still-open, closed-in, day_ask-kept, closes-kept}
 
 pub OnErr-always : {T E P : Type 0} (result : Result T E) → P → OnErr result P
 OnErr-always (Ok value) p = tt
@@ -73,11 +78,19 @@ parsed-kept : (line : List ℕ) → parsed (kept line) ≡ parsed line
 unfolding parsed
 parsed-kept line = ap told (ask_of-kept line)
 
+by-kept : {S : Type 0} (ways : Ways S) (before : S) (asked : Option (Result DayAsk LineFault)) (line : List ℕ) (answer : Answer) (after : S)
+    → AnswersBy ways before asked (kept line) answer after → AnswersBy ways before asked line answer after
+by-kept ways before (Some asked) line answer after answered = answered
+by-kept ways before None line answer after answered = subst (λ ask. AnswersAsk ways before ask answer after) (parsed-kept line) answered
+
 module _ {S : Type 0} {ways : Ways S} where
   answers-kept : (before : S) (line : List ℕ) (answer : Answer) (after : S)
       → AnswersLine ways before (kept line) answer after → AnswersLine ways before line answer after
   answers-kept before line answer after answered =
-      record { ask = subst (λ ask. AnswersAsk ways before ask answer after) (parsed-kept line) answered.ask }
+      record {
+        ask = by-kept ways before (day_ask_by ways.is_open line) line answer after
+            (subst (λ asked. AnswersBy ways before asked (kept line) answer after) (day_ask-kept ways.is_open line) answered.ask);
+      }
 
   tells-kept : (before : S) (line : List ℕ) (after : S) (old new : Option (List ℕ))
       → TellsLine ways before (kept line) after old new → TellsLine ways before line after old new
@@ -127,7 +140,7 @@ module _ {S : Type 0} {ways : Ways S} where
 
   -- nothing has come yet
   pub HasTold-init : (start : S) (line : List ℕ) (contents : Option (List ℕ)) → line ≡ [] → HasTold ways start [] line start contents contents
-  HasTold-init start line contents none = record { told = tells-none start contents; line_is = none ∙ sym kept-nil }
+  HasTold-init start line contents none = record { told = tells-none start contents; none_closes = refl; line_is = none ∙ sym kept-nil }
 
   -- a byte that doesn't end the line
   pub HasTold-more : (start : S) (bytes old new : List ℕ) (byte : ℕ) (held : S) (before after : Option (List ℕ)) → byte ≢ 10
@@ -137,6 +150,7 @@ module _ {S : Type 0} {ways : Ways S} where
       let split = sym (split_of-more bytes byte other) in
       record {
         told = subst (λ split. TellsLines ways start split.ended held before after) split has.told;
+        none_closes = subst (λ split. list_any (closes_by ways.is_open) split.ended ≡ false) split has.none_closes;
         line_is = subst (λ split. new ≡ kept split.begun) split
             (is ∙ ap (λ line. if nat_le (length line) LINE_MAX then line ++ byte ∷ [] else line) has.line_is ∙ kept-byte (split_of bytes).begun byte);
       }
@@ -149,32 +163,65 @@ module _ {S : Type 0} {ways : Ways S} where
       tells-line start (split_of bytes).ended held (split_of bytes).begun new before mid after has.told
       (tells-kept held (split_of bytes).begun new mid after (subst (λ line. TellsLine ways held line new mid after) has.line_is tells))
 
+  -- whether what is kept of a line closes the day says whether the line does
+  begun-closes : (start : S) (bytes line : List ℕ) (held : S) (before mid : Option (List ℕ)) (closed : Bool)
+      → HasTold ways start bytes line held before mid → closed ≡ closes_by ways.is_open line → closes_by ways.is_open (split_of bytes).begun ≡ closed
+  begun-closes start bytes line held before mid closed has is =
+      sym (is ∙ ap (closes_by ways.is_open) has.line_is ∙ closes-kept ways.is_open (split_of bytes).begun)
+
   -- LF ends the line
-  pub HasTold-end : (start : S) (bytes line cleared : List ℕ) (held new : S) (before mid after : Option (List ℕ))
-      → HasTold ways start bytes line held before mid → TellsLine ways held line new mid after
+  HasTold-end : (start : S) (bytes line cleared : List ℕ) (held new : S) (before mid after : Option (List ℕ))
+      → HasTold ways start bytes line held before mid → TellsLine ways held line new mid after → false ≡ closes_by ways.is_open line
       → cleared ≡ [] → HasTold ways start (bytes ++ 10 ∷ []) cleared new before after
-  HasTold-end start bytes line cleared held new before mid after has tells none =
+  HasTold-end start bytes line cleared held new before mid after has tells goes_on none =
       let split = sym (split_of-end bytes) in
       record {
         told = subst (λ split. TellsLines ways start split.ended new before after) split (HasTold-line start bytes line held new before mid after has tells);
+        none_closes = subst (λ split. list_any (closes_by ways.is_open) split.ended ≡ false) split
+            (still-open ways.is_open (split_of bytes).ended (split_of bytes).begun has.none_closes (begun-closes start bytes line held before mid false has goes_on));
         line_is = subst (λ split. cleared ≡ kept split.begun) split (none ∙ sym kept-nil);
       }
+
+  -- and closes the day, or doesn't
+  closes-at : (start : S) (bytes more line : List ℕ) (held new : S) (before mid after : Option (List ℕ))
+      → HasTold ways start bytes line held before mid → TellsLine ways held line new mid after → true ≡ closes_by ways.is_open line
+      → Closes ways start (lines_of (bytes ++ 10 ∷ more)) new before after
+  closes-at start bytes more line held new before mid after has tells is =
+      let ended = (split_of bytes).ended in
+      let begun = (split_of bytes).begun in
+      let closed = begun-closes start bytes line held before mid true has is in
+      subst (λ lines. Closes ways start lines new before after) (sym (lines_of-ended bytes more)) (record {
+        told = subst (λ lines. TellsLines ways start lines new before after) (sym (heard-close ways.is_open ended begun (lines_of more) has.none_closes closed))
+            (HasTold-line start bytes line held new before mid after has tells);
+        closed = closed-in ways.is_open ended begun (lines_of more) closed;
+      })
+
+  pub comes-end : (closed : Bool) (line cleared : List ℕ) (held new : S) (mid after : Option (List ℕ))
+      → TellsLine ways held line new mid after → closed ≡ closes_by ways.is_open line → cleared ≡ []
+      → ComesOn closed ways (10 ∷ []) line held mid cleared new after
+  comes-end false line cleared held new mid after tells is none = λ start bytes before has.
+      HasTold-end start bytes line cleared held new before mid after has tells is none
+  comes-end true line cleared held new mid after tells is none = λ start bytes more before has.
+      subst (λ all. Closes ways start (lines_of all) new before after) (sym (append_assoc bytes (10 ∷ []) more))
+      (closes-at start bytes more line held new before mid after has tells is)
 
   -- the input ends, and the line that has begun with it
   pub HasTold-last : (start : S) (bytes line : List ℕ) (held new : S) (before mid after : Option (List ℕ)) → line ≢ []
       → HasTold ways start bytes line held before mid → TellsLine ways held line new mid after
-      → TellsLines ways start (lines_of bytes) new before after
+      → TellsLines ways start (heard_by ways.is_open (lines_of bytes)) new before after
   HasTold-last start bytes line held new before mid after some has tells =
-      subst (λ lines. TellsLines ways start lines new before after) (sym (lines_of-begun bytes line some has.line_is))
+      subst (λ lines. TellsLines ways start lines new before after)
+      (sym (ap (heard_by ways.is_open) (lines_of-begun bytes line some has.line_is) ∙ heard-last ways.is_open (split_of bytes).ended (split_of bytes).begun has.none_closes))
       (HasTold-line start bytes line held new before mid after has tells)
 
   -- the input ends, and no line has begun
   pub HasTold-done : (start : S) (bytes line : List ℕ) (held : S) (before after : Option (List ℕ)) → line ≡ []
-      → HasTold ways start bytes line held before after → TellsLines ways start (lines_of bytes) held before after
+      → HasTold ways start bytes line held before after → TellsLines ways start (heard_by ways.is_open (lines_of bytes)) held before after
   HasTold-done start bytes line held before after none has =
       let nothing : (split_of bytes).begun ≡ [] = kept-none (split_of bytes).begun (sym has.line_is ∙ none) in
       subst (λ lines. TellsLines ways start lines held before after)
-      (sym (lines_of-last bytes ∙ ap (λ begun. (split_of bytes).ended ++ last_line begun) nothing ∙ append-nil (split_of bytes).ended))
+      (sym (ap (heard_by ways.is_open) (lines_of-last bytes ∙ ap (λ begun. (split_of bytes).ended ++ last_line begun) nothing ∙ append-nil (split_of bytes).ended)
+      ∙ heard-all ways.is_open (split_of bytes).ended has.none_closes))
       has.told
 
   -- ---- a stop
@@ -188,6 +235,7 @@ module _ {S : Type 0} {ways : Ways S} where
         taken = None;
         left = onto (split_of bytes).begun (lines_of more);
         lines_are = sym (lines_of-append bytes more);
+        none_closes = has.none_closes;
         between = held;
         written = after;
         told = has.told;
@@ -204,6 +252,7 @@ module _ {S : Type 0} {ways : Ways S} where
         taken = None;
         left = (split_of bytes).begun ∷ rest;
         lines_are = refl;
+        none_closes = has.none_closes;
         between = held;
         written = mid;
         told = has.told;
@@ -215,6 +264,7 @@ module _ {S : Type 0} {ways : Ways S} where
         taken = Some (split_of bytes).begun;
         left = rest;
         lines_are = refl;
+        none_closes = has.none_closes;
         between = held;
         written = mid;
         told = has.told;

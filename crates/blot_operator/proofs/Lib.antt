@@ -1,3 +1,4 @@
 mod DialogueLemmas
 mod LineLemmas
+mod OpenDayLemmas
 mod OperatingLemmas

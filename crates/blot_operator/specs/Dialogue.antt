@@ -1,8 +1,8 @@
 -- What is told at a desk, one's own or one of many: each line is answered by what the desk replies, and its answer is told before
 -- the next line is taken. Source: this project's rule.
-use Rattle.std.specs.Prelude.{◌≡◌, ◌↔◌, ℕ, ℤ, List, [], ◌∷◌, ◌++◌, length, IsTrue, IfOk, IfSome, OnOk, OnErr, Option, Some, None, option_to_list, Result, Ok, Err, ◌⊎◌}
+use Rattle.std.specs.Prelude.{◌≡◌, ◌↔◌, ℕ, ℤ, Bool, true, false, List, [], ◌∷◌, ◌++◌, length, IsTrue, IfOk, IfSome, OnOk, OnErr, Option, Some, None, option_to_list, Result, Ok, Err, ◌⊎◌}
 use Rattle.std.specs.Io.KnownBytes.{Appends, Keeps}
-use Rattle.std.specs.List.{flat_map}
+use Rattle.std.specs.List.{flat_map, list_any}
 use Rattle.blot_types.specs.declared.command.Command.TheVariants.{Withdraw}
 use Rattle.blot_types.specs.declared.command.Entry.{Entry}
 use Rattle.blot_types.specs.declared.TheConstants.{EVENTS_MAX}
@@ -24,9 +24,13 @@ use Rattle.blot_console.specs.declared.answer.Answer.TheVariants as answers
 use Rattle.blot_console.specs.declared.ask.Ask.{Ask}
 use Rattle.blot_console.specs.declared.ask.Ask.TheVariants as asks
 use Rattle.blot_console.specs.declared.fault.LineFault.{LineFault}
+use Rattle.blot_console.specs.declared.open_day.DayAsk.{DayAsk}
+use Rattle.blot_console.specs.declared.open_day.DayAsk.TheVariants as day
+use Rattle.blot_console.specs.declared.open_day.SessionLine.{SessionLine}
 use Rattle.blot_console.specs.Answers.{answer_text}
 use Rattle.blot_console.specs.Parsing.{parsed}
 use Rattle.blot_operator.specs.Lines.{split_of, kept, lines_of}
+use Rattle.blot_operator.specs.OpenDay.{closes_by, day_ask_by, heard_by}
 use Rattle.blot_operator.specs.Operating.{asked_by, with_key}
 
 -- the ways of a desk, as far as an operator sees them
@@ -39,6 +43,8 @@ pub record Ways (S : Type 0) : Type 1 where
   pub shows : S → List Entry → Type 0
   -- what it may find to a question
   pub finds : S → Question → Found → Type 0
+  -- whether the day is open
+  pub is_open : Bool
 
 -- ---- one line
 
@@ -98,9 +104,26 @@ AnswersAsk ways before (Ok (asks.Orders peer)) answer after = (after ≡ before)
 AnswersAsk ways before (Ok (asks.Positions account)) answer after = (after ≡ before) × AnswersPositions ways before account answer
 AnswersAsk ways before (Err fault) answer after = (after ≡ before) × (answer ≡ answers.Bad fault)
 
+-- what a line asks of an open day, or its fault, is answered; which sessions are told isn't said
+abbrev pub AnswersDay : Result DayAsk LineFault → Answer → Type 0
+AnswersDay (Ok day.Close) answer = answer ≡ answers.Closed
+AnswersDay (Ok day.Sessions) answer = (sessions : List SessionLine) × (answer ≡ answers.Sessions sessions)
+AnswersDay (Err fault) answer = answer ≡ answers.Bad fault
+
+-- a day answers the lines that only an open day knows, and no other
+abbrev pub IsByDay : Option (Result DayAsk LineFault) → Option Answer → Type 0
+IsByDay (Some asked) (Some answer) = AnswersDay asked answer
+IsByDay None None = Unit {0}
+IsByDay _ _ = ⊥
+
+-- a line that only an open day knows is answered by the day, and submits nothing; every other line asks the desk
+abbrev pub AnswersBy : {S : Type 0} → Ways S → S → Option (Result DayAsk LineFault) → List ℕ → Answer → S → Type 0
+AnswersBy ways before (Some asked) line answer after = (after ≡ before) × AnswersDay asked answer
+AnswersBy ways before None line answer after = AnswersAsk ways before (parsed line) answer after
+
 -- a line is answered
 pub record AnswersLine {S : Type 0} (ways : Ways S) (before : S) (line : List ℕ) (answer : Answer) (after : S) : Type 0 where
-  pub ask : AnswersAsk ways before (parsed line) answer after
+  pub ask : AnswersBy ways before (day_ask_by ways.is_open line) line answer after
 
 -- and the answer is written
 pub record TellsLine {S : Type 0} (ways : Ways S) (before : S) (line : List ℕ) (after : S) (old new : Option (List ℕ)) : Type 0 where
@@ -140,26 +163,43 @@ pub record TellsLines {S : Type 0} (ways : Ways S) (before : S) (lines : List (L
   pub answered : AnswersLines ways before lines told after
   pub written : Appends old new (flat_map answer_text told)
 
--- the lines stop among these: so many are told, and at most one more is taken
+-- the lines stop among these: so many are told, none of which closes the day, and at most one more is taken
 pub record StopsAmong {S : Type 0} (ways : Ways S) (before : S) (lines : List (List ℕ)) (after : S) (old new : Option (List ℕ)) : Type 0 where
   pub front : List (List ℕ)
   pub taken : Option (List ℕ)
   pub left : List (List ℕ)
   pub lines_are : front ++ (option_to_list taken ++ left) ≡ lines
+  pub none_closes : list_any (closes_by ways.is_open) front ≡ false
   pub between : S
   pub written : Option (List ℕ)
   pub told : TellsLines ways before front between old written
   pub stops : Stops ways between taken after written new
 
--- the bytes of an input that came: each line that they end is told, and what they begin is kept
+-- the bytes of an input that came: each line that they end is told, none of them closes the day, and what they begin is kept
 pub record HasTold {S : Type 0} (ways : Ways S) (before : S) (bytes line : List ℕ) (after : S) (old new : Option (List ℕ)) : Type 0 where
   pub told : TellsLines ways before (split_of bytes).ended after old new
+  pub none_closes : list_any (closes_by ways.is_open) (split_of bytes).ended ≡ false
   pub line_is : line ≡ kept (split_of bytes).begun
 
 -- a piece of an input comes: whatever came before it, each line is told, and what begins is kept
 abbrev pub TellsOn : {S : Type 0} → Ways S → List ℕ → List ℕ → S → Option (List ℕ) → List ℕ → S → Option (List ℕ) → Type 0
 TellsOn {S = S} ways piece line state old line_after state_after new = (start : S) (bytes : List ℕ) (before : Option (List ℕ))
     → HasTold ways start bytes line state before old → HasTold ways start (bytes ++ piece) line_after state_after before new
+
+-- a line closes the day: those that are heard are told, it among them
+pub record Closes {S : Type 0} (ways : Ways S) (before : S) (lines : List (List ℕ)) (after : S) (old new : Option (List ℕ)) : Type 0 where
+  pub told : TellsLines ways before (heard_by ways.is_open lines) after old new
+  pub closed : list_any (closes_by ways.is_open) lines ≡ true
+
+-- or a line of the piece closes the day, whatever comes after it
+abbrev pub ClosesOn : {S : Type 0} → Ways S → List ℕ → List ℕ → S → Option (List ℕ) → S → Option (List ℕ) → Type 0
+ClosesOn {S = S} ways piece line state old state_after new = (start : S) (bytes more : List ℕ) (before : Option (List ℕ))
+    → HasTold ways start bytes line state before old → Closes ways start (lines_of ((bytes ++ piece) ++ more)) state_after before new
+
+-- what comes of a piece, by whether the day is closed then
+abbrev pub ComesOn : {S : Type 0} → Bool → Ways S → List ℕ → List ℕ → S → Option (List ℕ) → List ℕ → S → Option (List ℕ) → Type 0
+ComesOn false ways piece line state old line_after state_after new = TellsOn ways piece line state old line_after state_after new
+ComesOn true ways piece line state old line_after state_after new = ClosesOn ways piece line state old state_after new
 
 -- or the lines stop, whatever comes after it
 abbrev pub StopsOn : {S : Type 0} → Ways S → List ℕ → List ℕ → S → Option (List ℕ) → S → Option (List ℕ) → Type 0
@@ -169,20 +209,23 @@ StopsOn {S = S} ways piece line state old state_after new = (start : S) (bytes m
 -- an input ends: whatever came before, its lines are told, with the one that has begun; or they stop
 abbrev pub TellsLast : {S : Type 0} → Ways S → List ℕ → S → Option (List ℕ) → S → Option (List ℕ) → Type 0
 TellsLast {S = S} ways line state old state_after new = (start : S) (bytes : List ℕ) (before : Option (List ℕ))
-    → HasTold ways start bytes line state before old → TellsLines ways start (lines_of bytes) state_after before new
+    → HasTold ways start bytes line state before old → TellsLines ways start (heard_by ways.is_open (lines_of bytes)) state_after before new
 
 abbrev pub StopsLast : {S : Type 0} → Ways S → List ℕ → S → Option (List ℕ) → S → Option (List ℕ) → Type 0
 StopsLast {S = S} ways line state old state_after new = (start : S) (bytes : List ℕ) (before : Option (List ℕ))
     → HasTold ways start bytes line state before old → StopsAmong ways start (lines_of bytes) state_after before new
 
--- the lines of an input are told, or they stop, where its bytes are known
+-- the lines of an input are told, or those that are heard are, or they stop, where its bytes are known
 abbrev pub TellsOf : {S : Type 0} → Ways S → S → Option (List ℕ) → S → Option (List ℕ) → Option (List ℕ) → Type 0
 TellsOf ways before known after old new = IfSome known (λ bytes. TellsLines ways before (lines_of bytes) after old new)
+
+abbrev pub HeardOf : {S : Type 0} → Ways S → S → Option (List ℕ) → S → Option (List ℕ) → Option (List ℕ) → Type 0
+HeardOf ways before known after old new = IfSome known (λ bytes. TellsLines ways before (heard_by ways.is_open (lines_of bytes)) after old new)
 
 abbrev pub StopsOf : {S : Type 0} → Ways S → S → Option (List ℕ) → S → Option (List ℕ) → Option (List ℕ) → Type 0
 StopsOf ways before known after old new = IfSome known (λ bytes. StopsAmong ways before (lines_of bytes) after old new)
 
--- ---- two kinds of desk
+-- ---- kinds of desk
 
 -- an event at a desk of one's own
 pub record OwnStep (before : Journal) (event : Event) (given : Result Reply DeskFault) (after : Journal) : Type 0 where
@@ -202,6 +245,7 @@ own_ways = record {
   newest = λ journal. newest_entry_of journal.book.list;
   shows = OwnList;
   finds = λ journal question found. found ≡ found_of journal question;
+  is_open = false;
 }
 
 -- an event of a seat at a desk of many: a reply adds the receipt of it, and a fault none
@@ -215,4 +259,8 @@ SeatList receipts list = IsTrue (is_book list)
 
 -- the ways of a seat; to a question it may find what a desk held after some events: that of the moment, which others change
 abbrev pub seat_ways : Ways (List Receipt)
-seat_ways = record { steps = SeatStep; newest = newest_of; shows = SeatList; finds = λ receipts. IsFound }
+seat_ways = record { steps = SeatStep; newest = newest_of; shows = SeatList; finds = λ receipts. IsFound; is_open = false }
+
+-- the ways of a seat on an open day
+abbrev pub open_ways : Ways (List Receipt)
+open_ways = record { steps = SeatStep; newest = newest_of; shows = SeatList; finds = λ receipts. IsFound; is_open = true }

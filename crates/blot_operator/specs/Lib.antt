@@ -1,3 +1,4 @@
 pub mod Dialogue
 pub mod Lines
+pub mod OpenDay
 pub mod Operating

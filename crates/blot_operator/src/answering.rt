@@ -1,8 +1,9 @@
 //! The answer to a line of an operator.
-ghost use Rattle.std.specs.Prelude.{◌≡◌, ◌≢◌, None, IsOk, OnOk, OnErr, IfOk, Ok, Err};
+ghost use Rattle.std.specs.Prelude.{◌≡◌, ◌≢◌, ◌⊎◌, None, IsOk, OnOk, OnErr, IfOk, Ok, Err};
 ghost use Rattle.blot_console.specs.Answers.{CanBeTold};
 ghost use Rattle.blot_console.specs.Parsing.{parsed};
 ghost use Rattle.blot_operator.specs.Dialogue.{AnswersEvent, AnswersMine, AnswersAsk, AnswersLine, AnswersOrders, AnswersPositions, AnswersReport, Declines, TellsLine, StopsAtLine};
+ghost use Rattle.blot_operator.specs.OpenDay.{AsksDay, closes_by, day_ask_by, is_closed};
 ghost use Rattle.blot_operator.specs.Operating.{asked_by, with_key};
 
 use crate::operated::Operated;
@@ -23,25 +24,34 @@ enum Asked {
     Nothing,
 }
 
-/// Answers a line, without its end: it is taken, and its answer is written and flushed.
+/// Answers a line, without its end: it is taken, and its answer is written and flushed. True where it closes the day.
 pub(crate) fn answer_line<D: Operated, W: Write>(
     alloc: Global,
     desk: &D,
     state: &mut D::State,
     output: &mut W,
     line: &[u8],
-) -> Result<(), ReplayFault>
+) -> Result<bool, ReplayFault>
     ensures ok { OnOk result (TellsLine D.ways state.old line.now state.new (W.contents output.old) (W.contents output.new)) }
+    ensures closed { IfOk result (λ closed. closed ≡ closes_by D.ways.is_open line.now) }
     ensures err { OnErr result (StopsAtLine D.ways state.old line.now state.new (W.contents output.old) (W.contents output.new)) }
     ensures never_full { result ≢ Err ReplayFault.Full }
 {
     let answer = answer_to(alloc, desk, state, line)?;
     let text = answer_text(alloc, &answer)?;
-    write_text(output, &text)
+    write_text(output, &text)?;
+    Ok(is_closed(&answer))
 }
 
-// What a line comes to: an event is taken, a report is made, or a fault is told. An error is out of memory, and comes
-// only where the line asks something.
+// Whether an answer is that the day is closed.
+fn is_closed(answer: &Answer) -> bool
+    ensures { result ≡ is_closed answer.now }
+{
+    matches!(answer, Answer::Closed)
+}
+
+// What a line comes to: its day answers it, an event is taken, a report is made, or a fault is told. An error is out of memory,
+// and comes only where the line asks something.
 fn answer_to<D: Operated>(
     alloc: Global,
     desk: &D,
@@ -51,8 +61,11 @@ fn answer_to<D: Operated>(
     ensures ok { IfOk result (λ answer. AnswersLine D.ways state.old line.now answer state.new) }
     ensures tellable { IfOk result CanBeTold }
     ensures err { OnErr result (state.new ≡ state.old) }
-    ensures err_of_an_ask { OnErr result (IsOk (parsed line.now)) }
+    ensures err_of_an_ask { OnErr result (AsksDay (day_ask_by D.ways.is_open line.now) ⊎ IsOk (parsed line.now)) }
 {
+    if let Some(answer) = desk.day_answer(alloc, line)? {
+        return Ok(answer);
+    }
     match parse_line(alloc, line) {
         Ok(ask) => answer_ask(alloc, desk, state, ask),
         Err(LineFault::NoMemory) => Err(NoMemory),

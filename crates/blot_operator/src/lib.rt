@@ -7,4 +7,6 @@ mod lines;
 mod operated;
 mod operating;
 
-pub use operating::{desk_lines, seat_lines};
+pub use blot_console::{Rows, SessionLine};
+pub use operated::OpenDay;
+pub use operating::{desk_lines, open_lines, seat_lines};

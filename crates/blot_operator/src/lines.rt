@@ -1,7 +1,7 @@
 //! The lines of an input, answered as its bytes come.
-ghost use Rattle.std.specs.Prelude.{◌≡◌, ◌≢◌, [], ◌∷◌, ◌++◌, nat_le, length, Err, OnOk, OnErr, if◌then◌else◌};
+ghost use Rattle.std.specs.Prelude.{◌≡◌, ◌≢◌, [], ◌∷◌, ◌++◌, nat_le, length, Err, IfOk, OnOk, OnErr, if◌then◌else◌};
 ghost use Rattle.blot_console.specs.declared.parsing.TheConstants.{LINE_MAX};
-ghost use Rattle.blot_operator.specs.Dialogue.{StopsLast, StopsOn, TellsLast, TellsOn};
+ghost use Rattle.blot_operator.specs.Dialogue.{ComesOn, StopsLast, StopsOn, TellsLast};
 
 use crate::answering::answer_line;
 use crate::operated::Operated;
@@ -10,7 +10,8 @@ use blot_stream::ReplayFault;
 use std::alloc::{AllocError as NoMemory, Global};
 use std::io::Write;
 
-/// Takes a piece of an input after the line that has begun: each line that the piece ends is answered.
+/// Takes a piece of an input after the line that has begun: each line that the piece ends is answered, up to one that closes the
+/// day. True where one does.
 pub(crate) fn answer_piece<D: Operated, W: Write>(
     alloc: Global,
     desk: &D,
@@ -18,17 +19,20 @@ pub(crate) fn answer_piece<D: Operated, W: Write>(
     output: &mut W,
     line: &mut Vec<u8>,
     piece: &[u8],
-) -> Result<(), ReplayFault>
-    ensures ok { OnOk result (TellsOn D.ways piece.now line.old.items state.old (W.contents output.old)
+) -> Result<bool, ReplayFault>
+    ensures ok { IfOk result (λ closed. ComesOn closed D.ways piece.now line.old.items state.old (W.contents output.old)
         line.new.items state.new (W.contents output.new)) }
     ensures err { OnErr result (StopsOn D.ways piece.now line.old.items state.old (W.contents output.old)
         state.new (W.contents output.new)) }
     ensures never_full { result ≢ Err ReplayFault.Full }
 {
     for byte in piece {
-        take_byte(alloc, desk, state, output, line, *byte)?;
+        let closed = take_byte(alloc, desk, state, output, line, *byte)?;
+        if closed {
+            return Ok(true);
+        }
     }
-    Ok(())
+    Ok(false)
 }
 
 /// Answers the line that has begun, where the input ends there: without a byte it is none.
@@ -46,10 +50,11 @@ pub(crate) fn answer_last<D: Operated, W: Write>(
     if line.is_empty() {
         return Ok(());
     }
-    answer_line(alloc, desk, state, output, line)
+    answer_line(alloc, desk, state, output, line)?;
+    Ok(())
 }
 
-// Takes a byte after the line that has begun: LF ends it, and it is answered.
+// Takes a byte after the line that has begun: LF ends it, and it is answered. True where it closes the day.
 fn take_byte<D: Operated, W: Write>(
     alloc: Global,
     desk: &D,
@@ -57,8 +62,8 @@ fn take_byte<D: Operated, W: Write>(
     output: &mut W,
     line: &mut Vec<u8>,
     byte: u8,
-) -> Result<(), ReplayFault>
-    ensures ok { OnOk result (TellsOn D.ways (byte ∷ []) line.old.items state.old (W.contents output.old)
+) -> Result<bool, ReplayFault>
+    ensures ok { IfOk result (λ closed. ComesOn closed D.ways (byte ∷ []) line.old.items state.old (W.contents output.old)
         line.new.items state.new (W.contents output.new)) }
     ensures err { OnErr result (StopsOn D.ways (byte ∷ []) line.old.items state.old (W.contents output.old)
         state.new (W.contents output.new)) }
@@ -66,11 +71,11 @@ fn take_byte<D: Operated, W: Write>(
 {
     if byte != b'\n' {
         keep_byte(line, byte)?;
-        return Ok(());
+        return Ok(false);
     }
-    answer_line(alloc, desk, state, output, line)?;
+    let closed = answer_line(alloc, desk, state, output, line)?;
     line.clear();
-    Ok(())
+    Ok(closed)
 }
 
 // Adds a byte at the end of a line, unless the line is too long without it.

@@ -1,13 +1,15 @@
-//! `desk_lines` and `seat_lines`: the lines of an input answered, at a desk of one's own or from a seat.
-ghost use Rattle.std.specs.Prelude.{◌≡◌, ◌≢◌, Err, IfSome, OnOk, OnErr};
+//! `desk_lines`, `seat_lines` and `open_lines`: the lines of an input answered, at a desk of one's own, from a seat, or from a seat on
+//! an open day.
+ghost use Rattle.std.specs.Prelude.{◌≡◌, ◌≢◌, ◌⊎◌, Err, IfSome, OnOk, OnErr};
 ghost use Rattle.std.specs.Io.KnownBytes.{IsAtEnd};
 ghost use Rattle.blot_stream.specs.Texts.{AppendsOf};
-ghost use Rattle.blot_operator.specs.Dialogue.{seat_ways, StopsOf, TellsOf};
+ghost use Rattle.blot_operator.specs.Dialogue.{open_ways, seat_ways, HeardOf, StopsOf, TellsOf};
 ghost use Rattle.blot_operator.specs.Lines.{lines_of};
+ghost use Rattle.blot_operator.specs.OpenDay.{ClosedOf, EndsOf};
 ghost use Rattle.blot_operator.specs.Operating.{answers_of, told_over, StoppedIn};
 
 use crate::lines::{answer_last, answer_piece};
-use crate::operated::{Operated, Own, Shared};
+use crate::operated::{Open, OpenDay, Operated, Own, Shared};
 use blot_desk::{Desk, Held, Seat};
 use blot_gateway::{READS_MAX, empty_piece};
 use blot_stream::{ReplayFault, read_piece};
@@ -64,7 +66,32 @@ pub fn seat_lines<R: Read, W: Write, L: Ledger>(
     answer_lines(alloc, input, output, &Shared { rt, desk }, seat)
 }
 
-// Answers the lines of an input to its end.
+/// The same on an open day, whose two lines are known too: `sessions` is answered by what the day tells of its sessions, and `close`
+/// by `closed`. Neither is an event. Behind the first `close` nothing is heard: the call is Ok then, without the rest of the input. The
+/// day is closed by whoever calls, as at the end of the input.
+pub fn open_lines<R: Read, W: Write, L: Ledger, D: OpenDay>(
+    rt: &impl Wait,
+    alloc: Global,
+    input: &mut R,
+    output: &mut W,
+    desk: &Desk<L>,
+    seat: &mut Seat<L>,
+    day: &D,
+) -> Result<(), ReplayFault>
+    ensures told { OnOk result (HeardOf open_ways seat.old (R.remaining input.old) seat.new
+        (W.contents output.old) (W.contents output.new)) }
+    ensures read_to_the_end { OnOk result (IsAtEnd (R.remaining input.new) ⊎ ClosedOf (R.remaining input.old)) }
+
+    // After a fault the lines of a front were taken, none of which closes the day, and a front of the last answer was written.
+    ensures fault { OnErr result (StopsOf open_ways seat.old (R.remaining input.old) seat.new
+        (W.contents output.old) (W.contents output.new)) }
+    ensures never_full { result ≢ Err ReplayFault.Full }
+{
+    let shared = Shared { rt, desk };
+    answer_lines(alloc, input, output, &Open { shared, day }, seat)
+}
+
+// Answers the lines of an input to its end, or to the first that closes the day.
 fn answer_lines<R: Read, W: Write, D: Operated>(
     alloc: Global,
     input: &mut R,
@@ -72,9 +99,9 @@ fn answer_lines<R: Read, W: Write, D: Operated>(
     desk: &D,
     state: &mut D::State,
 ) -> Result<(), ReplayFault>
-    ensures told { OnOk result (TellsOf D.ways state.old (R.remaining input.old) state.new
+    ensures told { OnOk result (HeardOf D.ways state.old (R.remaining input.old) state.new
         (W.contents output.old) (W.contents output.new)) }
-    ensures read_to_the_end { OnOk result (IsAtEnd (R.remaining input.new)) }
+    ensures read_to_the_end { OnOk result (EndsOf D.ways.is_open (R.remaining input.old) (R.remaining input.new)) }
     ensures fault { OnErr result (StopsOf D.ways state.old (R.remaining input.old) state.new
         (W.contents output.old) (W.contents output.new)) }
     ensures never_full { result ≢ Err ReplayFault.Full }
@@ -85,7 +112,10 @@ fn answer_lines<R: Read, W: Write, D: Operated>(
         let Some(count) = read_piece(input, &mut buffer)? else {
             return answer_last(alloc, desk, state, output, &line);
         };
-        answer_piece(alloc, desk, state, output, &mut line, &buffer[..count])?;
+        let closed = answer_piece(alloc, desk, state, output, &mut line, &buffer[..count])?;
+        if closed {
+            return Ok(());
+        }
     }
     Err(ReplayFault::TooLong)
 }

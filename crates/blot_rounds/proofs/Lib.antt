@@ -1,2 +1,1 @@
-mod ClockLemmas
-mod RoundLemmas
+pub mod RoundLemmas

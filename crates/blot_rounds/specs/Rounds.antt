@@ -1,5 +1,5 @@
 -- What a round of connections does to the seats, and what rounds do.
-use Rattle.std.specs.Prelude.{◌≡◌, ◌≢◌, ◌<◌, ℕ, zero, suc, List, map, Option, Some, None}
+use Rattle.std.specs.Prelude.{◌≡◌, ◌<◌, ℕ, zero, suc, List, map, Option, Some, None}
 use Rattle.std.specs.declared.io.ErrorKind.{ErrorKind}
 use Rattle.std.specs.declared.io.ErrorKind.TheVariants.{ConnectionAborted, Interrupted, OutOfMemory}
 use Rattle.blot_desk.specs.declared.receipt.Receipt.{Receipt}
@@ -7,9 +7,9 @@ use Rattle.blot_gateway.specs.AtOnce.{EachServed}
 use Rattle.blot_gateway.specs.declared.ended.Ended.{Ended}
 use Rattle.blot_stream.specs.declared.outcome.ServeFault.{ServeFault}
 use Rattle.blot_stream.specs.declared.outcome.ServeFault.TheVariants.{Connection, NoMemory}
-use Rattle.blot_rounds.specs.Sockets.{ClockTicks, SocketDoes}
-use Rattle.blot_rounds.specs.declared.socket.Socket.{Socket}
-use Rattle.blot_rounds.specs.declared.system_clock.SystemClock.{SystemClock}
+use Rattle.blot_sockets.specs.Sockets.{ClockTicks, SocketDoes}
+use Rattle.blot_sockets.specs.declared.socket.Socket.{Socket}
+use Rattle.blot_sockets.specs.declared.system_clock.SystemClock.{SystemClock}
 
 -- a round is served: for each seat there is a connection and a clock, each connection was served at its clock until it ended, with its
 -- seat as the sink, and those are the seats after the round
@@ -25,11 +25,9 @@ abbrev pub RoundsLead : (List (List Receipt) → List (List Receipt) → Type 0)
 RoundsLead round zero before after = after ≡ before
 RoundsLead round (suc count) before after = (between : List (List Receipt)) × RoundsLead round count before between × round between after
 
--- fewer rounds did, where memory didn't run out
-abbrev pub FewerLead : (List (List Receipt) → List (List Receipt) → Type 0)
-    → ℕ → List (List Receipt) → List (List Receipt) → ServeFault → Type 0
-FewerLead round rounds before after fault =
-    fault ≢ NoMemory → (count : ℕ) × (count < rounds) × RoundsLead round count before after
+-- fewer rounds did
+abbrev pub FewerLead : (List (List Receipt) → List (List Receipt) → Type 0) → ℕ → List (List Receipt) → List (List Receipt) → Type 0
+FewerLead round rounds before after = (count : ℕ) × (count < rounds) × RoundsLead round count before after
 
 -- the fault by which an error of `accept` ends the rounds: none where the connection is gone, or the call was interrupted
 abbrev pub accept_fault : ErrorKind → Option ServeFault

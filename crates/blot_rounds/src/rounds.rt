@@ -1,11 +1,11 @@
 //! Rounds of connections, each served at once.
-ghost use Rattle.std.specs.Prelude.{◌≡◌, ◌≢◌, IfErr, IfOk, OnOk, map, vec_len};
+ghost use Rattle.std.specs.Prelude.{◌≡◌, ◌≤◌, [], IfOk, OnErr, OnOk, map, vec_len, vec_capacity};
 ghost use Rattle.blot_rounds.specs.Rounds.{FewerLead, RoundsLead, ServesRound, accept_fault, setting_fault};
 
-use crate::{Socket, SystemClock};
 use blot_desk::{Desk, Seat};
 use blot_gateway::{Ended, OpenGate, serve};
 use blot_slots::Slots;
+use blot_sockets::{Socket, SystemClock};
 use blot_stream::ServeFault;
 use log::{Log, info};
 use std::alloc::{AllocError as NoMemory, Global};
@@ -34,7 +34,7 @@ pub fn log_endings<G: Log, L: Ledger>(log: &G, endings: &[(Ended, Seat<L>)]) {
 }
 
 /// Takes rounds of connections: each has one for each seat, which are served at once, and then their endings are logged. A fault
-/// other than out of memory ends them before the last round.
+/// ends them before the last round; the seats are then those after the rounds that were served.
 pub fn serve_rounds<R, N, L>(
     rt: &R,
     alloc: Global,
@@ -51,7 +51,7 @@ where
     L: Ledger + Send + Sync,
     ensures served { OnOk result (RoundsLead (ServesRound R N.Stream.remaining N.Stream.contents slots.now) rounds
         seats.old.items seats.new.items) }
-    ensures fewer { IfErr result (FewerLead (ServesRound R N.Stream.remaining N.Stream.contents slots.now) rounds
+    ensures fewer { OnErr result (FewerLead (ServesRound R N.Stream.remaining N.Stream.contents slots.now) rounds
         seats.old.items seats.new.items) }
 {
     for _ in 0..rounds {
@@ -75,15 +75,18 @@ where
     N::Stream: Read + Write + OpenStream + Send,
     L: Ledger + Send + Sync,
     ensures served { OnOk result (ServesRound R N.Stream.remaining N.Stream.contents slots.now seats.old.items seats.new.items) }
-    ensures kept { IfErr result (λ fault. fault ≢ ServeFault.NoMemory → seats.new.items ≡ seats.old.items) }
+    ensures kept { OnErr result (seats.new.items ≡ seats.old.items) }
 {
+    // Room for the seats after the round, and for one more, the operator's, at the end of the day.
+    let mut served = Vec::with_capacity(alloc, seats.len().saturating_add(1))?;
     let wires = accept_all(alloc, listener, seats.len())?;
     let clocks = clocks_of(rt, alloc, seats.len())?;
     let waiting = mem::replace(seats, Vec::new(alloc));
     match serve(rt, alloc, wires, clocks, slots, desk, waiting, &OpenGate) {
         Ok(endings) => {
             log_endings(rt, &endings);
-            *seats = seats_of(alloc, endings)?;
+            put_seats(&mut served, endings);
+            *seats = served;
             Ok(())
         }
         Err((_, waiting)) => {
@@ -170,16 +173,13 @@ fn clocks_of<'a, R: Clock>(
     Ok(clocks)
 }
 
-// The seats after a round, in their order.
-fn seats_of<L: Ledger>(
-    alloc: Global,
-    endings: Vec<(Ended, Seat<L>)>,
-) -> Result<Vec<Seat<L>>, NoMemory>
-    ensures { IfOk result (λ seats. seats.items ≡ map (λ ending. ending.1) endings.items) }
+// Puts the seats after a round, in their order.
+fn put_seats<L: Ledger>(seats: &mut Vec<Seat<L>>, endings: Vec<(Ended, Seat<L>)>)
+    requires empty { seats.old.items ≡ [] }
+    requires room { vec_len endings ≤ vec_capacity seats.old }
+    ensures { seats.new.items ≡ map (λ ending. ending.1) endings.items }
 {
-    let mut seats = Vec::with_capacity(alloc, endings.len())?;
     for (_, seat) in endings {
         seats.push_reserved(seat);
     }
-    Ok(seats)
 }

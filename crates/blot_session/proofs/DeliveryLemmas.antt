@@ -15,14 +15,14 @@ use Rattle.blot_session.specs.declared.row.End.{End}
 use Rattle.blot_session.specs.declared.row.End.TheVariants.{Stays, Delivers, Closes}
 use Rattle.blot_session.specs.declared.row.Row.{Row}
 use Rattle.blot_session.specs.declared.state.State.{State}
-use Rattle.blot_session.specs.Calls.{Outcome, Awaits, GivesCommand, DeliversLast, DeliversAlone, behind, sent, ending, carried_out, is_deliver, is_spent, outcome_of, behind_all, command_said, on_frame, on_tick, row_of_reply, on_reply}
+use Rattle.blot_session.specs.Calls.{Outcome, Awaits, GivesCommand, DeliversLast, DeliversAlone, behind, sent, ending, carried_out, is_deliver, is_spent, outcome_of, behind_all, command_said, on_frame, on_tick, on_stop, row_of_reply, on_reply}
 use Rattle.blot_session.specs.Outbound.{text_of}
-use Rattle.blot_session.specs.Rows.{frame_row, tick_row}
+use Rattle.blot_session.specs.Rows.{frame_row, stop_row, tick_row}
 use Rattle.blot_session.specs.States.{awaited_of, IsIdle, IsAwaiting}
 use Rattle.blot_session.specs.Table.{messages_of}
 use Rattle.blot_session.proofs.RowLemmas.{GoesOn, HandsOn, Moves, is_delivery, frame-moves}
 use Rattle.blot_session.proofs.RunLemmas.{behind_all-awaited}
-use Rattle.blot_session.proofs.StateLemmas.{tick-rests, settles}
+use Rattle.blot_session.proofs.StateLemmas.{stop-rests, tick-rests, settles}
 
 -- ---- what is sent delivers nothing
 
@@ -151,6 +151,12 @@ awaits_tick state next actions now idle is =
     let rests = tick-rests state now idle in
     subst (λ (outcome : Outcome). Awaits outcome.state outcome.actions) (sym is) (rests-awaits (tick_row state now) state now rests.idle rests.end)
 
+pub awaits_stop : (state next : State) (actions : List Action) (now : ℤ) → IsIdle state
+    → record { state = next; actions = actions } ≡ on_stop state now → Awaits next actions
+awaits_stop state next actions now idle is =
+    let rests = stop-rests state idle in
+    subst (λ (outcome : Outcome). Awaits outcome.state outcome.actions) (sym is) (rests-awaits (stop_row state) state now rests.idle rests.end)
+
 pub awaits_after_reply : (state next : State) (actions : List Action) (reply : Result SeenReply NotTaken) (now : ℤ) → IsAwaiting state
     → record { state = next; actions = actions } ≡ on_reply state reply now → Awaits next actions
 awaits_after_reply state next actions reply now awaiting is =
@@ -193,6 +199,12 @@ frame-peer state said now idle =
       | inl moves ↦ moves-peer state.peer state.next state.expected said (frame_row state said now) moves
       | inr resets ↦ moves-peer state.peer 1 1 said (frame_row state said now) resets.1
     ])
+
+pub stop-idle : (state : State) (now : ℤ) → IsIdle state → IsIdle (on_stop state now).state
+stop-idle state now idle = rests-idle (stop_row state) state now (stop-rests state idle).idle
+
+pub stop-peer : (state : State) (now : ℤ) → IsIdle state → (on_stop state now).state.peer ≡ state.peer
+stop-peer state now idle = outcome-peer (stop_row state) state None now (stop-rests state idle).of_peer
 
 pub tick-peer : (state : State) (now : ℤ) → IsIdle state → (on_tick state now).state.peer ≡ state.peer
 tick-peer state now idle = outcome-peer (tick_row state now) state None now (tick-rests state now idle).of_peer

@@ -22,8 +22,8 @@ use Rattle.blot_session.specs.declared.state.Link.TheVariants as links
 use Rattle.blot_session.specs.declared.state.State.{State}
 use Rattle.blot_session.specs.Calls.{is_spent}
 use Rattle.blot_session.specs.Met.{IsAbove, IsOfNumber, is_before_number, is_late, met_by_end, met_of, passed_by}
-use Rattle.blot_session.specs.Rows.{logon_row, low_logon_row, first_logon_row, waiting_logon_row, waiting_body_row, waiting_row, is_from_peer, resend_row, gap_fill_row, admin_row, report_row, other_row, body_row, expected_row, high_body_row, high_row, low_row, number_row, reset_row, message_row, peer_row, comp_id_row, head_row, on_row_by, on_row, frame_row_by, frame_row}
-use Rattle.blot_session.specs.States.{heard, restarted}
+use Rattle.blot_session.specs.Rows.{logon_row, low_logon_row, first_logon_row, waiting_logon_row, waiting_body_row, waiting_row, is_from_peer, resend_row, gap_fill_row, admin_row, report_row, other_row, body_row, expected_row, high_body_row, high_row, low_row, number_row, reset_row, logout_row, message_row, peer_row, comp_id_row, head_row, on_row_by, on_row, frame_row_by, frame_row}
+use Rattle.blot_session.specs.States.{heard, is_leaving, restarted}
 use Rattle.blot_session.proofs.RowLemmas.{message, some_same}
 
 -- what a row makes of a message is true of its number, if what becomes of one that isn't answered is
@@ -176,6 +176,12 @@ unfolding reset_row
 reset-tells s said state number new_number =
     cond_both (nat_lt new_number state.expected) _ _ (λ row. Tells s said row) (λ y. λ silent is. tt) (λ n. λ silent is. is)
 
+logout-tells : (s state : State) (head : Head) (said : Result Message FieldFault) → head_in said ≡ Some head → state.expected ≡ s.expected
+    → Tells s said (logout_row state head said)
+unfolding logout_row
+logout-tells s state head said is same =
+    cond_both (is_leaving state) _ _ (λ row. Tells s said row) (λ y. λ silent holds. tt) (λ n. number-tells s state head said is same)
+
 message-tells : (s state : State) (head : Head) (body : Body) (now : ℤ) → state.expected ≡ s.expected
     → Tells s (message head body) (message_row state head body (message head body) now)
 unfolding message_row
@@ -192,7 +198,7 @@ message-tells s state head (bodies.Admin (admin.SequenceReset new_number true)) 
     number-tells s state head (message head (bodies.Admin (admin.SequenceReset new_number true))) refl same
 message-tells s state head (bodies.Admin (admin.SequenceReset new_number false)) now same =
     reset-tells s (message head (bodies.Admin (admin.SequenceReset new_number false))) state head.number new_number
-message-tells s state head (bodies.Admin admin.Logout) now same = number-tells s state head (message head (bodies.Admin admin.Logout)) refl same
+message-tells s state head (bodies.Admin admin.Logout) now same = logout-tells s state head (message head (bodies.Admin admin.Logout)) refl same
 message-tells s state head (bodies.Report report) now same = number-tells s state head (message head (bodies.Report report)) refl same
 message-tells s state head (bodies.Allocation allocation) now same = number-tells s state head (message head (bodies.Allocation allocation)) refl same
 message-tells s state head bodies.Other now same = number-tells s state head (message head bodies.Other) refl same

@@ -25,7 +25,7 @@ use Rattle.blot_session.specs.declared.state.Link.{Link}
 use Rattle.blot_session.specs.declared.state.Link.TheVariants as links
 use Rattle.blot_session.specs.declared.state.State.{State}
 use Rattle.blot_session.specs.Calls.{command_said}
-use Rattle.blot_session.specs.Rows.{logon_row, low_logon_row, first_logon_row, waiting_logon_row, waiting_body_row, waiting_row, is_from_peer, resend_row, gap_fill_row, admin_row, report_row, other_row, body_row, expected_row, high_body_row, high_row, low_row, number_row, reset_row, message_row, peer_row, comp_id_tag, comp_id_row, head_row, on_row_by, on_row, frame_row_by, frame_row}
+use Rattle.blot_session.specs.Rows.{logon_row, low_logon_row, first_logon_row, waiting_logon_row, waiting_body_row, waiting_row, is_from_peer, resend_row, gap_fill_row, admin_row, report_row, other_row, body_row, expected_row, high_body_row, high_row, low_row, number_row, reset_row, logout_row, message_row, peer_row, comp_id_tag, comp_id_row, head_row, on_row_by, on_row, frame_row_by, frame_row}
 use Rattle.blot_session.specs.Runs.{Bears, is_reset_said}
 use Rattle.blot_session.specs.States.{restarted, with_live, changed, awaited_by, IsIdle, IsAwaiting}
 use Rattle.blot_session.specs.Table.{silent, sends_both, closing}
@@ -205,6 +205,23 @@ reset-moves s live head number new_number idle =
     (λ low. inl (record { of_peer = refl; next_same = refl; idle = idle; end = refl; number = inl refl }))
     (λ notlow. inl (record { of_peer = refl; next_same = refl; idle = idle; end = refl; number = inr (inr (omega (arith, ltb-false new_number s.expected notlow), refl)) }))
 
+-- a Logout
+logout-moves : (s : State) (live : Live) (head : Head) (said : Result Message FieldFault) → live.awaited ≡ None → head_in said ≡ Some head
+    → Moves s.peer s.next s.expected said (logout_row (with_live s live) head said)
+unfolding logout_row
+logout-moves s live head said idle is =
+    cond_both live.leaving _ _ (λ row. Moves s.peer s.next s.expected said row)
+    (λ leaves. cond_both (s.expected == head.number) _ _ (λ state. Moves s.peer s.next s.expected said (closing reasons.LoggedOut (silent state)))
+    (λ same. inl (record {
+      of_peer = refl;
+      next_same = refl;
+      idle = refl;
+      end = refl;
+      number = inr (inl (refl, subst (λ found. option_map (λ h. h.number) found ≡ Some s.expected) (sym is) (ap Some (sym (eqb-true _ _ same)))));
+    }))
+    (λ other. inl (record { of_peer = refl; next_same = refl; idle = refl; end = refl; number = inl refl })))
+    (λ stays. number-moves s live head said idle is)
+
 -- a Logon that is answered
 logon-moves : (state : State) (head : Head) (said : Result Message FieldFault) (heartbeat : ℕ) (reset : Bool) (now : ℤ) → head_in said ≡ Some head
     → Moves state.peer state.next state.expected said (logon_row state head.number heartbeat reset now)
@@ -239,7 +256,7 @@ message-moves s live head (bodies.Admin (admin.ResendRequest begin end)) now idl
 message-moves s live head (bodies.Admin (admin.SequenceReset new_number true)) now idle =
     inl (number-moves s live head (message head (bodies.Admin (admin.SequenceReset new_number true))) idle refl)
 message-moves s live head (bodies.Admin (admin.SequenceReset new_number false)) now idle = inl (reset-moves s live head head.number new_number idle)
-message-moves s live head (bodies.Admin admin.Logout) now idle = inl (number-moves s live head (message head (bodies.Admin admin.Logout)) idle refl)
+message-moves s live head (bodies.Admin admin.Logout) now idle = inl (logout-moves s live head (message head (bodies.Admin admin.Logout)) idle refl)
 message-moves s live head (bodies.Report report) now idle = inl (number-moves s live head (message head (bodies.Report report)) idle refl)
 message-moves s live head (bodies.Allocation allocation) now idle = inl (number-moves s live head (message head (bodies.Allocation allocation)) idle refl)
 message-moves s live head bodies.Other now idle = inl (number-moves s live head (message head bodies.Other) idle refl)

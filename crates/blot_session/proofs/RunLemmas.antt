@@ -19,13 +19,13 @@ use Rattle.blot_session.specs.declared.row.Sends.TheVariants.{Nothing, One, Two}
 use Rattle.blot_session.specs.declared.state.State.{State}
 use Rattle.blot_session.specs.declared.carrying.TheConstants.{LAST_NUMBER}
 use Rattle.blot_session.specs.Calls.{Outcome, behind, behind_all, carried_out, is_spent, spent, outcome_of, command_said, on_frame, row_of_reply}
-use Rattle.blot_session.specs.Rows.{frame_row, tick_row}
+use Rattle.blot_session.specs.Rows.{frame_row, stop_row, tick_row}
 use Rattle.blot_session.specs.Runs.{Call, Numbered, outcome, said_by, quiet, behind_calls, delivered_by, taken_by, taken_behind, AreMet, is_reset, HasNoReset, RiseFrom, AreBelow, CoversBy, Covers, Bears, Passes, IsPassed, IsTaken, IsInOrder}
-use Rattle.blot_session.specs.Runs.Call.{Frame, Reply, Tick, Closing, WaitAgain}
+use Rattle.blot_session.specs.Runs.Call.{Frame, Reply, Tick, Stop, Closing, WaitAgain}
 use Rattle.blot_session.specs.States.{closed, waiting_again, awaited_of, IsIdle, IsAwaiting}
 use Rattle.blot_session.specs.Table.{acts, messages_of}
 use Rattle.blot_session.proofs.RowLemmas.{Names, NamesBy, Steps, GoesOn, HandsOn, frame-moves}
-use Rattle.blot_session.proofs.StateLemmas.{spoken-awaited, steps-grow, unspent-last, idle-none, Rests, tick-rests, settles}
+use Rattle.blot_session.proofs.StateLemmas.{spoken-awaited, steps-grow, unspent-last, idle-none, Rests, stop-rests, tick-rests, settles}
 
 -- ---- what is sent changes no expected number, and nothing that is awaited
 
@@ -53,6 +53,7 @@ passes : (number : ℕ) (state : State) (call : Call) → GoesBy number state ca
 passes number state (Frame text now memory) by high = (high, by)
 passes number state (Reply reply now memory) by high = absurd by
 passes number state (Tick now memory) by high = absurd by
+passes number state (Stop now memory) by high = absurd by
 passes number state Closing by high = absurd by
 passes number state WaitAgain by high = absurd by
 
@@ -281,6 +282,12 @@ law (Tick now true ∷ calls) last state holds met kept =
 law (Tick now false ∷ calls) last state holds met kept =
     let aside = same-aside state (Tick now false) (quiet (closed state)) refl refl in
     aside-law last state (Tick now false) calls refl aside (law calls _ _ aside.holds met.1 kept.1)
+law (Stop now true ∷ calls) last state holds met kept =
+    let aside = rests-aside state (Stop now true) (stop_row state) now (stop-rests state met.0) in
+    aside-law last state (Stop now true) calls refl aside (law calls _ _ aside.holds met.1 kept.1)
+law (Stop now false ∷ calls) last state holds met kept =
+    let aside = same-aside state (Stop now false) (quiet (closed state)) refl refl in
+    aside-law last state (Stop now false) calls refl aside (law calls _ _ aside.holds met.1 kept.1)
 law (Closing ∷ calls) last state holds met kept =
     let aside = same-aside state Closing (quiet (closed state)) refl refl in
     aside-law last state Closing calls refl aside (law calls _ _ aside.holds met.1 kept.1)

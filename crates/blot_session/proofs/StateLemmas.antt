@@ -30,7 +30,7 @@ use Rattle.blot_session.specs.declared.state.State.{State}
 use Rattle.blot_session.specs.declared.carrying.TheConstants.{LAST_NUMBER}
 use Rattle.blot_session.specs.Calls.{Outcome, sent, behind, behind_all, ending, is_spent, spent, carried_out, outcome_of, reply_row_by, row_of_reply}
 use Rattle.blot_session.specs.Outbound.{next_behind}
-use Rattle.blot_session.specs.Rows.{frame_row, asked_row, quiet_row, heartbeat_row, beat_row_by, beat_row, tick_row_by, tick_row, passed, patience, reply_row}
+use Rattle.blot_session.specs.Rows.{frame_row, asked_row, quiet_row, heartbeat_row, beat_row_by, beat_row, tick_row_by, tick_row, stop_row_by, stop_row, passed, patience, reply_row}
 use Rattle.blot_session.specs.States.{closed, changed, awaited_by, awaited_of, IsIdle, IsAwaiting, IsState}
 use Rattle.blot_session.specs.Table.{Fits, acts, acts_by, messages_of}
 use Rattle.blot_session.proofs.RowLemmas.{Names, NamesBy, Steps, Moves, is_delivery, frame-moves}
@@ -228,15 +228,35 @@ pub tick-rests : (state : State) (now : ℤ) → IsIdle state → Rests state (t
 unfolding tick_row
 tick-rests state now idle = tick_by-rests state state.link now idle
 
-pub tick-fits : (state : State) (now : ℤ) → IsState state → IsIdle state → Fits state.next (tick_row state now)
-tick-fits state now is idle =
-    let rests = tick-rests state now idle in
+-- ---- the end of the day
+
+leaving-idle : (link : Link) → awaited_by link ≡ None → awaited_by (changed (λ live. record live { leaving = true }) link) ≡ None
+leaving-idle links.Waiting idle = refl
+leaving-idle (links.On live) idle = idle
+leaving-idle links.Closed idle = refl
+
+stop_by-rests : (state : State) (link : Link) → IsIdle state → Rests state (stop_row_by state link)
+stop_by-rests state links.Waiting idle = record { of_peer = refl; next = refl; expected = refl; idle = idle; end = refl }
+stop_by-rests state (links.On live) idle =
+    cond_both live.leaving _ _ (λ row. Rests state row)
+    (λ leaves. record { of_peer = refl; next = refl; expected = refl; idle = idle; end = refl })
+    (λ stays. record { of_peer = refl; next = refl; expected = refl; idle = leaving-idle state.link idle; end = refl })
+stop_by-rests state links.Closed idle = record { of_peer = refl; next = refl; expected = refl; idle = idle; end = refl }
+
+pub stop-rests : (state : State) → IsIdle state → Rests state (stop_row state)
+unfolding stop_row
+stop-rests state idle = stop_by-rests state state.link idle
+
+-- ---- what a row that rests leaves of the numbers
+
+rests-fits : (state : State) (row : Row) → Rests state row → IsState state → Fits state.next row
+rests-fits state row rests is =
     record {
       low = omega (arith, rests.next, is.low);
       high = omega (arith, rests.next);
       first = omega (arith, rests.expected, is.first);
       number = omega (arith, rests.expected, is.expected);
-      awaited = λ awaiting. absurd (idle-none (tick_row state now).state rests.idle awaiting);
+      awaited = λ awaiting. absurd (idle-none row.state rests.idle awaiting);
     }
 
 -- ---- replies
@@ -298,7 +318,10 @@ pub row_fits_frame : (state : State) (said : Result Message FieldFault) (now : �
 row_fits_frame state said now row is within idle numbered = subst (Fits state.next) (sym is) (frame-fits state said now within idle numbered)
 
 pub row_fits_tick : (state : State) (now : ℤ) (row : Row) → row ≡ tick_row state now → IsState state → IsIdle state → Fits state.next row
-row_fits_tick state now row is within idle = subst (Fits state.next) (sym is) (tick-fits state now within idle)
+row_fits_tick state now row is within idle = subst (Fits state.next) (sym is) (rests-fits state (tick_row state now) (tick-rests state now idle) within)
+
+pub row_fits_stop : (state : State) (row : Row) → row ≡ stop_row state → IsState state → IsIdle state → Fits state.next row
+row_fits_stop state row is within idle = subst (Fits state.next) (sym is) (rests-fits state (stop_row state) (stop-rests state idle) within)
 
 pub row_fits_reply : (state : State) (reply : Result SeenReply NotTaken) (row : Row) → row ≡ row_of_reply state reply
     → IsState state → IsAwaiting state → Fits state.next row

@@ -18,7 +18,7 @@ use Rattle.blot_session.specs.declared.row.Row.{Row}
 use Rattle.blot_session.specs.declared.state.Awaited.{Awaited}
 use Rattle.blot_session.specs.declared.state.State.{State}
 use Rattle.blot_session.specs.Outbound.{next_behind, text_of}
-use Rattle.blot_session.specs.Rows.{frame_row, tick_row, reply_row}
+use Rattle.blot_session.specs.Rows.{frame_row, tick_row, stop_row, reply_row}
 use Rattle.blot_session.specs.States.{spoken, closed, awaited_of}
 use Rattle.blot_session.specs.Table.{acts, messages_of, silent}
 
@@ -88,6 +88,10 @@ on_frame state said now = outcome_of state (frame_row state said now) (command_s
 -- a moment passes
 abbrev pub on_tick : State → ℤ → Outcome
 on_tick state now = outcome_of state (tick_row state now) None now
+
+-- the day ends
+abbrev pub on_stop : State → ℤ → Outcome
+on_stop state now = outcome_of state (stop_row state) None now
 
 -- the reply to what was delivered comes
 abbrev pub reply_row_by : State → Option Awaited → Result SeenReply NotTaken → Row

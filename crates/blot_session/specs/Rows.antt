@@ -1,4 +1,4 @@
--- The table of a session: what it does about a frame, a moment that passes and a reply, a word for each row or
+-- The table of a session: what it does about a frame, a moment that passes, the end of the day and a reply, a word for each row or
 -- choice between rows (FIX 4.4 volume 2, "Session protocol"; docs/SESSION.md has the rows that are this project's rule).
 use Rattle.std.specs.Prelude.{ℕ, ◌+◌, ◌*◌, ◌/◌, Bool, true, false, ◌&&◌, ◌==◌, nat_lt, nat_le, int_le, ℤ, pos, ◌+ℤ◌, List, codes, Option, Some, None, Result, Ok, Err, if◌then◌else◌}
 use Rattle.blot_fields.specs.declared.admin.Admin.{Admin}
@@ -26,7 +26,7 @@ use Rattle.blot_session.specs.declared.state.Live.{Live}
 use Rattle.blot_session.specs.declared.state.Link.{Link}
 use Rattle.blot_session.specs.declared.state.Link.TheVariants as links
 use Rattle.blot_session.specs.declared.state.State.{State}
-use Rattle.blot_session.specs.States.{restarted, expecting, counted, opened, heard, asking, answered}
+use Rattle.blot_session.specs.States.{restarted, expecting, counted, counted_under, is_leaving, leaving, opened, heard, asking, answered}
 use Rattle.blot_session.specs.Table.{silent, sends, sends_both, delivers, closing}
 
 -- ---- a Logon that is taken
@@ -166,12 +166,20 @@ reset_row state number new_number =
     if nat_lt new_number state.expected then sends (Reject number 36 5) state
     else silent (expecting new_number state)
 
--- a Logon that resets the numbers, and a Sequence Reset, are looked at before their numbers
+-- a Logout, under whatever number, is a leaving session's answer: the connection ends, and nothing more is sent. Any other session
+-- goes by the number
+unfoldable pub logout_row : State → Head → Result Message FieldFault → Row
+logout_row state head said =
+    if is_leaving state then closing reasons.LoggedOut (silent (counted_under head.number state))
+    else number_row state head said
+
+-- a Logon that resets the numbers, a Sequence Reset and a Logout are looked at before their numbers
 unfoldable pub message_row : State → Head → Body → Result Message FieldFault → ℤ → Row
 message_row state head (bodies.Admin (admin.Logon heartbeat true)) said now =
     logon_row (restarted state) head.number heartbeat true now
 message_row state head (bodies.Admin (admin.SequenceReset new_number false)) said now =
     reset_row state head.number new_number
+message_row state head (bodies.Admin admin.Logout) said now = logout_row state head said
 message_row state head body said now = number_row state head said
 
 unfoldable pub peer_row : State → Head → Result Message FieldFault → ℤ → Row
@@ -185,8 +193,7 @@ comp_id_tag state head = if is_sender state head then 56 else 49
 -- a message of another sender, or to another target
 unfoldable pub comp_id_row : State → Head → Row
 comp_id_row state head =
-    closing reasons.CompId (sends_both (Reject head.number (comp_id_tag state head) 9) Logout
-    (if state.expected == head.number then counted state else state))
+    closing reasons.CompId (sends_both (Reject head.number (comp_id_tag state head) 9) Logout (counted_under head.number state))
 
 -- a message with this header
 unfoldable pub head_row : State → Head → Result Message FieldFault → ℤ → Row
@@ -259,6 +266,18 @@ tick_row_by state link now = silent state
 
 unfoldable pub tick_row : State → ℤ → Row
 tick_row state now = tick_row_by state state.link now
+
+-- ---- the end of the day
+
+-- a session that is on says goodbye, once: then it is leaving
+abbrev pub stop_row_by : State → Link → Row
+stop_row_by state (links.On live) =
+    if live.leaving then silent state
+    else sends Logout (leaving state)
+stop_row_by state link = silent state
+
+unfoldable pub stop_row : State → Row
+stop_row state = stop_row_by state state.link
 
 -- ---- replies
 

@@ -16,15 +16,16 @@ use Rattle.blot_session.specs.declared.action.Action.TheVariants.{Send, Deliver}
 use Rattle.blot_session.specs.declared.replies.NotTaken.{NotTaken}
 use Rattle.blot_session.specs.declared.replies.SeenReply.{SeenReply}
 use Rattle.blot_session.specs.declared.state.State.{State}
-use Rattle.blot_session.specs.Calls.{Outcome, on_frame, on_tick, on_reply, row_of_reply}
+use Rattle.blot_session.specs.Calls.{Outcome, on_frame, on_tick, on_stop, on_reply, row_of_reply}
 use Rattle.blot_session.specs.States.{waiting_again, closed, IsIdle, IsAwaiting}
 
--- a call: a frame with this text, the reply to what was delivered, a moment that passes, the end of the connection, and that the
--- session waits again. The truth value says whether there was memory for it
+-- a call: a frame with this text, the reply to what was delivered, a moment that passes, the end of the day, the end of the connection,
+-- and that the session waits again. The truth value says whether there was memory for it
 pub data Call : Type 0 where
   Frame : List ℕ → ℤ → Bool → Call
   Reply : Result SeenReply NotTaken → ℤ → Bool → Call
   Tick : ℤ → Bool → Call
+  Stop : ℤ → Bool → Call
   Closing : Call
   WaitAgain : Call
 
@@ -44,6 +45,8 @@ outcome state (Reply reply now true) = on_reply state reply now
 outcome state (Reply reply now false) = quiet (closed (row_of_reply state reply).state)
 outcome state (Tick now true) = on_tick state now
 outcome state (Tick now false) = quiet (closed state)
+outcome state (Stop now true) = on_stop state now
+outcome state (Stop now false) = quiet (closed state)
 outcome state Closing = quiet (closed state)
 outcome state WaitAgain = quiet (waiting_again state)
 
@@ -112,6 +115,7 @@ abbrev pub Meets : State → Call → Type 0
 Meets state (Frame text now memory) = IsIdle state
 Meets state (Reply reply now memory) = IsAwaiting state
 Meets state (Tick now memory) = IsIdle state
+Meets state (Stop now memory) = IsIdle state
 Meets state Closing = IsIdle state
 Meets state WaitAgain = Unit {0}
 

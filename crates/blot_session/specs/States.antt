@@ -1,5 +1,5 @@
 -- What a session remembers, and how that changes (FIX 4.4 volume 2, "Session protocol").
-use Rattle.std.specs.Prelude.{◌≡◌, ℕ, ◌+◌, ◌≤◌, true, ℤ, List, Option, Some, None, is_some}
+use Rattle.std.specs.Prelude.{◌≡◌, ℕ, ◌+◌, ◌≤◌, ◌==◌, Bool, true, false, ℤ, List, Option, Some, None, is_some, if◌then◌else◌}
 use Rattle.blot_fields.specs.declared.TheConstants.{SEQUENCE_MAX}
 use Rattle.blot_session.specs.declared.state.State.{State}
 use Rattle.blot_session.specs.declared.state.Link.{Link}
@@ -38,14 +38,26 @@ expecting number state = record state { expected = number }
 abbrev pub counted : State → State
 counted state = expecting (state.expected + 1) state
 
+-- a message with this number came: the next one is expected where it is the expected one
+abbrev pub counted_under : ℕ → State → State
+counted_under number state = if state.expected == number then counted state else state
+
 -- a connection that is on
 abbrev pub with_live : State → Live → State
 with_live state live = record state { link = links.On live }
 
--- logged on: a frame just came, and a message is just sent
+-- whether the session said goodbye on this connection
+abbrev pub is_leaving_by : Link → Bool
+is_leaving_by (links.On live) = live.leaving
+is_leaving_by link = false
+
+abbrev pub is_leaving : State → Bool
+is_leaving state = is_leaving_by state.link
+
+-- logged on: a frame just came, and a message is just sent. A session that was on and leaving stays so
 abbrev pub opened : ℕ → ℤ → State → State
 opened heartbeat now state =
-    with_live state (record { heartbeat = heartbeat; received = now; sent = now; asked = None; awaited = None })
+    with_live state (record { heartbeat = heartbeat; received = now; sent = now; asked = None; awaited = None; leaving = is_leaving state })
 
 -- a change of a connection that is on
 abbrev pub changed : (Live → Live) → Link → Link
@@ -71,6 +83,10 @@ answered state = record state { link = changed (λ live. record live { awaited =
 -- a message is sent
 abbrev pub spoken : ℤ → State → State
 spoken now state = record state { link = changed (λ live. record live { sent = now }) state.link }
+
+-- the session says goodbye, and waits for the peer's
+abbrev pub leaving : State → State
+leaving state = record state { link = changed (λ live. record live { leaving = true }) state.link }
 
 -- the connection is closed; both numbers stay
 abbrev pub closed : State → State

@@ -55,7 +55,7 @@ pub enum CloseReason {
     TooLow = 2,
     /// SenderCompID or TargetCompID is another.
     CompId = 3,
-    /// The peer logged out, and was answered.
+    /// The peer logged out: it was answered, or it answered the session's own Logout.
     LoggedOut = 4,
     /// The peer was silent, and didn't answer a TestRequest.
     Silent = 5,

@@ -3,7 +3,7 @@
 ghost use Rattle.std.specs.Prelude.{◌≡◌, ◌≤◌};
 ghost use Rattle.blot_fields.specs.declared.TheConstants.{SEQUENCE_MAX};
 ghost use Rattle.blot_fields.specs.Numbers.{HasNumber};
-ghost use Rattle.blot_session.specs.Rows.{comp_id_row, high_body_row, high_row, frame_row, head_row, low_row, message_row, number_row, on_row, peer_row, reset_row};
+ghost use Rattle.blot_session.specs.Rows.{comp_id_row, high_body_row, high_row, frame_row, head_row, logout_row, low_row, message_row, number_row, on_row, peer_row, reset_row};
 
 use crate::expected::expected_row;
 use crate::logons::{logon_row, waiting_row};
@@ -69,15 +69,11 @@ fn comp_id_row(state: State, head: &Head) -> Row
         tag,
         reason: COMP_ID_PROBLEM,
     };
-    let state = if state.expected == head.number {
-        state.counted()
-    } else {
-        state
-    };
+    let state = state.counted_under(head.number);
     Row::sends_both(reject, Outbound::Logout, state).closing(CloseReason::CompId)
 }
 
-// A frame of the peer. A Logon that resets the numbers, and a Sequence Reset, are looked at before their numbers.
+// A frame of the peer. A Logon that resets the numbers, a Sequence Reset and a Logout are looked at before their numbers.
 #[tactic(auto, unfolding(crate::specs::Rows::peer_row))]
 fn peer_row(state: State, head: &Head, said: &Result<Message, FieldFault>, now: Moment) -> Row
     requires { head.now.number ≤ SEQUENCE_MAX }
@@ -114,6 +110,7 @@ fn message_row(
                 gap_fill: false,
             },
         ) => reset_row(state, head.number, *new_number),
+        Body::Admin(Admin::Logout) => logout_row(state, head, said),
         _ => number_row(state, head, said),
     }
 }
@@ -127,6 +124,19 @@ fn reset_row(state: State, number: u64, new_number: u64) -> Row
         return Row::sends(Outbound::incorrect(number, tags::NEW_SEQ_NO), state);
     }
     Row::silent(state.expecting(new_number))
+}
+
+// A Logout: one that comes to a session that is leaving ends the connection, under whatever number, and isn't answered.
+#[tactic(auto, unfolding(crate::specs::Rows::logout_row))]
+fn logout_row(state: State, head: &Head, said: &Result<Message, FieldFault>) -> Row
+    requires { head.now.number ≤ SEQUENCE_MAX }
+    ensures { result ≡ logout_row state head.now said.now }
+{
+    if state.is_leaving() {
+        let state = state.counted_under(head.number);
+        return Row::silent(state).closing(CloseReason::LoggedOut);
+    }
+    number_row(state, head, said)
 }
 
 // By the number: one that came before, one above the expected one, or that one.

@@ -5,7 +5,7 @@ ghost use Rattle.blot_types.specs.Keys.{same_text};
 ghost use Rattle.blot_types.specs.Text.{is_text};
 ghost use Rattle.blot_fields.specs.declared.TheConstants.{SEQUENCE_MAX};
 ghost use Rattle.blot_fields.specs.Numbers.{HasNumber, IsNumbered};
-ghost use Rattle.blot_session.specs.Calls.{Awaits, DeliversAlone, Gives, GivesCommand, command_said, on_frame, on_tick, on_reply, row_of_reply};
+ghost use Rattle.blot_session.specs.Calls.{Awaits, DeliversAlone, Gives, GivesCommand, command_said, on_frame, on_tick, on_stop, on_reply, row_of_reply};
 ghost use Rattle.blot_session.specs.InTurn.{is_report_said};
 ghost use Rattle.blot_session.specs.Met.{IsOfNumber, met_of};
 ghost use Rattle.blot_session.specs.Runs.{Call, AreMet, HasNoReset, IsInOrder, said_by};
@@ -16,7 +16,7 @@ use crate::met::met_of;
 use crate::reports::take_report;
 use crate::state::{Link, Live, State};
 use crate::taking::{take_frame, take_reply, take_said};
-use crate::ticks::tick_row;
+use crate::ticks::{stop_row, tick_row};
 use crate::{Action, Met, NotTaken, Phase, SeenReply};
 use blot_fields::{FieldFault, Message};
 use blot_tag::Frame;
@@ -203,6 +203,26 @@ impl Session {
     {
         let closed = self.state.closed();
         let row = tick_row(self.state, now);
+        let outcome = take_row(alloc, self.state, row, None, now);
+        go_on(&mut self.state, outcome, closed)
+    }
+
+    /// The day ends: a session that is on says goodbye by one Logout, and is leaving then. A Logout of the peer, under whatever
+    /// number, closes it. Any other session, and one that is leaving, does nothing. Out of memory, the session is closed, with its
+    /// number expected as before.
+    #[tactic(auto, using(crate::proofs::StateLemmas::row_fits_stop, crate::proofs::DeliveryLemmas::awaits_stop))]
+    pub fn on_stop(&mut self, alloc: Global, now: Moment) -> Result<Vec<Action>, NoMemory>
+        requires { IsIdle self.old }
+        ensures ok { IfOk result (Gives (on_stop self.old now) self.new) }
+        ensures err { OnErr result (self.new ≡ closed self.old) }
+
+        // It is the same peer's, nothing is delivered, and no command awaits its reply.
+        ensures peer { self.new.peer ≡ self.old.peer }
+        ensures awaits { IfOk result (λ actions. Awaits self.new actions.items) }
+        ensures idle { IsIdle self.new }
+    {
+        let closed = self.state.closed();
+        let row = stop_row(self.state);
         let outcome = take_row(alloc, self.state, row, None, now);
         go_on(&mut self.state, outcome, closed)
     }

@@ -1,8 +1,8 @@
 //! What a session remembers.
-ghost use Rattle.std.specs.Prelude.{◌≡◌, ◌≤◌, Some, None};
+ghost use Rattle.std.specs.Prelude.{◌≡◌, ◌≤◌, true, Some, None};
 ghost use Rattle.blot_fields.specs.declared.TheConstants.{SEQUENCE_MAX};
 ghost use Rattle.blot_session.specs.Rows.{is_sender, is_from_peer};
-ghost use Rattle.blot_session.specs.States.{phase_of, restarted, expecting, counted, opened, heard, asking, awaiting, answered, spoken, closed, changed};
+ghost use Rattle.blot_session.specs.States.{phase_of, restarted, expecting, counted, counted_under, is_leaving, opened, heard, asking, awaiting, answered, spoken, leaving, closed, changed};
 
 use blot_fields::Head;
 use blot_time::Moment;
@@ -54,6 +54,8 @@ pub(crate) struct Live {
     pub(crate) asked: Option<Moment>,
     /// What was delivered and not replied to yet.
     pub(crate) awaited: Option<Awaited>,
+    /// Whether the session said goodbye.
+    pub(crate) leaving: bool,
 }
 
 /// A delivered command that awaits its reply.
@@ -106,10 +108,32 @@ impl State {
         self.expecting(self.expected + 1)
     }
 
-    /// Logged on.
+    /// A message with this number came: the next one is expected where it is the expected one.
+    pub(crate) fn counted_under(self, number: u64) -> State
+        requires { number ≤ SEQUENCE_MAX }
+        ensures { result ≡ counted_under number self }
+    {
+        if self.expected == number {
+            return self.counted();
+        }
+        self
+    }
+
+    /// Whether it said goodbye on this connection.
+    pub(crate) fn is_leaving(&self) -> bool
+        ensures { result ≡ is_leaving self.now }
+    {
+        match &self.link {
+            Link::On(live) => live.leaving,
+            _ => false,
+        }
+    }
+
+    /// Logged on. One that was on and leaving stays so.
     pub(crate) fn opened(self, heartbeat: u32, now: Moment) -> State
         ensures { result ≡ opened heartbeat now self }
     {
+        let leaving = self.is_leaving();
         State {
             link: Link::On(Live {
                 heartbeat,
@@ -117,6 +141,7 @@ impl State {
                 sent: now,
                 asked: None,
                 awaited: None,
+                leaving,
             }),
             ..self
         }
@@ -168,6 +193,16 @@ impl State {
     {
         State {
             link: self.link.spoken(now),
+            ..self
+        }
+    }
+
+    /// The session says goodbye.
+    pub(crate) fn leaving(self) -> State
+        ensures { result ≡ leaving self }
+    {
+        State {
+            link: self.link.leaving(),
             ..self
         }
     }
@@ -241,6 +276,19 @@ impl Link {
     {
         match self {
             Link::On(live) => Link::On(Live { sent: now, ..live }),
+            other => other,
+        }
+    }
+
+    // The session says goodbye.
+    fn leaving(self) -> Link
+        ensures { result ≡ changed (λ live. record live { leaving = true }) self }
+    {
+        match self {
+            Link::On(live) => Link::On(Live {
+                leaving: true,
+                ..live
+            }),
             other => other,
         }
     }

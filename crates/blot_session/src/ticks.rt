@@ -1,6 +1,6 @@
-//! What a session does as time passes.
+//! What a session does as time passes, and at the end of the day.
 ghost use Rattle.std.specs.Prelude.{◌≡◌, ◌^◌, ◌<◌};
-ghost use Rattle.blot_session.specs.Rows.{asked_row, beat_row, heartbeat_row, passed, patience, quiet_row, tick_row};
+ghost use Rattle.blot_session.specs.Rows.{asked_row, beat_row, heartbeat_row, passed, patience, quiet_row, stop_row, tick_row};
 
 use crate::CloseReason;
 use crate::outbound::Outbound;
@@ -16,6 +16,18 @@ pub(crate) fn tick_row(state: State, now: Moment) -> Row
     let link = state.link;
     match link {
         Link::On(live) => beat_row(state, live, now),
+        _ => Row::silent(state),
+    }
+}
+
+/// What a session does at the end of the day. Only one that is logged on does anything, and only once.
+#[tactic(auto, unfolding(crate::specs::Rows::stop_row))]
+pub(crate) fn stop_row(state: State) -> Row
+    ensures { result ≡ stop_row state }
+{
+    let link = state.link;
+    match link {
+        Link::On(live) if !live.leaving => Row::sends(Outbound::Logout, state.leaving()),
         _ => Row::silent(state),
     }
 }

@@ -83,8 +83,8 @@ impl SlotTable {
         put_in(&mut self.slots, session);
     }
 
-    /// Takes back the session of a peer where that is out, and else leaves the table as it is.
-    pub(crate) fn take_back(&mut self, session: Session)
+    /// Takes back the session of a peer where that is out, as `check_in` does, and else leaves the table as it is. No memory is taken.
+    pub fn take_back(&mut self, session: Session)
         ensures out { slot_of self.old session.peer ≡ Some None → self.new ≡ with_slot session.peer (Some (waiting_again session)) self.old }
         ensures other { (slot_of self.old session.peer ≡ Some None → ⊥) → self.new ≡ self.old }
     {

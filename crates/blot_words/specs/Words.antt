@@ -1,5 +1,5 @@
 -- What the words of the command line ask for.
-use Rattle.std.specs.Prelude.{◌≡◌, ◌≢◌, ℕ, ◌<◌, ◌≤◌, ℤ, Bool, true, false, List, [], ◌∷◌, codes, length, Option, Some, None, IsSome, IsSomeAnd, IsTrue, option_map}
+use Rattle.std.specs.Prelude.{◌≡◌, ◌≢◌, ℕ, ◌+◌, ◌*◌, ◌<◌, ◌≤◌, ℤ, min, Bool, true, false, List, [], ◌∷◌, codes, length, Option, Some, None, IsSome, IsSomeAnd, IsTrue, option_map, ⊤}
 use Rattle.std.specs.List.{IsDistinct, list_all}
 use Rattle.std.specs.Str.Parse.{IsNumeral, digits_value, without_leading_plus}
 use Rattle.clap.specs.Matches.{first_value, found_of, matched_of, one_text, raw_values}
@@ -7,11 +7,11 @@ use Rattle.clap.specs.declared.parser.matches.ArgMatches.{ArgMatches}
 use Rattle.blot_time.specs.Day.{IsDayText}
 use Rattle.blot_types.specs.Keys.{same_text}
 use Rattle.blot_types.specs.Text.{is_text}
-use Rattle.blot_words.specs.declared.command_line.TheConstants.{PORT_MAX, ROUNDS_MAX, SESSIONS_MAX}
+use Rattle.blot_words.specs.declared.command_line.TheConstants.{LANES_MAX, PORT_MAX, ROUNDS_MAX, SESSIONS_MAX}
 use Rattle.blot_words.specs.declared.refusal.Refusal.{Refusal}
 use Rattle.blot_words.specs.declared.refusal.Refusal.TheVariants.{NoMemory}
 use Rattle.blot_words.specs.declared.words.Words.{Words}
-use Rattle.blot_words.specs.declared.words.Words.TheVariants.{Replay, Desk, Audit, Serve}
+use Rattle.blot_words.specs.declared.words.Words.TheVariants.{Replay, Desk, Audit, Open, Serve}
 
 -- the peers of a replay: one or more texts, and no two the same
 pub record IsPeerList (peers : List (List ℕ)) : Type 0 where
@@ -39,6 +39,10 @@ count_word matches id = one_text (found_of matches) id
 
 abbrev pub count_words : ArgMatches → List (Option (List ℕ))
 count_words matches = count_word matches (codes "port") ∷ count_word matches (codes "sessions") ∷ count_word matches (codes "rounds") ∷ []
+
+-- the word for the connections of a round: without it a day is open
+abbrev pub sessions_word : ArgMatches → Option (List ℕ)
+sessions_word matches = first_value (found_of matches) (codes "sessions")
 
 -- one's own CompID is a text, and the day a day
 abbrev pub IsOwnWord : ArgMatches → Type 0
@@ -81,6 +85,26 @@ pub record IsServe (matches : ArgMatches) : Type 0 where
   pub sessions_count : IsSomeAnd (count_word matches (codes "sessions")) (IsCount SESSIONS_MAX)
   pub rounds_count : IsSomeAnd (count_word matches (codes "rounds")) (IsCount ROUNDS_MAX)
 
+-- a word that may be left out is a count
+abbrev pub IsCountOrNone : ℕ → Option (List ℕ) → Type 0
+IsCountOrNone most None = ⊤
+IsCountOrNone most (Some word) = IsCount most word
+
+-- the words of an open day: as of a replay, the port is a count, and so is the number of lanes where there is one
+pub record IsOpen (matches : ArgMatches) : Type 0 where
+  pub as_replay : IsReplay matches
+  pub port_count : IsSomeAnd (count_word matches (codes "port")) (IsCount PORT_MAX)
+  pub lanes_count : IsCountOrNone LANES_MAX (count_word matches (codes "lanes"))
+
+-- how many lanes so many peers have by default: twice as many and two more, but no more than there may be
+abbrev pub default_lanes : ℕ → ℕ
+default_lanes peers = min (2 * peers + 2) LANES_MAX
+
+-- how many lanes there are: as the word says, or without one by default
+abbrev pub lanes_by : Option (List ℕ) → ℕ → ℕ
+lanes_by None peers = default_lanes peers
+lanes_by (Some word) peers = count_of word
+
 -- what a refusal rules out, unless it is want of memory
 abbrev pub RulesOut : Type 0 → Refusal → Type 0
 RulesOut fact refusal = refusal ≢ NoMemory → fact → ⊥
@@ -90,30 +114,48 @@ abbrev pub own_of : Words → List ℕ
 own_of (Replay own day peers) = own
 own_of (Desk own capture peers) = own
 own_of (Audit own peers) = own
+own_of (Open own day port lanes peers) = own
 own_of (Serve own day port sessions rounds peers) = own
 
 abbrev pub day_named : Words → Option ℤ
 day_named (Replay own day peers) = Some day
 day_named (Desk own capture peers) = None
 day_named (Audit own peers) = None
+day_named (Open own day port lanes peers) = Some day
 day_named (Serve own day port sessions rounds peers) = Some day
 
 abbrev pub capture_named : Words → Option (List ℕ)
 capture_named (Replay own day peers) = None
 capture_named (Desk own capture peers) = Some capture.bytes.items
 capture_named (Audit own peers) = None
+capture_named (Open own day port lanes peers) = None
 capture_named (Serve own day port sessions rounds peers) = None
 
 abbrev pub peers_of : Words → List (List ℕ)
 peers_of (Replay own day peers) = peers.items
 peers_of (Desk own capture peers) = peers.items
 peers_of (Audit own peers) = peers.items
+peers_of (Open own day port lanes peers) = peers.items
 peers_of (Serve own day port sessions rounds peers) = peers.items
 
--- the port, and how many connections and rounds
+-- the port, and how many connections and rounds, of a day of rounds
 abbrev pub counts_named : Words → List (Option ℕ)
 counts_named (Serve own day port sessions rounds peers) = Some port ∷ Some sessions ∷ Some rounds ∷ []
 counts_named words = []
+
+-- the port and the lanes of an open day
+abbrev pub port_named : Words → Option ℕ
+port_named (Open own day port lanes peers) = Some port
+port_named words = None
+
+abbrev pub lanes_named : Words → Option ℕ
+lanes_named (Open own day port lanes peers) = Some lanes
+lanes_named words = None
+
+-- whether they ask for an open day
+abbrev pub is_open : Words → Bool
+is_open (Open own day port lanes peers) = true
+is_open words = false
 
 -- whether what the words ask for is written in one piece, at the end of the input
 abbrev pub is_written_last : Words → Bool

@@ -3,6 +3,7 @@
 #![tactic(auto)]
 
 mod command_line;
+mod help;
 mod peers;
 mod refusal;
 mod words;

@@ -1,18 +1,18 @@
 -- What a day that is served comes to.
-use Rattle.std.proofs.Common.{◌≡◌, ℕ, ◌<◌, List, [], ◌∷◌, ◌++◌, length, replicate, refl, sym, ap, subst, ◌∙◌, arith, zero, suc}
-use Rattle.std.specs.Prelude.{ℤ, true, ◌&&◌, Option, IfErr, IsOk, OnOk, Result, Err}
+use Rattle.std.proofs.Common.{◌≡◌, ℕ, List, [], ◌∷◌, ◌++◌, length, replicate, refl, sym, ap, subst, ◌∙◌, arith, zero, suc}
+use Rattle.std.specs.Prelude.{ℤ, true, ◌&&◌, Option, IsOk, OnOk, OnErr, Result, Ok, Err}
 use Rattle.std.specs.Io.KnownBytes.{IsAtEnd}
 use Rattle.std.specs.List.{All, list_all}
 use Rattle.blot_desk.specs.declared.receipt.Receipt.{Receipt}
-use Rattle.blot_gateway.specs.AtOnce.{AddsSubmits, EachAdds}
+use Rattle.blot_gateway.specs.AtOnce.{AddsSubmits, EachAdds, are_submits}
 use Rattle.blot_gateway.proofs.AtOnceLemmas.{adds-none, adds-on, each-adds}
-use Rattle.blot_stream.proofs.ResultLemmas.{err-says, ok-says}
-use Rattle.blot_operator.specs.Dialogue.{TellsOf, seat_ways}
-use Rattle.blot_rounds.specs.Rounds.{FewerLead, RoundsLead, ServesRound}
-use Rattle.blot_rounds.specs.Sockets.{ClockTicks, SocketDoes}
-use Rattle.blotter.specs.Serving.{DayServed, Reported, are_submits}
-use Rattle.blot_stream.specs.declared.outcome.ServeFault.{ServeFault}
-use Rattle.blot_stream.specs.declared.outcome.ServeFault.TheVariants.{Connection}
+use Rattle.blot_stream.proofs.ResultLemmas.{ok-says}
+use Rattle.blot_operator.specs.OpenDay.{EndsOf}
+use Rattle.blot_operator.specs.Dialogue.{HeardOf, TellsOf, open_ways, seat_ways}
+use Rattle.blot_rounds.proofs.RoundLemmas.{as-many}
+use Rattle.blot_rounds.specs.Rounds.{RoundsLead, ServesRound}
+use Rattle.blot_sockets.specs.Sockets.{ClockTicks, SocketDoes}
+use Rattle.blotter.specs.Serving.{DayServed, OpenDayServed, Reported}
 
 -- ---- what rounds add
 
@@ -44,13 +44,6 @@ rounds-add round adds zero before after same = subst (λ seats. EachAdds before 
 rounds-add round adds (suc count) before after rounds =
     each-on before rounds.0 after (rounds-add round adds count before rounds.0 rounds.1) (adds rounds.0 after rounds.2)
 
--- after rounds there are as many seats
-as-many : (before after : List (List Receipt)) → EachAdds before after → length after ≡ length before
-as-many [] [] adds = refl
-as-many (x ∷ before) (y ∷ after) adds = ap suc (as-many before after adds.1)
-as-many [] (y ∷ after) adds = absurd adds
-as-many (x ∷ before) [] adds = absurd adds
-
 -- what was empty has receipts of submits alone
 adds-submits : (before after : List Receipt) → before ≡ [] → AddsSubmits before after → are_submits after ≡ true
 adds-submits before after empty adds = ap are_submits (adds.joined ∙ ap (λ front. front ++ adds.more) empty) ∙ adds.submits
@@ -72,16 +65,12 @@ all-empty (x ∷ seats) empty =
     let others : seats ≡ replicate (length seats) [] = all-empty seats (λ k d less. empty (suc k) d (omega (arith, less))) in
     cc
 
--- ---- how many rounds there were
-
--- where a connection was missing there were fewer
-pub were-fewer : {T : Type 0} (round : List (List Receipt) → List (List Receipt) → Type 0) (rounds : ℕ) (before after : List (List Receipt)) (served : Result T ServeFault)
-    → served ≡ Err Connection → IfErr served (FewerLead round rounds before after)
-    → (count : ℕ) × (count < rounds) × RoundsLead round count before after
-were-fewer round rounds before after served is fewer =
-    err-says (FewerLead round rounds before after) served Connection is fewer (λ same. cc)
-
 -- ---- a day
+
+-- what a failure says
+pub err-has : {T E P : Type 0} (result : Result T E) (e : E) → result ≡ Err e → OnErr result P → P
+err-has (Ok x) e is p = absurd cc
+err-has (Err y) e is p = p
 
 -- what an operator with an empty seat is told, where the lines come to their end
 pub tells-all : {T E : Type 0} (answered : Result T E) (input : Option (List ℕ)) (first last : List Receipt) (before after : Option (List ℕ)) → first ≡ [] → IsOk answered
@@ -92,6 +81,10 @@ tells-all answered input first last before after empty is all =
 -- an input that is left so
 pub at-end : {R : Type 0} (remaining : R → Option (List ℕ)) (left last : R) → IsAtEnd (remaining left) → left ≡ last → IsAtEnd (remaining last)
 at-end remaining left last ended same = subst (λ found. IsAtEnd (remaining found)) same ended
+
+-- the same of an open day's
+pub ends-so : {R : Type 0} (remaining : R → Option (List ℕ)) (known : Option (List ℕ)) (left last : R) → EndsOf true known (remaining left) → left ≡ last → EndsOf true known (remaining last)
+ends-so remaining known left last ends same = subst (λ found. EndsOf true known (remaining found)) same ends
 
 -- a day that is served, of its rounds, its lines and its report, which leave the output so
 pub is-served : {W : Type 0} (contents : W → Option (List ℕ)) (round : List (List Receipt) → List (List Receipt) → Type 0) (rounds : ℕ) (input : Option (List ℕ))
@@ -110,5 +103,20 @@ is-served contents round rounds input opened brokers operator sessions day befor
       count = as-many opened brokers added ∙ many;
       submits = each-submits opened brokers empty added;
       told = told;
+      reported = subst (λ found. Reported day (brokers ++ (operator ∷ [])) (contents between) (contents found)) same reported;
+    }
+
+-- an open day that is served, of its lines and its report, which leave the output so
+pub is-open-day : {W T E : Type 0} (contents : W → Option (List ℕ)) (answered : Result T E) (input : Option (List ℕ)) (brokers : List (List Receipt)) (first operator : List Receipt) (day : ℤ)
+    (before : Option (List ℕ)) (between new last : W) → first ≡ [] → IsOk answered → OnOk answered (HeardOf open_ways first input operator before (contents between))
+    → All (λ receipts. are_submits receipts ≡ true) brokers → Reported day (brokers ++ (operator ∷ [])) (contents between) (contents new) → new ≡ last
+    → OpenDayServed input day before (contents last)
+is-open-day contents answered input brokers first operator day before between new last empty is heard submits reported same =
+    record {
+      brokers = brokers;
+      operator = operator;
+      between = contents between;
+      submits = submits;
+      told = subst (λ found. HeardOf open_ways found input operator before (contents between)) empty (ok-says answered is heard);
       reported = subst (λ found. Reported day (brokers ++ (operator ∷ [])) (contents between) (contents found)) same reported;
     }

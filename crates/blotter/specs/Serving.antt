@@ -1,6 +1,6 @@
 -- What a day that is served comes to.
-use Rattle.std.specs.Prelude.{◌≡◌, ◌<◌, ℕ, ℤ, Bool, true, List, [], ◌∷◌, ◌++◌, length, replicate, Option}
-use Rattle.std.specs.List.{list_all}
+use Rattle.std.specs.Prelude.{◌≡◌, ◌<◌, ℕ, ℤ, true, List, [], ◌∷◌, ◌++◌, length, replicate, Option}
+use Rattle.std.specs.List.{All, list_all}
 use Rattle.std.specs.Io.KnownBytes.{Appends}
 use Rattle.blot_desk.specs.declared.event.Recorded.{Recorded}
 use Rattle.blot_desk.specs.declared.fault.DeskFault.{DeskFault}
@@ -8,16 +8,12 @@ use Rattle.blot_desk.specs.declared.fault.DeskFault.TheVariants as desk
 use Rattle.blot_desk.specs.declared.receipt.Receipt.{Receipt}
 use Rattle.blot_desk.specs.Desk.{events_of, replies_of, run_of}
 use Rattle.blot_desk.specs.Receipts.{IsSettled}
-use Rattle.blot_gateway.specs.AtOnce.{is_submit}
-use Rattle.blot_operator.specs.Dialogue.{TellsOf, seat_ways}
+use Rattle.blot_gateway.specs.AtOnce.{are_submits}
+use Rattle.blot_operator.specs.Dialogue.{HeardOf, TellsOf, open_ways, seat_ways}
 use Rattle.blot_report.specs.Text.{report_of}
 use Rattle.blot_rounds.specs.Rounds.{RoundsLead}
 use Rattle.blot_stream.specs.declared.outcome.ServeFault.{ServeFault}
 use Rattle.blot_stream.specs.declared.outcome.ServeFault.TheVariants as fault
-
--- whether all these receipts are of submits
-abbrev pub are_submits : List Receipt → Bool
-are_submits receipts = list_all (λ receipt. is_submit receipt.event) receipts
 
 -- the report of a day is written, of a history in which each receipt of these seats stands once, and in which each reply is that of the
 -- run of its events
@@ -46,6 +42,17 @@ abbrev pub DayCutShort : (List (List Receipt) → List (List Receipt) → Type 0
     → ℕ → Option (List ℕ) → ℕ → ℤ → Option (List ℕ) → Option (List ℕ) → Type 0
 DayCutShort round rounds input sessions day before after =
     (count : ℕ) × (count < rounds) × DayServed round count input sessions day before after
+
+-- an open day is served: the operator, with a seat that was empty, is told the answers to the lines of the input, to its end or to the first
+-- that closes the day; and then the report is written of the history of all receipts, which are the operator's and those of the brokers'
+-- seats, and these are of submits alone
+pub record OpenDayServed (input : Option (List ℕ)) (day : ℤ) (before after : Option (List ℕ)) : Type 0 where
+  pub brokers : List (List Receipt)
+  pub operator : List Receipt
+  pub between : Option (List ℕ)
+  pub submits : All (λ receipts. are_submits receipts ≡ true) brokers
+  pub told : HeardOf open_ways [] input operator before between
+  pub reported : Reported day (brokers ++ (operator ∷ [])) between after
 
 -- what is told of a desk that isn't settled: receipts that disagree are told as that, and never as want of memory
 abbrev pub settling_fault : DeskFault → ServeFault

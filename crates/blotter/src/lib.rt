@@ -1,13 +1,17 @@
 //! The calls of the blotter's program: each is generic over what it reads and writes, so that its contract says which bytes it took
-//! and which it gave. Here stands the day that is served; the calls over a capture and an operator's lines are those of `blot_capture`
+//! and which it gave. Here stand the days that are served; the calls over a capture and an operator's lines are those of `blot_capture`
 //! and `blot_operator`, and the trail is `blot_trail`'s. The program itself, with its words and its files, stands on these libraries.
 #![tactic(auto)]
 
 mod meanwhile;
+mod open_day;
 mod serving;
+mod settling;
 
 pub use blot_capture::{capture, replay, replay_within};
 pub use blot_operator::{desk_lines, seat_lines};
-pub use blot_rounds::{Rounds, Socket, SystemClock, log_endings};
+pub use blot_rounds::{Rounds, log_endings};
+pub use blot_sockets::{Door, Socket, SystemClock};
 pub use blot_stream::{Outcome, ReplayFault, ServeFault};
+pub use open_day::serve_open_day;
 pub use serving::serve_day;

@@ -1,26 +1,16 @@
 //! What is done while brokers are served: an operator's lines are answered.
 ghost use Rattle.std.specs.Prelude.{◌≡◌};
 
+use blot_command::Rows;
+use blot_console::SessionLine;
 use blot_desk::{Desk, Seat};
-use blot_operator::seat_lines;
+use blot_lanes::{Peers, Task};
+use blot_operator::{OpenDay, open_lines, seat_lines};
 use blot_stream::ReplayFault;
-use std::alloc::Global;
+use std::alloc::{AllocError as NoMemory, Global};
 use std::io::{Read, Write};
 use std::sync::Wait;
 use std::sync::ledger::Ledger;
-
-/// What is done beside other work. It gives back what it was lent, since `join` says nothing of a `&mut` that a closure holds.
-pub(crate) trait Task {
-    /// What comes of it.
-    type Output;
-
-    /// What comes of it, by what it holds.
-    ghost gives: { Self → Self.Output → Type 0 };
-
-    /// Does it.
-    fn run(self) -> Self::Output
-        ensures { gives self result };
-}
 
 /// An operator's lines, with the seat and the streams.
 #[derive(Drop)]
@@ -58,6 +48,59 @@ impl<'a, 'i, 'o, R: Wait, I: Read, O: Write, L: Ledger> Task for Lines<'a, 'i, '
         let mut seat = seat;
         let answered = seat_lines(rt, alloc, input, output, desk, &mut seat);
         (answered, seat, input, output)
+    }
+}
+
+/// An operator's lines on an open day, with the seat, the streams and the peers.
+#[derive(Drop)]
+pub(crate) struct OpenLines<'a, 'i, 'o, R, I, O, L: Ledger> {
+    pub(crate) rt: &'a R,
+    pub(crate) alloc: Global,
+    pub(crate) input: &'i mut I,
+    pub(crate) output: &'o mut O,
+    pub(crate) desk: &'a Desk<L>,
+    pub(crate) seat: Seat<L>,
+    pub(crate) peers: &'a Peers<L>,
+}
+
+impl<'a, 'i, 'o, R: Wait, I: Read, O: Write, L: Ledger> Task for OpenLines<'a, 'i, 'o, R, I, O, L> {
+    ghost use Rattle.std.specs.Prelude.{◌≡◌, true, OnOk};
+    ghost use Rattle.blot_operator.specs.Dialogue.{HeardOf, open_ways};
+    ghost use Rattle.blot_operator.specs.OpenDay.{EndsOf};
+
+    type Output = (Result<(), ReplayFault>, Seat<L>, &'i mut I, &'o mut O);
+
+    ghost gives = { λ lines given. (given.2.ghost_name ≡ lines.input.ghost_name) × (given.3.ghost_name ≡ lines.output.ghost_name)
+        × OnOk given.0 (EndsOf true (I.remaining lines.input.now) (I.remaining given.2.now))
+        × OnOk given.0 (HeardOf open_ways lines.seat (I.remaining lines.input.now) given.1 (O.contents lines.output.now) (O.contents given.3.now)) };
+
+    fn run(self) -> (Result<(), ReplayFault>, Seat<L>, &'i mut I, &'o mut O) {
+        let OpenLines {
+            rt,
+            alloc,
+            input,
+            output,
+            desk,
+            seat,
+            peers,
+        } = self;
+        let mut seat = seat;
+        let day = ListedPeers { rt, peers };
+        let answered = open_lines(rt, alloc, input, output, desk, &mut seat, &day);
+        (answered, seat, input, output)
+    }
+}
+
+// The listed peers, of whose sessions an operator may ask.
+#[derive(Drop)]
+struct ListedPeers<'a, R, L: Ledger> {
+    rt: &'a R,
+    peers: &'a Peers<L>,
+}
+
+impl<'a, R: Wait, L: Ledger> OpenDay for ListedPeers<'a, R, L> {
+    fn sessions(&self, alloc: Global) -> Result<Rows<SessionLine>, NoMemory> {
+        Ok(Rows::new(self.peers.sessions(self.rt, alloc)?))
     }
 }
 

@@ -1,14 +1,15 @@
 //! One run of the program, over any words, files and streams.
-ghost use Rattle.std.specs.Prelude.{◌≡◌, ◌≢◌, ◌⊎◌, false, IfErr, IfOk, IfSome, OnOk};
+ghost use Rattle.std.specs.Prelude.{◌≡◌, ◌≢◌, ◌⊎◌, false, true, IfErr, IfOk, IfSome, OnOk};
 ghost use Rattle.std.specs.Io.KnownBytes.{IsAtEnd, Keeps};
 ghost use Rattle.std.specs.List.{IsDistinct};
 ghost use Rattle.blot_types.specs.Keys.{same_text};
 ghost use Rattle.blot_desk.specs.Desk.{Journal};
 ghost use Rattle.blot_stream.specs.Texts.{AppendsOf};
+ghost use Rattle.blot_operator.specs.OpenDay.{EndsOf};
 ghost use Rattle.blot_operator.specs.Operating.{answers_of};
 ghost use Rattle.blot_capture.specs.Replay.{captured_by};
 ghost use Rattle.blot_rounds.specs.Rounds.{ServesRound};
-ghost use Rattle.blotter.specs.Serving.{DayServed};
+ghost use Rattle.blotter.specs.Serving.{DayServed, OpenDayServed};
 ghost use Rattle.blot_stream.specs.declared.outcome.Outcome.TheVariants.{BadWords, Done, NoMemory};
 ghost use Rattle.blot_words.specs.Words.{IsPeerList, is_written_last, peers_of};
 ghost use Rattle.blotter_main.specs.Failure.{outcome_of};
@@ -21,14 +22,17 @@ use blot_time::Day;
 use blot_trail::audit;
 use blot_types::Text64;
 use blot_words::{Refusal, Words, given, parse};
-use blotter::{Outcome, ReplayFault, Rounds, capture, desk_lines, replay, serve_day};
+use blotter::{
+    Door, Outcome, ReplayFault, Rounds, capture, desk_lines, replay, serve_day, serve_open_day,
+};
 use log::Log;
 use std::alloc::Global;
 use std::env::Env;
 use std::fs::{File, Files};
 use std::io::{ErrorKind, Read, Write};
 use std::marker::Brand;
-use std::net::{Ipv4Addr, Net, SocketAddrV4, TcpListener};
+use std::net::{Ipv4Addr, Net, OpenListener, SocketAddrV4, TcpListener, TcpStream};
+use std::os::fd::OwnedFd;
 use std::sync::Wait;
 use std::sync::ledger::Blank;
 use std::thread::Threads;
@@ -47,6 +51,7 @@ where
     T: Threads + Wait + Net + Clock + Log + Sync,
     T::Listener: Sync,
     T::Stream: Send,
+    OwnedFd: From<T::Listener>,
     ensures did { result ≡ Done → (words : Words) × IsPeerList (peers_of words)
         × Did (ServesRound T T.Stream.remaining T.Stream.contents) words (R.remaining input.old) (R.remaining input.new) (W.contents output.old) (W.contents output.new) }
     ensures unread { result ≡ BadWords → input.new ≡ input.old }
@@ -82,6 +87,7 @@ where
     T: Threads + Wait + Net + Clock + Log + Sync,
     T::Listener: Sync,
     T::Stream: Send,
+    OwnedFd: From<T::Listener>,
     requires peers { IsPeerList (peers_of words) }
     ensures did { OnOk result
         (Did (ServesRound T T.Stream.remaining T.Stream.contents) words (R.remaining input.old) (R.remaining input.new) (W.contents output.old) (W.contents output.new)) }
@@ -101,6 +107,23 @@ where
         Words::Audit { own, peers } => {
             audit(alloc, input, output, own, peers.as_slice()).map_err(Failure::Stopped)
         }
+        Words::Open {
+            own,
+            day,
+            port,
+            lanes,
+            peers,
+        } => open_port(
+            rt,
+            alloc,
+            own,
+            peers.as_slice(),
+            day,
+            port,
+            lanes,
+            input,
+            output,
+        ),
         Words::Serve {
             own,
             day,
@@ -118,7 +141,37 @@ where
     }
 }
 
-// Serves a day over a port of 127.0.0.1.
+// Serves an open day over a port of 127.0.0.1.
+fn open_port<T, R: Read, W: Write>(
+    rt: &T,
+    alloc: Global,
+    own: Text64,
+    peers: &[Text64],
+    day: Day,
+    port: u16,
+    lanes: u16,
+    input: &mut R,
+    output: &mut W,
+) -> Result<(), Failure>
+where
+    T: Threads + Wait + Net + Clock + Log + Sync,
+    T::Listener: Sync,
+    T::Stream: Send,
+    OwnedFd: From<T::Listener>,
+    requires peers { IsDistinct same_text peers.now }
+    ensures served { OnOk result (OpenDayServed (R.remaining input.old) day (W.contents output.old) (W.contents output.new)) }
+    ensures read_to_the_end { OnOk result (EndsOf true (R.remaining input.old) (R.remaining input.new)) }
+    ensures words { IfErr result (λ failure. outcome_of failure ≢ BadWords) }
+{
+    let (listener, door) = listen(rt, port)?;
+    let blank = Blank::new(peers.len() as u64 + 1);
+    serve_open_day::<Brand, _, _, _, _, _>(
+        rt, alloc, blank, &listener, &door, lanes, own, peers, day, input, output,
+    )
+    .map_err(Failure::Served)
+}
+
+// Serves a day of rounds over a port of 127.0.0.1.
 fn serve_port<T, R: Read, W: Write>(
     rt: &T,
     alloc: Global,
@@ -133,9 +186,25 @@ where
     T: Threads + Wait + Net + Clock + Log + Sync,
     T::Listener: Sync,
     T::Stream: Send,
+    OwnedFd: From<T::Listener>,
     ensures served { OnOk result (DayServed (ServesRound T T.Stream.remaining T.Stream.contents slots.now) rounds.rounds
         (R.remaining input.old) rounds.sessions day (W.contents output.old) (W.contents output.new)) }
     ensures read_to_the_end { OnOk result (IsAtEnd (R.remaining input.new)) }
+    ensures words { IfErr result (λ failure. outcome_of failure ≢ BadWords) }
+{
+    let (listener, door) = listen(rt, port)?;
+    let blank = Blank::new(u64::from(rounds.sessions) + 1);
+    serve_day::<Brand, _, _, _, _, _>(
+        rt, alloc, blank, &listener, &door, rounds, slots, day, input, output,
+    )
+    .map_err(Failure::Served)
+}
+
+// A listener on a port of 127.0.0.1, with its door.
+fn listen<T>(rt: &T, port: u16) -> Result<(T::Listener, Door<TcpStream>), Failure>
+where
+    T: Net,
+    OwnedFd: From<T::Listener>,
     ensures words { IfErr result (λ failure. outcome_of failure ≢ BadWords) }
 {
     let address = SocketAddrV4::new(Ipv4Addr::LOCALHOST, port);
@@ -143,11 +212,10 @@ where
         Ok(listener) => listener,
         Err(error) => return Err(port_failure(port, error.kind())),
     };
-    let blank = Blank::new(u64::from(rounds.sessions) + 1);
-    serve_day::<Brand, _, _, _, _>(
-        rt, alloc, blank, &listener, rounds, slots, day, input, output,
-    )
-    .map_err(Failure::Served)
+    match listener.try_clone() {
+        Ok(handle) => Ok((listener, Door::new(TcpStream::from(OwnedFd::from(handle))))),
+        Err(error) => Err(port_failure(port, error.kind())),
+    }
 }
 
 // Why a port can't be used.

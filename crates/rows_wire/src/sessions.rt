@@ -25,6 +25,7 @@ pub fn answer(
         "again" => state.session.wait_again(),
         "close" => close(&mut state.session, shown)?,
         "tick" => tick(state.alloc, &mut state.session, state.now, shown)?,
+        "stop" => stop(state.alloc, &mut state.session, state.now, shown)?,
         "reply" => reply(state, shown, text)?,
         "frame" => frame(state, shown)?,
         _ => return Ok(false),
@@ -66,6 +67,20 @@ fn tick(
         return shown.push_str(OUT_OF_TURN);
     }
     let actions = session.on_tick(alloc, now)?;
+    show_actions(shown, &actions)
+}
+
+// The day ends.
+fn stop(
+    alloc: Global,
+    session: &mut Session,
+    now: Moment,
+    shown: &mut String,
+) -> Result<(), NoMemory> {
+    if session.is_awaiting() {
+        return shown.push_str(OUT_OF_TURN);
+    }
+    let actions = session.on_stop(alloc, now)?;
     show_actions(shown, &actions)
 }
 

@@ -2,17 +2,21 @@ use Rattle.std.specs.Io.KnownBytes.{Appends}
 use Rattle.std.proofs.Common.{◌∙◌, [], inr, refl, subst}
 use Rattle.std.proofs.KnownBytes.{Appends-nil}
 use Rattle.blot_console.specs.Answers.{answer_text}
-use Rattle.blot_stream.proofs.ResultLemmas.{err-always, on-err, on-ok}
+use Rattle.blot_operator.proofs.OpenDayLemmas.{closed-is}
+use Rattle.blot_stream.proofs.ResultLemmas.{err-always}
 use Rattle.blot_operator.proofs.answering.answer_line.Goals as goal
 
 pub returns-clause-ok : goal.returns-clause-ok
 returns-clause-ok g c =
-    on-ok c.write_text.result c.write_text.ensures.ok (λ wrote. record {
+    record {
       answer = c.in_ok-answer.answer;
       answered = c.in_ok-answer.ensures.ok;
       written = subst (Appends (g.W.Write.contents c.args.output.now) (g.W.Write.contents c.write_text.new.output))
-          (c.deref.ensures.value ∙ c.in_ok-text.ensures) wrote;
-    })
+          (c.deref.ensures.value ∙ c.in_ok-text.ensures) c.in_ok-write_text.ensures.ok;
+    }
+
+pub returns-clause-closed : goal.returns-clause-closed
+returns-clause-closed g c = c.is_closed.ensures ∙ closed-is g.D.Operated.ways c.args.state.now c.args.line.now c.in_ok-answer.answer _ c.in_ok-answer.ensures.ok
 
 pub returns-in_err-text-clause-err : goal.returns-in_err-text-clause-err
 returns-in_err-text-clause-err g c =
@@ -25,9 +29,10 @@ returns-in_err-text-clause-err g c =
       written = Appends-nil (g.W.Write.contents c.args.output.now);
     }))
 
-pub returns-clause-err : goal.returns-clause-err
-returns-clause-err g c =
-    on-err c.write_text.result c.write_text.ensures.err (λ wrote. inr (record {
+pub returns-in_err-write_text-clause-err : goal.returns-in_err-write_text-clause-err
+returns-in_err-write_text-clause-err g c =
+    let wrote = c.in_err-write_text.ensures.err in
+    err-always c.from_residual-in_err-write_text.result (inr (record {
       answer = c.in_ok-answer.answer;
       answered = c.in_ok-answer.ensures.ok;
       front = wrote.0;

@@ -1,7 +1,7 @@
 use Rattle.std.proofs.Common.{◌≡◌, ℕ, ◌+◌, ◌<◌, List, [], ◌∷◌, ◌++◌, length, take, drop, get_or, sym, ap, ◌∙◌, subst, append_assoc, arith}
 use Rattle.std.proofs.lemmas.List.{append-nil, take_all, take_more, take-append-drop}
 use Rattle.blot_operator.specs.Lines.{lines_of}
-use Rattle.blot_operator.specs.Dialogue.{HasTold, StopsAmong}
+use Rattle.blot_operator.specs.Dialogue.{Closes, HasTold, StopsAmong}
 use Rattle.blot_operator.proofs.DialogueLemmas.{OnErr-always}
 use Rattle.blot_operator.proofs.lines.answer_piece.Goals as goal
 
@@ -28,16 +28,25 @@ loop-byte-preserved g c = λ start bytes before has.
     let index = c.loop-byte.byte-index in
     subst (λ all. HasTold g.D.Operated.ways start all c.take_byte.new.line.items c.take_byte.new.state before (g.W.Write.contents c.take_byte.new.output))
     (one_more bytes piece index c.loop-byte-test.true)
-    (c.in_ok-take_byte.ensures.ok start (bytes ++ take index piece) before (c.loop-byte.invariant start bytes before has))
+    ((rw c.if-closed.false at c.in_ok-closed.ensures.ok) start (bytes ++ take index piece) before (c.loop-byte.invariant start bytes before has))
 
-pub returns-in_err-take_byte-clause-err : goal.returns-in_err-take_byte-clause-err
-returns-in_err-take_byte-clause-err g c =
+pub returns-then-closed-clause-ok : goal.returns-then-closed-clause-ok
+returns-then-closed-clause-ok g c = λ start bytes more before has.
+    let piece = c.args.piece.now in
+    let index = c.loop-byte.byte-index in
+    subst (λ all. Closes g.D.Operated.ways start (lines_of all) c.take_byte.new.state before (g.W.Write.contents c.take_byte.new.output))
+    (whole bytes piece more index c.loop-byte-test.true)
+    ((rw c.if-closed.true at c.in_ok-closed.ensures.ok) start (bytes ++ take index piece) (drop (index + 1) piece ++ more) before
+    (c.loop-byte.invariant start bytes before has))
+
+pub returns-in_err-closed-clause-err : goal.returns-in_err-closed-clause-err
+returns-in_err-closed-clause-err g c =
     let piece = c.args.piece.now in
     let index = c.loop-byte.byte-index in
     OnErr-always c.from_residual.result (λ start bytes more before has.
     subst (λ all. StopsAmong g.D.Operated.ways start (lines_of all) c.take_byte.new.state before (g.W.Write.contents c.take_byte.new.output))
     (whole bytes piece more index c.loop-byte-test.true)
-    (c.in_err-take_byte.ensures.err start (bytes ++ take index piece) (drop (index + 1) piece ++ more) before
+    (c.in_err-closed.ensures.err start (bytes ++ take index piece) (drop (index + 1) piece ++ more) before
     (c.loop-byte.invariant start bytes before has)))
 
 pub returns-clause-ok : goal.returns-clause-ok

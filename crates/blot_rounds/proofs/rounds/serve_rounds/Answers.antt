@@ -1,4 +1,5 @@
-use Rattle.std.proofs.Common.{◌≡◌, Err, rules, arith, subst}
+use Rattle.std.proofs.Common.{◌≡◌, arith, subst}
+use Rattle.blot_stream.proofs.ResultLemmas.{err-always}
 use Rattle.blot_rounds.specs.Rounds.{RoundsLead, ServesRound}
 use Rattle.blot_rounds.proofs.RoundLemmas.{one-more, stops-at}
 use Rattle.blot_rounds.proofs.rounds.serve_rounds.Goals as goal
@@ -9,9 +10,8 @@ loop-preserved g c =
 
 pub returns-in_err-serve_round-clause-fewer : goal.returns-in_err-serve_round-clause-fewer
 returns-in_err-serve_round-clause-fewer g c =
-    let same : c.from_residual.result ≡ Err c.in_err-serve_round.field-0.0 = search rules in
-    rw same
-    (stops-at (ServesRound g.row.R.Denot g.N.Stream.Read.remaining g.N.Stream.Write.contents c.args.slots.now) c.loop.counter c.args.rounds _ _ _ c.in_err-serve_round.field-0.0
+    err-always c.from_residual.result
+    (stops-at (ServesRound g.row.R.Denot g.N.Stream.Read.remaining g.N.Stream.Write.contents c.args.slots.now) c.loop.counter c.args.rounds _ _ _
     c.loop-test.true c.loop.invariant c.in_err-serve_round.ensures.kept)
 
 pub returns-clause-served : goal.returns-clause-served

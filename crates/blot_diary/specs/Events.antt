@@ -1,0 +1,49 @@
+-- The events of a journal: those that its frames bring, in their order, each with who brought it.
+use Rattle.std.specs.Prelude.{◌≡◌, ℕ, List, [], ◌∷◌, ◌++◌, Option, Some, None, Ok}
+use Rattle.std.specs.List.{filter_map}
+use Rattle.std.specs.Option.{option_and_then}
+use Rattle.blot_tag.specs.Fields.{Item}
+use Rattle.blot_tag.specs.Walking.{frames_of}
+use Rattle.blot_types.specs.declared.command.Command.{Command}
+use Rattle.blot_fields.specs.Commands.{command_of}
+use Rattle.blot_fields.specs.Decoding.{decoded}
+use Rattle.blot_fields.specs.declared.message.Message.{Message}
+use Rattle.blot_desk.specs.declared.event.Event.TheVariants.{Submit}
+use Rattle.blot_diary.specs.declared.kept.Content.{Content}
+use Rattle.blot_diary.specs.declared.kept.Content.TheVariants as contents
+use Rattle.blot_diary.specs.declared.kept.Kept.{Kept}
+use Rattle.blot_diary.specs.declared.kept.Noted.{Noted}
+use Rattle.blot_diary.specs.declared.kept.Party.TheVariants.{Peer, Operator}
+use Rattle.blot_diary.specs.Keeping.{kept_in, kept_of}
+
+-- a command is the submit of it by the sender, an operator's event is that operator's, and all else is none
+abbrev pub noted_by : List ℕ → Content → Option Noted
+noted_by from (contents.Command command) = Some (record { party = Peer from; event = Submit command })
+noted_by from (contents.Asked operator event) = Some (record { party = Operator operator; event = event })
+noted_by from content = None
+
+-- the event that is kept, if one is
+abbrev pub noted_of : Kept → Option Noted
+noted_of kept = noted_by kept.from kept.content
+
+-- the events of frames
+abbrev pub events_in : List (List ℕ) → List Noted
+events_in frames = filter_map noted_of (kept_in frames)
+
+-- the events of a text
+abbrev pub events_of : List ℕ → List Noted
+events_of text = events_in (frames_of text)
+
+-- some events, and one more behind them if there is one
+abbrev pub with_last : List Noted → Option Noted → List Noted
+with_last events None = events
+with_last events (Some noted) = events ++ noted ∷ []
+
+-- a frame behind others adds this to their events
+abbrev pub BringsLast : List (List ℕ) → List ℕ → Option Noted → Type 0
+BringsLast frames frame noted = events_in (frames ++ frame ∷ []) ≡ with_last (events_in frames) noted
+
+-- a frame whose message gives a command, as its own sender's, is the submit of it by that sender
+abbrev pub IsItsSubmit : List Item → Type 0
+IsItsSubmit items = (message : Message) (command : Command) → decoded items ≡ Ok message → command_of message message.head.sender ≡ Some command
+    → option_and_then noted_of (kept_of items) ≡ Some (record { party = Peer message.head.sender; event = Submit command })

@@ -1,0 +1,14 @@
+//! What the text of a day's journal means. Each frame of it is read by itself into what it keeps: a peer's command, an
+//! operator's event, the numbers of a session, or a message that only counts. In their order they give the events of the day,
+//! each with the party that brought it, and the two numbers of each peer; no session is asked.
+#![tactic(auto)]
+
+mod kept;
+mod kinds;
+mod numbers;
+mod own;
+mod reading;
+
+pub use kept::{Beginning, Content, Kept, Noted, Party};
+pub use numbers::Numbers;
+pub use reading::read_kept;

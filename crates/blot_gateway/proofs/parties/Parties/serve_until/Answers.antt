@@ -1,0 +1,14 @@
+use Rattle.std.proofs.Common.{refl, inr}
+use Rattle.blot_gateway.proofs.parties.Parties.serve_until.Goals as goal
+
+pub returns-in-None-clause-served : goal.returns-in-None-clause-served
+returns-in-None-clause-served g c =
+    inr (
+      c.in-None.ensures.ended refl,
+      record {
+        between = c.serve_watched.new.self;
+        left = c.serve_watched.new.reader.unread;
+        goes_on = c.in-None.ensures.goes_on refl;
+        said = c.say_goodbye.ensures.said;
+      },
+    )

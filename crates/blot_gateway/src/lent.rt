@@ -1,0 +1,52 @@
+//! A wire, a clock and a sink that are lent serve as those that are owned.
+ghost use Rattle.std.specs.Prelude.{◌≡◌};
+
+use crate::{Clock, Reading, Sink, Wire, Writing};
+use blot_desk::{DeskFault, Reply};
+use blot_time::Moment;
+use blot_types::Command;
+
+impl<W: Wire> Wire for &mut W {
+    ghost use Rattle.std.specs.Prelude.{◌≡◌};
+
+    ghost does = { λ before did after. W.does before.now did after.now × (after.ghost_name ≡ before.ghost_name) };
+
+    ghost failures = { λ wire. W.failures wire.now };
+
+    fn read_some(&mut self, buffer: &mut [u8]) -> Reading {
+        (**self).read_some(buffer)
+    }
+
+    fn write_some(&mut self, text: &[u8]) -> Writing {
+        (**self).write_some(text)
+    }
+
+    fn faults(&self) -> u64 {
+        (**self).faults()
+    }
+}
+
+impl<C: Clock> Clock for &mut C {
+    ghost use Rattle.std.specs.Prelude.{◌≡◌};
+
+    ghost ticks = { λ before moment after. C.ticks before.now moment after.now × (after.ghost_name ≡ before.ghost_name) };
+
+    fn now(&mut self) -> Moment {
+        (**self).now()
+    }
+}
+
+impl<S: Sink> Sink for &mut S {
+    ghost use Rattle.std.specs.Prelude.{◌≡◌};
+
+    ghost takes = { λ before answered after. S.takes before.now answered after.now × (after.ghost_name ≡ before.ghost_name) };
+
+    fn take(&mut self, command: Command) -> Result<Reply, DeskFault> {
+        (**self).take(command)
+    }
+}
+
+/// Takes a reference back: this use of it is what ties it to the parameter that was lent.
+pub(crate) fn take_back<T>(lent: &mut T)
+    ensures { lent.new ≡ lent.old }
+{}

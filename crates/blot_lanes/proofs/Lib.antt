@@ -1,0 +1,3 @@
+mod ConnectionLemmas
+mod SeatLemmas
+mod SubmitLemmas

@@ -1,0 +1,8 @@
+use Rattle.std.proofs.Common.{◌≡◌, ◌+◌, [], length}
+use Rattle.std.specs.List.{All}
+use Rattle.std.specs.Vec.Iter.{into_iter_items, into_iter_len}
+use Rattle.blot_lanes.proofs.peers.seated.Given as goal
+
+abbrev pub invariant-loop-peer : goal.invariant-loop-peer
+invariant-loop-peer g l =
+    (into_iter_len l.seats + l.peer-index ≡ length l.fn.peers) × All (λ receipts. receipts ≡ []) (into_iter_items l.seats)

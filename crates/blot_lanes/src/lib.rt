@@ -1,0 +1,13 @@
+//! The lanes of an open day. Each takes a connection, greets it, serves the session of the peer that it names, and takes the next one, until
+//! the door is closed. Each listed peer has one session and one seat at the desk for the whole day, which are out while it is on.
+#![tactic(auto)]
+
+mod broker_seat;
+mod connection;
+mod lanes;
+mod peers;
+
+pub use broker_seat::BrokerSeat;
+pub use connection::{GREETING_READS, serve_connection};
+pub use lanes::{Task, serve_lanes};
+pub use peers::Peers;

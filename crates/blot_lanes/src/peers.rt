@@ -1,0 +1,244 @@
+//! The listed peers of an open day, each with its session and its seat.
+ghost use Rattle.std.specs.List.{All, IsDistinct};
+ghost use Rattle.std.specs.Map.{lookup, set_value};
+ghost use Rattle.std.specs.Prelude.{◌≡◌, ◌↔◌, ◌⊎◌, [], true, is_some, length, vec_len, Ok, Err, Some, None, IfOk, IfErr, OnOk};
+ghost use Rattle.blot_types.specs.Keys.{same_text};
+ghost use Rattle.blot_gateway.specs.AtOnce.{are_submits};
+ghost use Rattle.blot_lanes.specs.Lanes.{seat_of};
+ghost use Rattle.blot_session.specs.States.{IsIdle, waiting_again};
+ghost use Rattle.blot_slots.specs.Slots.{IsWaiting, checked_out, slot_of, with_slot};
+
+use crate::BrokerSeat;
+use blot_console::SessionLine;
+use blot_desk::Seat;
+use blot_session::Session;
+use blot_slots::{SlotFault, SlotTable};
+use blot_types::Text64;
+use indexmap::IndexMap;
+use std::alloc::{AllocError as NoMemory, Global};
+use std::marker::Model;
+use std::sync::ledger::Ledger;
+use std::sync::{Mutex, Wait};
+
+// A peer's seat, which is none while the peer is on, and the number that its session was last seen to expect.
+#[derive(Drop)]
+struct Peer<L: Ledger> {
+    seat: Option<BrokerSeat<L>>,
+    expected: u64,
+}
+
+// The listed peers, in their order. The session and the seat of each are both in, or both out.
+#[derive(Drop)]
+struct PeerTable<L: Ledger> {
+    sessions: SlotTable,
+    peers: IndexMap<Text64, Peer<L>>,
+}
+
+impl<L: Ledger> PeerTable<L> {
+    // Hands out the session and the seat of a peer.
+    fn check_out(&mut self, peer: &Text64) -> Result<(Session, BrokerSeat<L>), SlotFault>
+        ensures session { IfOk result (λ out. checked_out self.old.sessions peer.now ≡ Ok out.0) }
+        ensures seat { IfOk result (λ out. seat_of peer.now self.old.peers.entries ≡ Some out.1) }
+        ensures left { OnOk result (self.new.sessions ≡ with_slot peer.now None self.old.sessions) }
+        ensures err { IfErr result (λ fault. (fault ≡ SlotFault.UnknownPeer) ⊎ (fault ≡ SlotFault.AlreadyOn)) }
+        ensures waiting { IfOk result (λ out. IsWaiting peer.now out.0) }
+        ensures idle { IfOk result (λ out. IsIdle out.0) }
+    {
+        let session = match self.sessions.check_out(peer) {
+            Ok(session) => session,
+            Err(fault) => return Err(fault),
+        };
+        match take_seat(&mut self.peers, peer) {
+            Some(seat) => Ok((session, seat)),
+            None => {
+                self.sessions.take_back(session);
+                Err(SlotFault::AlreadyOn)
+            }
+        }
+    }
+
+    // Takes them back, where they are out. The session keeps its numbers.
+    fn check_in(&mut self, session: Session, seat: BrokerSeat<L>)
+        ensures session { slot_of self.old.sessions session.peer ≡ Some None
+            → self.new.sessions ≡ with_slot session.peer (Some (waiting_again session)) self.old.sessions }
+        ensures seat { is_some (lookup (same_text session.peer) self.old.peers.entries) ≡ true
+            → self.new.peers.entries ≡ set_value (same_text session.peer) self.old.peers.entries (record { seat = Some seat; expected = session.expected }) }
+    {
+        put_seat(&mut self.peers, &session, seat);
+        self.sessions.take_back(session);
+    }
+
+    // Notes the number that a peer's session expects.
+    fn note(&mut self, peer: &Text64, expected: u64) {
+        if let Some(noted) = self.peers.get_mut(peer) {
+            noted.expected = expected;
+        }
+    }
+
+    // The session of each peer, in their order.
+    fn sessions(&self, alloc: Global) -> Result<Vec<SessionLine>, NoMemory> {
+        let mut lines = Vec::with_capacity(alloc, self.peers.len())?;
+        for (name, peer) in self.peers.iter() {
+            lines.push(SessionLine {
+                peer: *name,
+                is_on: peer.seat.is_none(),
+                expected: peer.expected,
+            })?;
+        }
+        Ok(lines)
+    }
+}
+
+// The seat of a peer, where it is in.
+fn take_seat<L: Ledger>(
+    peers: &mut IndexMap<Text64, Peer<L>>,
+    peer: &Text64,
+) -> Option<BrokerSeat<L>>
+    ensures { result ≡ seat_of peer.now peers.old.entries }
+{
+    match peers.get_mut(peer) {
+        Some(listed) => listed.seat.take(),
+        None => None,
+    }
+}
+
+// Puts the seat of a session's peer in, where the peer is listed.
+fn put_seat<L: Ledger>(
+    peers: &mut IndexMap<Text64, Peer<L>>,
+    session: &Session,
+    seat: BrokerSeat<L>,
+)
+    ensures { is_some (lookup (same_text session.now.peer) peers.old.entries) ≡ true
+        → peers.new.entries ≡ set_value (same_text session.now.peer) peers.old.entries (record { seat = Some seat; expected = session.now.expected }) }
+{
+    if let Some(peer) = peers.get_mut(session.peer()) {
+        *peer = Peer {
+            seat: Some(seat),
+            expected: session.expected(),
+        };
+    }
+}
+
+/// The listed peers of an open day, each with its session and its seat at the desk, for many connections at once. A contract sees the
+/// blotter's CompID, which stands beside the lock.
+#[derive(Drop)]
+pub struct Peers<L: Ledger> {
+    own: Text64,
+    table: Mutex<PeerTable<L>>,
+}
+
+impl<L: Ledger> Model for Peers<L> {
+    ghost use Rattle.std.specs.Prelude.{ℕ, List};
+
+    ghost Value = { List ℕ };
+
+    ghost view = { λ peers. peers.own };
+}
+
+impl<L: Ledger> Peers<L> {
+    /// These peers, each with one of the seats. RepeatedPeer where two of them are the same; NoMemory.
+    pub fn new(
+        alloc: Global,
+        own: Text64,
+        peers: &[Text64],
+        seats: Vec<Seat<L>>,
+    ) -> Result<Peers<L>, SlotFault>
+        requires count { vec_len seats ≡ length peers.now }
+        requires empty { All (λ receipts. receipts ≡ []) seats.items }
+        ensures own { IfOk result (λ made. made ≡ own) }
+        ensures repeated { (result ≡ Err SlotFault.RepeatedPeer) ↔ (IsDistinct same_text peers.now → ⊥) }
+        ensures err { IfErr result (λ fault. (fault ≡ SlotFault.RepeatedPeer) ⊎ (fault ≡ SlotFault.NoMemory)) }
+    {
+        let sessions = SlotTable::new(alloc, own, peers)?;
+        let peers = seated(alloc, peers, seats)?;
+        let table = Mutex::new(PeerTable { sessions, peers });
+        Ok(Peers { own, table })
+    }
+
+    /// The blotter's CompID. No lock is taken.
+    pub fn own(&self) -> Text64
+        ensures { result ≡ self.now }
+    {
+        self.own
+    }
+
+    /// Hands out the session and the seat of a peer, which is on then. UnknownPeer where the peer isn't listed, AlreadyOn where they are
+    /// out. No memory is taken.
+    pub fn check_out(
+        &self,
+        rt: &impl Wait,
+        peer: &Text64,
+    ) -> Result<(Session, BrokerSeat<L>), SlotFault>
+        ensures err { IfErr result (λ fault. (fault ≡ SlotFault.UnknownPeer) ⊎ (fault ≡ SlotFault.AlreadyOn)) }
+
+        // The session is the peer's, and waits for its Logon.
+        ensures waiting { IfOk result (λ out. IsWaiting peer.now out.0) }
+        ensures idle { IfOk result (λ out. IsIdle out.0) }
+    {
+        self.table.lock(rt).check_out(peer)
+    }
+
+    /// Takes back the session and the seat of a peer. The session waits for a Logon again, and keeps both numbers. No memory is taken.
+    pub fn check_in(&self, rt: &impl Wait, session: Session, seat: BrokerSeat<L>) {
+        self.table.lock(rt).check_in(session, seat);
+    }
+
+    /// Notes the number that a peer's session expects, for those who ask.
+    pub fn note(&self, rt: &impl Wait, peer: &Text64, expected: u64) {
+        self.table.lock(rt).note(peer, expected);
+    }
+
+    /// The session of each peer, in their order: whether it is out, and the number that it expected when its last read was done.
+    pub fn sessions(&self, rt: &impl Wait, alloc: Global) -> Result<Vec<SessionLine>, NoMemory> {
+        self.table.lock(rt).sessions(alloc)
+    }
+
+    /// The seats of the peers that aren't on, in a list that has room for them: of all, where nobody is served any more.
+    pub fn into_seats(self, room: Vec<Seat<L>>) -> Result<Vec<Seat<L>>, NoMemory>
+        requires { room.items ≡ [] }
+        ensures submits { IfOk result (λ seats. All (λ receipts. are_submits receipts ≡ true) seats.items) }
+    {
+        let Peers { own: _, table } = self;
+        let PeerTable { sessions: _, peers } = table.into_inner();
+        put_seats(room, peers)
+    }
+}
+
+// Each peer with one of the seats. Its session expects number 1.
+fn seated<L: Ledger>(
+    alloc: Global,
+    peers: &[Text64],
+    seats: Vec<Seat<L>>,
+) -> Result<IndexMap<Text64, Peer<L>>, NoMemory>
+    requires count { vec_len seats ≡ length peers.now }
+    requires empty { All (λ receipts. receipts ≡ []) seats.items }
+{
+    let mut seated = IndexMap::with_capacity(alloc, peers.len())?;
+    let mut seats = seats.into_iter();
+    for peer in peers {
+        let seat = BrokerSeat::new(seats.next().unwrap());
+        let listed = Peer {
+            seat: Some(seat),
+            expected: 1,
+        };
+        seated.insert(*peer, listed)?;
+    }
+    Ok(seated)
+}
+
+// Puts the seats that are in.
+fn put_seats<L: Ledger>(
+    room: Vec<Seat<L>>,
+    peers: IndexMap<Text64, Peer<L>>,
+) -> Result<Vec<Seat<L>>, NoMemory>
+    requires { room.items ≡ [] }
+    ensures { IfOk result (λ seats. All (λ receipts. are_submits receipts ≡ true) seats.items) }
+{
+    let mut seats = room;
+    for peer in peers.into_values() {
+        if let Some(broker) = peer.seat {
+            seats.push(broker.into_seat())?;
+        }
+    }
+    Ok(seats)
+}

@@ -1,0 +1,141 @@
+//! The end of a day: the seats are settled with the desk, and the report of the day is written.
+ghost use Rattle.std.specs.Prelude.{◌≡◌, ◌≢◌, [], ◌∷◌, ◌++◌, Err, IfOk, IfErr, OnOk, IsOk};
+ghost use Rattle.std.specs.Io.KnownBytes.{Appends};
+ghost use Rattle.blot_desk.specs.Desk.{IsRun, list_after};
+ghost use Rattle.blot_desk.specs.Receipts.{IsSettled};
+ghost use Rattle.blot_report.specs.Text.{report_of};
+ghost use Rattle.blotter.specs.Serving.{Reported, settling_fault};
+
+use blot_desk::{Closed, Desk, DeskFault, Held, Seat, Settled};
+use blot_report::{day_lines_parallel, report_text};
+use blot_stream::{ServeFault, write_text};
+use blot_time::Day;
+use std::alloc::{AllocError as NoMemory, Global};
+use std::io::Write;
+use std::sync::ledger::Ledger;
+use std::thread::Threads;
+
+/// Settles the seats with the desk, and writes the report of the day.
+pub(crate) fn report<L: Ledger, R: Threads + Sync, O: Write>(
+    rt: &R,
+    alloc: Global,
+    desk: Desk<L>,
+    brokers: Vec<Seat<L>>,
+    operator: Seat<L>,
+    day: Day,
+    output: &mut O,
+) -> Result<(), ServeFault>
+    ensures reported { OnOk result (Reported day (brokers.items ++ (operator ∷ [])) (O.contents output.old) (O.contents output.new)) }
+    ensures connected { result ≢ Err ServeFault.Connection }
+{
+    match settled(desk, brokers, operator) {
+        Ok(held) => write_report(rt, alloc, held, day, output),
+        Err(fault) => Err(fault),
+    }
+}
+
+// What the desk held, once the receipts of all seats agree with its history.
+fn settled<L: Ledger>(
+    desk: Desk<L>,
+    brokers: Vec<Seat<L>>,
+    operator: Seat<L>,
+) -> Result<Held, ServeFault>
+    ensures settled { IfOk result (λ held. IsSettled held.history (brokers.items ++ (operator ∷ []))) }
+    ensures run { IfOk result IsRun }
+    ensures connected { result ≢ Err ServeFault.Connection }
+{
+    let seats = all_seats(brokers, operator)?;
+    match desk.close().settle(seats) {
+        Ok(settled) => Ok(held_of(settled)),
+        Err(refused) => Err(unsettled(refused)),
+    }
+}
+
+// The seats of the brokers, and after them the operator's.
+fn all_seats<L: Ledger>(brokers: Vec<Seat<L>>, operator: Seat<L>) -> Result<Vec<Seat<L>>, NoMemory>
+    ensures { IfOk result (λ seats. seats.items ≡ brokers.items ++ (operator ∷ [])) }
+{
+    let mut seats = brokers;
+    match seats.push(operator) {
+        Ok(()) => Ok(seats),
+        Err(_) => Err(NoMemory),
+    }
+}
+
+// What a settled desk held.
+fn held_of<L: Ledger>(settled: Settled<L>) -> Held
+    ensures { result ≡ settled.held }
+{
+    settled.held
+}
+
+// Why a desk that is handed back isn't settled.
+fn unsettled<L: Ledger>(refused: (DeskFault, Closed<L>, Vec<Seat<L>>)) -> ServeFault
+    ensures told { result ≡ settling_fault refused.0 }
+{
+    let fault = refused.0;
+    drop(refused);
+    settling_fault(fault)
+}
+
+// What is told of a desk that isn't settled: that the receipts disagree, or else that memory ran out, since settling asks for no event.
+fn settling_fault(fault: DeskFault) -> ServeFault
+    ensures { result ≡ settling_fault fault }
+{
+    match fault {
+        DeskFault::Unsettled => ServeFault::Unsettled,
+        DeskFault::Full | DeskFault::NoMemory => ServeFault::NoMemory,
+    }
+}
+
+// Writes the report of the day, which several threads make.
+fn write_report<R: Threads + Sync, O: Write>(
+    rt: &R,
+    alloc: Global,
+    held: Held,
+    day: Day,
+    output: &mut O,
+) -> Result<(), ServeFault>
+    ensures written { OnOk result (Appends (O.contents output.old) (O.contents output.new) (report_of (list_after held.history) day)) }
+    ensures connected { result ≢ Err ServeFault.Connection }
+{
+    let text = day_report(rt, alloc, held, day)?;
+    match write_text(output, &text) {
+        Ok(()) => Ok(()),
+        Err(fault) => Err(ServeFault::Lines(fault)),
+    }
+}
+
+// The report of a day of a desk, made by several threads. The record goes first, so that the report takes its room.
+fn day_report<R: Threads + Sync>(
+    rt: &R,
+    alloc: Global,
+    held: Held,
+    day: Day,
+) -> Result<Vec<u8>, NoMemory>
+    ensures { IfOk result (λ text. text.items ≡ report_of (list_after held.history) day) }
+{
+    let book = held.into_book();
+    let lines = day_lines_parallel(rt, alloc, &book, day);
+    drop(book);
+    let lines = lines?;
+    report_text(alloc, &lines)
+}
+
+/// What a day comes to that ended so, and whose report came to this: want of memory is told before any other fault, and a fault of the report
+/// before one of the day.
+pub(crate) fn ended(
+    served: Result<(), ServeFault>,
+    reported: Result<(), ServeFault>,
+) -> Result<(), ServeFault>
+    ensures ok { OnOk result (IsOk served × IsOk reported) }
+    ensures connection { result ≡ Err ServeFault.Connection → reported ≢ Err ServeFault.Connection → (served ≡ Err ServeFault.Connection) × IsOk reported }
+{
+    match (served, reported) {
+        (Err(ServeFault::NoMemory), _) | (_, Err(ServeFault::NoMemory)) => {
+            Err(ServeFault::NoMemory)
+        }
+        (_, Err(fault)) => Err(fault),
+        (served, Ok(())) => served,
+    }
+}

@@ -1,0 +1,151 @@
+//! The text of a day's journal, read frame by frame: what each brings, and the numbers of a peer after it.
+
+use crate::expect::{expect, text};
+use crate::frames::frame;
+use blot_desk::Event;
+use blot_diary::{Kept, Noted, Numbers, Party, read_kept};
+use blot_tag::Reader;
+use blot_time::Day;
+use blot_types::Command;
+use std::alloc::Global;
+use std::test::Fail;
+
+// The body of a frame, what it brings, and the numbers of BRKA after it: the expected one and the next.
+const ROWS: &[(&str, &str, u64, u64)] = &[
+    (
+        "35=UD|49=MO|56=MO|34=1|52=20240105-10:00:00|75=20240105|",
+        "none",
+        1,
+        1,
+    ),
+    (
+        "35=A|49=BRKA|56=MO|34=1|52=20240105-10:00:00|98=0|108=30|",
+        "none",
+        1,
+        1,
+    ),
+    (
+        "35=A|49=MO|56=BRKA|34=1|52=20240105-10:00:00|98=0|108=30|",
+        "none",
+        1,
+        2,
+    ),
+    (
+        "35=UN|49=MO|56=BRKA|34=1|52=20240105-10:00:00|789=2|36=2|",
+        "none",
+        2,
+        2,
+    ),
+    (
+        "35=8|49=BRKA|56=MO|34=2|52=20240105-10:00:00|37=O1|17=E1|150=F|39=1|55=XYZ|54=1|38=300|32=100|31=10.5|14=100|151=200|6=10.5|",
+        "trade",
+        3,
+        2,
+    ),
+    (
+        "35=UR|49=MO|56=BRKA|34=2|52=20240105-10:00:00|95=4|96=8=E2|",
+        "none",
+        3,
+        2,
+    ),
+    (
+        "35=UL|49=MO|56=MO|50=desk|34=1|52=20240105-10:00:00|58=allocate\tBRKA\tAL1\tXYZ\tB\t20240105\t10.5\t1\tE1\tA\t100|",
+        "allocate",
+        3,
+        2,
+    ),
+    (
+        "35=UL|49=MO|56=MO|50=desk|34=2|52=20240105-10:00:00|58=order\tBRKA\tO1|",
+        "none",
+        3,
+        2,
+    ),
+    (
+        "35=UL|49=MO|56=MO|50=desk|34=3|52=20240105-10:00:00|58=undo\t2|",
+        "undo",
+        3,
+        2,
+    ),
+    (
+        "35=8|49=BRKA|56=MO|34=3|52=20240105-10:00:00|17=E3|19=E1|150=H|",
+        "bust",
+        4,
+        2,
+    ),
+    (
+        "35=P|49=MO|56=BRKA|34=2|52=20240105-10:00:00|70=AL2|87=0|",
+        "none",
+        4,
+        3,
+    ),
+    (
+        "35=P|49=MO|56=BRKA|34=1|43=Y|52=20240105-10:00:00|70=AL2|87=0|",
+        "none",
+        4,
+        3,
+    ),
+    (
+        "35=UN|49=MO|56=BRKB|34=1|52=20240105-10:00:00|789=9|36=9|",
+        "none",
+        4,
+        3,
+    ),
+];
+
+// What the frame of a body keeps.
+fn kept_of(alloc: Global, body: &str) -> Result<Option<Kept>, Fail> {
+    let mut reader = Reader::new(alloc);
+    reader.feed(frame(alloc, body)?.as_slice())?;
+    let frame = reader.next()?.ok_or("no frame")?;
+    Ok(read_kept(alloc, &frame)?)
+}
+
+// What an event is, in a word.
+fn word_of(noted: &Option<Noted>) -> &'static str {
+    let Some(noted) = noted else {
+        return "none";
+    };
+    match (&noted.party, &noted.event) {
+        (Party::Peer(_), Event::Submit(Command::Trade(_))) => "trade",
+        (Party::Peer(_), Event::Submit(Command::Bust(_))) => "bust",
+        (Party::Operator(_), Event::Submit(Command::AllocNew(_))) => "allocate",
+        (Party::Operator(_), Event::Undo { .. }) => "undo",
+        _ => "another",
+    }
+}
+
+#[test]
+fn a_journal_frame_by_frame(rt: HostRuntime) -> Result<(), Fail> {
+    let alloc = rt.alloc();
+    let (own, peer) = (text(b"MO")?, text(b"BRKA")?);
+    let mut numbers = Numbers::first();
+    for (body, word, expected, next) in ROWS {
+        let kept = kept_of(alloc, body)?.ok_or("nothing is kept")?;
+        numbers = numbers.after(&own, &peer, &kept);
+        let brings = kept.into_noted();
+        expect(&rt, body, word_of(&brings) == *word);
+        let counts = numbers.expected == *expected && numbers.next == *next;
+        expect(&rt, body, counts);
+    }
+    Ok(())
+}
+
+#[test]
+fn a_journal_begins_and_a_fault_keeps_nothing(rt: HostRuntime) -> Result<(), Fail> {
+    let alloc = rt.alloc();
+    let kept = kept_of(alloc, ROWS[0].0)?.ok_or("nothing is kept")?;
+    let beginning = kept.beginning().ok_or("no beginning")?;
+    let day = Day::read(b"20240105")?;
+    let own = text(b"MO")?;
+    expect(
+        &rt,
+        "its own and its day",
+        beginning.own == own && beginning.day == day,
+    );
+    let fault = kept_of(
+        alloc,
+        "35=8|49=BRKA|56=MO|34=2|52=20240105-10:00:00|17=E1|150=F|",
+    )?;
+    expect(&rt, "a trade without an order", fault.is_none());
+    Ok(())
+}
