@@ -60,8 +60,8 @@ fn drawn_command(alloc: Global, draws: &mut Draws, held: &Held) -> Result<Event,
     Ok(Event::Submit(command))
 }
 
-// Events of every kind, drawn from a desk that takes them alone; the last one is to be taken first.
-fn drawn_events(alloc: Global, seed: u32) -> Result<Vec<Event>, Fail> {
+/// Events of every kind, drawn from a desk that takes them alone; the last one is to be taken first.
+pub fn drawn_events(alloc: Global, seed: u32) -> Result<Vec<Event>, Fail> {
     let mut draws = Draws::new(seed);
     let mut held = Held::new(alloc);
     let mut events = Vec::new(alloc);

@@ -1,11 +1,14 @@
 //! The text of a day's journal, read frame by frame: what each brings, and the numbers of a peer after it.
 
 use crate::expect::{expect, text};
-use crate::frames::frame;
+use crate::frames::{frame, stream};
 use blot_desk::Event;
-use blot_diary::{Kept, Noted, Numbers, Party, read_kept};
+use blot_diary::{
+    Kept, Noted, Numbers, Party, asked_record, beginning_record, is_quiet, numbers_record,
+    read_kept, wrapped_record,
+};
 use blot_tag::Reader;
-use blot_time::Day;
+use blot_time::{Day, Moment};
 use blot_types::Command;
 use std::alloc::Global;
 use std::test::Fail;
@@ -100,6 +103,16 @@ fn kept_of(alloc: Global, body: &str) -> Result<Option<Kept>, Fail> {
     Ok(read_kept(alloc, &frame)?)
 }
 
+// The moment of all records here.
+fn ten() -> Result<Moment, Fail> {
+    Ok(Moment::read(b"20240105-10:00:00")?)
+}
+
+// Whether a record is this text, with `|` for SOH.
+fn is_text(alloc: Global, record: &[u8], text: &str) -> Result<bool, Fail> {
+    Ok(record == stream(alloc, text)?.as_slice())
+}
+
 // What an event is, in a word.
 fn word_of(noted: &Option<Noted>) -> &'static str {
     let Some(noted) = noted else {
@@ -147,5 +160,87 @@ fn a_journal_begins_and_a_fault_keeps_nothing(rt: HostRuntime) -> Result<(), Fai
         "35=8|49=BRKA|56=MO|34=2|52=20240105-10:00:00|17=E1|150=F|",
     )?;
     expect(&rt, "a trade without an order", fault.is_none());
+    Ok(())
+}
+
+#[test]
+fn writes_the_beginning_of_a_journal(rt: HostRuntime) -> Result<(), Fail> {
+    let record = beginning_record(rt.alloc(), &text(b"MO")?, Day::read(b"20240105")?, ten()?)?;
+    let text =
+        "!8=FIX.4.4|9=60|35=UD|49=MO|56=MO|34=1|52=20240105-10:00:00.000|75=20240105|10=138|";
+    expect(&rt, "35=UD", is_text(rt.alloc(), &record, text)?);
+    Ok(())
+}
+
+#[test]
+fn writes_the_numbers_of_a_peer(rt: HostRuntime) -> Result<(), Fail> {
+    let numbers = Numbers {
+        expected: 2,
+        next: 1_000_000_000,
+    };
+    let (own, peer) = (text(b"MO")?, text(b"BRKA")?);
+    let record = numbers_record(rt.alloc(), &own, &peer, 999_999_999, ten()?, numbers)?;
+    let text =
+        "!8=FIX.4.4|9=78|35=UN|49=MO|56=BRKA|34=999999999|52=20240105-10:00:00.000|789=2|36=1000000000|10=089|";
+    expect(&rt, "35=UN", is_text(rt.alloc(), &record, text)?);
+    Ok(())
+}
+
+#[test]
+fn writes_an_operators_line_that_fits(rt: HostRuntime) -> Result<(), Fail> {
+    let alloc = rt.alloc();
+    let (own, desk) = (text(b"MO")?, text(b"desk")?);
+    let record = asked_record(alloc, &own, &desk, 2, ten()?, b"undo\t2")?.ok_or("none")?;
+    let text =
+        "!8=FIX.4.4|9=66|35=UL|49=MO|56=MO|50=desk|34=2|52=20240105-10:00:00.000|58=undo\t2|10=071|";
+    expect(&rt, "35=UL", is_text(rt.alloc(), &record, text)?);
+    let soh = asked_record(alloc, &own, &desk, 2, ten()?, b"undo\x012")?;
+    expect(&rt, "an SOH in a line", soh.is_none());
+    // A body has 65,536 bytes, and 60 of them are around the line.
+    let line = vec![in alloc; b'a'; 65_477]?;
+    let longest = asked_record(alloc, &own, &desk, 2, ten()?, &line[1..])?;
+    expect(&rt, "the longest line", longest.is_some());
+    let longer = asked_record(alloc, &own, &desk, 2, ten()?, &line)?;
+    expect(&rt, "a line that is longer", longer.is_none());
+    Ok(())
+}
+
+#[test]
+fn wraps_a_message_that_fits(rt: HostRuntime) -> Result<(), Fail> {
+    let alloc = rt.alloc();
+    let (own, peer) = (text(b"MO")?, text(b"BRKA")?);
+    let logon =
+        "!8=FIX.4.4|9=61|35=A|49=BRKA|56=MO|34=1|52=20240105-10:00:00.000|98=0|108=30|10=152|";
+    let mut reader = Reader::new(alloc);
+    reader.feed(&stream(alloc, logon)?)?;
+    let early = reader.next()?.ok_or("no frame")?;
+    let record = wrapped_record(alloc, &own, &peer, 7, ten()?, &early)?.ok_or("none")?;
+    let text =
+        "!8=FIX.4.4|9=143|35=UR|49=MO|56=BRKA|34=7|52=20240105-10:00:00.000|95=83|96=8=FIX.4.4|9=61|35=A|49=BRKA|56=MO|34=1|52=20240105-10:00:00.000|98=0|108=30|10=152||10=175|";
+    expect(&rt, "35=UR", is_text(rt.alloc(), &record, text)?);
+    let long = format!(in alloc; "35=B|58={:a>65500}|", "")?;
+    let mut reader = Reader::new(alloc);
+    reader.feed(&frame(alloc, &long)?)?;
+    let long = reader.next()?.ok_or("no frame")?;
+    let none = wrapped_record(alloc, &own, &peer, 7, ten()?, &long)?;
+    expect(&rt, "a message that doesn't fit", none.is_none());
+    Ok(())
+}
+
+#[test]
+fn is_quiet_where_one_frame_brings_no_event(rt: HostRuntime) -> Result<(), Fail> {
+    let alloc = rt.alloc();
+    for (body, word, _, _) in ROWS {
+        let text = frame(alloc, body)?;
+        expect(&rt, body, is_quiet(alloc, &text)? == (*word == "none"));
+    }
+    let logon = frame(alloc, ROWS[1].0)?;
+    expect(&rt, "a part of one", !is_quiet(alloc, &logon[1..])?);
+    let two = stream(
+        alloc,
+        "35=0|49=BRKA|56=MO|34=2|52=20240105-10:00:00|\n35=0|49=BRKA|56=MO|34=3|52=20240105-10:00:00|",
+    )?;
+    expect(&rt, "two of them", !is_quiet(alloc, &two)?);
+    expect(&rt, "none", !is_quiet(alloc, b"")?);
     Ok(())
 }

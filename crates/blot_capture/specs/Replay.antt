@@ -17,10 +17,11 @@ use Rattle.blot_stream.specs.declared.outcome.ReplayFault.TheVariants.{Full, NoM
 abbrev pub submitted : Journal → List Command → Journal
 submitted journal commands = fold (λ before command. recorded_of before (Submit command)) journal commands
 
--- a fault of a step, as a capture's: the desk is full, or memory ran out. No step answers Unsettled
+-- a fault of a step, as a capture's: the desk is full, or memory ran out. No step answers Unsettled or Broken
 abbrev pub fault_of : DeskFault → ReplayFault
 fault_of desk.Full = Full
 fault_of desk.NoMemory = NoMemory
+fault_of desk.Broken = NoMemory
 fault_of desk.Unsettled = NoMemory
 
 -- a front of some commands was submitted to a desk, and then a fault came. Full is answered only where as many events are recorded

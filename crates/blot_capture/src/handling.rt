@@ -200,13 +200,13 @@ fn tell(
     }
 }
 
-// A fault of a step, as a capture's: the desk is full, or memory ran out. No step answers Unsettled.
+// A fault of a step, as a capture's: the desk is full, or memory ran out. No step answers Unsettled or Broken.
 fn fault_of(fault: DeskFault) -> ReplayFault
     ensures { result ≡ fault_of fault }
 {
     match fault {
         DeskFault::Full => ReplayFault::Full,
-        DeskFault::NoMemory | DeskFault::Unsettled => ReplayFault::NoMemory,
+        DeskFault::NoMemory | DeskFault::Broken | DeskFault::Unsettled => ReplayFault::NoMemory,
     }
 }
 

@@ -1,4 +1,5 @@
 pub mod Desk
+pub mod Keeping
 pub mod Marks
 pub mod Questions
 pub mod Receipts

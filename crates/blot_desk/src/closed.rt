@@ -48,6 +48,7 @@ impl<L: Ledger> Closed<L> {
         ensures run { IfOk result (λ settled. IsRun settled.held) }
         ensures unsettled { IfErr result (λ refused. refused.0 ≡ DeskFault.Unsettled → IsSettled self.held.history seats.items → ⊥) }
         ensures faults { IfErr result (λ refused. (refused.0 ≡ DeskFault.Full) → ⊥) }
+        ensures unbroken { IfErr result (λ refused. (refused.0 ≡ DeskFault.Broken) → ⊥) }
         ensures back { IfErr result (λ refused. (refused.1 ≡ self) × (refused.2 ≡ seats)) }
     {
         match is_settled(self.alloc, self.held.history(), &seats) {

@@ -1,23 +1,28 @@
 //! A desk under its lock, for many callers at once.
-ghost use Rattle.std.specs.Prelude.{◌≡◌, ◌≢◌, ◌<◌, [], All, Err, IfOk, IsTrue, OnErr, length};
+ghost use Rattle.std.specs.Prelude.{◌≡◌, ◌≢◌, ◌<◌, [], All, Err, IfOk, IsTrue, List, OnErr, OnOk, length, true};
 ghost use Rattle.blot_types.specs.Legal.{is_book};
+ghost use Rattle.blot_desk.specs.declared.event.Event.{Event};
 ghost use Rattle.blot_desk.specs.Desk.{IsReply};
+ghost use Rattle.blot_desk.specs.Keeping.{IsBeginning, IsSpelled, kept_events};
 ghost use Rattle.blot_desk.specs.Questions.{IsFound};
 ghost use Rattle.blot_desk.specs.Receipts.{IsOneMore};
 
 use crate::counted::Counted;
-use crate::{Closed, DeskFault, Event, Found, Held, Question, Reply, Seat, Snapshot};
+use crate::{
+    Closed, DeskFault, Event, Found, KeepFault, Keeper, NoKeeper, Opening, Question, Reply, Seat,
+    Snapshot,
+};
 use std::alloc::{AllocError as NoMemory, Global};
-use std::sync::ledger::{Blank, Ledger, Share};
+use std::sync::ledger::{Blank, Ledger};
 use std::sync::{Mutex, Wait};
 
 /// A desk for many callers at once, of which each has a seat. One event is one step under its lock, and no lock is held
 /// while anything else waits. `L` ties the seats to their desk: a call at `Brand` of a function that holds the whole run
-/// picks it.
+/// picks it. `K` keeps the events.
 #[derive(Drop)]
-pub struct Desk<L: Ledger> {
+pub struct Desk<L: Ledger, K: Keeper = NoKeeper> {
     alloc: Global,
-    counted: Mutex<Counted<L>>,
+    counted: Mutex<Counted<L, K>>,
 }
 
 impl<L: Ledger> Desk<L> {
@@ -30,13 +35,8 @@ impl<L: Ledger> Desk<L> {
         ensures seats { IfOk result (λ opened. length opened.1.items ≡ seats) }
         ensures empty { IfOk result (λ opened. All (λ receipts. receipts ≡ []) opened.1.items) }
     {
-        let (book, share) = blank.open::<L>();
-        let seats = make_seats(alloc, share, seats)?;
-        let counted = Mutex::new(Counted {
-            held: Held::new(alloc),
-            book,
-        });
-        Ok((Desk { alloc, counted }, seats))
+        let (opening, seats) = Opening::new(alloc, blank, seats)?;
+        Ok((opening.open(NoKeeper {}), seats))
     }
 
     /// Takes an event: the reply to it, and a receipt for the seat. Where the desk is full, or memory runs out, nothing is
@@ -51,8 +51,58 @@ impl<L: Ledger> Desk<L> {
         ensures receipt { IfOk result (λ reply. IsOneMore seat.old seat.new event reply) }
         ensures err { OnErr result (seat.new ≡ seat.old) }
         ensures faults { result ≢ Err DeskFault.Unsettled }
+        ensures unbroken { result ≢ Err DeskFault.Broken }
     {
-        seat.take(self.alloc, &mut self.counted.lock(rt), event)
+        self.submit_with(rt, seat, event, &[])
+    }
+}
+
+impl<L: Ledger, K: Keeper> Desk<L, K> {
+    /// A desk of what is under its lock.
+    pub(crate) fn of(alloc: Global, counted: Counted<L, K>) -> Desk<L, K> {
+        Desk {
+            alloc,
+            counted: Mutex::new(counted),
+        }
+    }
+
+    /// Takes an event that a record spells: the reply to it, and a receipt for the seat. The record is kept exactly where there is a
+    /// reply; that of an ask isn't. Where the desk is full, memory runs out, or the keeper is broken, nothing is recorded or kept, and
+    /// the seat gets no receipt.
+    pub fn submit_with(
+        &self,
+        rt: &impl Wait,
+        seat: &mut Seat<L>,
+        event: Event,
+        text: &[u8],
+    ) -> Result<Reply, DeskFault>
+        requires { IsSpelled K.spells text.now event }
+        ensures reply { IfOk result (λ reply. IsReply event reply) }
+        ensures receipt { IfOk result (λ reply. IsOneMore seat.old seat.new event reply) }
+        ensures err { OnErr result (seat.new ≡ seat.old) }
+        ensures faults { result ≢ Err DeskFault.Unsettled }
+
+        // Broken is told of a keeper that is broken.
+        ensures broken { result ≡ Err DeskFault.Broken → (keeper : K) × (K.is_broken keeper ≡ true) }
+    {
+        seat.take(self.alloc, &mut self.counted.lock(rt), event, text)
+    }
+
+    /// Puts a record that spells no event behind the others.
+    pub fn note(&self, rt: &impl Wait, text: &[u8]) -> Result<(), KeepFault>
+        requires { K.spells_none text.now }
+        ensures broken { result ≡ Err KeepFault.Broken → (keeper : K) × (K.is_broken keeper ≡ true) }
+    {
+        self.counted.lock(rt).note(text)
+    }
+
+    /// Makes all events durable that are kept. An error is told of a keeper that is broken, and no more events are taken then.
+    pub fn sync(&self, rt: &impl Wait) -> Result<(), KeepFault>
+        // Ok is told of a keeper of which every event is durable.
+        ensures durable { OnOk result ((keeper : K) × (K.durable keeper ≡ length (K.events keeper))) }
+        ensures broken { OnErr result ((keeper : K) × (K.is_broken keeper ≡ true)) }
+    {
+        self.counted.lock(rt).sync()
     }
 
     /// The live list as it is now, which is legal.
@@ -72,28 +122,22 @@ impl<L: Ledger> Desk<L> {
 
     /// What the desk held at last.
     pub fn close(self) -> Closed<L> {
-        let Desk { alloc, counted } = self;
-        let Counted { held, book } = counted.into_inner();
-        Closed::of(alloc, held, book)
+        let (closed, _) = self.close_kept();
+        closed
     }
-}
 
-// Seats without receipts, each with one part of the share.
-fn make_seats<L: Ledger>(
-    alloc: Global,
-    share: Share<L>,
-    count: u32,
-) -> Result<Vec<Seat<L>>, NoMemory>
-    requires parts { share.parts ≡ count }
-    requires amount { share.amount ≡ 0 }
-    ensures count { IfOk result (λ seats. length seats.items ≡ count) }
-    ensures empty { IfOk result (λ seats. All (λ receipts. receipts ≡ []) seats.items) }
-{
-    let mut share = share;
-    let mut seats = Vec::new(alloc);
-    for _ in 0..count {
-        let part = share.split_off(1, 0);
-        seats.push(Seat::new(alloc, part))?;
+    /// What the desk held at last, and the keeper, which keeps the recorded events, asks aside.
+    pub fn close_kept(self) -> (Closed<L>, K)
+        ensures kept { K.IsKept → K.events result.1 ≡ kept_events result.0.held.history }
+
+        // Whatever the callers did, a crash now leaves a beginning of these events with all that are durable, and one at any moment since
+        // the keeper was opened would have left a beginning of them.
+        ensures now { (events_left : List Event) → K.leaves result.1 events_left → IsBeginning (K.durable result.1) (K.events result.1) events_left }
+        ensures ever { (events_left : List Event) → K.left result.1 events_left → IsBeginning (K.found result.1) (K.events result.1) events_left }
+    {
+        let Desk { alloc, counted } = self;
+        let Counted { held, book, keeper } = counted.into_inner();
+        keeper.ever();
+        (Closed::of(alloc, held, book), keeper)
     }
-    Ok(seats)
 }

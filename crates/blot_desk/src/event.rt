@@ -1,5 +1,6 @@
 //! What comes to a desk, what it replies, and the record of both.
 ghost use Rattle.std.specs.Prelude.{◌≡◌, IfOk};
+ghost use Rattle.blot_desk.specs.Keeping.{is_ask};
 
 use blot_types::{Command, OrderKey, OrderLine, PositionLine, Refused, Text64};
 use std::alloc::{AllocError as NoMemory, Global};
@@ -20,6 +21,13 @@ pub enum Event {
 }
 
 impl Event {
+    /// Whether it only asks.
+    pub fn is_ask(&self) -> bool
+        ensures { result ≡ is_ask self.now }
+    {
+        matches!(self, Event::AskOrder(_) | Event::AskPosition(_, _))
+    }
+
     /// An equal event, or out of memory.
     pub fn try_copy(&self, alloc: Global) -> Result<Event, NoMemory>
         ensures { IfOk result (λ copy. copy ≡ self.now) }

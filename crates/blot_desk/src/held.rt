@@ -64,6 +64,7 @@ impl Held {
 
         ensures full { (result ≡ Err DeskFault.Full) ↔ (length self.old.history ≡ EVENTS_MAX) }
         ensures faults { result ≢ Err DeskFault.Unsettled }
+        ensures unbroken { result ≢ Err DeskFault.Broken }
         ensures err { OnErr result (self.new ≡ self.old) }
     {
         if self.history.len() as u64 == EVENTS_MAX {

@@ -2,7 +2,7 @@
 //! done and undone, and the history of the day; its book and its replies are those of the run of the events that
 //! it recorded. `Unrecorded` only counts its events, for a capture of which nobody asks for the record. `Desk` is a
 //! `Held` under its lock: each caller has a seat, which keeps a receipt of every answer, and at the end of the day the
-//! receipts are compared with the history.
+//! receipts are compared with the history. A `Keeper` keeps the events of a `Desk`, each by a record that spells it.
 #![tactic(auto)]
 
 mod closed;
@@ -11,7 +11,9 @@ mod desk;
 mod event;
 mod fault;
 mod held;
+mod keeper;
 mod looking;
+mod opening;
 mod past;
 mod question;
 mod receipt;
@@ -28,6 +30,8 @@ pub use desk::Desk;
 pub use event::{Event, Recorded, Reply};
 pub use fault::DeskFault;
 pub use held::Held;
+pub use keeper::{KeepFault, Keeper, NoKeeper};
+pub use opening::Opening;
 pub use question::{CommandKey, Found, Question, RefusalRow, StepRow};
 pub use receipt::Receipt;
 pub use seat::Seat;

@@ -1,12 +1,13 @@
 //! A seat at a desk, which keeps its receipts.
-ghost use Rattle.std.specs.Prelude.{◌≡◌, ◌≢◌, ◌↔◌, ◌<◌, [], false, length, vec_capacity, Err, IfOk, OnErr};
+ghost use Rattle.std.specs.Prelude.{◌≡◌, ◌≢◌, ◌↔◌, ◌<◌, ◌≤◌, [], false, true, length, vec_capacity, Err, IfOk, OnErr, OnOk};
 ghost use Rattle.std.specs.List.{list_any};
 ghost use Rattle.blot_types.specs.declared.TheConstants.{EVENTS_MAX};
 ghost use Rattle.blot_desk.specs.Desk.{IsReply, recorded_of, step_of};
+ghost use Rattle.blot_desk.specs.Keeping.{IsSpelled, SameKept, is_ask, with_kept};
 ghost use Rattle.blot_desk.specs.Receipts.{entered, greater, is_gone, is_withdrawal, newest_of, seen_by, seen_in, standing, with_receipt, withdraws};
 
 use crate::counted::Counted;
-use crate::{DeskFault, Event, Receipt, Reply};
+use crate::{DeskFault, Event, KeepFault, Keeper, Receipt, Reply};
 use blot_types::{Command, EVENTS_MAX};
 use std::alloc::Global;
 use std::marker::Model;
@@ -44,27 +45,36 @@ impl<L: Ledger> Seat<L> {
         }
     }
 
-    /// Takes an event to a desk, and keeps a receipt of the reply. Where the desk is full, or memory runs out, nothing is recorded
-    /// and no receipt kept.
-    pub(crate) fn take(
+    /// Takes an event to a desk, which keeps it by its record unless it only asks, and keeps a receipt of the reply. Where the desk is
+    /// full, memory runs out, or the keeper is broken, nothing is recorded or kept, and there is no receipt.
+    pub(crate) fn take<K: Keeper>(
         &mut self,
         alloc: Global,
-        counted: &mut Counted<L>,
+        counted: &mut Counted<L, K>,
         event: Event,
+        text: &[u8],
     ) -> Result<Reply, DeskFault>
-        ensures reply { IfOk result (λ reply. reply ≡ (step_of counted.old.book event).reply) }
+        requires { IsSpelled K.spells text.now event }
+        ensures reply { IfOk result (λ reply. reply ≡ (step_of counted.old.journal.book event).reply) }
         ensures behind_a_run { IfOk result (λ reply. IsReply event reply) }
-        ensures taken { IfOk result (λ reply. counted.new ≡ recorded_of counted.old event) }
-        ensures receipt { IfOk result (λ reply. self.new ≡ with_receipt (length counted.old.history) event reply self.old) }
-        ensures full { (result ≡ Err DeskFault.Full) ↔ (length counted.old.history ≡ EVENTS_MAX) }
-        ensures err { OnErr result ((counted.new ≡ counted.old) × (self.new ≡ self.old)) }
+        ensures taken { IfOk result (λ reply. counted.new.journal ≡ recorded_of counted.old.journal event) }
+        ensures receipt { IfOk result (λ reply. self.new ≡ with_receipt (length counted.old.journal.history) event reply self.old) }
+        ensures kept { OnOk result (K.IsKept → K.events counted.new.keeper ≡ with_kept event (K.events counted.old.keeper)) }
+        ensures full { (result ≡ Err DeskFault.Full) ↔ (length counted.old.journal.history ≡ EVENTS_MAX) }
+        ensures broken { (result ≡ Err DeskFault.Broken) ↔ ((length counted.old.journal.history ≢ EVENTS_MAX) × (is_ask event ≡ false) × (K.is_broken counted.old.keeper ≡ true)) }
+        ensures err { OnErr result ((counted.new.journal ≡ counted.old.journal) × (self.new ≡ self.old)) }
+        ensures same { OnErr result (SameKept K.events K.found K.durable K.is_broken counted.old.keeper counted.new.keeper) }
         ensures faults { result ≢ Err DeskFault.Unsettled }
     {
-        let Counted { held, book } = counted;
+        let Counted { held, book, keeper } = counted;
         let place = held.history().len() as u64;
         if place == EVENTS_MAX {
             drop(event);
             return Err(DeskFault::Full);
+        }
+        if let Err(fault) = reserve(keeper, text, &event) {
+            drop(event);
+            return Err(fault);
         }
         let Ok(()) = self.receipts.reserve(1) else {
             drop(event);
@@ -81,6 +91,9 @@ impl<L: Ledger> Seat<L> {
                 return Err(fault);
             }
         };
+        if !copy.is_ask() {
+            keeper.keep(text, &copy);
+        }
         book.add(&mut self.share, 1);
         keep(&mut self.receipts, place, copy, &reply);
         Ok(reply)
@@ -100,6 +113,23 @@ impl<L: Ledger> Seat<L> {
         ensures { result ≡ newest_of self.now }
     {
         newest_of(&self.receipts)
+    }
+}
+
+// Room for the record of an event, unless it only asks.
+fn reserve<K: Keeper>(keeper: &mut K, text: &[u8], event: &Event) -> Result<(), DeskFault>
+    ensures room { OnOk result (is_ask event.now ≡ false → length text.now ≤ K.room keeper.new) }
+    ensures broken { (result ≡ Err DeskFault.Broken) ↔ ((is_ask event.now ≡ false) × (K.is_broken keeper.old ≡ true)) }
+    ensures faults { (result ≢ Err DeskFault.Full) × (result ≢ Err DeskFault.Unsettled) }
+    ensures same { SameKept K.events K.found K.durable K.is_broken keeper.old keeper.new }
+{
+    if event.is_ask() {
+        return Ok(());
+    }
+    match keeper.reserve(text) {
+        Ok(()) => Ok(()),
+        Err(KeepFault::NoMemory) => Err(DeskFault::NoMemory),
+        Err(KeepFault::Broken) => Err(DeskFault::Broken),
     }
 }
 

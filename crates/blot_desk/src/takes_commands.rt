@@ -21,5 +21,6 @@ pub trait TakesCommands {
         ensures taken { OnOk result (journal_of self.new ≡ recorded_of (journal_of self.old) (Submit command.now)) }
         ensures full { (result ≡ Err DeskFault.Full) ↔ (length (journal_of self.old).history ≡ EVENTS_MAX) }
         ensures faults { result ≢ Err DeskFault.Unsettled }
+        ensures unbroken { result ≢ Err DeskFault.Broken }
         ensures err { OnErr result (journal_of self.new ≡ journal_of self.old) };
 }

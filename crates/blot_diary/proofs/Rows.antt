@@ -1,18 +1,20 @@
 -- Frames of a journal, and texts of them, computed.
 use Rattle.std.proofs.Common.{◌≡◌, ap, ◌∙◌, Bool, ℕ, ℤ, ◌*◌, ◌^◌, List, [], ◌∷◌, ◌++◌, true, false, Some, None, refl}
-use Rattle.std.specs.Prelude.{codes, fold, slice_get, map, pos, ◌==◌, if◌then◌else◌}
+use Rattle.std.specs.Prelude.{codes, fold, slice_get, slice_range, map, pos, ◌==◌, if◌then◌else◌}
+use Rattle.std.specs.Fmt.{digits}
 use Rattle.std.specs.List.{concat, filter_map}
 use Rattle.std.specs.Option.{option_and_then}
 use Rattle.blot_decimal.specs.Meaning.{size_of, qty_of, price_of}
 use Rattle.blot_decimal.specs.Text.{are_parts}
 use Rattle.blot_time.specs.Calendar.{day_number}
 use Rattle.blot_time.specs.Clock.{clock_of, fraction_of}
-use Rattle.blot_time.specs.Day.{civil_day, day_of}
-use Rattle.blot_time.specs.Moment.{moment_of}
+use Rattle.blot_time.specs.Day.{civil_day, day_of, day_text}
+use Rattle.blot_time.specs.Moment.{moment_of, moment_text}
 use Rattle.blot_tag.specs.Bytes.{tag_number}
 use Rattle.blot_tag.specs.Fields.{fields_of, items_behind, first_items, first_field, data_value}
 use Rattle.blot_tag.specs.Looking as looking
 use Rattle.blot_tag.specs.Walking.{frames_of, walk_behind}
+use Rattle.blot_tag.specs.Writing.{frame_of}
 use Rattle.blot_types.specs.declared.command.Command.{Command}
 use Rattle.blot_types.specs.declared.command.Command.TheVariants.{Trade, Bust, AllocNew}
 use Rattle.blot_types.specs.declared.fill.Sign.TheVariants.{Buy}
@@ -43,6 +45,7 @@ use Rattle.blot_diary.specs.Keeping.{kept_in, kept_of}
 use Rattle.blot_diary.specs.Kinds.{kind_of}
 use Rattle.blot_diary.specs.Numbering.{first_numbers, numbers_after, numbers_in, numbers_of}
 use Rattle.blot_diary.specs.Own.{next_form}
+use Rattle.blot_diary.specs.Records.{asked_message, beginning_message, numbers_message, wrapped_message}
 
 -- a text with SOH for each bar
 abbrev barred : List ℕ → List ℕ
@@ -234,3 +237,22 @@ says_numbers = refl
 
 wraps : after false 7 contents.Wrapped ≡ record { expected = 2; next = 2 }
 wraps = refl
+
+-- ---- the journal's own frames, made of what they say
+
+module _ (now : ℤ) (sent : moment_text now ≡ codes "20240105-10:00:00.000") where
+  makes_beginning : day_text friday ≡ codes "20240105" → frame_of (beginning_message MO friday now) ≡ begun
+  unfolding digits
+  makes_beginning day = rw (sent, day) refl
+
+  makes_numbers : frame_of (numbers_message MO BRKA 1 now (record { expected = 2; next = 2 })) ≡ logon_numbers
+  unfolding digits
+  makes_numbers = rw sent refl
+
+  makes_line : frame_of (asked_message MO (codes "desk") 2 now (codes "undo\t2")) ≡ undo
+  unfolding digits
+  makes_line = rw sent refl
+
+  makes_wrapped : frame_of (wrapped_message MO BRKA 2 now (slice_range early 76 239)) ≡ early
+  unfolding digits
+  makes_wrapped = rw sent refl

@@ -2,7 +2,8 @@
 use Rattle.std.specs.Prelude.{◌≡◌, ℕ, List, [], ◌∷◌, ◌++◌, Option, Some, None, Ok}
 use Rattle.std.specs.List.{filter_map}
 use Rattle.std.specs.Option.{option_and_then}
-use Rattle.blot_tag.specs.Fields.{Item}
+use Rattle.blot_tag.specs.Fields.{Item, fields_of}
+use Rattle.blot_tag.specs.Frames.{IsFrame}
 use Rattle.blot_tag.specs.Walking.{frames_of}
 use Rattle.blot_types.specs.declared.command.Command.{Command}
 use Rattle.blot_fields.specs.Commands.{command_of}
@@ -25,6 +26,14 @@ noted_by from content = None
 -- the event that is kept, if one is
 abbrev pub noted_of : Kept → Option Noted
 noted_of kept = noted_by kept.from kept.content
+
+-- the event of a text that is one frame, if it brings one
+abbrev pub noted_in : List ℕ → Option Noted
+noted_in frame = option_and_then noted_of (kept_of (fields_of frame))
+
+-- a text is one frame, and brings no event
+abbrev pub IsQuiet : List ℕ → Type 0
+IsQuiet text = IsFrame text × (noted_in text ≡ None)
 
 -- the events of frames
 abbrev pub events_in : List (List ℕ) → List Noted

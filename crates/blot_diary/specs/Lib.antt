@@ -4,3 +4,6 @@ pub mod Keeping
 pub mod Beginnings
 pub mod Events
 pub mod Numbering
+pub mod Writing
+pub mod Records
+pub mod Diary

@@ -1,5 +1,5 @@
 -- What a journal's own frames say, by the first field of each tag. Source: this project's rule.
-use Rattle.std.specs.Prelude.{ℕ, ℤ, ◌+◌, Bool, true, false, ◌&&◌, nat_le, List, Option, Some, None, option_map, Result, Ok, if◌then◌else◌}
+use Rattle.std.specs.Prelude.{ℕ, ℤ, ◌+◌, ◌&&◌, nat_le, List, Option, Some, None, option_map, Result, Ok, if◌then◌else◌}
 use Rattle.std.specs.Option.{option_and_then}
 use Rattle.blot_time.specs.Day.{day_of}
 use Rattle.blot_time.specs.declared.fault.TimeFault.{TimeFault}
@@ -8,7 +8,7 @@ use Rattle.blot_tag.specs.Fields.{Item}
 use Rattle.blot_fields.specs.First.{first_text, first_value}
 use Rattle.blot_fields.specs.declared.TheConstants.{SEQUENCE_MAX}
 use Rattle.blot_desk.specs.declared.event.Event.{Event}
-use Rattle.blot_desk.specs.declared.event.Event.TheVariants.{AskOrder, AskPosition}
+use Rattle.blot_desk.specs.Keeping.{is_ask}
 use Rattle.blot_console.specs.declared.ask.Ask.{Ask}
 use Rattle.blot_console.specs.declared.ask.Ask.TheVariants.{Step}
 use Rattle.blot_console.specs.declared.fault.LineFault.{LineFault}
@@ -56,12 +56,6 @@ abbrev pub numbers_said : List Item → Content
 numbers_said items = numbers_by (number_in 789 items) (number_in 36 items)
 
 -- ---- UL
-
--- whether an event only asks
-abbrev pub is_ask : Event → Bool
-is_ask (AskOrder order) = true
-is_ask (AskPosition account symbol) = true
-is_ask event = false
 
 -- the event that a line asks for, unless it only asks
 abbrev pub event_asked : Result Ask LineFault → Option Event

@@ -4,7 +4,7 @@ ghost use Rattle.blot_tag.specs.Views.{items_of};
 ghost use Rattle.blot_fields.specs.declared.TheConstants.{SEQUENCE_MAX};
 ghost use Rattle.blot_console.specs.Asks.{SubmitsAllocNew};
 ghost use Rattle.blot_diary.specs.Keeping.{SaysInRange, TakesMemory};
-ghost use Rattle.blot_diary.specs.Own.{asked_said, beginning_said, event_of_line, is_ask, next_form, number_in, numbers_said, wrapped_said};
+ghost use Rattle.blot_diary.specs.Own.{asked_said, beginning_said, event_of_line, next_form, number_in, numbers_said, wrapped_said};
 
 use crate::{Content, Numbers};
 use blot_console::{Ask, LineFault, parse_line};
@@ -102,15 +102,8 @@ fn event_of_line(alloc: Global, line: &[u8]) -> Result<Option<Event>, NoMemory>
     ensures memory { IsErr result → IsSomeAnd (event_of_line line.now) SubmitsAllocNew }
 {
     match parse_line(alloc, line) {
-        Ok(Ask::Step(event)) => Ok(if is_ask(&event) { None } else { Some(event) }),
+        Ok(Ask::Step(event)) => Ok(if event.is_ask() { None } else { Some(event) }),
         Err(LineFault::NoMemory) => Err(NoMemory),
         _ => Ok(None),
     }
-}
-
-// Whether an event only asks.
-fn is_ask(event: &Event) -> bool
-    ensures { result ≡ is_ask event.now }
-{
-    matches!(event, Event::AskOrder(_) | Event::AskPosition(_, _))
 }

@@ -15,5 +15,6 @@ pub mod FaultText
 pub mod Numbers
 pub mod Decoding
 pub mod Commands
+pub mod Bringing
 pub mod First
 pub mod Sender

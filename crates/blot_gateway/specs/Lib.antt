@@ -1,9 +1,11 @@
 pub mod AtOnce
 pub mod Endings
 pub mod Greeting
+pub mod Hearing
 pub mod Memory
 pub mod Progress
 pub mod Sending
 pub mod Serving
 pub mod Wires
 pub mod Stopping
+pub mod Storing

@@ -1,23 +1,25 @@
 //! What is due to a session: its call, and what that comes to at the wire and at the sink.
-ghost use Rattle.std.specs.Prelude.{◌≡◌, ◌≤◌, [], ◌∷◌, Ok, Err, Some, None, IfOk, IfErr, OnOk, OnErr, is_some};
+ghost use Rattle.std.specs.Prelude.{◌≡◌, ◌≤◌, [], ◌∷◌, Ok, Err, Some, None, IfOk, IfErr, IfSome, OnOk, OnErr, is_some};
+ghost use Rattle.blot_fields.specs.Bringing.{brought};
 ghost use Rattle.blot_tag.specs.Views.{text_of};
 ghost use Rattle.blot_session.specs.Runs.Call.{Frame as FrameCall, Reply as ReplyCall, Stop as StopCall, Tick};
 ghost use Rattle.blot_session.specs.States.{awaited_of, IsIdle, IsAwaiting};
 ghost use Rattle.blot_gateway.specs.Progress.{CountsStop, Handles, HandlesLast};
 ghost use Rattle.blot_gateway.specs.Sending.{Called, Halted, Submitted, SubmittedLast};
+ghost use Rattle.blot_gateway.specs.Hearing.{heard};
 ghost use Rattle.blot_gateway.specs.Serving.{seen_by};
 ghost use Rattle.blot_gateway.specs.Serving.Due.{Came};
 
 use crate::ended::Stop;
 use crate::writing::carry_out;
-use crate::{Clock, Parties, Sink, Wire};
+use crate::{Clock, FrameSink, Heard, Parties, Wire};
 use blot_desk::{DeskFault, Reply};
-use blot_session::{NotTaken, SeenReply, Session, delivered};
+use blot_session::{NotTaken, Phase, SeenReply, Session, delivered};
 use blot_tag::Frame;
 use blot_types::Command;
 use std::alloc::Global;
 
-impl<W: Wire, C: Clock, S: Sink> Parties<W, C, S> {
+impl<W: Wire, C: Clock, S: FrameSink> Parties<W, C, S> {
     /// A frame is due: it comes to the session. What the session delivers goes to the sink, and the session is told the answer.
     pub(crate) fn take_frame(&mut self, alloc: Global, frame: &Frame) -> Result<(), Stop>
         requires { IsIdle self.old.session }
@@ -31,25 +33,27 @@ impl<W: Wire, C: Clock, S: Sink> Parties<W, C, S> {
             alloc,
             &mut self.wire,
             &mut self.clock,
+            &mut self.sink,
             &mut self.session,
             frame,
         ) {
-            Ok(Some(command)) => self.submit(alloc, command),
+            Ok(Some(command)) => self.submit(alloc, frame, command),
             Ok(None) => Ok(()),
             Err(stop) => Err(stop),
         }
     }
 
-    // Hands a delivered command to the sink, and tells the session the answer.
-    fn submit(&mut self, alloc: Global, command: Command) -> Result<(), Stop>
-        requires { IsAwaiting self.old.session }
+    // Hands a command to the sink that this frame brought, and tells the session the answer.
+    fn submit(&mut self, alloc: Global, frame: &Frame, command: Command) -> Result<(), Stop>
+        requires awaiting { IsAwaiting self.old.session }
+        requires brought { brought (text_of frame.now) ≡ Some command }
         ensures ok { OnOk result (Submitted W.does C.ticks S.takes command self.old self.new) }
         ensures err { IfErr result (SubmittedLast W.does C.ticks S.takes command self.old self.new) }
         ensures idle { IsIdle self.new.session }
         ensures failures { W.failures self.old.wire ≤ W.failures self.new.wire }
         ensures failed { IfErr result (CountsStop (W.failures self.old.wire) (W.failures self.new.wire)) }
     {
-        let answer = self.sink.take(command);
+        let answer = self.sink.take(frame, command);
         tell(
             alloc,
             &mut self.wire,
@@ -102,32 +106,57 @@ pub(crate) fn pass_stop<W: Wire, C: Clock>(
     }
 }
 
-// A frame comes to the session: the command that it delivers, if it delivers one.
-fn give_frame<W: Wire, C: Clock>(
+// A frame comes to the session: the command that it delivers, if it delivers one. If not, the sink hears of it.
+fn give_frame<W: Wire, C: Clock, S: FrameSink>(
     alloc: Global,
     wire: &mut W,
     clock: &mut C,
+    sink: &mut S,
     session: &mut Session,
     frame: &Frame,
 ) -> Result<Option<Command>, Stop>
     requires { IsIdle session.old }
     ensures ok { IfOk result (λ command. Called W.does C.ticks command (FrameCall (text_of frame.now)) wire.old clock.old session.old
         wire.new clock.new session.new) }
+    ensures brought { IfOk result (λ found. IfSome found (λ command. brought (text_of frame.now) ≡ Some command)) }
     ensures awaits { IfOk result (λ command. is_some command ≡ is_some (awaited_of session.new)) }
     ensures err { IfErr result (Halted W.does C.ticks (FrameCall (text_of frame.now)) wire.old clock.old session.old
         wire.new clock.new session.new) }
     ensures idle { OnErr result (IsIdle session.new) }
+    ensures same { sink.new ≡ sink.old }
     ensures failures { W.failures wire.old ≤ W.failures wire.new }
     ensures failed { IfErr result (CountsStop (W.failures wire.old) (W.failures wire.new)) }
 {
     let now = clock.now();
+    let (phase, expected) = (session.phase(), session.expected());
     let Ok(actions) = session.on_frame(alloc, frame, now) else {
         return Err(Stop::NoMemory);
     };
+    if let Some(heard) = heard(phase, expected, session) {
+        sink.hear(frame, heard);
+    }
     match carry_out(wire, &actions) {
         Ok(()) => Ok(delivered(actions)),
         Err(stop) => Err(stop),
     }
+}
+
+// What a frame came to at a session that was in this phase, and expected this number: none where it brought a command, or where the
+// session wasn't on and isn't.
+fn heard(phase: Phase, expected: u64, session: &Session) -> Option<Heard>
+    ensures { result ≡ heard phase expected session.now }
+{
+    let was_on = phase == Phase::On;
+    if session.is_awaiting() || !was_on && session.phase() != Phase::On {
+        return None;
+    }
+    let is_counted = session.expected() != expected;
+    Some(Heard {
+        is_taken: is_counted || !was_on,
+        is_counted,
+        expected: session.expected(),
+        next: session.next(),
+    })
 }
 
 // Tells a session what became of the command that it delivered.

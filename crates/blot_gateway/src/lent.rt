@@ -1,8 +1,9 @@
-//! A wire, a clock and a sink that are lent serve as those that are owned.
+//! A wire and a clock that are lent serve as those that are owned. A sink that is lent takes the commands, and not their frames.
 ghost use Rattle.std.specs.Prelude.{◌≡◌};
 
-use crate::{Clock, Reading, Sink, Wire, Writing};
+use crate::{Clock, FrameSink, Heard, Reading, Sink, Wire, Writing};
 use blot_desk::{DeskFault, Reply};
+use blot_tag::Frame;
 use blot_time::Moment;
 use blot_types::Command;
 
@@ -36,14 +37,16 @@ impl<C: Clock> Clock for &mut C {
     }
 }
 
-impl<S: Sink> Sink for &mut S {
+impl<S: Sink> FrameSink for &mut S {
     ghost use Rattle.std.specs.Prelude.{◌≡◌};
 
     ghost takes = { λ before answered after. S.takes before.now answered after.now × (after.ghost_name ≡ before.ghost_name) };
 
-    fn take(&mut self, command: Command) -> Result<Reply, DeskFault> {
+    fn take(&mut self, _frame: &Frame, command: Command) -> Result<Reply, DeskFault> {
         (**self).take(command)
     }
+
+    fn hear(&mut self, _frame: &Frame, _heard: Heard) {}
 }
 
 /// Takes a reference back: this use of it is what ties it to the parameter that was lent.

@@ -13,7 +13,7 @@ use crate::calling::pass_moment;
 use crate::ended::Stop;
 use crate::lent::take_back;
 use crate::watch::Unwatched;
-use crate::{Clock, Ended, Parties, READS_MAX, Reading, Sink, Watch, Wire, empty_piece};
+use crate::{Clock, Ended, FrameSink, Parties, READS_MAX, Reading, Sink, Watch, Wire, empty_piece};
 use blot_session::Session;
 use blot_tag::Reader;
 use std::alloc::Global;
@@ -79,7 +79,7 @@ pub fn serve_session_within<W: Wire, C: Clock, S: Sink>(
     ended
 }
 
-impl<W: Wire, C: Clock, S: Sink> Parties<W, C, S> {
+impl<W: Wire, C: Clock, S: FrameSink> Parties<W, C, S> {
     // Serves the session as `serve_session_within` does.
     fn serve(&mut self, alloc: Global, reader: &mut Reader, reads: u64) -> Ended
         requires { IsIdle self.old.session }

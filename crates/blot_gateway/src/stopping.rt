@@ -7,7 +7,7 @@ ghost use Rattle.blot_gateway.specs.Stopping.{SaysGoodbye, ServedUntil, ToldStop
 use crate::calling::pass_stop;
 use crate::serving::leave;
 use crate::watch::Unwatched;
-use crate::{Clock, Ended, Parties, READS_MAX, Sink, Watch, Wire};
+use crate::{Clock, Ended, FrameSink, Parties, READS_MAX, Watch, Wire};
 use blot_session::CloseReason;
 use blot_tag::Reader;
 use std::alloc::Global;
@@ -15,7 +15,7 @@ use std::alloc::Global;
 /// The most reads of a session after the end of the day.
 pub const LAST_READS: u64 = 2;
 
-impl<W: Wire, C: Clock, S: Sink> Parties<W, C, S> {
+impl<W: Wire, C: Clock, S: FrameSink> Parties<W, C, S> {
     /// Serves the session as `serve_session` does, until the watch ends the day. Then the session is told so, which sends a Logout if it is
     /// on, and it is served for two reads more.
     ///

@@ -1,9 +1,12 @@
 //! What a session is served over: a wire, a clock and a sink.
-ghost use Rattle.std.specs.Prelude.{◌≡◌, ◌<◌, ℕ, ℤ, length};
+ghost use Rattle.std.specs.Prelude.{◌≡◌, ◌<◌, ℕ, ℤ, Some, length};
+ghost use Rattle.blot_fields.specs.Bringing.{brought};
+ghost use Rattle.blot_tag.specs.Views.{text_of};
 ghost use Rattle.blot_gateway.specs.Wires.{Did, Answered, read_by, written_by, ReadFits, WriteFits, CountsRead, CountsWrite};
 ghost use Rattle.blot_gateway.specs.Wires.Did.{Gave};
 
 use blot_desk::{DeskFault, Reply};
+use blot_tag::Frame;
 use blot_time::Moment;
 use blot_types::Command;
 
@@ -74,4 +77,32 @@ pub trait Sink {
     /// Takes a command.
     fn take(&mut self, command: Command) -> Result<Reply, DeskFault>
         ensures { takes self.old (record { command = command; answer = result }) self.new };
+}
+
+/// What takes the commands that a session delivers, each with the frame that brought it, and hears of the other frames.
+pub trait FrameSink {
+    /// A sink, a command with the answer to it, and the sink after that.
+    ghost takes: { Self → Answered → Self → Type 0 };
+
+    /// Takes a command, which this frame brought.
+    fn take(&mut self, frame: &Frame, command: Command) -> Result<Reply, DeskFault>
+        requires { brought (text_of frame.now) ≡ Some command }
+        ensures { takes self.old (record { command = command; answer = result }) self.new };
+
+    /// Hears of a frame that brought no command, and what it came to, before anything is written of that.
+    fn hear(&mut self, frame: &Frame, heard: Heard)
+        ensures { self.new ≡ self.old };
+}
+
+/// What a frame that brought no command came to at a session that is on, or was.
+#[derive(Clone, Copy, Debug, PartialEq, Eq)]
+pub struct Heard {
+    /// Whether the session took it: it logged the session on, or its number was counted.
+    pub is_taken: bool,
+    /// Whether the session expects another number than before.
+    pub is_counted: bool,
+    /// The number that the session expects now.
+    pub expected: u64,
+    /// The number of the next message that the session sends, behind all that this frame comes to.
+    pub next: u64,
 }

@@ -1,18 +1,25 @@
 //! A broker's seat at a desk.
-ghost use Rattle.std.specs.Prelude.{◌≡◌, [], true};
+ghost use Rattle.std.specs.Prelude.{◌≡◌, [], Some, true};
+ghost use Rattle.blot_fields.specs.Bringing.{brought};
+ghost use Rattle.blot_tag.specs.Views.{text_of};
 ghost use Rattle.blot_gateway.specs.AtOnce.{TakesReceipt, are_submits};
 
+use crate::PeerStore;
 use blot_desk::{Desk, DeskFault, Event, Reply, Seat};
-use blot_gateway::Sink;
+use blot_gateway::{FrameKeeper, FrameSink, Heard};
+use blot_tag::Frame;
 use blot_types::Command;
 use std::marker::Model;
 use std::sync::Wait;
 use std::sync::ledger::Ledger;
+use std::time::Clock;
 
 /// A broker's seat: all its receipts are of submits. A contract sees them.
 #[derive(Drop)]
 pub struct BrokerSeat<L: Ledger> {
     seat: Seat<L>,
+    // How many records of their own kinds there are of the broker.
+    pub(crate) records: u64,
 }
 
 impl<L: Ledger> Model for BrokerSeat<L> {
@@ -33,7 +40,7 @@ impl<L: Ledger> BrokerSeat<L> {
         requires { seat ≡ [] }
         ensures { result ≡ [] }
     {
-        BrokerSeat { seat }
+        BrokerSeat { seat, records: 0 }
     }
 
     /// The seat.
@@ -41,20 +48,21 @@ impl<L: Ledger> BrokerSeat<L> {
         ensures same { result ≡ self }
         ensures submits { are_submits result ≡ true }
     {
-        let BrokerSeat { seat } = self;
+        let BrokerSeat { seat, .. } = self;
         seat
     }
 }
 
 /// A broker's seat at a desk, as the sink of a session: each command is a submit. A contract sees the receipts of the seat.
 #[derive(Drop)]
-pub(crate) struct SeatAt<'a, R, L: Ledger> {
+pub(crate) struct SeatAt<'a, R, L: Ledger, K: FrameKeeper> {
     rt: &'a R,
-    desk: &'a Desk<L>,
+    desk: &'a Desk<L, K>,
+    store: PeerStore<'a, R, L, K>,
     seat: BrokerSeat<L>,
 }
 
-impl<'a, R, L: Ledger> Model for SeatAt<'a, R, L> {
+impl<'a, R, L: Ledger, K: FrameKeeper> Model for SeatAt<'a, R, L, K> {
     ghost use Rattle.std.specs.Prelude.{List};
     ghost use Rattle.blot_desk.specs.declared.receipt.Receipt.{Receipt};
 
@@ -63,51 +71,63 @@ impl<'a, R, L: Ledger> Model for SeatAt<'a, R, L> {
     ghost view = { λ sink. sink.seat };
 }
 
-impl<'a, R, L: Ledger> SeatAt<'a, R, L> {
-    /// The sink of a seat at that desk.
-    pub(crate) fn new(rt: &'a R, desk: &'a Desk<L>, seat: BrokerSeat<L>) -> SeatAt<'a, R, L>
+impl<'a, R, L: Ledger, K: FrameKeeper> SeatAt<'a, R, L, K> {
+    /// The sink of a seat at that desk, beside which this store keeps its other messages.
+    pub(crate) fn new(
+        rt: &'a R,
+        desk: &'a Desk<L, K>,
+        store: PeerStore<'a, R, L, K>,
+        seat: BrokerSeat<L>,
+    ) -> Self
         ensures same { result ≡ seat }
         ensures submits { are_submits result ≡ true }
     {
-        SeatAt { rt, desk, seat }
+        SeatAt {
+            rt,
+            desk,
+            store,
+            seat,
+        }
     }
 
     /// The seat.
     pub(crate) fn into_seat(self) -> BrokerSeat<L>
         ensures { result ≡ self.entry }
     {
-        let SeatAt {
-            rt: _,
-            desk: _,
-            seat,
-        } = self;
+        let SeatAt { seat, .. } = self;
         seat
     }
 }
 
-impl<'a, R: Wait, L: Ledger> Sink for SeatAt<'a, R, L> {
+impl<'a, R: Wait + Clock, L: Ledger, K: FrameKeeper> FrameSink for SeatAt<'a, R, L, K> {
     ghost use Rattle.blot_gateway.specs.AtOnce.{TakesReceipt};
 
     ghost takes = { TakesReceipt };
 
     #[tactic(auto, using(crate::proofs::SubmitLemmas::submits_kept))]
-    fn take(&mut self, command: Command) -> Result<Reply, DeskFault> {
-        let SeatAt { rt, desk, seat } = self;
-        seat.submit(*rt, *desk, command)
+    fn take(&mut self, frame: &Frame, command: Command) -> Result<Reply, DeskFault> {
+        let SeatAt { rt, desk, seat, .. } = self;
+        seat.submit(*rt, *desk, frame, command)
+    }
+
+    fn hear(&mut self, frame: &Frame, heard: Heard) {
+        self.store.hear(frame, heard);
     }
 }
 
 impl<L: Ledger> BrokerSeat<L> {
-    // Submits a command.
+    // Submits a command, which this frame brought.
     #[tactic(auto, using(crate::proofs::SubmitLemmas::submits_kept))]
-    fn submit<R: Wait>(
+    fn submit<R: Wait, K: FrameKeeper>(
         &mut self,
         rt: &R,
-        desk: &Desk<L>,
+        desk: &Desk<L, K>,
+        frame: &Frame,
         command: Command,
     ) -> Result<Reply, DeskFault>
+        requires { brought (text_of frame.now) ≡ Some command }
         ensures { TakesReceipt self.old (record { command = command; answer = result }) self.new }
     {
-        desk.submit(rt, &mut self.seat, Event::Submit(command))
+        desk.submit_with(rt, &mut self.seat, Event::Submit(command), frame.text())
     }
 }

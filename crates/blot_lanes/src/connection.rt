@@ -2,10 +2,10 @@
 ghost use Rattle.std.specs.Prelude.{◌≡◌};
 ghost use Rattle.blot_lanes.specs.Lanes.{ServesConnection};
 
-use crate::Peers;
 use crate::broker_seat::SeatAt;
+use crate::{PeerNotes, PeerStore, Peers};
 use blot_desk::Desk;
-use blot_gateway::{Clock, Ended, Parties, Watch, Wire, greet_within, turned_by};
+use blot_gateway::{Clock, Ended, FrameKeeper, Parties, Watch, Wire, greet_within, turned_by};
 use blot_slots::SlotFault;
 use blot_sockets::Door;
 use blot_tag::Reader;
@@ -13,9 +13,9 @@ use blot_types::Text64;
 use log::{Log, info};
 use std::alloc::Global;
 use std::net::{OpenStream, SocketAddr};
-use std::str;
 use std::sync::Wait;
 use std::sync::ledger::Ledger;
+use std::{str, time};
 
 /// The most reads of a greeting: a connection that says nothing is closed after ten seconds.
 pub const GREETING_READS: u64 = 10;
@@ -41,12 +41,21 @@ impl<'a, R: Wait, L: Ledger, H: OpenStream> Watch for AtDoor<'a, R, L, H> {
 }
 
 /// Serves a connection, and drops its wire as soon as its session has ended: how it ended, which is logged. It is greeted; the session and
-/// the seat of the peer that it names are checked out, served at its clock until the door is closed, and checked in again.
-pub fn serve_connection<R: Wait + Log, W: Wire + Drop, C: Clock + Drop, L: Ledger, H: OpenStream>(
+/// the seat of the peer that it names are checked out, served at its clock until the door is closed, and checked in again. The
+/// messages that bring no command are kept at the desk; those that are written are for the wire to keep.
+pub fn serve_connection<
+    R: Wait + Log + time::Clock,
+    W: Wire + Drop,
+    C: Clock + Drop,
+    L: Ledger,
+    K: FrameKeeper,
+    H: OpenStream,
+>(
     rt: &R,
     alloc: Global,
     peers: &Peers<L>,
-    desk: &Desk<L>,
+    desk: &Desk<L, K>,
+    notes: &PeerNotes,
     door: &Door<H>,
     address: SocketAddr,
     wire: W,
@@ -71,10 +80,12 @@ pub fn serve_connection<R: Wait + Log, W: Wire + Drop, C: Clock + Drop, L: Ledge
         }
     };
     info!(rt; "{} on {address}", shown(peer.bytes()));
+    notes.begin(rt, peer, seat.records);
+    let store = PeerStore::new(rt, alloc, desk, notes);
     let mut parties = Parties {
         wire,
         clock,
-        sink: SeatAt::new(rt, desk, seat),
+        sink: SeatAt::new(rt, desk, store, seat),
         session,
     };
     let watch = AtDoor {
@@ -91,7 +102,9 @@ pub fn serve_connection<R: Wait + Log, W: Wire + Drop, C: Clock + Drop, L: Ledge
         sink,
         session,
     } = parties;
-    peers.check_in(rt, session, sink.into_seat());
+    let mut seat = sink.into_seat();
+    seat.records = notes.records(rt);
+    peers.check_in(rt, session, seat);
     ended
 }
 

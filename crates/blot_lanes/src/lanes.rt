@@ -2,9 +2,9 @@
 ghost use Rattle.std.specs.Prelude.{◌≡◌, IfOk};
 
 use crate::connection::log_stranger;
-use crate::{Peers, serve_connection};
+use crate::{PeerNotes, PeerStore, Peers, serve_connection};
 use blot_desk::Desk;
-use blot_gateway::Ended;
+use blot_gateway::{Ended, FrameKeeper, StoredWire};
 use blot_sockets::{Door, Socket, SystemClock};
 use log::{Log, info, warn};
 use std::alloc::{AllocError as NoMemory, Global};
@@ -36,12 +36,12 @@ pub trait Task {
 
 // What all lanes of a day share.
 #[derive(Drop)]
-struct Lanes<'a, R, N, L: Ledger, H> {
+struct Lanes<'a, R, N, L: Ledger, K: FrameKeeper, H> {
     rt: &'a R,
     alloc: Global,
     listener: &'a N,
     peers: &'a Peers<L>,
-    desk: &'a Desk<L>,
+    desk: &'a Desk<L, K>,
     door: &'a Door<H>,
     // Whether the last connection couldn't be accepted.
     is_failing: AtomicBool,
@@ -50,12 +50,12 @@ struct Lanes<'a, R, N, L: Ledger, H> {
 /// Serves the connections of a listener in so many lanes, each in a thread of its own, as far as the system gives them, and does a task
 /// meanwhile. After it the door is closed, and the lanes end. How many lanes there are is logged, and who is on, and how each connection
 /// ended. An error is out of memory: there was no thread for a lane, and nothing was done.
-pub fn serve_lanes<R, N, L, H, T, A>(
+pub fn serve_lanes<R, N, L, K, H, T, A>(
     rt: &R,
     alloc: Global,
     listener: &N,
     peers: &Peers<L>,
-    desk: &Desk<L>,
+    desk: &Desk<L, K>,
     door: &Door<H>,
     lanes: u16,
     task: T,
@@ -65,6 +65,7 @@ where
     N: OpenListener + Sync,
     N::Stream: Read + Write + OpenStream + Send,
     L: Ledger + Send + Sync,
+    K: FrameKeeper + Send + Sync,
     H: OpenStream + Sync,
     T: Task<Output = A> + Drop,
     ensures { IfOk result (λ given. T.gives task given) }
@@ -102,12 +103,13 @@ where
     )
 }
 
-impl<'a, R, N, L, H> Lanes<'a, R, N, L, H>
+impl<'a, R, N, L, K, H> Lanes<'a, R, N, L, K, H>
 where
     R: Wait + Clock + Log,
     N: OpenListener,
     N::Stream: Read + Write + OpenStream,
     L: Ledger,
+    K: FrameKeeper,
     H: OpenStream,
 {
     // One lane: takes connections, and serves each, until the door is closed.
@@ -126,13 +128,16 @@ where
     // Serves a connection. One that is gone already can't be set up.
     fn serve(&self, stream: N::Stream, address: SocketAddr) {
         self.is_failing.store(false, SeqCst);
-        let Ok(wire) = Socket::new(stream) else {
+        let Ok(socket) = Socket::new(stream) else {
             log_stranger(self.rt, address, Ended::ReadFault);
             return;
         };
+        let notes = PeerNotes::new(self.peers.own());
+        let store = PeerStore::new(self.rt, self.alloc, self.desk, &notes);
+        let wire = StoredWire::new(socket, store);
         let clock = SystemClock::new(self.rt);
         serve_connection(
-            self.rt, self.alloc, self.peers, self.desk, self.door, address, wire, clock,
+            self.rt, self.alloc, self.peers, self.desk, &notes, self.door, address, wire, clock,
         );
     }
 

@@ -5,9 +5,11 @@
 mod broker_seat;
 mod connection;
 mod lanes;
+mod peer_store;
 mod peers;
 
 pub use broker_seat::BrokerSeat;
 pub use connection::{GREETING_READS, serve_connection};
 pub use lanes::{Task, serve_lanes};
+pub use peer_store::{PeerNotes, PeerStore};
 pub use peers::Peers;

@@ -10,7 +10,7 @@ use Rattle.blot_desk.specs.declared.event.Event.TheVariants.{Submit}
 use Rattle.blot_desk.specs.declared.event.Reply.{Reply}
 use Rattle.blot_desk.specs.declared.event.Reply.TheVariants as replies
 use Rattle.blot_desk.specs.declared.fault.DeskFault.{DeskFault}
-use Rattle.blot_desk.specs.declared.fault.DeskFault.TheVariants.{Full, NoMemory, Unsettled}
+use Rattle.blot_desk.specs.declared.fault.DeskFault.TheVariants.{Full, NoMemory, Broken, Unsettled}
 use Rattle.blot_types.specs.declared.command.Command.TheVariants.{Withdraw}
 use Rattle.blot_console.specs.declared.answer.Answer.{Answer}
 use Rattle.blot_console.specs.declared.answer.Answer.TheVariants as answers
@@ -153,6 +153,7 @@ event-open event (Ok reply) answer is =
     ap is_closed (sym same) ∙ key-open (asked_by event) reply
 event-open event (Err Full) answer is = let same : answers.Full ≡ answer = cc in ap is_closed (sym same)
 event-open event (Err NoMemory) answer is = absurd cc
+event-open event (Err Broken) answer is = absurd cc
 event-open event (Err Unsettled) answer is = absurd cc
 
 mine-open : {S : Type 0} (ways : Ways S) (before : S) (newest : Option ℕ) (answer : Answer) (after : S) → AnswersMine ways before newest answer after → is_closed answer ≡ false

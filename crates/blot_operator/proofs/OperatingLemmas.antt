@@ -13,7 +13,7 @@ use Rattle.blot_desk.specs.declared.event.Event.{Event}
 use Rattle.blot_desk.specs.declared.event.Event.TheVariants.{Submit}
 use Rattle.blot_desk.specs.declared.event.Reply.{Reply}
 use Rattle.blot_desk.specs.declared.fault.DeskFault.{DeskFault}
-use Rattle.blot_desk.specs.declared.fault.DeskFault.TheVariants.{Full, NoMemory, Unsettled}
+use Rattle.blot_desk.specs.declared.fault.DeskFault.TheVariants.{Full, NoMemory, Broken, Unsettled}
 use Rattle.blot_desk.specs.Desk.{Journal, newest_entry_of, step_of, recorded_of}
 use Rattle.blot_console.specs.declared.answer.Answer.{Answer}
 use Rattle.blot_console.specs.declared.answer.Answer.TheVariants as answers
@@ -47,6 +47,7 @@ own-event old new event answer (Err Full) step is =
     let same : answers.Full ≡ answer = cc in
     ap (telling new) (sym same) ∙ told-full old new event (step.full.0 refl) step.err
 own-event old new event answer (Err NoMemory) step is = cc
+own-event old new event answer (Err Broken) step is = cc
 own-event old new event answer (Err Unsettled) step is = cc
 
 own-mine : (old new : Journal) (newest : Option ℕ) (answer : Answer) → AnswersMine own_ways old newest answer new → telling new answer ≡ told_mine old newest

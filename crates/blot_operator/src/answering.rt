@@ -107,7 +107,7 @@ fn withdraw_newest<D: Operated>(desk: &D, state: &mut D::State) -> Result<Answer
 }
 
 // Takes an event: the reply to it, or that no more events are taken. An error is out of memory, and comes only where
-// the desk has no answer. No step answers Unsettled.
+// the desk has no answer. No step answers Unsettled or Broken.
 fn answer_event<D: Operated>(
     desk: &D,
     state: &mut D::State,
@@ -122,7 +122,7 @@ fn answer_event<D: Operated>(
     match desk.step(state, event) {
         Ok(reply) => Ok(with_key(&asked, &reply)),
         Err(DeskFault::Full) => Ok(Answer::Full),
-        Err(DeskFault::NoMemory | DeskFault::Unsettled) => Err(NoMemory),
+        Err(DeskFault::NoMemory | DeskFault::Broken | DeskFault::Unsettled) => Err(NoMemory),
     }
 }
 

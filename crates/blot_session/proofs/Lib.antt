@@ -3,6 +3,7 @@ mod DeliveryLemmas
 mod InTurnLemmas
 mod NumberLemmas
 pub mod OneLemmas
+mod OwnLemmas
 mod RowLemmas
 mod Rows
 mod RunLemmas

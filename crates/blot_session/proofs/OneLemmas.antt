@@ -30,27 +30,33 @@ delivered-sent number (message ∷ messages) state now actions = delivered-sent 
 
 -- what holds of nothing, and of the command alone, holds of what an ending delivers
 by-ending : (P : List Numbered → Type 0) (number : ℕ) (end : End) (command : Option Command)
-    → P [] → ((given : Command) → command ≡ Some given → P (record { number = number; command = given } ∷ []))
+    → P [] → ((given : Command) → command ≡ Some given → end ≡ Delivers → P (record { number = number; command = given } ∷ []))
     → P (delivered_by number (ending end command))
 by-ending P number Stays command none one = none
 by-ending P number Delivers None none one = none
-by-ending P number Delivers (Some command) none one = one command refl
+by-ending P number Delivers (Some command) none one = one command refl refl
 by-ending P number (Closes reason) command none one = none
 
 by-row : (P : List Numbered → Type 0) (number : ℕ) (row : Row) (command : Option Command) (now : ℤ)
-    → P [] → ((given : Command) → command ≡ Some given → P (record { number = number; command = given } ∷ []))
+    → P [] → ((given : Command) → command ≡ Some given → row.end ≡ Delivers → P (record { number = number; command = given } ∷ []))
     → P (delivered_by number (carried_out row command now).actions)
 by-row P number row command now none one =
     subst P (sym (delivered-sent number (messages_of row.sends) row.state now (ending row.end command))) (by-ending P number row.end command none one)
 
--- so it holds of what a frame delivers, which is the command of its message or nothing
-pub by-frame : (P : List Numbered → Type 0) (number : ℕ) (state : State) (said : Result Message FieldFault) (now : ℤ)
-    → P [] → ((given : Command) → command_said said state.peer ≡ Some given → P (record { number = number; command = given } ∷ []))
+-- so it holds of what a frame delivers, which is nothing, or the command of its message where its row delivers one
+pub by-ended : (P : List Numbered → Type 0) (number : ℕ) (state : State) (said : Result Message FieldFault) (now : ℤ)
+    → P []
+    → ((given : Command) → command_said said state.peer ≡ Some given → (frame_row state said now).end ≡ Delivers → P (record { number = number; command = given } ∷ []))
     → P (delivered_by number (on_frame state said now).actions)
-by-frame P number state said now none one =
+by-ended P number state said now none one =
     cond_both (is_spent state (frame_row state said now)) _ _ (λ (outcome : Outcome). P (delivered_by number outcome.actions))
     (λ y. none)
     (λ n. by-row P number (frame_row state said now) (command_said said state.peer) now none one)
+
+pub by-frame : (P : List Numbered → Type 0) (number : ℕ) (state : State) (said : Result Message FieldFault) (now : ℤ)
+    → P [] → ((given : Command) → command_said said state.peer ≡ Some given → P (record { number = number; command = given } ∷ []))
+    → P (delivered_by number (on_frame state said now).actions)
+by-frame P number state said now none one = by-ended P number state said now none (λ given gives ends. one given gives)
 
 pub one-frame : (number : ℕ) (state : State) (said : Result Message FieldFault) (now : ℤ) → AtMostOne (delivered_by number (on_frame state said now).actions)
 one-frame number state said now = by-frame AtMostOne number state said now tt (λ given is. tt)

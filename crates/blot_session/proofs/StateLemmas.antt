@@ -66,7 +66,7 @@ behind-state state message now next low high first number awaited =
     }
 
 sent-state : (sends : Sends) (end : End) (state : State) (now : ℤ) (next : ℕ) → Fits next (record { sends = sends; end = end; state = state })
-    → next ≤ SEQUENCE_MAX → (acts_by sends end ≡ true → next ≤ LAST_NUMBER) → IsState (behind_all state (messages_of sends) now)
+    → next ≤ SEQUENCE_MAX + 1 → (acts_by sends end ≡ true → next ≤ LAST_NUMBER) → IsState (behind_all state (messages_of sends) now)
 sent-state Nothing end state now next fits small unspent =
     record { first = fits.first; expected = fits.number; awaited = fits.awaited; low = fits.low; next = omega (arith, fits.high, small) }
 sent-state (One message) end state now next fits small unspent =
@@ -328,6 +328,6 @@ pub row_fits_reply : (state : State) (reply : Result SeenReply NotTaken) (row : 
 row_fits_reply state reply row is within awaiting = subst (Fits state.next) (sym is) (reply-fits state reply within awaiting)
 
 -- the session of a row, closed
-pub closed_row : (next : ℕ) (row : Row) → Fits next row → next ≤ SEQUENCE_MAX → IsState (closed row.state)
+pub closed_row : (next : ℕ) (row : Row) → Fits next row → next ≤ SEQUENCE_MAX + 1 → IsState (closed row.state)
 closed_row next row fits small =
     record { first = fits.first; expected = fits.number; awaited = λ a. absurd (false≢true a); low = fits.low; next = omega (arith, fits.high, small) }

@@ -1,8 +1,9 @@
 -- Lists of calls of a session, and what is delivered, taken and sent over them.
-use Rattle.std.specs.Prelude.{◌≡◌, ℕ, ◌+◌, ◌<◌, ◌≤◌, Bool, true, false, ℤ, List, [], ◌∷◌, ◌++◌, map, Option, Some, None, option_to_list, Result, Ok, Err, ◌⊎◌}
+use Rattle.std.specs.Prelude.{◌≡◌, ℕ, ◌+◌, ◌<◌, ◌≤◌, Bool, true, false, ℤ, List, [], ◌∷◌, ◌++◌, map, Option, Some, None, IfSome, option_to_list, Result, Ok, Err, ◌⊎◌}
 use Rattle.std.specs.List.{flat_map}
 use Rattle.std.specs.Option.{option_map}
 use Rattle.blot_tag.specs.Fields.{fields_of}
+use Rattle.blot_fields.specs.Bringing.{brought}
 use Rattle.blot_fields.specs.Decoding.{decoded}
 use Rattle.blot_fields.specs.declared.admin.Admin.TheVariants as admin
 use Rattle.blot_fields.specs.declared.fault.FieldFault.{FieldFault}
@@ -79,6 +80,10 @@ delivered_by number (action ∷ actions) = delivered_by number actions
 -- some actions deliver just this command, or none
 abbrev pub DeliversJust : Option Command → List Action → Type 0
 DeliversJust command actions = (number : ℕ) → map (λ numbered. numbered.command) (delivered_by number actions) ≡ option_to_list command
+
+-- the command that some actions deliver, if it is just one, is the one that a frame with this text brings by itself
+abbrev pub DeliversOwn : List ℕ → List Action → Type 0
+DeliversOwn text actions = (found : Option Command) → DeliversJust found actions → IfSome found (λ command. brought text ≡ Some command)
 
 -- what is delivered over some calls: each bears the number that is expected then
 abbrev pub delivered_of : State → List Call → List Numbered

@@ -18,9 +18,13 @@ phase_by links.Closed = phases.Closed
 abbrev pub phase_of : State → Phase
 phase_of state = phase_by state.link
 
+-- a session with a peer that was heard of before: it waits for a Logon, and these are its numbers
+abbrev pub resumed : List ℕ → List ℕ → ℕ → ℕ → State
+resumed own peer expected next = record { own = own; peer = peer; expected = expected; next = next; link = links.Waiting }
+
 -- a session with a peer that was never heard of
 abbrev pub fresh : List ℕ → List ℕ → State
-fresh own peer = record { own = own; peer = peer; expected = 1; next = 1; link = links.Waiting }
+fresh own peer = resumed own peer 1 1
 
 -- the session waits for a Logon again; both numbers stay
 abbrev pub waiting_again : State → State
@@ -115,4 +119,4 @@ pub record IsState (state : State) : Type 0 where
   pub expected : state.expected ≤ SEQUENCE_MAX + 1
   pub awaited : IsAwaiting state → state.expected ≤ SEQUENCE_MAX
   pub low : 1 ≤ state.next
-  pub next : state.next ≤ SEQUENCE_MAX
+  pub next : state.next ≤ SEQUENCE_MAX + 1

@@ -89,7 +89,7 @@ pub(crate) fn carry_out(
     command: Option<Command>,
     now: Moment,
 ) -> Result<Outcome, NoMemory>
-    requires { row.state.next ≤ SEQUENCE_MAX }
+    requires { row.state.next ≤ SEQUENCE_MAX + 1 }
     ensures { IfOk result (λ done. Gives (carried_out row command now) done.0 done.1) }
 {
     let Row { sends, end, state } = row;
@@ -107,7 +107,7 @@ fn send_all(
     sends: Sends,
     now: Moment,
 ) -> Result<State, NoMemory>
-    requires { state.next ≤ SEQUENCE_MAX }
+    requires { state.next ≤ SEQUENCE_MAX + 1 }
     ensures state { IfOk result (λ behind. behind ≡ behind_all state (messages_of sends) now) }
     ensures actions { OnOk result (actions.new.items ≡ actions.old.items ++ sent state (messages_of sends) now) }
 {
@@ -129,7 +129,7 @@ fn send(
     message: &Outbound,
     now: Moment,
 ) -> Result<State, NoMemory>
-    requires { state.next ≤ SEQUENCE_MAX + 1 }
+    requires { state.next ≤ SEQUENCE_MAX + 2 }
     ensures state { IfOk result (λ next. next ≡ behind state message.now now) }
     ensures actions { OnOk result (actions.new.items ≡ actions.old.items ++ Send (text_of state message.now now) ∷ []) }
 {

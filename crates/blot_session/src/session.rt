@@ -5,11 +5,12 @@ ghost use Rattle.blot_types.specs.Keys.{same_text};
 ghost use Rattle.blot_types.specs.Text.{is_text};
 ghost use Rattle.blot_fields.specs.declared.TheConstants.{SEQUENCE_MAX};
 ghost use Rattle.blot_fields.specs.Numbers.{HasNumber, IsNumbered};
+ghost use Rattle.blot_session.specs.declared.state.State.{State};
 ghost use Rattle.blot_session.specs.Calls.{Awaits, DeliversAlone, Gives, GivesCommand, command_said, on_frame, on_tick, on_stop, on_reply, row_of_reply};
 ghost use Rattle.blot_session.specs.InTurn.{is_report_said};
 ghost use Rattle.blot_session.specs.Met.{IsOfNumber, met_of};
-ghost use Rattle.blot_session.specs.Runs.{Call, AreMet, HasNoReset, IsInOrder, said_by};
-ghost use Rattle.blot_session.specs.States.{awaited_of, fresh, waiting_again, closed, phase_of, IsIdle, IsAwaiting, IsState};
+ghost use Rattle.blot_session.specs.Runs.{Call, AreMet, DeliversOwn, HasNoReset, IsInOrder, said_by};
+ghost use Rattle.blot_session.specs.States.{awaited_of, fresh, resumed, waiting_again, closed, phase_of, IsIdle, IsAwaiting, IsState};
 
 use crate::carrying::{go_on, take_row};
 use crate::met::met_of;
@@ -49,12 +50,26 @@ impl Session {
     pub fn new(own: Text64, peer: Text64) -> Session
         ensures { result ≡ fresh own peer }
     {
+        Session::resume(own, peer, 1, 1)
+    }
+
+    /// The session with a peer that was heard of before, as after a restart: it waits for a Logon, with the numbers that `expected` and
+    /// `next` told then, 1 to 1,000,000,000 each.
+    pub fn resume(own: Text64, peer: Text64, expected: u64, next: u64) -> Session
+        requires expected { (1 ≤ expected) × (expected ≤ SEQUENCE_MAX + 1) }
+        requires next { (1 ≤ next) × (next ≤ SEQUENCE_MAX + 1) }
+        ensures resumed { result ≡ resumed own peer expected next }
+
+        // It is the session that told these numbers, once that waits again.
+        ensures again { (before : State) → before.own ≡ own → before.peer ≡ peer → before.expected ≡ expected → before.next ≡ next
+            → result ≡ waiting_again before }
+    {
         Session {
             state: State {
                 own,
                 peer,
-                expected: 1,
-                next: 1,
+                expected,
+                next,
                 link: Link::Waiting,
             },
         }
@@ -89,6 +104,14 @@ impl Session {
         ensures law { (calls : List Call) → IsIdle self.now → AreMet self.now calls → HasNoReset calls → IsInOrder self.now calls }
     {
         self.state.expected
+    }
+
+    /// MsgSeqNum(34) of the next message to send, 1 to 1,000,000,000.
+    pub fn next(&self) -> u64
+        ensures number { result ≡ self.now.next }
+        ensures range { (1 ≤ result) × (result ≤ SEQUENCE_MAX + 1) }
+    {
+        self.state.next
     }
 
     /// Where the session is.
@@ -148,6 +171,9 @@ impl Session {
         // What is delivered is the last action, and the only one, and its reply is awaited.
         ensures awaits { IfOk result (λ actions. Awaits self.new actions.items) }
         ensures alone { IfOk result (λ actions. DeliversAlone actions.items) }
+
+        // It is the command that the frame brings by itself: its own sender's.
+        ensures own { IfOk result (λ actions. DeliversOwn (text_of frame.now) actions.items) }
     {
         take_frame(alloc, &mut self.state, frame, now)
     }

@@ -11,6 +11,7 @@ mod OutcomeLemmas
 pub mod FrameLemmas
 pub mod WalkLemmas
 pub mod PlaceLemmas
+pub mod JoinedLemmas
 mod WritingLemmas
 mod FindLemmas
 mod ReadingLemmas

@@ -2,9 +2,10 @@
 use Rattle.std.proofs.Common.{◌≡◌, ℕ, zero, suc, ◌+◌, ◌-◌, ◌<◌, ◌≤◌, true, false, List, [], ◌∷◌, ◌++◌, length, take, drop, Result, Err, refl, sym, ap, subst, ◌∙◌, arith, inl, inr}
 use Rattle.std.specs.Prelude.{nat_eq}
 use Rattle.std.specs.Cmp.Lexicographic.{bytes_decides}
-use Rattle.std.specs.List.{starts_with}
+use Rattle.std.specs.List.{All, starts_with}
 use Rattle.std.proofs.lemmas.Bool.{cases_Bool, cases_lt}
 use Rattle.std.proofs.lemmas.List.{append_assoc, drop-append-le, drop_all, take-append-drop}
+use Rattle.std.proofs.lemmas.List.Elements.{All-cons, All-head, All-nil}
 use Rattle.std.proofs.lemmas.List.Sums.{sum_by-cons}
 use Rattle.std.proofs.Math.Seq.{take-append_seam, drop-append_seam}
 use Rattle.blot_tag.specs.Frames.{IsFrame, IsGarbled}
@@ -53,11 +54,6 @@ nothing-garbled garbled = neither-partial (sym (look_of-not_garbled [] garbled) 
 
 -- ---- some frames
 
--- each of them is valid
-abbrev AreFrames : List (List ℕ) → Type 0
-AreFrames [] = Unit {0}
-AreFrames (frame ∷ frames) = IsFrame frame × AreFrames frames
-
 -- where one stands first, the others come after it
 placed-frame : (frame more : List ℕ) (frames : List (List ℕ)) → placed_in (frame ∷ frames) (frame ++ more) ≡ record { passed = 0; text = frame } ∷ placed_in frames more
 placed-frame frame more frames =
@@ -69,12 +65,12 @@ placed-frame frame more frames =
     ∙ ap (λ left. record { passed = 0; text = frame } ∷ placed_in frames left) rest
 
 -- a byte where nothing begins is passed over
-placed-byte : (frames : List (List ℕ)) (byte : ℕ) (text : List ℕ) → AreFrames frames → IsGarbled (byte ∷ text)
+placed-byte : (frames : List (List ℕ)) (byte : ℕ) (text : List ℕ) → All IsFrame frames → IsGarbled (byte ∷ text)
     → placed_in frames (byte ∷ text) ≡ after_bytes 1 (placed_in frames text)
 placed-byte [] byte text valid garbled = refl
 placed-byte (frame ∷ frames) byte text valid garbled =
     let next : place_in frame (byte ∷ text) ≡ suc (place_in frame text) =
-    place_in-next frame byte text (begins-false frame (byte ∷ text) valid.0 garbled) in
+    place_in-next frame byte text (begins-false frame (byte ∷ text) (All-head IsFrame frame frames valid) garbled) in
     let passed : place_in frame (byte ∷ text) ≡ 1 + place_in frame text = omega (arith, next) in
     let rest : drop (place_in frame (byte ∷ text) + length frame) (byte ∷ text) ≡ drop (place_in frame text + length frame) text =
     let later : place_in frame (byte ∷ text) + length frame ≡ suc (place_in frame text + length frame) = omega (arith, next) in
@@ -95,7 +91,7 @@ after_bytes-add n m (frame ∷ frames) =
     ap (λ k. record frame { passed = k } ∷ frames) same
 
 -- so are several
-placed-bytes : (n : ℕ) (frames : List (List ℕ)) (text : List ℕ) → AreFrames frames → ((place : ℕ) → place < n → IsGarbled (drop place text))
+placed-bytes : (n : ℕ) (frames : List (List ℕ)) (text : List ℕ) → All IsFrame frames → ((place : ℕ) → place < n → IsGarbled (drop place text))
     → placed_in frames text ≡ after_bytes n (placed_in frames (drop n text))
 placed-bytes zero frames text valid garbled = sym (after_bytes-zero (placed_in frames text))
 placed-bytes (suc n) frames [] valid garbled = absurd (nothing-garbled (garbled 0 (omega arith)))
@@ -109,12 +105,12 @@ placed-bytes (suc n) frames (byte ∷ text) valid garbled =
 -- ---- the frames of a text
 
 -- the frames of a walk are valid
-valid-walk : (text : List ℕ) (walk : Walk) → IsWalk text walk → AreFrames walk.frames
-valid-walk text _ (at_frame frame more _ walk valid whole rest) = (valid, valid-walk more walk rest)
-valid-walk text _ (at_prefix _ prefix) = tt
+valid-walk : (text : List ℕ) (walk : Walk) → IsWalk text walk → All IsFrame walk.frames
+valid-walk text _ (at_frame frame more _ walk valid whole rest) = All-cons IsFrame frame walk.frames valid (valid-walk more walk rest)
+valid-walk text _ (at_prefix _ prefix) = All-nil IsFrame
 valid-walk _ _ (at_neither byte text walk garbled rest) = valid-walk text walk rest
 
-valid-frames : (text : List ℕ) → AreFrames (frames_of text)
+pub valid-frames : (text : List ℕ) → All IsFrame (frames_of text)
 valid-frames text = valid-walk text (walk_of text) (is_walk text)
 
 -- ---- the law

@@ -11,6 +11,7 @@ pub mod Writing
 pub mod Looking
 pub mod Finding
 pub mod Walking
+pub mod Joined
 pub mod Places
 pub mod Reading
 pub mod Buffers

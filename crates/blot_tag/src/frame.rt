@@ -4,6 +4,7 @@ ghost use Rattle.std.specs.List.{All};
 ghost use Rattle.blot_tag.specs.Fields.{fields_before_fault, fault_of};
 ghost use Rattle.blot_tag.specs.FieldText.{fields_text, BeginsWith, IsSlice, EachEnds};
 ghost use Rattle.blot_tag.specs.Frames.{IsFrame, longest_frame};
+ghost use Rattle.blot_tag.specs.Joined.{AreJust, FrameComesFirst, HasLastFrame, IsJoined, IsWhole};
 ghost use Rattle.blot_tag.specs.Places.{ArePlaced};
 
 use crate::fields::Fields;
@@ -33,6 +34,14 @@ impl<'a> Frame<'a> {
 
         // Each frame of a stream stands at its place, and the bytes between the frames are those that are passed over.
         ensures places { (stream : List ℕ) → ArePlaced stream }
+
+        // Before any text it is the first frame, and behind whole frames it is the last.
+        ensures first { FrameComesFirst (text_of self.now) }
+        ensures last { (stream : List ℕ) → IsWhole stream → HasLastFrame stream (text_of self.now) }
+
+        // Frames that are joined are just these frames, and the frames of a whole stream, joined, are the stream.
+        ensures joined { (frames : List (List ℕ)) → All IsFrame frames → AreJust frames }
+        ensures back { (stream : List ℕ) → IsWhole stream → IsJoined stream }
     {
         self.text
     }

@@ -58,4 +58,5 @@ pub record OpenDayServed (input : Option (List ℕ)) (day : ℤ) (before after :
 abbrev pub settling_fault : DeskFault → ServeFault
 settling_fault desk.Unsettled = fault.Unsettled
 settling_fault desk.NoMemory = fault.NoMemory
+settling_fault desk.Broken = fault.NoMemory
 settling_fault desk.Full = fault.NoMemory

@@ -84,7 +84,7 @@ fn settling_fault(fault: DeskFault) -> ServeFault
 {
     match fault {
         DeskFault::Unsettled => ServeFault::Unsettled,
-        DeskFault::Full | DeskFault::NoMemory => ServeFault::NoMemory,
+        DeskFault::Full | DeskFault::NoMemory | DeskFault::Broken => ServeFault::NoMemory,
     }
 }
 

@@ -1,8 +1,11 @@
 //! Rows of a session with a clock: what it sends, delivers and closes for, and after `:` the number that it expects then and
 //! its phase.
+ghost use Rattle.std.specs.Prelude.{◌≤◌, ◌+◌, IfSome};
+ghost use Rattle.blot_fields.specs.declared.TheConstants.{SEQUENCE_MAX};
 
 use crate::state::State;
 use crate::texts::show_bytes;
+use blot_fields::SEQUENCE_MAX;
 use blot_session::{Action, NotTaken, SeenReply, Session};
 use blot_tag::Reader;
 use blot_time::Moment;
@@ -21,6 +24,7 @@ pub fn answer(
 ) -> Result<bool, NoMemory> {
     match kind {
         "session" => state.session = Session::new(state.own, state.peer),
+        "resume" => resume(state, shown, text)?,
         "at" => return set_clock(state, shown),
         "again" => state.session.wait_again(),
         "close" => close(&mut state.session, shown)?,
@@ -33,6 +37,28 @@ pub fn answer(
     let session = &state.session;
     write!(shown, ": {} {:?}", session.expected(), session.phase())?;
     Ok(true)
+}
+
+// A session begins with the two numbers of a row: the one that it expects, and the one that it sends next.
+fn resume(state: &mut State, shown: &mut String, text: &str) -> Result<(), NoMemory> {
+    let (expected, next) = text.split_once(" ").unwrap_or((text, ""));
+    match (number_of(expected), number_of(next)) {
+        (Some(expected), Some(next)) => {
+            state.session = Session::resume(state.own, state.peer, expected, next);
+            Ok(())
+        }
+        _ => shown.push_str("no numbers "),
+    }
+}
+
+// A number that a session can begin with.
+fn number_of(text: &str) -> Option<u64>
+    ensures { IfSome result (λ number. (1 ≤ number) × (number ≤ SEQUENCE_MAX + 1)) }
+{
+    match text.parse::<u64>() {
+        Ok(number) if 1 <= number && number <= SEQUENCE_MAX + 1 => Some(number),
+        _ => None,
+    }
 }
 
 // Sets the clock of the session.

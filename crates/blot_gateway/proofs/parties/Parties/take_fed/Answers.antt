@@ -15,8 +15,8 @@ returns-in-Ok-clause-ok g c =
     let b = c.take_frames.new.self in
     let d = parties c.pass_moment.new.wire c.pass_moment.new.clock c.take_frames.new.self.sink c.pass_moment.new.session in
     let unread = c.args.reader.now.unread in
-    on-ok {Q = TakesFed g.W.Wire.does g.C.Clock.ticks g.S.Sink.takes a unread d c.take_frames.new.reader.unread} c.pass_moment.result c.pass_moment.ensures.ok
-    (λ called more. runs-fed g.W.Wire.does g.C.Clock.ticks g.S.Sink.takes a b unread c.take_frames.new.reader.unread more
+    on-ok {Q = TakesFed g.W.Wire.does g.C.Clock.ticks g.S.FrameSink.takes a unread d c.take_frames.new.reader.unread} c.pass_moment.result c.pass_moment.ensures.ok
+    (λ called more. runs-fed g.W.Wire.does g.C.Clock.ticks g.S.FrameSink.takes a b unread c.take_frames.new.reader.unread more
     c.pass_moment.new.wire c.pass_moment.new.clock c.pass_moment.new.session c.in-Ok.ensures.rest c.take_frames.ensures.idle
     (c.in-Ok.ensures.ok (Passed ∷ due_behind (rest_of unread) more)) called)
 
@@ -29,9 +29,9 @@ returns-in-Ok-clause-err g c =
     if-err
     (Halted g.W.Wire.does g.C.Clock.ticks Tick c.take_frames.new.self.wire c.take_frames.new.self.clock c.take_frames.new.self.session
     c.pass_moment.new.wire c.pass_moment.new.clock c.pass_moment.new.session)
-    (TakesFedLast g.W.Wire.does g.C.Clock.ticks g.S.Sink.takes a unread d)
+    (TakesFedLast g.W.Wire.does g.C.Clock.ticks g.S.FrameSink.takes a unread d)
     c.pass_moment.result c.pass_moment.ensures.err
-    (λ stop halted more. ends-fed g.W.Wire.does g.C.Clock.ticks g.S.Sink.takes stop a b unread more
+    (λ stop halted more. ends-fed g.W.Wire.does g.C.Clock.ticks g.S.FrameSink.takes stop a b unread more
     c.pass_moment.new.wire c.pass_moment.new.clock c.pass_moment.new.session c.take_frames.ensures.idle
     (c.in-Ok.ensures.ok (Passed ∷ due_behind (rest_of unread) more)) halted)
 

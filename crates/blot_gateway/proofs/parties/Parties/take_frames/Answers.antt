@@ -9,7 +9,7 @@ use Rattle.blot_gateway.proofs.parties.Parties.take_frames.Goals as goal
 pub loop-frame-init : goal.loop-frame-init
 loop-frame-init g c =
     let a = c.args.self.now in (
-      λ more. runs-nowhere g.W.Wire.does g.C.Clock.ticks g.S.Sink.takes a (left_in c.args.reader.now more),
+      λ more. runs-nowhere g.W.Wire.does g.C.Clock.ticks g.S.FrameSink.takes a (left_in c.args.reader.now more),
       refl,
       c.requires,
       omega arith,
@@ -24,7 +24,7 @@ loop-frame-preserved g c =
     let a = c.args.self.now in
     let b = c.loop-frame.self in
     let d = c.take_frame.new.self in (
-      λ more. runs-frame g.W.Wire.does g.C.Clock.ticks g.S.Sink.takes a b d (left_in c.args.reader.now more) more c.loop-frame.reader left frame takes
+      λ more. runs-frame g.W.Wire.does g.C.Clock.ticks g.S.FrameSink.takes a b d (left_in c.args.reader.now more) more c.loop-frame.reader left frame takes
           (c.loop-frame.invariant.0 more) (c.in-Ok.ensures.ok (left_in left more)),
       sym (rest-first c.loop-frame.reader left frame takes) ∙ c.loop-frame.invariant.1,
       c.take_frame.ensures.idle,
@@ -40,5 +40,5 @@ returns-in-Err-clause-err g c =
     let a = c.args.self.now in
     let b = c.loop-frame.self in
     let d = c.take_frame.new.self in
-    λ more. ends-frame g.W.Wire.does g.C.Clock.ticks g.S.Sink.takes (ended_by c.in-Err.stop) a b d (left_in c.args.reader.now more) more c.loop-frame.reader left frame takes
+    λ more. ends-frame g.W.Wire.does g.C.Clock.ticks g.S.FrameSink.takes (ended_by c.in-Err.stop) a b d (left_in c.args.reader.now more) more c.loop-frame.reader left frame takes
     (c.loop-frame.invariant.0 more) (c.in-Err.ensures.err (left_in left more))

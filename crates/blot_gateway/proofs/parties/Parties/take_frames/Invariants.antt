@@ -8,7 +8,7 @@ use Rattle.blot_gateway.proofs.parties.Parties.take_frames.Given as goal
 abbrev pub invariant-loop-frame : goal.invariant-loop-frame
 invariant-loop-frame g l =
     ((more : List Due)
-    → Runs g.W.Wire.does g.C.Clock.ticks g.S.Sink.takes l.initial.self
+    → Runs g.W.Wire.does g.C.Clock.ticks g.S.FrameSink.takes l.initial.self
     (map Came (frames_of l.initial.reader.unread) ++ more) [] (map Came (frames_of l.reader.unread) ++ more) l.self)
     × (rest_of l.reader.unread ≡ rest_of l.initial.reader.unread)
     × IsIdle l.self.session

@@ -11,14 +11,14 @@ returns-in-Ok-clause-err g c =
     let b = c.take_fed.new.self in
     let fed = ap (λ reading. reading.unread) c.in-Ok.ensures.ok in
     if-err
-    (TakesFedLast g.W.Wire.does g.C.Clock.ticks g.S.Sink.takes a c.feed.new.self.unread b)
-    (TakesFedLast g.W.Wire.does g.C.Clock.ticks g.S.Sink.takes a (c.args.reader.now.unread ++ c.args.piece.now) b)
+    (TakesFedLast g.W.Wire.does g.C.Clock.ticks g.S.FrameSink.takes a c.feed.new.self.unread b)
+    (TakesFedLast g.W.Wire.does g.C.Clock.ticks g.S.FrameSink.takes a (c.args.reader.now.unread ++ c.args.piece.now) b)
     c.take_fed.result c.take_fed.ensures.err
-    (λ stop ends. subst (λ unread. TakesFedLast g.W.Wire.does g.C.Clock.ticks g.S.Sink.takes a unread b stop) fed ends)
+    (λ stop ends. subst (λ unread. TakesFedLast g.W.Wire.does g.C.Clock.ticks g.S.FrameSink.takes a unread b stop) fed ends)
 
 pub returns-in-Err-clause-err : goal.returns-in-Err-clause-err
 returns-in-Err-clause-err g c =
     let a = c.args.self.now in
     λ more.
     let due = due_fed (c.args.reader.now.unread ++ c.args.piece.now) more in
-    ends-there g.W.Wire.does g.C.Clock.ticks g.S.Sink.takes a a due due [] (runs-nowhere g.W.Wire.does g.C.Clock.ticks g.S.Sink.takes a due)
+    ends-there g.W.Wire.does g.C.Clock.ticks g.S.FrameSink.takes a a due due [] (runs-nowhere g.W.Wire.does g.C.Clock.ticks g.S.FrameSink.takes a due)

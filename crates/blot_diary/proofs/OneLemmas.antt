@@ -1,0 +1,42 @@
+-- A text that is one frame.
+use Rattle.std.proofs.Common.{◌≡◌, ℕ, ◌<◌, Bool, true, false, not, List, [], Option, Some, None, sym, ap, subst, ◌∙◌, arith, length, length-append}
+use Rattle.std.specs.Prelude.{◌↔◌, IsTrue, is_some, slice_get}
+use Rattle.std.specs.Str.{bytes_eq}
+use Rattle.std.proofs.lemmas.Bool.{false≢true, not-false}
+use Rattle.std.proofs.lemmas.List.{append-nil}
+use Rattle.std.proofs.lemmas.Slice.Eq.{bytes_eq-Decides}
+use Rattle.blot_tag.specs.Frames.{IsFrame, front_of, trailer_of}
+use Rattle.blot_tag.specs.Walking.{Walk, first_frame, walk_of}
+use Rattle.blot_tag.proofs.JoinedLemmas.{comes_first}
+use Rattle.blot_diary.specs.declared.kept.Noted.{Noted}
+use Rattle.blot_diary.specs.Events.{IsQuiet, noted_in}
+
+-- it isn't empty
+pub frame_some : (frame : List ℕ) → IsFrame frame → 0 < length frame
+frame_some frame valid =
+    let front = front_of valid.digits valid.body in
+    omega (arith, ap length valid.whole, length-append front (trailer_of front))
+
+-- it is the first frame of itself
+pub first-alone : (text unread : List ℕ) (frame : Option (List ℕ)) → unread ≡ text → frame ≡ first_frame unread → IsFrame text → frame ≡ Some text
+first-alone text unread frame is first valid =
+    first ∙ ap first_frame is ∙ ap (λ (walk : Walk). slice_get walk.frames 0) (ap walk_of (sym (append-nil text)) ∙ comes_first text valid [])
+
+-- a frame that differs from a text, and is the first of it: the text isn't one
+pub differs : (text unread frame : List ℕ) → unread ≡ text → Some frame ≡ first_frame unread → true ≡ not (bytes_eq frame text) → IsFrame text → ⊥
+differs text unread frame is first other valid =
+    let both = first-alone text unread (Some frame) is first valid in
+    let same : frame ≡ text = cc in
+    let eq = (bytes_eq-Decides frame text).1 same in
+    false≢true (sym (ap not eq) ∙ sym other)
+
+pub quiet_when : (text frame : List ℕ) (noted : Option Noted) (quiet : Bool) → false ≡ not (bytes_eq frame text) → IsFrame frame → noted ≡ noted_in frame
+    → is_some noted ≡ not quiet → IsTrue quiet ↔ IsQuiet text
+quiet_when text frame noted quiet same valid notes is =
+    let is_text = (bytes_eq-Decides frame text).0 (not-false _ (sym same)) in
+    let alike : noted ≡ noted_in text = notes ∙ ap noted_in is_text in
+    (λ true_is. (subst IsFrame is_text valid, none noted alike (is ∙ ap not true_is)), λ brings. not-false quiet (sym is ∙ ap is_some (alike ∙ brings.1)))
+  where
+    none : (one : Option Noted) → one ≡ noted_in text → is_some one ≡ false → noted_in text ≡ None
+    none None alike quiet = sym alike
+    none (Some one) alike quiet = absurd (false≢true (sym quiet))

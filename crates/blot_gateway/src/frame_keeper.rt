@@ -1,0 +1,105 @@
+//! What keeps the events of a desk as FIX frames.
+ghost use Rattle.std.specs.Prelude.{◌≡◌, false, true, List, ℕ, Some, IfOk, IfSome};
+ghost use Rattle.blot_types.specs.declared.command.Command.{Command};
+ghost use Rattle.blot_desk.specs.declared.event.Event.TheVariants.{Submit};
+ghost use Rattle.blot_desk.specs.Keeping.{IsSpelled};
+ghost use Rattle.blot_tag.specs.Frames.{IsFrame};
+ghost use Rattle.blot_fields.specs.Bringing.{brought};
+
+use blot_desk::{Event, Keeper, NoKeeper};
+use blot_tag::Frame;
+use blot_time::Moment;
+use blot_types::Text64;
+use std::alloc::{AllocError as NoMemory, Global};
+
+/// What a record of one's own begins with.
+#[derive(Clone, Copy, Debug)]
+pub struct RecordHead {
+    /// The blotter's CompID.
+    pub own: Text64,
+    /// The peer's CompID, or the operator's name.
+    pub party: Text64,
+    /// How many records of one's own there are of the party, with this one.
+    pub number: u64,
+    /// When it is made.
+    pub now: Moment,
+}
+
+/// What keeps the events of a desk as FIX frames: the frame of a command as it came, and frames of its own for an operator's. It keeps frames
+/// that spell no event, too. An error is out of memory.
+pub trait FrameKeeper: Keeper {
+    /// Whether it keeps any events.
+    fn is_kept() -> bool
+        ensures { result ≡ false → Self.IsKept → ⊥ };
+
+    /// Whether a frame that brought no event is kept as it is.
+    fn keeps_plain(alloc: Global, text: &[u8]) -> Result<bool, NoMemory>
+        ensures { IfOk result (λ kept. kept ≡ true → Self.spells_none text.now) };
+
+    /// The record of a frame that isn't kept as it is: one that has it inside. None where it doesn't fit.
+    fn wrapped_record(
+        alloc: Global,
+        head: &RecordHead,
+        frame: &Frame,
+    ) -> Result<Option<Vec<u8>>, NoMemory>
+        ensures { IfOk result (λ made. IfSome made (λ text. Self.spells_none text.items)) };
+
+    /// The record of a session's numbers: the one that it expects, and that of the next message that it sends.
+    fn numbers_record(
+        alloc: Global,
+        head: &RecordHead,
+        expected: u64,
+        next: u64,
+    ) -> Result<Option<Vec<u8>>, NoMemory>
+        ensures { IfOk result (λ made. IfSome made (λ text. Self.spells_none text.items)) };
+
+    /// The record of an operator's event, for which this line asks. None where the line can't be kept.
+    fn line_record(
+        alloc: Global,
+        head: &RecordHead,
+        line: &[u8],
+        event: &Event,
+    ) -> Result<Option<Vec<u8>>, NoMemory>
+        ensures { IfOk result (λ made. IfSome made (λ text. IsSpelled Self.spells text.items event.now)) };
+
+    /// A frame that brings a command spells its submit.
+    ghost spells_frames: { (text : List ℕ) (command : Command) → IsFrame text → brought text ≡ Some command → Self.spells text (Submit command) };
+}
+
+impl FrameKeeper for NoKeeper {
+    ghost spells_frames = { λ text command valid brings. tt };
+
+    fn is_kept() -> bool {
+        false
+    }
+
+    fn keeps_plain(_alloc: Global, _text: &[u8]) -> Result<bool, NoMemory> {
+        Ok(false)
+    }
+
+    fn wrapped_record(
+        _alloc: Global,
+        _head: &RecordHead,
+        _frame: &Frame,
+    ) -> Result<Option<Vec<u8>>, NoMemory> {
+        Ok(None)
+    }
+
+    fn numbers_record(
+        _alloc: Global,
+        _head: &RecordHead,
+        _expected: u64,
+        _next: u64,
+    ) -> Result<Option<Vec<u8>>, NoMemory> {
+        Ok(None)
+    }
+
+    fn line_record(
+        alloc: Global,
+        _head: &RecordHead,
+        _line: &[u8],
+        _event: &Event,
+    ) -> Result<Option<Vec<u8>>, NoMemory> {
+        Ok(Some(Vec::new(alloc)))
+    }
+}
