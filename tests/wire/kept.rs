@@ -7,7 +7,8 @@ use blot_desk::{Event, KeepFault, Keeper, Opening};
 use blot_gateway::{
     Ended, FrameKeeper, ListClock, MemoryWire, Reading, RecordHead, StoredWire, Wire, Writing,
 };
-use blot_lanes::{PeerNotes, PeerStore, Peers, serve_connection};
+use blot_lanes::{BrokerSeat, ListedPeer, PeerNotes, PeerStore, Peers, serve_connection};
+use blot_session::CloseReason;
 use blot_sockets::Door;
 use blot_tag::Frame;
 use std::alloc::{AllocError as NoMemory, Global};
@@ -30,10 +31,17 @@ const STREAM: &str = "\
 // What is done, one after the other: `put`, a message that is kept as it is; `numbers`, those that are expected next and sent next; `event`,
 // that of a message; `wrapped`, a message within a record; each record of one's own with its number.
 const DONE: &str =
-    "sync read put A numbers 1 2 2 put A sync write put 0 numbers 2 3 2 event 8 wrapped 3 0 event J put P sync write sync read ";
+    "sync read put A numbers 1 2 2 put A sync write put 0 numbers 2 3 2 event 8 wrapped 3 0 event J put P sync write sync read numbers 4 5 3 ";
 
 // The same where the second sync fails: the Logon isn't answered.
-const BROKEN: &str = "sync read put A numbers 1 2 2 put A broken ";
+const BROKEN: &str = "sync read put A numbers 1 2 2 put A broken numbers 2 2 2 ";
+
+// The same where no numbers can be kept: nothing is told any more, and the connection ends.
+const LOST: &str = "sync read put A lost lost ";
+
+// The same where the desk takes no command: the trade is kept within a record, and the session closes.
+const DECLINED: &str =
+    "sync read put A numbers 1 2 2 put A sync write put 0 numbers 2 3 2 wrapped 3 8 put 5 sync write numbers 4 3 3 ";
 
 // What is done, by all who do something.
 type Log = Mutex<Vec<u8>>;
@@ -56,12 +64,24 @@ fn kind_of(text: &[u8]) -> &[u8] {
     b"?"
 }
 
-// It keeps nothing but what it was asked, and breaks after so many syncs.
+// What goes wrong.
+#[derive(Clone, Copy)]
+enum Wrong {
+    Nothing,
+    // After so many syncs none succeeds.
+    Broken(u32),
+    // There is no memory for numbers.
+    NoNumbers,
+    // There is no memory for events.
+    NoEvents,
+}
+
+// It keeps nothing but what it was asked.
 #[derive(Drop)]
 struct Noting<'a, R> {
     rt: &'a R,
     log: &'a Log,
-    syncs_left: u32,
+    wrong: Wrong,
 }
 
 impl<R: Wait> Keeper for Noting<'_, R> {
@@ -86,7 +106,10 @@ impl<R: Wait> Keeper for Noting<'_, R> {
     ghost spells_none = { λ _. Unit {0} };
 
     fn reserve(&mut self, _text: &[u8]) -> Result<(), KeepFault> {
-        Ok(())
+        match self.wrong {
+            Wrong::NoEvents => Err(KeepFault::NoMemory),
+            _ => Ok(()),
+        }
     }
 
     fn keep(&mut self, text: &[u8], _event: &Event) {
@@ -94,6 +117,10 @@ impl<R: Wait> Keeper for Noting<'_, R> {
     }
 
     fn keep_other(&mut self, text: &[u8]) -> Result<(), KeepFault> {
+        if matches!(self.wrong, Wrong::NoNumbers) && text.starts_with(b"numbers") {
+            note(self.rt, self.log, &[b"lost"]);
+            return Err(KeepFault::NoMemory);
+        }
         if text.starts_with(b"8=") {
             note(self.rt, self.log, &[b"put", kind_of(text)]);
         } else {
@@ -103,11 +130,13 @@ impl<R: Wait> Keeper for Noting<'_, R> {
     }
 
     fn sync(&mut self) -> Result<(), KeepFault> {
-        if self.syncs_left == 0 {
-            note(self.rt, self.log, &[b"broken"]);
-            return Err(KeepFault::Broken);
+        if let Wrong::Broken(left) = self.wrong {
+            if left == 0 {
+                note(self.rt, self.log, &[b"broken"]);
+                return Err(KeepFault::Broken);
+            }
+            self.wrong = Wrong::Broken(left - 1);
         }
-        self.syncs_left = self.syncs_left.saturating_sub(1);
         note(self.rt, self.log, &[b"sync"]);
         Ok(())
     }
@@ -182,12 +211,12 @@ impl<R: Wait> Wire for Noted<'_, R> {
     }
 }
 
-// Serves the stream over a desk whose keeper breaks after so many syncs: how the connection ended, and what was done.
+// Serves the stream over a desk where this goes wrong: how the connection ended, and what was done.
 fn served<L: Ledger, T>(
     rt: &T,
     alloc: Global,
     blank: Blank,
-    syncs: u32,
+    wrong: Wrong,
 ) -> Result<(Ended, Vec<u8>), Fail>
 where
     T: Wait + Net + Clock + log::Log,
@@ -198,10 +227,16 @@ where
     let desk = opening.open(Noting {
         rt,
         log: &noted,
-        syncs_left: syncs,
+        wrong,
     });
     let own = text(b"MO")?;
-    let Ok(peers) = Peers::new(alloc, own, &[text(b"BRKA")?], seats) else {
+    let (peer, mut seats) = (text(b"BRKA")?, seats);
+    let Some(seat) = seats.pop() else {
+        return Err(Fail::new("no seat"));
+    };
+    let mut listed = Vec::new(alloc);
+    listed.push(ListedPeer::new(peer, BrokerSeat::new(seat, 0), 1, 1))?;
+    let Ok(peers) = Peers::new(alloc, own, &[peer], listed) else {
         return Err(Fail::new("no peers"));
     };
     let listener = TcpListener::bind(rt, SocketAddrV4::new(Ipv4Addr::LOCALHOST, 0));
@@ -227,13 +262,16 @@ where
 
 #[test]
 fn nothing_is_written_before_a_sync(rt: HostRuntime) -> Result<(), Fail> {
-    let (ended, done) = served::<Brand, _>(&rt, rt.alloc(), Blank::new(1), 100)?;
-    if ended != Ended::End || done.as_slice() != DONE.as_bytes() {
-        return Err(Fail::new(format_args!("{ended:?}: {:?}", str::from_utf8(&done))));
-    }
-    let (ended, done) = served::<Brand, _>(&rt, rt.alloc(), Blank::new(1), 1)?;
-    if ended != Ended::WriteFault || done.as_slice() != BROKEN.as_bytes() {
-        return Err(Fail::new(format_args!("{ended:?}: {:?}", str::from_utf8(&done))));
+    for (wrong, ending, done) in [
+        (Wrong::Nothing, Ended::End, DONE),
+        (Wrong::Broken(1), Ended::WriteFault, BROKEN),
+        (Wrong::NoNumbers, Ended::WriteFault, LOST),
+        (Wrong::NoEvents, Ended::Closed(CloseReason::NotTaken), DECLINED),
+    ] {
+        let (ended, was_done) = served::<Brand, _>(&rt, rt.alloc(), Blank::new(1), wrong)?;
+        if ended != ending || was_done.as_slice() != done.as_bytes() {
+            return Err(Fail::new(format_args!("{ended:?}: {:?}", str::from_utf8(&was_done))));
+        }
     }
     Ok(())
 }

@@ -3,13 +3,14 @@
 use crate::dialogues::{Told, spell};
 use crate::expect::{expect, text};
 use crate::memory::{AT_ONCE, BY_BYTES, BY_LINES, INTERRUPTED, Manner, reader, writer};
-use blot_desk::{Desk, Seat};
-use blot_operator::{OpenDay, Rows, SessionLine, open_lines};
+use blot_desk::Desk;
+use blot_operator::{OpenDay, OperatorSeat, Rows, SessionLine, open_lines};
 use std::alloc::{AllocError, Global};
 use std::marker::Brand;
 use std::sync::Wait;
 use std::sync::ledger::{Blank, Ledger};
 use std::test::Fail;
+use std::time::Clock;
 
 // What is typed, and what is answered up to the first `close`, which is the sixth line.
 const CLOSED: &[Told] = &[
@@ -64,8 +65,8 @@ fn day_of_two() -> Result<Day, Fail> {
 }
 
 // Lines are answered at the one seat of a desk, so many of them: how many bytes of the input are left.
-fn left_of<L: Ledger>(
-    rt: &impl Wait,
+fn left_of<L: Ledger, R: Wait + Clock>(
+    rt: &R,
     alloc: Global,
     blank: Blank,
     lines: &[Told],
@@ -73,19 +74,20 @@ fn left_of<L: Ledger>(
     manner: Manner,
 ) -> Result<usize, Fail> {
     let (desk, mut seats) = Desk::<L>::new(alloc, blank, 1)?;
-    let seat: &mut Seat<L> = seats.get_mut(0).ok_or("no seat")?;
+    let seat = seats.pop().ok_or("no seat")?;
+    let mut seat = OperatorSeat::new(seat, text(b"MO")?, text(b"ANNA")?, 0);
     let dialogue = spell(alloc, lines, told)?;
     let mut screen = writer(alloc, AT_ONCE);
     let mut source = reader(&dialogue.typed, manner);
     let day = day_of_two()?;
-    let outcome = open_lines(rt, alloc, &mut source, &mut screen, &desk, seat, &day);
+    let outcome = open_lines(rt, alloc, &mut source, &mut screen, &desk, &mut seat, &day);
     if outcome.is_err() {
         return Err(Fail::new(format_args!("{told} lines: {outcome:?}")));
     }
     if screen.written.as_slice() != dialogue.answers.as_slice() {
         return Err(Fail::new(format_args!("{told} lines: other text")));
     }
-    if seat.receipts().len() != 1 {
+    if seat.into_seat().receipts().len() != 1 {
         return Err(Fail::new(format_args!("{told} lines: other receipts")));
     }
     Ok(source.rest.len())
@@ -94,9 +96,9 @@ fn left_of<L: Ledger>(
 #[test]
 fn the_lines_end_at_close(rt: HostRuntime) -> Result<(), Fail> {
     for manner in [BY_LINES, AT_ONCE, BY_BYTES, INTERRUPTED] {
-        left_of::<Brand>(&rt, rt.alloc(), Blank::new(1), CLOSED, 6, manner)?;
+        left_of::<Brand, _>(&rt, rt.alloc(), Blank::new(1), CLOSED, 6, manner)?;
     }
-    let left = left_of::<Brand>(&rt, rt.alloc(), Blank::new(1), CLOSED, 6, BY_BYTES)?;
+    let left = left_of::<Brand, _>(&rt, rt.alloc(), Blank::new(1), CLOSED, 6, BY_BYTES)?;
     expect(
         &rt,
         "what stands behind close",
@@ -108,7 +110,7 @@ fn the_lines_end_at_close(rt: HostRuntime) -> Result<(), Fail> {
 #[test]
 fn lines_without_close_are_read_to_their_end(rt: HostRuntime) -> Result<(), Fail> {
     for manner in [BY_LINES, AT_ONCE, BY_BYTES, INTERRUPTED] {
-        let left = left_of::<Brand>(&rt, rt.alloc(), Blank::new(1), OPEN, 3, manner)?;
+        let left = left_of::<Brand, _>(&rt, rt.alloc(), Blank::new(1), OPEN, 3, manner)?;
         expect(&rt, "what is left of the lines", left == 0);
     }
     Ok(())

@@ -23,7 +23,8 @@ impl<L: Ledger, K: Keeper> Model for Counted<L, K> {
 
     ghost view = { λ counted. record { journal = counted.held; keeper = counted.keeper } };
 
-    ghost invariant = { λ counted. (length counted.held.history ≡ counted.book.total) × (K.IsKept → K.events counted.keeper ≡ kept_events counted.held.history) };
+    ghost invariant = { λ counted. (length counted.held.history ≡ counted.book.total)
+        × (K.IsKept → K.events counted.keeper ≡ kept_events counted.held.history) };
 }
 
 impl<L: Ledger, K: Keeper> Counted<L, K> {

@@ -16,9 +16,9 @@ use std::alloc::{AllocError as NoMemory, Global};
 use std::sync::ledger::{Blank, Ledger};
 use std::sync::{Mutex, Wait};
 
-/// A desk for many callers at once, of which each has a seat. One event is one step under its lock, and no lock is held
-/// while anything else waits. `L` ties the seats to their desk: a call at `Brand` of a function that holds the whole run
-/// picks it. `K` keeps the events.
+/// A desk for many callers at once, of which each has a seat. One event is one step under its lock. The keeper is synced under it too, so one
+/// sync serves all who wait for the lock meanwhile; nothing else is waited for there. `L` ties the seats to their desk: a call at `Brand` of a
+/// function that holds the whole run picks it. `K` keeps the events.
 #[derive(Drop)]
 pub struct Desk<L: Ledger, K: Keeper = NoKeeper> {
     alloc: Global,

@@ -7,7 +7,8 @@ pub enum DeskFault {
     Full,
     /// Memory ran out.
     NoMemory,
-    /// What keeps the events of a desk couldn't be written, and no more events are taken. Only `Desk::submit_with` answers it.
+    /// What keeps the events of a desk couldn't be written, and no more events are taken, but those that only ask. Only `Desk::submit_with`
+    /// answers it.
     Broken,
     /// The receipts and the history don't agree. Only `Closed::settle` answers it.
     Unsettled,

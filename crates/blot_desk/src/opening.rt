@@ -69,6 +69,15 @@ impl<L: Ledger> Opening<L> {
         answer
     }
 
+    /// What was taken up, as a desk of one's own.
+    pub fn into_held(self) -> Held
+        ensures { result ≡ self }
+    {
+        let Opening { counted, .. } = self;
+        let Counted { held, .. } = counted;
+        held
+    }
+
     /// The desk, with what keeps its events: those that it took up, asks aside.
     pub fn open<K: Keeper>(self, keeper: K) -> Desk<L, K>
         requires { K.IsKept → K.events keeper ≡ kept_events self.history }

@@ -46,7 +46,7 @@ impl<L: Ledger> Seat<L> {
     }
 
     /// Takes an event to a desk, which keeps it by its record unless it only asks, and keeps a receipt of the reply. Where the desk is
-    /// full, memory runs out, or the keeper is broken, nothing is recorded or kept, and there is no receipt.
+    /// full, memory runs out, or the keeper of what doesn't only ask is broken, nothing is recorded or kept, and there is no receipt.
     pub(crate) fn take<K: Keeper>(
         &mut self,
         alloc: Global,
@@ -61,7 +61,8 @@ impl<L: Ledger> Seat<L> {
         ensures receipt { IfOk result (λ reply. self.new ≡ with_receipt (length counted.old.journal.history) event reply self.old) }
         ensures kept { OnOk result (K.IsKept → K.events counted.new.keeper ≡ with_kept event (K.events counted.old.keeper)) }
         ensures full { (result ≡ Err DeskFault.Full) ↔ (length counted.old.journal.history ≡ EVENTS_MAX) }
-        ensures broken { (result ≡ Err DeskFault.Broken) ↔ ((length counted.old.journal.history ≢ EVENTS_MAX) × (is_ask event ≡ false) × (K.is_broken counted.old.keeper ≡ true)) }
+        ensures broken { (result ≡ Err DeskFault.Broken)
+            ↔ ((length counted.old.journal.history ≢ EVENTS_MAX) × (is_ask event ≡ false) × (K.is_broken counted.old.keeper ≡ true)) }
         ensures err { OnErr result ((counted.new.journal ≡ counted.old.journal) × (self.new ≡ self.old)) }
         ensures same { OnErr result (SameKept K.events K.found K.durable K.is_broken counted.old.keeper counted.new.keeper) }
         ensures faults { result ≢ Err DeskFault.Unsettled }

@@ -2,6 +2,7 @@ pub mod FoldLemmas
 pub mod KeptLemmas
 mod OneLemmas
 mod DiaryLemmas
+mod FramingLemmas
 mod WritingLemmas
 mod ShortLemmas
 mod HeaderLemmas

@@ -7,3 +7,4 @@ pub mod Numbering
 pub mod Writing
 pub mod Records
 pub mod Diary
+pub mod Laws

@@ -61,6 +61,14 @@ impl<D: Device> Diary<D> {
         self.journal.device()
     }
 
+    /// The file, which the diary gives up.
+    pub fn into_device(self) -> D
+        ensures { result ≡ self.device }
+    {
+        let Diary { journal, .. } = self;
+        journal.into_device()
+    }
+
     // Makes room for so many bytes.
     fn make_room(&mut self, bytes: usize) -> Result<(), KeepFault>
         ensures room { OnOk result (bytes ≤ self.new.room) }

@@ -5,6 +5,7 @@
 #![tactic(auto)]
 
 mod diary;
+mod framing;
 mod kept;
 mod kinds;
 mod numbers;

@@ -96,8 +96,8 @@ pub(crate) fn asked_said(alloc: Global, frame: &Frame) -> Result<Content, NoMemo
     }
 }
 
-// The event that a line asks for, unless it only asks. An error is out of memory.
-fn event_of_line(alloc: Global, line: &[u8]) -> Result<Option<Event>, NoMemory>
+/// The event that a line asks for, unless it only asks. An error is out of memory.
+pub(crate) fn event_of_line(alloc: Global, line: &[u8]) -> Result<Option<Event>, NoMemory>
     ensures value { IfOk result (λ event. event ≡ event_of_line line.now) }
     ensures memory { IsErr result → IsSomeAnd (event_of_line line.now) SubmitsAllocNew }
 {

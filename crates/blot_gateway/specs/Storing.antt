@@ -1,5 +1,5 @@
 -- A wire before each of whose reads and writes a store is synced, and the messages that are put there before they are written.
-use Rattle.std.specs.Prelude.{◌≡◌, ◌⊎◌, ℕ, zero, suc, ◌-◌, Bool, List, length, take}
+use Rattle.std.specs.Prelude.{◌≡◌, ◌⊎◌, ℕ, ◌-◌, ◌==◌, Bool, true, false, List, length, take}
 use Rattle.blot_gateway.specs.Wires.{Did, Read}
 use Rattle.blot_gateway.specs.Wires.Did.{Gave, Took, Refused}
 use Rattle.blot_gateway.specs.Wires.Read.{Failed}
@@ -9,17 +9,17 @@ pub data Stored : Type 0 where
   Put : List ℕ → Stored
   Synced : Stored
 
--- a wire over a store: how much of the message that it writes is left
+-- a wire over a store: how many bytes are left of the message that it writes
 pub record Storing (W S : Type 0) : Type 0 where
   pub wire : W
   pub store : S
   pub left : ℕ
   pub faults : ℕ
 
--- before something of a message is written: where nothing of it was written yet, it is put first; then the store is synced
-abbrev pub Readies : {S : Type 0} → (S → Stored → S → Type 0) → ℕ → List ℕ → S → S → Type 0
-Readies {S = S} keeps zero text before after = (put : S) × keeps before (Put text) put × keeps put Synced after
-Readies keeps (suc left) text before after = keeps before Synced after
+-- the store is made ready for a write: a text that isn't what is left of a message is a message of its own, which is put first; then all is synced
+abbrev pub Readies : {S : Type 0} → (S → Stored → S → Type 0) → Bool → List ℕ → S → S → Type 0
+Readies keeps true text before after = keeps before Synced after
+Readies {S = S} keeps false text before after = (put : S) × keeps before (Put text) put × keeps put Synced after
 
 -- the store is synced, and the wire is read
 pub record ReadsSynced {W S : Type 0} (does : W → Did → W → Type 0) (keeps : S → Stored → S → Type 0) (before : Storing W S) (read : Read) (after : Storing W S) : Type 0 where
@@ -32,13 +32,14 @@ pub record WritesSynced {W S : Type 0} (does : W → Did → W → Type 0) (keep
   pub text : List ℕ
   pub count : ℕ
   pub front : taken ≡ take count text
-  pub ready : Readies keeps before.left text before.store after.store
+  pub ready : Readies keeps (before.left == length text) text before.store after.store
   pub did : does before.wire (Took taken) after.wire
   pub left : after.left ≡ length text - count
 
--- a read or a write fails; of a wire that isn't asked, since the store fails, nothing changes
-abbrev pub Fails : {W S : Type 0} → (W → Did → W → Type 0) → Did → Storing W S → Storing W S → Type 0
-Fails does did before after = does before.wire did after.wire ⊎ (after.wire ≡ before.wire)
+-- a read or a write fails, and as much is left as before; of a wire that isn't asked, since the store fails, nothing changes
+pub record Fails {W S : Type 0} (does : W → Did → W → Type 0) (did : Did) (before after : Storing W S) : Type 0 where
+  pub wire : does before.wire did after.wire ⊎ (after.wire ≡ before.wire)
+  pub left : after.left ≡ before.left
 
 -- what such a wire does
 abbrev pub StoringDoes : {W S : Type 0} → (W → Did → W → Type 0) → (S → Stored → S → Type 0) → Storing W S → Did → Storing W S → Type 0

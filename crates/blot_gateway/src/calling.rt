@@ -2,11 +2,13 @@
 ghost use Rattle.std.specs.Prelude.{◌≡◌, ◌≤◌, [], ◌∷◌, Ok, Err, Some, None, IfOk, IfErr, IfSome, OnOk, OnErr, is_some};
 ghost use Rattle.blot_fields.specs.Bringing.{brought};
 ghost use Rattle.blot_tag.specs.Views.{text_of};
+ghost use Rattle.blot_session.specs.Calls.{Awaits, DeliversAlone, Gives, on_frame};
+ghost use Rattle.blot_session.specs.Runs.{DeliversOwn, said_by};
 ghost use Rattle.blot_session.specs.Runs.Call.{Frame as FrameCall, Reply as ReplyCall, Stop as StopCall, Tick};
-ghost use Rattle.blot_session.specs.States.{awaited_of, IsIdle, IsAwaiting};
+ghost use Rattle.blot_session.specs.States.{awaited_of, closed, IsIdle, IsAwaiting};
 ghost use Rattle.blot_gateway.specs.Progress.{CountsStop, Handles, HandlesLast};
 ghost use Rattle.blot_gateway.specs.Sending.{Called, Halted, Submitted, SubmittedLast};
-ghost use Rattle.blot_gateway.specs.Hearing.{heard};
+ghost use Rattle.blot_gateway.specs.Hearing.{heard, is_renumbered};
 ghost use Rattle.blot_gateway.specs.Serving.{seen_by};
 ghost use Rattle.blot_gateway.specs.Serving.Due.{Came};
 
@@ -14,10 +16,12 @@ use crate::ended::Stop;
 use crate::writing::carry_out;
 use crate::{Clock, FrameSink, Heard, Parties, Wire};
 use blot_desk::{DeskFault, Reply};
-use blot_session::{NotTaken, Phase, SeenReply, Session, delivered};
+use blot_fields::{decode, is_out_of_memory};
+use blot_session::{Action, Met, NotTaken, Phase, SeenReply, Session, delivered};
 use blot_tag::Frame;
+use blot_time::Moment;
 use blot_types::Command;
-use std::alloc::Global;
+use std::alloc::{AllocError as NoMemory, Global};
 
 impl<W: Wire, C: Clock, S: FrameSink> Parties<W, C, S> {
     /// A frame is due: it comes to the session. What the session delivers goes to the sink, and the session is told the answer.
@@ -106,6 +110,15 @@ pub(crate) fn pass_stop<W: Wire, C: Clock>(
     }
 }
 
+// What a session was when a frame came to it, and what becomes of the frame.
+#[derive(Clone, Copy)]
+pub(crate) struct Before {
+    met: Met,
+    phase: Phase,
+    expected: u64,
+    next: u64,
+}
+
 // A frame comes to the session: the command that it delivers, if it delivers one. If not, the sink hears of it.
 fn give_frame<W: Wire, C: Clock, S: FrameSink>(
     alloc: Global,
@@ -128,35 +141,73 @@ fn give_frame<W: Wire, C: Clock, S: FrameSink>(
     ensures failed { IfErr result (CountsStop (W.failures wire.old) (W.failures wire.new)) }
 {
     let now = clock.now();
-    let (phase, expected) = (session.phase(), session.expected());
-    let Ok(actions) = session.on_frame(alloc, frame, now) else {
+    let Ok(actions) = decide(alloc, sink, session, frame, now) else {
         return Err(Stop::NoMemory);
     };
-    if let Some(heard) = heard(phase, expected, session) {
-        sink.hear(frame, heard);
-    }
     match carry_out(wire, &actions) {
         Ok(()) => Ok(delivered(actions)),
         Err(stop) => Err(stop),
     }
 }
 
-// What a frame came to at a session that was in this phase, and expected this number: none where it brought a command, or where the
-// session wasn't on and isn't.
-fn heard(phase: Phase, expected: u64, session: &Session) -> Option<Heard>
-    ensures { result ≡ heard phase expected session.now }
+// What a session does about a frame. Where that brings no command, the sink hears of it. An error is out of memory.
+fn decide<S: FrameSink>(
+    alloc: Global,
+    sink: &mut S,
+    session: &mut Session,
+    frame: &Frame,
+    now: Moment,
+) -> Result<Vec<Action>, NoMemory>
+    requires { IsIdle session.old }
+    ensures ok { IfOk result (Gives (on_frame session.old (said_by (text_of frame.now)) now) session.new) }
+    ensures err { OnErr result (session.new ≡ closed session.old) }
+    ensures awaits { IfOk result (λ actions. Awaits session.new actions.items) }
+    ensures alone { IfOk result (λ actions. DeliversAlone actions.items) }
+    ensures own { IfOk result (λ actions. DeliversOwn (text_of frame.now) actions.items) }
+    ensures same { sink.new ≡ sink.old }
 {
-    let was_on = phase == Phase::On;
-    if session.is_awaiting() || !was_on && session.phase() != Phase::On {
-        return None;
+    let said = decode(alloc, frame);
+    if is_out_of_memory(&said) {
+        session.on_close();
+        return Err(NoMemory);
     }
-    let is_counted = session.expected() != expected;
-    Some(Heard {
-        is_taken: is_counted || !was_on,
-        is_counted,
+    let before = Before {
+        met: session.meets(&said, now),
+        phase: session.phase(),
         expected: session.expected(),
         next: session.next(),
+    };
+    let actions = session.on_said(alloc, &said, now)?;
+    if let Some(heard) = heard(&before, session) {
+        sink.hear(frame, heard);
+    }
+    Ok(actions)
+}
+
+// What is heard of a frame that came to a session that was this: none where it brought a command, or where the session wasn't on and
+// isn't.
+fn heard(before: &Before, session: &Session) -> Option<Heard>
+    ensures { result ≡ heard before.now session.now }
+{
+    if session.is_awaiting() || before.phase != Phase::On && session.phase() != Phase::On {
+        return None;
+    }
+    let (expected, next) = (session.expected(), session.next());
+    Some(Heard {
+        met: before.met,
+        is_renumbered: is_renumbered(before, session),
+        expected,
+        next,
     })
+}
+
+// Whether a session came on, expects another number than before, or sends a lower one next.
+fn is_renumbered(before: &Before, session: &Session) -> bool
+    ensures { result ≡ is_renumbered before.now session.now }
+{
+    before.phase != Phase::On
+        || session.expected() != before.expected
+        || session.next() < before.next
 }
 
 // Tells a session what became of the command that it delivered.

@@ -1,5 +1,5 @@
 //! What keeps the events of a desk as FIX frames.
-ghost use Rattle.std.specs.Prelude.{◌≡◌, false, true, List, ℕ, Some, IfOk, IfSome};
+ghost use Rattle.std.specs.Prelude.{◌≡◌, false, true, List, ℕ, Some, IfNone, IfOk, IfSome};
 ghost use Rattle.blot_types.specs.declared.command.Command.{Command};
 ghost use Rattle.blot_desk.specs.declared.event.Event.TheVariants.{Submit};
 ghost use Rattle.blot_desk.specs.Keeping.{IsSpelled};
@@ -44,7 +44,7 @@ pub trait FrameKeeper: Keeper {
     ) -> Result<Option<Vec<u8>>, NoMemory>
         ensures { IfOk result (λ made. IfSome made (λ text. Self.spells_none text.items)) };
 
-    /// The record of a session's numbers: the one that it expects, and that of the next message that it sends.
+    /// The record of a session's numbers: the one that it expects, and that of the next message that it sends. None where it can't be made.
     fn numbers_record(
         alloc: Global,
         head: &RecordHead,
@@ -60,7 +60,10 @@ pub trait FrameKeeper: Keeper {
         line: &[u8],
         event: &Event,
     ) -> Result<Option<Vec<u8>>, NoMemory>
-        ensures { IfOk result (λ made. IfSome made (λ text. IsSpelled Self.spells text.items event.now)) };
+        ensures spelled { IfOk result (λ made. IfSome made (λ text. IsSpelled Self.spells text.items event.now)) }
+
+        // What keeps no events has a record of each line.
+        ensures unkept { IfOk result (λ made. IfNone made Self.IsKept) };
 
     /// A frame that brings a command spells its submit.
     ghost spells_frames: { (text : List ℕ) (command : Command) → IsFrame text → brought text ≡ Some command → Self.spells text (Submit command) };

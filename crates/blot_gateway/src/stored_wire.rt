@@ -1,5 +1,5 @@
 //! A wire over a store of messages.
-ghost use Rattle.std.specs.Prelude.{◌≡◌, ◌^◌, ◌-◌, OnOk, min, length};
+ghost use Rattle.std.specs.Prelude.{◌≡◌, ◌==◌, ◌^◌, ◌-◌, OnOk, min, length};
 ghost use Rattle.blot_gateway.specs.Storing.{Readies, Stored, Storing, StoringDoes};
 ghost use Rattle.blot_gateway.specs.Storing.Stored.{Put, Synced};
 
@@ -10,7 +10,7 @@ use std::marker::Model;
 #[derive(Clone, Copy, Debug, PartialEq, Eq)]
 pub struct StoreFault;
 
-/// Where the messages of a session are kept.
+/// Where the messages of a session are kept. This project's rule: what is told is durable first.
 pub trait MessageStore {
     /// A store, something that it does, and the store after that.
     ghost keeps: { Self → Stored → Self → Type 0 };
@@ -67,13 +67,14 @@ impl<W, S: Drop> StoredWire<W, S> {
 }
 
 impl<W: Wire, S: MessageStore> StoredWire<W, S> {
-    // Makes the store ready for a write of what is left of a message.
+    // Makes the store ready for a write of a message, or of what is left of one.
     fn make_ready(&mut self, text: &[u8]) -> Result<(), StoreFault>
-        ensures ready { OnOk result (Readies S.keeps self.old.left text.now self.old.store self.new.store) }
+        ensures ready { OnOk result (Readies S.keeps (self.old.left == length text.now) text.now self.old.store self.new.store) }
         ensures wire { self.new.wire ≡ self.old.wire }
+        ensures left { self.new.left ≡ self.old.left }
         ensures faults { self.new.faults ≡ self.old.faults }
     {
-        if self.left == 0 {
+        if self.left != text.len() {
             self.store.put(text)?;
         }
         self.store.sync()

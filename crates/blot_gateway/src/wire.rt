@@ -6,6 +6,7 @@ ghost use Rattle.blot_gateway.specs.Wires.{Did, Answered, read_by, written_by, R
 ghost use Rattle.blot_gateway.specs.Wires.Did.{Gave};
 
 use blot_desk::{DeskFault, Reply};
+use blot_session::Met;
 use blot_tag::Frame;
 use blot_time::Moment;
 use blot_types::Command;
@@ -89,7 +90,7 @@ pub trait FrameSink {
         requires { brought (text_of frame.now) ≡ Some command }
         ensures { takes self.old (record { command = command; answer = result }) self.new };
 
-    /// Hears of a frame that brought no command, and what it came to, before anything is written of that.
+    /// Hears of a frame that brought no command, and what it came to, before anything is written of that. A contract sees nothing of it.
     fn hear(&mut self, frame: &Frame, heard: Heard)
         ensures { self.new ≡ self.old };
 }
@@ -97,10 +98,10 @@ pub trait FrameSink {
 /// What a frame that brought no command came to at a session that is on, or was.
 #[derive(Clone, Copy, Debug, PartialEq, Eq)]
 pub struct Heard {
-    /// Whether the session took it: it logged the session on, or its number was counted.
-    pub is_taken: bool,
-    /// Whether the session expects another number than before.
-    pub is_counted: bool,
+    /// What became of it.
+    pub met: Met,
+    /// Whether it brought the session on, made it expect another number, or made the next number that it sends lower.
+    pub is_renumbered: bool,
     /// The number that the session expects now.
     pub expected: u64,
     /// The number of the next message that the session sends, behind all that this frame comes to.

@@ -1,10 +1,10 @@
 -- What a recovery finds.
-use Rattle.std.proofs.Common.{◌≡◌, ℕ, ◌+◌, ◌≤◌, Bool, true, false, List, length, take, Result, Ok, Err, IfErr, nat_eq, refl, sym, ◌∙◌, ap, subst, arith}
+use Rattle.std.proofs.Common.{◌≡◌, ℕ, ◌+◌, ◌≤◌, Bool, true, false, List, length, take, drop, Result, Ok, Err, IfErr, nat_eq, refl, sym, ◌∙◌, ap, subst, arith}
 use Rattle.std.specs.Cmp.Lexicographic.{pointwise, same_text, other_text}
 use Rattle.std.proofs.lemmas.List.{take-take}
 use Rattle.std.specs.Int.{w64, from_le_bytes}
 use Rattle.blot_journal.specs.Device.{Cut, Follows, Only}
-use Rattle.blot_journal.specs.File.{is_second, place, signed_in, size_in, SameText, HasHead}
+use Rattle.blot_journal.specs.File.{is_second, place, signed_in, size_in, text_of, IsWhole, SameText, HasHead}
 use Rattle.blot_journal.specs.Recovery.{IsCounted, IsHeadFault, IsFaultOf, is_of_file, told_fault}
 use Rattle.blot_journal.specs.declared.device.DeviceFault.{DeviceFault}
 use Rattle.blot_journal.specs.declared.device.DeviceFault.TheVariants as device
@@ -65,3 +65,22 @@ decided xs ys zs false is same = (λ e. cc, λ e. absurd (other_text xs ys is (e
 pub err_weaker : {T E : Type 0} (r : Result T E) (P Q : E → Type 0) → ((e : E) → P e → Q e) → IfErr r P → IfErr r Q
 err_weaker (Ok x) P Q so holds = holds
 err_weaker (Err e) P Q so holds = so e holds
+
+-- ---- a file that is only read
+
+-- by the head that was found, what stands behind the head is the text
+module _ (file : List ℕ) (second : Bool) (size : ℕ) (found : IsCounted (take 4096 file) (length file) second size) where
+  read_head : HasHead second size file
+  read_head = counted_head file (take 4096 file) (front_read file (take 4096 file) refl) second size found
+
+  counts : size_in (is_second file) file ≡ size
+  counts = ap (λ (b : Bool). size_in b file) read_head.switch ∙ read_head.size_is
+
+  pub read_text : (n : ℕ) → n ≡ size → take n (drop 4096 file) ≡ text_of file
+  read_text n is = ap (λ (n : ℕ). take n (drop 4096 file)) (is ∙ sym counts)
+
+  pub read_whole : 4096 ≤ length file → IsWhole file
+  read_whole long = record {
+    journal = record { head = long; signed = read_head.signed };
+    room = omega (arith, counts, read_head.room);
+  }

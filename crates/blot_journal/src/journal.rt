@@ -141,6 +141,14 @@ impl<D: Device> Journal<D> {
         &self.device
     }
 
+    /// The file, which the journal gives up. What waits is dropped.
+    pub fn into_device(self) -> D
+        ensures { result ≡ self.device }
+    {
+        let Journal { device, .. } = self;
+        device
+    }
+
     /// Reads a piece of the durable text, from a place on, as much as the buffer takes.
     pub fn read(&mut self, at: usize, buffer: &mut [u8]) -> Result<(), DeviceFault>
         requires unbroken { self.old.is_broken ≡ false }

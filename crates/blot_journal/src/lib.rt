@@ -17,4 +17,4 @@ pub use file::{FileDevice, FileFault};
 pub use journal::{Journal, JournalFault};
 pub use memory::{Change, MemoryDevice};
 pub use opening::open_file;
-pub use recovery::RecoveryFault;
+pub use recovery::{RecoveryFault, text_in};

@@ -92,6 +92,23 @@ fn find<D: Device>(device: &mut D, head: &mut [u8]) -> Result<Counted, RecoveryF
     counted_in(head, len)
 }
 
+/// The text that counts in the bytes of a file, for whoever only reads a file that another process may have. NoJournal or Damaged, else;
+/// no memory is taken.
+pub fn text_in(file: &[u8]) -> Result<&[u8], RecoveryFault>
+    ensures text { IfOk result (λ text. text.now ≡ text_of file.now) }
+    ensures whole { OnOk result (IsWhole file.now) }
+    ensures refused { IfErr result (IsFaultOf file.now) }
+    ensures of_file { IfErr result (λ fault. IsTrue (is_of_file fault)) }
+{
+    if file.len() < HEAD {
+        return Err(RecoveryFault::NoJournal);
+    }
+    match counted_in(&file[..HEAD], file.len()) {
+        Ok(counted) => Ok(&file[HEAD..HEAD + counted.size]),
+        Err(fault) => Err(fault),
+    }
+}
+
 // What the head of a file of this length says.
 fn counted_in(head: &[u8], len: usize) -> Result<Counted, RecoveryFault>
     requires head { length head.now ≡ 4096 }

@@ -1,3 +1,3 @@
 mod ConnectionLemmas
-mod SeatLemmas
+mod PeerLemmas
 mod SubmitLemmas

@@ -1,1 +1,3 @@
 pub mod Lanes
+pub mod Listing
+pub mod Storing

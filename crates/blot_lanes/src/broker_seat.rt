@@ -35,12 +35,12 @@ impl<L: Ledger> Model for BrokerSeat<L> {
 }
 
 impl<L: Ledger> BrokerSeat<L> {
-    /// A seat without receipts, as a broker's.
-    pub fn new(seat: Seat<L>) -> BrokerSeat<L>
-        requires { seat ≡ [] }
-        ensures { result ≡ [] }
+    /// A seat whose receipts are of submits, as the seat of a broker of whom there are so many records of their own kinds.
+    pub fn new(seat: Seat<L>, records: u64) -> BrokerSeat<L>
+        requires { are_submits seat ≡ true }
+        ensures { result ≡ seat }
     {
-        BrokerSeat { seat, records: 0 }
+        BrokerSeat { seat, records }
     }
 
     /// The seat.
@@ -106,8 +106,17 @@ impl<'a, R: Wait + Clock, L: Ledger, K: FrameKeeper> FrameSink for SeatAt<'a, R,
 
     #[tactic(auto, using(crate::proofs::SubmitLemmas::submits_kept))]
     fn take(&mut self, frame: &Frame, command: Command) -> Result<Reply, DeskFault> {
-        let SeatAt { rt, desk, seat, .. } = self;
-        seat.submit(*rt, *desk, frame, command)
+        let SeatAt {
+            rt,
+            desk,
+            store,
+            seat,
+        } = self;
+        let answer = seat.submit(*rt, *desk, frame, command);
+        if answer.is_err() {
+            store.keep_declined(frame);
+        }
+        answer
     }
 
     fn hear(&mut self, frame: &Frame, heard: Heard) {

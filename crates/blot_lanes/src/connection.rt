@@ -82,10 +82,11 @@ pub fn serve_connection<
     info!(rt; "{} on {address}", shown(peer.bytes()));
     notes.begin(rt, peer, seat.records);
     let store = PeerStore::new(rt, alloc, desk, notes);
+    let sink = SeatAt::new(rt, desk, store, seat);
     let mut parties = Parties {
         wire,
         clock,
-        sink: SeatAt::new(rt, desk, store, seat),
+        sink,
         session,
     };
     let watch = AtDoor {
@@ -102,6 +103,8 @@ pub fn serve_connection<
         sink,
         session,
     } = parties;
+    let store = PeerStore::new(rt, alloc, desk, notes);
+    store.keep_numbers(session.expected(), session.next());
     let mut seat = sink.into_seat();
     seat.records = notes.records(rt);
     peers.check_in(rt, session, seat);

@@ -125,7 +125,7 @@ where
         }
     }
 
-    // Serves a connection. One that is gone already can't be set up.
+    // Serves a connection. One that is gone already can't be set up. Where the journal can't be written any more, the day ends.
     fn serve(&self, stream: N::Stream, address: SocketAddr) {
         self.is_failing.store(false, SeqCst);
         let Ok(socket) = Socket::new(stream) else {
@@ -139,6 +139,9 @@ where
         serve_connection(
             self.rt, self.alloc, self.peers, self.desk, &notes, self.door, address, wire, clock,
         );
+        if self.desk.sync(self.rt).is_err() {
+            self.door.close();
+        }
     }
 
     // Waits a little where no connection could be accepted, which is logged once until one can be. One that is gone already is no failure,

@@ -12,4 +12,4 @@ pub use broker_seat::BrokerSeat;
 pub use connection::{GREETING_READS, serve_connection};
 pub use lanes::{Task, serve_lanes};
 pub use peer_store::{PeerNotes, PeerStore};
-pub use peers::Peers;
+pub use peers::{ListedPeer, Peers};

@@ -1,8 +1,10 @@
 //! Where the messages of a connection are kept.
-ghost use Rattle.std.specs.Prelude.{◌≡◌, IsOk, OnOk};
+ghost use Rattle.std.specs.Prelude.{◌≡◌, IsOk, OnOk, length, true};
+ghost use Rattle.blot_lanes.specs.Storing.{IsSynced};
 
 use blot_desk::{Desk, KeepFault};
 use blot_gateway::{Clock, FrameKeeper, Heard, MessageStore, RecordHead, StoreFault};
+use blot_session::Met;
 use blot_sockets::SystemClock;
 use blot_tag::Frame;
 use blot_types::Text64;
@@ -62,19 +64,26 @@ impl PeerNotes {
 
     // What the next record of the peer begins with; none of a peer that isn't known.
     fn next_head<R: Wait + time::Clock>(&self, rt: &R) -> Option<RecordHead> {
-        let mut noted = self.noted.lock(rt);
-        let party = noted.peer?;
-        noted.records = noted.records.saturating_add(1);
+        let (peer, records) = {
+            let noted = self.noted.lock(rt);
+            (noted.peer, noted.records)
+        };
         Some(RecordHead {
             own: self.own,
-            party,
-            number: noted.records,
+            party: peer?,
+            number: records.saturating_add(1),
             now: SystemClock::new(rt).now(),
         })
     }
+
+    // That one record more was kept.
+    fn count<R: Wait>(&self, rt: &R) {
+        let mut noted = self.noted.lock(rt);
+        noted.records = noted.records.saturating_add(1);
+    }
 }
 
-/// Keeps the messages of a connection at the desk, beside the events: those that its session sends, those that brought no command, and
+/// Keeps the messages of a connection at the desk, beside the events: those that its session sends, those that brought no event, and
 /// the session's numbers. A desk without a journal keeps none.
 #[derive(Drop)]
 pub struct PeerStore<'a, R, L: Ledger, K: FrameKeeper> {
@@ -97,68 +106,108 @@ impl<'a, R, L: Ledger, K: FrameKeeper> PeerStore<'a, R, L, K> {
 }
 
 impl<'a, R: Wait + time::Clock, L: Ledger, K: FrameKeeper> PeerStore<'a, R, L, K> {
-    /// Keeps a frame that brought no command, and the session's numbers where it expects another one now.
+    /// Keeps a frame that brought no command, and the session's numbers where they are new.
     pub(crate) fn hear(&self, frame: &Frame, heard: Heard) {
-        if K::is_kept()
-            && (self.keep_frame(frame, heard.is_taken).is_err()
-                || self.keep_numbers(heard).is_err())
-        {
+        self.lose_unless(self.keep_heard(frame, heard));
+    }
+
+    /// Keeps a frame whose command the desk didn't take.
+    pub(crate) fn keep_declined(&self, frame: &Frame) {
+        self.lose_unless(self.keep_wrapped(frame));
+    }
+
+    /// Keeps the numbers of the session: the one that it expects, and that of the next message that it sends.
+    pub(crate) fn keep_numbers(&self, expected: u64, next: u64) {
+        self.lose_unless(self.keep_both(expected, next));
+    }
+
+    // Nothing may be told any more where something couldn't be kept.
+    fn lose_unless(&self, kept: Result<(), StoreFault>) {
+        if kept.is_err() {
             self.notes.lose(self.rt);
         }
     }
 
-    // Keeps a frame that came, as it is where the session took it.
-    fn keep_frame(&self, frame: &Frame, is_taken: bool) -> Result<(), StoreFault> {
-        if is_taken && self.keep_plain(frame.text())? {
+    // Keeps a frame, as it is where the session took it, and then the session's numbers where they are new.
+    fn keep_heard(&self, frame: &Frame, heard: Heard) -> Result<(), StoreFault> {
+        if !K::is_kept() {
+            return Ok(());
+        }
+        match heard.met {
+            Met::Taken => self.keep_plain(frame.text())?,
+            _ => self.keep_wrapped(frame)?,
+        }
+        if heard.is_renumbered {
+            self.keep_both(heard.expected, heard.next)?;
+        }
+        Ok(())
+    }
+
+    // Keeps a frame within a record, where it fits into one.
+    fn keep_wrapped(&self, frame: &Frame) -> Result<(), StoreFault> {
+        if !K::is_kept() {
             return Ok(());
         }
         let Some(head) = self.notes.next_head(self.rt) else {
-            return Ok(());
+            return Err(StoreFault);
         };
         match K::wrapped_record(self.alloc, &head, frame) {
-            Ok(Some(text)) => stored(self.desk.note(self.rt, &text)),
+            Ok(Some(text)) => self.note_record(&text),
             Ok(None) => Ok(()),
             Err(_) => Err(StoreFault),
         }
     }
 
-    // Keeps the numbers of the session, where it expects another one than before.
-    fn keep_numbers(&self, heard: Heard) -> Result<(), StoreFault> {
-        if !heard.is_counted {
+    // Keeps the two numbers of the session.
+    fn keep_both(&self, expected: u64, next: u64) -> Result<(), StoreFault> {
+        if !K::is_kept() {
             return Ok(());
         }
         let Some(head) = self.notes.next_head(self.rt) else {
-            return Ok(());
+            return Err(StoreFault);
         };
-        match K::numbers_record(self.alloc, &head, heard.expected, heard.next) {
-            Ok(Some(text)) => stored(self.desk.note(self.rt, &text)),
+        match K::numbers_record(self.alloc, &head, expected, next) {
+            Ok(Some(text)) => self.note_record(&text),
+            _ => Err(StoreFault),
+        }
+    }
+
+    // Puts a record of its own kind behind what is kept, and counts it.
+    fn note_record(&self, text: &[u8]) -> Result<(), StoreFault>
+        requires { K.spells_none text.now }
+    {
+        stored(self.desk.note(self.rt, text))?;
+        self.notes.count(self.rt);
+        Ok(())
+    }
+}
+
+impl<'a, R: Wait, L: Ledger, K: FrameKeeper> PeerStore<'a, R, L, K> {
+    // Keeps a frame as it is.
+    fn keep_plain(&self, text: &[u8]) -> Result<(), StoreFault>
+        ensures { OnOk result (K.spells_none text.now) }
+    {
+        match K::keeps_plain(self.alloc, text) {
+            Ok(true) => stored(self.desk.note(self.rt, text)),
             _ => Err(StoreFault),
         }
     }
 }
 
-impl<'a, R: Wait, L: Ledger, K: FrameKeeper> PeerStore<'a, R, L, K> {
-    // Keeps a frame as it is, where that may be: whether it did.
-    fn keep_plain(&self, text: &[u8]) -> Result<bool, StoreFault> {
-        match K::keeps_plain(self.alloc, text) {
-            Ok(true) => {
-                stored(self.desk.note(self.rt, text))?;
-                Ok(true)
-            }
-            Ok(false) => Ok(false),
-            Err(_) => Err(StoreFault),
-        }
-    }
-}
-
 impl<'a, R: Wait, L: Ledger, K: FrameKeeper> MessageStore for PeerStore<'a, R, L, K> {
-    ghost keeps = { λ before stored after. Unit {0} };
+    ghost use Rattle.blot_lanes.specs.Storing.{StoresAt};
+
+    // What is put spells no event, and after a sync nothing is there that isn't durable.
+    ghost keeps = { λ before stored after. StoresAt K.IsKept K.spells_none K.events K.durable stored };
 
     fn put(&mut self, text: &[u8]) -> Result<(), StoreFault> {
-        match self.keep_plain(text) {
-            Ok(_) => Ok(()),
-            Err(fault) => Err(fault),
+        if !K::is_kept() {
+            return Ok(());
         }
+        if self.notes.is_lost(self.rt) {
+            return Err(StoreFault);
+        }
+        self.keep_plain(text)
     }
 
     fn sync(&mut self) -> Result<(), StoreFault> {
@@ -168,7 +217,17 @@ impl<'a, R: Wait, L: Ledger, K: FrameKeeper> MessageStore for PeerStore<'a, R, L
         if self.notes.is_lost(self.rt) {
             return Err(StoreFault);
         }
-        stored(self.desk.sync(self.rt))
+        synced(self.rt, self.desk)
+    }
+}
+
+// Syncs a desk, as a store tells it.
+fn synced<R: Wait, L: Ledger, K: FrameKeeper>(rt: &R, desk: &Desk<L, K>) -> Result<(), StoreFault>
+    ensures { OnOk result (IsSynced K.events K.durable) }
+{
+    match desk.sync(rt) {
+        Ok(()) => Ok(()),
+        Err(_) => Err(StoreFault),
     }
 }
 

@@ -1,11 +1,12 @@
 //! The listed peers of an open day, each with its session and its seat.
 ghost use Rattle.std.specs.List.{All, IsDistinct};
 ghost use Rattle.std.specs.Map.{lookup, set_value};
-ghost use Rattle.std.specs.Prelude.{◌≡◌, ◌↔◌, ◌⊎◌, [], true, is_some, length, vec_len, Ok, Err, Some, None, IfOk, IfErr, OnOk};
+ghost use Rattle.std.specs.Prelude.{◌≡◌, ◌↔◌, ◌⊎◌, ◌≤◌, ◌+◌, [], true, is_some, Ok, Err, Some, None, IfOk, IfErr, IsSomeAnd, OnOk};
 ghost use Rattle.blot_types.specs.Keys.{same_text};
+ghost use Rattle.blot_fields.specs.declared.TheConstants.{SEQUENCE_MAX};
 ghost use Rattle.blot_gateway.specs.AtOnce.{are_submits};
 ghost use Rattle.blot_lanes.specs.Lanes.{seat_of};
-ghost use Rattle.blot_session.specs.States.{IsIdle, waiting_again};
+ghost use Rattle.blot_session.specs.States.{IsIdle, resumed, waiting_again};
 ghost use Rattle.blot_slots.specs.Slots.{IsWaiting, checked_out, slot_of, with_slot};
 
 use crate::BrokerSeat;
@@ -119,6 +120,43 @@ fn put_seat<L: Ledger>(
     }
 }
 
+/// A listed peer as a day begins with it: its seat, and the numbers of its session.
+#[derive(Drop)]
+pub struct ListedPeer<L: Ledger> {
+    peer: Text64,
+    seat: BrokerSeat<L>,
+    expected: u64,
+    next: u64,
+}
+
+impl<L: Ledger> Model for ListedPeer<L> {
+    ghost use Rattle.std.specs.Prelude.{◌≤◌, ◌+◌};
+    ghost use Rattle.blot_fields.specs.declared.TheConstants.{SEQUENCE_MAX};
+    ghost use Rattle.blot_lanes.specs.Listing.{Listed};
+
+    ghost Value = { Listed };
+
+    ghost view = { λ listed. record { peer = listed.peer; receipts = listed.seat; expected = listed.expected; next = listed.next } };
+
+    ghost invariant = { λ listed. ((1 ≤ listed.expected) × (listed.expected ≤ SEQUENCE_MAX + 1)) × ((1 ≤ listed.next) × (listed.next ≤ SEQUENCE_MAX + 1)) };
+}
+
+impl<L: Ledger> ListedPeer<L> {
+    /// A peer whose session expects this number, and sends that one next, 1 to 1,000,000,000 each.
+    pub fn new(peer: Text64, seat: BrokerSeat<L>, expected: u64, next: u64) -> ListedPeer<L>
+        requires expected { (1 ≤ expected) × (expected ≤ SEQUENCE_MAX + 1) }
+        requires next { (1 ≤ next) × (next ≤ SEQUENCE_MAX + 1) }
+        ensures { result ≡ record { peer = peer; receipts = seat; expected = expected; next = next } }
+    {
+        ListedPeer {
+            peer,
+            seat,
+            expected,
+            next,
+        }
+    }
+}
+
 /// The listed peers of an open day, each with its session and its seat at the desk, for many connections at once. A contract sees the
 /// blotter's CompID, which stands beside the lock.
 #[derive(Drop)]
@@ -136,21 +174,22 @@ impl<L: Ledger> Model for Peers<L> {
 }
 
 impl<L: Ledger> Peers<L> {
-    /// These peers, each with one of the seats. RepeatedPeer where two of them are the same; NoMemory.
+    /// These peers, each as the day begins with it. RepeatedPeer where two of them are the same; NoMemory.
     pub fn new(
         alloc: Global,
         own: Text64,
-        peers: &[Text64],
-        seats: Vec<Seat<L>>,
+        names: &[Text64],
+        listed: Vec<ListedPeer<L>>,
     ) -> Result<Peers<L>, SlotFault>
-        requires count { vec_len seats ≡ length peers.now }
-        requires empty { All (λ receipts. receipts ≡ []) seats.items }
         ensures own { IfOk result (λ made. made ≡ own) }
-        ensures repeated { (result ≡ Err SlotFault.RepeatedPeer) ↔ (IsDistinct same_text peers.now → ⊥) }
+        ensures repeated { (result ≡ Err SlotFault.RepeatedPeer) ↔ (IsDistinct same_text names.now → ⊥) }
         ensures err { IfErr result (λ fault. (fault ≡ SlotFault.RepeatedPeer) ⊎ (fault ≡ SlotFault.NoMemory)) }
     {
-        let sessions = SlotTable::new(alloc, own, peers)?;
-        let peers = seated(alloc, peers, seats)?;
+        let mut sessions = SlotTable::new(alloc, own, names)?;
+        for peer in &listed {
+            resume(&mut sessions, own, peer);
+        }
+        let peers = seated(alloc, listed)?;
         let table = Mutex::new(PeerTable { sessions, peers });
         Ok(Peers { own, table })
     }
@@ -204,24 +243,31 @@ impl<L: Ledger> Peers<L> {
     }
 }
 
-// Each peer with one of the seats. Its session expects number 1.
+// Gives the session of a listed peer the numbers that the day begins with.
+fn resume<L: Ledger>(sessions: &mut SlotTable, own: Text64, listed: &ListedPeer<L>)
+    ensures { IsSomeAnd (slot_of sessions.old listed.now.peer) (λ slot. is_some slot ≡ true)
+        → sessions.new ≡ with_slot listed.now.peer (Some (resumed own listed.now.peer listed.now.expected listed.now.next)) sessions.old }
+{
+    if sessions.check_out(&listed.peer).is_ok() {
+        sessions.take_back(Session::resume(own, listed.peer, listed.expected, listed.next));
+    }
+}
+
+// Each peer with its seat.
 fn seated<L: Ledger>(
     alloc: Global,
-    peers: &[Text64],
-    seats: Vec<Seat<L>>,
-) -> Result<IndexMap<Text64, Peer<L>>, NoMemory>
-    requires count { vec_len seats ≡ length peers.now }
-    requires empty { All (λ receipts. receipts ≡ []) seats.items }
-{
-    let mut seated = IndexMap::with_capacity(alloc, peers.len())?;
-    let mut seats = seats.into_iter();
-    for peer in peers {
-        let seat = BrokerSeat::new(seats.next().unwrap());
-        let listed = Peer {
-            seat: Some(seat),
-            expected: 1,
-        };
-        seated.insert(*peer, listed)?;
+    listed: Vec<ListedPeer<L>>,
+) -> Result<IndexMap<Text64, Peer<L>>, NoMemory> {
+    let mut seated = IndexMap::with_capacity(alloc, listed.len())?;
+    for it in listed {
+        let ListedPeer {
+            peer,
+            seat,
+            expected,
+            next: _,
+        } = it;
+        let seat = Some(seat);
+        seated.insert(peer, Peer { seat, expected })?;
     }
     Ok(seated)
 }

@@ -11,7 +11,6 @@ use Rattle.blot_types.specs.Legal.{refusal_of}
 use Rattle.blot_desk.specs.declared.event.Event.{Event}
 use Rattle.blot_desk.specs.declared.event.Event.TheVariants.{Submit, Undo, Redo, AskOrder, AskPosition}
 use Rattle.blot_desk.specs.declared.event.Reply.{Reply}
-use Rattle.blot_desk.specs.declared.fault.DeskFault.{DeskFault}
 use Rattle.blot_desk.specs.Desk.{DeskBook, IsReply, run_of, step_of, submit_by, undo_by, redo_by}
 use Rattle.blot_console.specs.declared.parsing.TheConstants.{LINE_MAX}
 use Rattle.blot_console.specs.declared.answer.Answer.{Answer}
@@ -53,14 +52,14 @@ told-with_key book Redo = redone _
 told-with_key book (AskOrder order) = tt
 told-with_key book (AskPosition account symbol) = tt
 
-pub tellable-at : (book : DeskBook) (event : Event) (given : Result Reply DeskFault) → IfOk given (λ reply. reply ≡ (step_of book event).reply)
+pub tellable-at : {E : Type 0} (book : DeskBook) (event : Event) (given : Result Reply E) → IfOk given (λ reply. reply ≡ (step_of book event).reply)
     → IfOk given (λ reply. CanBeTold (with_key (asked_by event) reply))
 tellable-at book event (Ok reply) is = subst (λ reply. CanBeTold (with_key (asked_by event) reply)) (sym is) (told-with_key book event)
 tellable-at book event (Err fault) is = tt
 
-pub tellable-reply : (event : Event) (given : Result Reply DeskFault) → IfOk given (λ reply. IsReply event reply)
+pub tellable-reply : {E : Type 0} (event : Event) (given : Result Reply E) → IfOk given (λ reply. IsReply event reply)
     → IfOk given (λ reply. CanBeTold (with_key (asked_by event) reply))
-tellable-reply event (Ok reply) is = tellable-at (run_of is.earlier).book event (Ok reply) is.reply_is
+tellable-reply {E = E} event (Ok reply) is = tellable-at {E = E} (run_of is.earlier).book event (Ok reply) is.reply_is
 tellable-reply event (Err fault) is = tt
 
 -- what is kept of a line asks what the line asks: where less is kept, both are too long

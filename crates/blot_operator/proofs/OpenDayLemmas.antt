@@ -17,6 +17,7 @@ use Rattle.blot_console.specs.declared.answer.Answer.TheVariants as answers
 use Rattle.blot_console.specs.declared.ask.Ask.{Ask}
 use Rattle.blot_console.specs.declared.ask.Ask.TheVariants as asks
 use Rattle.blot_console.specs.declared.fault.LineFault.{LineFault}
+use Rattle.blot_console.specs.declared.fault.LineFault.TheVariants.{TooLong}
 use Rattle.blot_console.specs.declared.open_day.DayAsk.{DayAsk}
 use Rattle.blot_console.specs.declared.open_day.DayAsk.TheVariants as day
 use Rattle.blot_console.specs.declared.parsing.TheConstants.{LINE_MAX}
@@ -24,6 +25,8 @@ use Rattle.blot_console.specs.OpenDay.{day_ask_of, day_parsed, day_words}
 use Rattle.blot_console.specs.Parsing.{parsed}
 use Rattle.blot_operator.specs.declared.answering.Asked.{Asked}
 use Rattle.blot_operator.specs.declared.answering.Asked.TheVariants as asked
+use Rattle.blot_operator.specs.declared.operated.Declined.{Declined}
+use Rattle.blot_operator.specs.declared.operated.Declined.TheVariants.{Desk, Unkept}
 use Rattle.blot_operator.specs.Dialogue.{Ways, answer_by, AnswersAsk, AnswersBy, AnswersLine, AnswersMine}
 use Rattle.blot_operator.specs.Lines.{kept, lines_of}
 use Rattle.blot_operator.specs.OpenDay.{is_close, closes, heard, day_ask_by, closes_by, heard_by, is_closed, EndsOf}
@@ -147,21 +150,22 @@ key-open (asked.Position account symbol) (replies.Undone number) = refl
 key-open (asked.Position account symbol) (replies.Redone number) = refl
 key-open (asked.Position account symbol) (replies.Order line) = refl
 
-event-open : (event : Event) (given : Result Reply DeskFault) (answer : Answer) → answer_by event given ≡ Some answer → is_closed answer ≡ false
+event-open : (event : Event) (given : Result Reply Declined) (answer : Answer) → answer_by event given ≡ Some answer → is_closed answer ≡ false
 event-open event (Ok reply) answer is =
     let same : with_key (asked_by event) reply ≡ answer = cc in
     ap is_closed (sym same) ∙ key-open (asked_by event) reply
-event-open event (Err Full) answer is = let same : answers.Full ≡ answer = cc in ap is_closed (sym same)
-event-open event (Err NoMemory) answer is = absurd cc
-event-open event (Err Broken) answer is = absurd cc
-event-open event (Err Unsettled) answer is = absurd cc
+event-open event (Err (Desk Full)) answer is = let same : answers.Full ≡ answer = cc in ap is_closed (sym same)
+event-open event (Err (Desk NoMemory)) answer is = absurd cc
+event-open event (Err (Desk Broken)) answer is = absurd cc
+event-open event (Err (Desk Unsettled)) answer is = absurd cc
+event-open event (Err Unkept) answer is = let same : answers.Bad TooLong ≡ answer = cc in ap is_closed (sym same)
 
 mine-open : {S : Type 0} (ways : Ways S) (before : S) (newest : Option ℕ) (answer : Answer) (after : S) → AnswersMine ways before newest answer after → is_closed answer ≡ false
-mine-open ways before (Some newest) answer after answered = event-open (Submit (Withdraw newest)) answered.reply answer answered.answer_is
+mine-open ways before (Some newest) answer after answered = event-open (Submit (Withdraw newest)) answered.given answer answered.answer_is
 mine-open ways before None answer after answered = ap is_closed answered.1
 
 ask-open : {S : Type 0} (ways : Ways S) (before : S) (ask : Result Ask LineFault) (answer : Answer) (after : S) → AnswersAsk ways before ask answer after → is_closed answer ≡ false
-ask-open ways before (Ok (asks.Step event)) answer after answered = event-open event answered.reply answer answered.answer_is
+ask-open ways before (Ok (asks.Step event)) answer after answered = event-open event answered.given answer answered.answer_is
 ask-open ways before (Ok (asks.Report report)) answer after answered = ap is_closed answered.1.answer_is
 ask-open ways before (Ok asks.Mine) answer after answered = mine-open ways before (ways.newest before) answer after answered
 ask-open ways before (Ok (asks.Look question)) answer after answered = ap is_closed answered.1.answer_is

@@ -22,7 +22,9 @@ use Rattle.blot_console.specs.declared.ask.Ask.TheVariants as asks
 use Rattle.blot_console.specs.declared.fault.LineFault.{LineFault}
 use Rattle.blot_console.specs.Answers.{answer_text}
 use Rattle.blot_console.specs.Parsing.{parsed}
-use Rattle.blot_operator.specs.Dialogue.{answer_by, AnswersMine, AnswersAsk, AnswersLine, AnswersLines, TellsLines, Stops, StopsAmong, OwnStep, own_ways}
+use Rattle.blot_operator.specs.declared.operated.Declined.{Declined}
+use Rattle.blot_operator.specs.declared.operated.Declined.TheVariants.{Desk, Unkept}
+use Rattle.blot_operator.specs.Dialogue.{answer_by, AnswersMine, Comes, AnswersAsk, AnswersLine, AnswersLines, TellsLines, Stops, StopsAmong, OwnStep, own_ways}
 use Rattle.blot_operator.specs.Operating.{asked_by, with_key, telling, told_event, told_mine, told_ask, answer_to, told_on, told_over, StoppedIn}
 
 -- an event that is recorded is told by its reply
@@ -38,24 +40,25 @@ told-recorded old new event reply room is recorded = elim (cases_Bool (length ol
 told-full : (old new : Journal) (event : Event) → length old.history ≡ EVENTS_MAX → new ≡ old → telling new answers.Full ≡ told_event old event
 told-full old new event full same = rw (eq-eqb (length old.history) EVENTS_MAX full, same) refl
 
-own-event : (old new : Journal) (event : Event) (answer : Answer) (reply : Result Reply DeskFault)
-    → OwnStep old event reply new → answer_by event reply ≡ Some answer → telling new answer ≡ told_event old event
+own-event : (old new : Journal) (event : Event) (answer : Answer) (given : Result Reply Declined)
+    → Comes own_ways old event given new → answer_by event given ≡ Some answer → telling new answer ≡ told_event old event
 own-event old new event answer (Ok reply) step is =
     let same : with_key (asked_by event) reply ≡ answer = cc in
     ap (telling new) (sym same) ∙ told-recorded old new event reply (λ full. let stopped = step.full.1 full in cc) step.reply step.taken
-own-event old new event answer (Err Full) step is =
+own-event old new event answer (Err (Desk Full)) step is =
     let same : answers.Full ≡ answer = cc in
     ap (telling new) (sym same) ∙ told-full old new event (step.full.0 refl) step.err
-own-event old new event answer (Err NoMemory) step is = cc
-own-event old new event answer (Err Broken) step is = cc
-own-event old new event answer (Err Unsettled) step is = cc
+own-event old new event answer (Err (Desk NoMemory)) step is = cc
+own-event old new event answer (Err (Desk Broken)) step is = cc
+own-event old new event answer (Err (Desk Unsettled)) step is = cc
+own-event old new event answer (Err Unkept) step is = absurd step.0
 
 own-mine : (old new : Journal) (newest : Option ℕ) (answer : Answer) → AnswersMine own_ways old newest answer new → telling new answer ≡ told_mine old newest
-own-mine old new (Some newest) answer answered = own-event old new (Submit (Withdraw newest)) answer answered.reply answered.stepped answered.answer_is
+own-mine old new (Some newest) answer answered = own-event old new (Submit (Withdraw newest)) answer answered.given answered.comes answered.answer_is
 own-mine old new None answer answered = rw (answered.0, answered.1) refl
 
 own-ask : (old new : Journal) (ask : Result Ask LineFault) (answer : Answer) → AnswersAsk own_ways old ask answer new → telling new answer ≡ told_ask old ask
-own-ask old new (Ok (asks.Step event)) answer answered = own-event old new event answer answered.reply answered.stepped answered.answer_is
+own-ask old new (Ok (asks.Step event)) answer answered = own-event old new event answer answered.given answered.comes answered.answer_is
 own-ask old new (Ok (asks.Report day)) answer answered = rw (answered.0, answered.1.answer_is, answered.1.shown) refl
 own-ask old new (Ok asks.Mine) answer answered = own-mine old new (newest_entry_of old.book.list) answer answered
 own-ask old new (Ok (asks.Look question)) answer answered = rw (answered.0, answered.1.answer_is, answered.1.finds) refl

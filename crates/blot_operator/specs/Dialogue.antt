@@ -11,9 +11,10 @@ use Rattle.blot_desk.specs.declared.event.Event.{Event}
 use Rattle.blot_desk.specs.declared.event.Event.TheVariants.{Submit}
 use Rattle.blot_desk.specs.declared.event.Reply.{Reply}
 use Rattle.blot_desk.specs.declared.fault.DeskFault.{DeskFault}
-use Rattle.blot_desk.specs.declared.fault.DeskFault.TheVariants.{Full}
+use Rattle.blot_desk.specs.declared.fault.DeskFault.TheVariants.{Broken, Full, NoMemory, Unsettled}
 use Rattle.blot_desk.specs.declared.receipt.Receipt.{Receipt}
 use Rattle.blot_desk.specs.Desk.{Journal, newest_entry_of, step_of, recorded_of}
+use Rattle.blot_desk.specs.Keeping.{is_ask}
 use Rattle.blot_desk.specs.Receipts.{IsOneMore, newest_of}
 use Rattle.blot_desk.specs.declared.question.Found.{Found}
 use Rattle.blot_desk.specs.declared.question.Question.{Question}
@@ -24,11 +25,16 @@ use Rattle.blot_console.specs.declared.answer.Answer.TheVariants as answers
 use Rattle.blot_console.specs.declared.ask.Ask.{Ask}
 use Rattle.blot_console.specs.declared.ask.Ask.TheVariants as asks
 use Rattle.blot_console.specs.declared.fault.LineFault.{LineFault}
+use Rattle.blot_console.specs.declared.fault.LineFault.TheVariants.{TooLong}
 use Rattle.blot_console.specs.declared.open_day.DayAsk.{DayAsk}
 use Rattle.blot_console.specs.declared.open_day.DayAsk.TheVariants as day
 use Rattle.blot_console.specs.declared.open_day.SessionLine.{SessionLine}
 use Rattle.blot_console.specs.Answers.{answer_text}
 use Rattle.blot_console.specs.Parsing.{parsed}
+use Rattle.blot_stream.specs.declared.outcome.ReplayFault.{ReplayFault}
+use Rattle.blot_stream.specs.declared.outcome.ReplayFault.TheVariants as stopped
+use Rattle.blot_operator.specs.declared.operated.Declined.{Declined}
+use Rattle.blot_operator.specs.declared.operated.Declined.TheVariants.{Desk, Unkept}
 use Rattle.blot_operator.specs.Lines.{split_of, kept, lines_of}
 use Rattle.blot_operator.specs.OpenDay.{closes_by, day_ask_by, heard_by}
 use Rattle.blot_operator.specs.Operating.{asked_by, with_key}
@@ -45,26 +51,47 @@ pub record Ways (S : Type 0) : Type 1 where
   pub finds : S → Question → Found → Type 0
   -- whether the day is open
   pub is_open : Bool
+  -- that it keeps the events, each by its line
+  pub IsKept : Type 0
 
 -- ---- one line
 
--- the answer to an event, by the reply to it: `full` where the desk had no room, none where memory ran out
-abbrev pub answer_by : Event → Result Reply DeskFault → Option Answer
+-- what comes of an event: the desk has a reply to it or a fault, or its line can't be kept, and nothing changes; so it is only where events are
+-- kept, and never with one that only asks
+abbrev pub Comes : {S : Type 0} → Ways S → S → Event → Result Reply Declined → S → Type 0
+Comes ways before event (Ok reply) after = ways.steps before event (Ok reply) after
+Comes ways before event (Err (Desk fault)) after = ways.steps before event (Err fault) after
+Comes ways before event (Err Unkept) after = ways.IsKept × (is_ask event ≡ false) × (after ≡ before)
+
+-- the answer to an event, by what comes of it: `full` where the desk had no room, a line too long where it can't be kept, and else none
+abbrev pub answer_by : Event → Result Reply Declined → Option Answer
 answer_by event (Ok reply) = Some (with_key (asked_by event) reply)
-answer_by event (Err Full) = Some answers.Full
-answer_by event (Err fault) = None
+answer_by event (Err (Desk Full)) = Some answers.Full
+answer_by event (Err (Desk NoMemory)) = None
+answer_by event (Err (Desk Broken)) = None
+answer_by event (Err (Desk Unsettled)) = None
+answer_by event (Err Unkept) = Some (answers.Bad TooLong)
 
--- an event is submitted, once, and the reply to it is the answer
+-- why the lines stop at an event, by what comes of it: memory ran out, or the journal can't be written
+abbrev pub stop_by : Result Reply Declined → Option ReplayFault
+stop_by (Ok reply) = None
+stop_by (Err (Desk Full)) = None
+stop_by (Err (Desk NoMemory)) = Some stopped.NoMemory
+stop_by (Err (Desk Broken)) = Some stopped.Journal
+stop_by (Err (Desk Unsettled)) = Some stopped.NoMemory
+stop_by (Err Unkept) = None
+
+-- an event is submitted, once, and what comes of it is the answer
 pub record AnswersEvent {S : Type 0} (ways : Ways S) (before : S) (event : Event) (answer : Answer) (after : S) : Type 0 where
-  pub reply : Result Reply DeskFault
-  pub stepped : ways.steps before event reply after
-  pub answer_is : answer_by event reply ≡ Some answer
+  pub given : Result Reply Declined
+  pub comes : Comes ways before event given after
+  pub answer_is : answer_by event given ≡ Some answer
 
--- an event is submitted, and the reply to it is no answer
-pub record Declines {S : Type 0} (ways : Ways S) (before : S) (event : Event) (after : S) : Type 0 where
-  pub reply : Result Reply DeskFault
-  pub stepped : ways.steps before event reply after
-  pub none : answer_by event reply ≡ None
+-- an event is submitted, and what comes of it stops the lines
+pub record Declines {S : Type 0} (ways : Ways S) (before : S) (event : Event) (fault : ReplayFault) (after : S) : Type 0 where
+  pub given : Result Reply Declined
+  pub comes : Comes ways before event given after
+  pub stop_is : stop_by given ≡ Some fault
 
 -- the newest entry is withdrawn; where there is none, nothing is submitted, and that is told
 abbrev pub AnswersMine : {S : Type 0} → Ways S → S → Option ℕ → Answer → S → Type 0
@@ -246,6 +273,7 @@ own_ways = record {
   shows = OwnList;
   finds = λ journal question found. found ≡ found_of journal question;
   is_open = false;
+  IsKept = ⊥;
 }
 
 -- an event of a seat at a desk of many: a reply adds the receipt of it, and a fault none
@@ -259,8 +287,8 @@ SeatList receipts list = IsTrue (is_book list)
 
 -- the ways of a seat; to a question it may find what a desk held after some events: that of the moment, which others change
 abbrev pub seat_ways : Ways (List Receipt)
-seat_ways = record { steps = SeatStep; newest = newest_of; shows = SeatList; finds = λ receipts. IsFound; is_open = false }
+seat_ways = record { steps = SeatStep; newest = newest_of; shows = SeatList; finds = λ receipts. IsFound; is_open = false; IsKept = ⊥ }
 
--- the ways of a seat on an open day
-abbrev pub open_ways : Ways (List Receipt)
-open_ways = record { steps = SeatStep; newest = newest_of; shows = SeatList; finds = λ receipts. IsFound; is_open = true }
+-- the ways of a seat on an open day, by whether its events are kept
+abbrev pub open_ways : Type 0 → Ways (List Receipt)
+open_ways IsKept = record { steps = SeatStep; newest = newest_of; shows = SeatList; finds = λ receipts. IsFound; is_open = true; IsKept = IsKept }

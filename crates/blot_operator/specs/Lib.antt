@@ -1,3 +1,4 @@
+pub mod Asking
 pub mod Dialogue
 pub mod Lines
 pub mod OpenDay

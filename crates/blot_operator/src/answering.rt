@@ -1,16 +1,19 @@
 //! The answer to a line of an operator.
-ghost use Rattle.std.specs.Prelude.{◌≡◌, ◌≢◌, ◌⊎◌, None, IsOk, OnOk, OnErr, IfOk, Ok, Err};
+ghost use Rattle.std.specs.Prelude.{◌≡◌, ◌≢◌, ◌⊎◌, ◌<◌, ◌^◌, None, IsOk, OnOk, OnErr, IfErr, IfOk, Ok, Err};
+ghost use Rattle.blot_types.specs.declared.command.Command.TheVariants.{Withdraw};
+ghost use Rattle.blot_desk.specs.declared.event.Event.TheVariants.{Submit};
 ghost use Rattle.blot_console.specs.Answers.{CanBeTold};
 ghost use Rattle.blot_console.specs.Parsing.{parsed};
+ghost use Rattle.blot_operator.specs.Asking.{AsksFor, withdrawal_text};
 ghost use Rattle.blot_operator.specs.Dialogue.{AnswersEvent, AnswersMine, AnswersAsk, AnswersLine, AnswersOrders, AnswersPositions, AnswersReport, Declines, TellsLine, StopsAtLine};
 ghost use Rattle.blot_operator.specs.OpenDay.{AsksDay, closes_by, day_ask_by, is_closed};
 ghost use Rattle.blot_operator.specs.Operating.{asked_by, with_key};
 
-use crate::operated::Operated;
+use crate::operated::{Declined, Operated};
 use blot_console::{Answer, Ask, LineFault, answer_text, parse_line};
 use blot_desk::{DeskFault, Event, Reply};
 use blot_report::{day_lines, order_lines, position_lines};
-use blot_stream::{ReplayFault, write_text};
+use blot_stream::ReplayFault;
 use blot_time::Day;
 use blot_types::{Command, OrderKey, Text64};
 use std::alloc::{AllocError as NoMemory, Global};
@@ -34,12 +37,14 @@ pub(crate) fn answer_line<D: Operated, W: Write>(
 ) -> Result<bool, ReplayFault>
     ensures ok { OnOk result (TellsLine D.ways state.old line.now state.new (W.contents output.old) (W.contents output.new)) }
     ensures closed { IfOk result (λ closed. closed ≡ closes_by D.ways.is_open line.now) }
+    ensures durable { OnOk result D.IsDurable }
     ensures err { OnErr result (StopsAtLine D.ways state.old line.now state.new (W.contents output.old) (W.contents output.new)) }
     ensures never_full { result ≢ Err ReplayFault.Full }
+    ensures broken { result ≡ Err ReplayFault.Journal → D.IsBroken }
 {
     let answer = answer_to(alloc, desk, state, line)?;
     let text = answer_text(alloc, &answer)?;
-    write_text(output, &text)?;
+    desk.tell(output, &text)?;
     Ok(is_closed(&answer))
 }
 
@@ -50,79 +55,117 @@ fn is_closed(answer: &Answer) -> bool
     matches!(answer, Answer::Closed)
 }
 
-// What a line comes to: its day answers it, an event is taken, a report is made, or a fault is told. An error is out of memory,
-// and comes only where the line asks something.
+// What a line comes to: its day answers it, an event is taken, a report is made, or a fault is told. An error comes only where the line
+// asks something.
 fn answer_to<D: Operated>(
     alloc: Global,
     desk: &D,
     state: &mut D::State,
     line: &[u8],
-) -> Result<Answer, NoMemory>
+) -> Result<Answer, ReplayFault>
     ensures ok { IfOk result (λ answer. AnswersLine D.ways state.old line.now answer state.new) }
     ensures tellable { IfOk result CanBeTold }
     ensures err { OnErr result (state.new ≡ state.old) }
     ensures err_of_an_ask { OnErr result (AsksDay (day_ask_by D.ways.is_open line.now) ⊎ IsOk (parsed line.now)) }
+    ensures never_full { result ≢ Err ReplayFault.Full }
+    ensures broken { result ≡ Err ReplayFault.Journal → D.IsBroken }
 {
     if let Some(answer) = desk.day_answer(alloc, line)? {
         return Ok(answer);
     }
     match parse_line(alloc, line) {
-        Ok(ask) => answer_ask(alloc, desk, state, ask),
-        Err(LineFault::NoMemory) => Err(NoMemory),
+        Ok(ask) => answer_ask(alloc, desk, state, ask, line),
+        Err(LineFault::NoMemory) => Err(ReplayFault::NoMemory),
         Err(fault) => Ok(Answer::Bad(fault)),
     }
 }
 
-// What an ask comes to. An error is out of memory.
+// What an ask comes to, which a line says.
 fn answer_ask<D: Operated>(
     alloc: Global,
     desk: &D,
     state: &mut D::State,
     ask: Ask,
-) -> Result<Answer, NoMemory>
+    line: &[u8],
+) -> Result<Answer, ReplayFault>
+    requires { parsed line.now ≡ Ok ask }
     ensures ok { IfOk result (λ answer. AnswersAsk D.ways state.old (Ok ask) answer state.new) }
     ensures tellable { IfOk result CanBeTold }
     ensures err { OnErr result (state.new ≡ state.old) }
+    ensures never_full { result ≢ Err ReplayFault.Full }
+    ensures broken { result ≡ Err ReplayFault.Journal → D.IsBroken }
 {
     match ask {
-        Ask::Step(event) => answer_event(desk, state, event),
-        Ask::Report(day) => report(alloc, desk, state, day),
-        Ask::Mine => withdraw_newest(desk, state),
+        Ask::Step(event) => answer_event(alloc, desk, state, event, line),
+        Ask::Report(day) => Ok(report(alloc, desk, state, day)?),
+        Ask::Mine => withdraw_newest(alloc, desk, state),
         Ask::Look(question) => Ok(Answer::Found(desk.look(state, &question)?)),
-        Ask::Orders(peer) => orders(alloc, desk, state, &peer),
-        Ask::Positions(account) => positions(alloc, desk, state, &account),
+        Ask::Orders(peer) => Ok(orders(alloc, desk, state, &peer)?),
+        Ask::Positions(account) => Ok(positions(alloc, desk, state, &account)?),
     }
 }
 
-// Withdraws the newest entry, where there is one. An error is out of memory.
-fn withdraw_newest<D: Operated>(desk: &D, state: &mut D::State) -> Result<Answer, NoMemory>
+// Withdraws the newest entry, where there is one. What is kept of it is the line of that withdrawal.
+fn withdraw_newest<D: Operated>(
+    alloc: Global,
+    desk: &D,
+    state: &mut D::State,
+) -> Result<Answer, ReplayFault>
     ensures ok { IfOk result (λ answer. AnswersMine D.ways state.old (D.ways.newest state.old) answer state.new) }
     ensures tellable { IfOk result CanBeTold }
     ensures err { OnErr result (state.new ≡ state.old) }
+    ensures never_full { result ≢ Err ReplayFault.Full }
+    ensures broken { result ≡ Err ReplayFault.Journal → D.IsBroken }
 {
-    match desk.newest(state) {
-        None => Ok(Answer::Nothing),
-        Some(number) => answer_event(desk, state, Event::Submit(Command::Withdraw(number))),
-    }
+    let Some(number) = desk.newest(state) else {
+        return Ok(Answer::Nothing);
+    };
+    let line = withdrawal_line(alloc, number)?;
+    answer_event(
+        alloc,
+        desk,
+        state,
+        Event::Submit(Command::Withdraw(number)),
+        &line,
+    )
 }
 
-// Takes an event: the reply to it, or that no more events are taken. An error is out of memory, and comes only where
-// the desk has no answer. No step answers Unsettled or Broken.
+// The line that withdraws the entry of a number. An error is out of memory.
+fn withdrawal_line(alloc: Global, number: u64) -> Result<Vec<u8>, NoMemory>
+    ensures text { IfOk result (λ line. line.items ≡ withdrawal_text number) }
+{
+    let word = format!(in alloc; "withdraw\t{number}")?;
+    let mut line = Vec::new(alloc);
+    line.extend_from_slice(word.as_bytes())?;
+    Ok(line)
+}
+
+// Takes an event, for which this line asks: the reply to it, that no more events are taken, or that the line can't be kept. An error comes
+// only where the desk has no answer: memory ran out, or what keeps its events can't be written. No step answers Unsettled.
 fn answer_event<D: Operated>(
+    alloc: Global,
     desk: &D,
     state: &mut D::State,
     event: Event,
-) -> Result<Answer, NoMemory>
+    line: &[u8],
+) -> Result<Answer, ReplayFault>
+    requires { AsksFor line.now event }
     ensures ok { IfOk result (λ answer. AnswersEvent D.ways state.old event answer state.new) }
     ensures tellable { IfOk result CanBeTold }
     ensures err { OnErr result (state.new ≡ state.old) }
-    ensures declined { OnErr result (Declines D.ways state.old event state.new) }
+    ensures declined { IfErr result (λ fault. Declines D.ways state.old event fault state.new) }
+    ensures never_full { result ≢ Err ReplayFault.Full }
+    ensures broken { result ≡ Err ReplayFault.Journal → D.IsBroken }
 {
     let asked = asked_by(&event);
-    match desk.step(state, event) {
+    match desk.step(alloc, state, event, line) {
         Ok(reply) => Ok(with_key(&asked, &reply)),
-        Err(DeskFault::Full) => Ok(Answer::Full),
-        Err(DeskFault::NoMemory | DeskFault::Broken | DeskFault::Unsettled) => Err(NoMemory),
+        Err(Declined::Unkept) => Ok(Answer::Bad(LineFault::TooLong)),
+        Err(Declined::Desk(DeskFault::Full)) => Ok(Answer::Full),
+        Err(Declined::Desk(DeskFault::Broken)) => Err(ReplayFault::Journal),
+        Err(Declined::Desk(DeskFault::NoMemory | DeskFault::Unsettled)) => Err(
+            ReplayFault::NoMemory,
+        ),
     }
 }
 

@@ -3,10 +3,14 @@
 #![tactic(auto)]
 
 mod answering;
+mod durable;
 mod lines;
 mod operated;
 mod operating;
+mod operator_seat;
 
 pub use blot_console::{Rows, SessionLine};
+pub use durable::write_durable;
 pub use operated::OpenDay;
 pub use operating::{desk_lines, open_lines, seat_lines};
+pub use operator_seat::OperatorSeat;

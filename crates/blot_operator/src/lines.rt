@@ -25,6 +25,7 @@ pub(crate) fn answer_piece<D: Operated, W: Write>(
     ensures err { OnErr result (StopsOn D.ways piece.now line.old.items state.old (W.contents output.old)
         state.new (W.contents output.new)) }
     ensures never_full { result ≢ Err ReplayFault.Full }
+    ensures broken { result ≡ Err ReplayFault.Journal → D.IsBroken }
 {
     for byte in piece {
         let closed = take_byte(alloc, desk, state, output, line, *byte)?;
@@ -46,6 +47,7 @@ pub(crate) fn answer_last<D: Operated, W: Write>(
     ensures ok { OnOk result (TellsLast D.ways line.now state.old (W.contents output.old) state.new (W.contents output.new)) }
     ensures err { OnErr result (StopsLast D.ways line.now state.old (W.contents output.old) state.new (W.contents output.new)) }
     ensures never_full { result ≢ Err ReplayFault.Full }
+    ensures broken { result ≡ Err ReplayFault.Journal → D.IsBroken }
 {
     if line.is_empty() {
         return Ok(());
@@ -68,6 +70,7 @@ fn take_byte<D: Operated, W: Write>(
     ensures err { OnErr result (StopsOn D.ways (byte ∷ []) line.old.items state.old (W.contents output.old)
         state.new (W.contents output.new)) }
     ensures never_full { result ≢ Err ReplayFault.Full }
+    ensures broken { result ≡ Err ReplayFault.Journal → D.IsBroken }
 {
     if byte != b'\n' {
         keep_byte(line, byte)?;

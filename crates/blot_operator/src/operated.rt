@@ -1,15 +1,56 @@
 //! What an operator's lines are taken to: a desk of one's own, or a seat at a desk of many, of an open day too.
-ghost use Rattle.std.specs.Prelude.{◌≡◌, IfOk, IfSome, OnErr};
+ghost use Rattle.std.specs.Prelude.{◌≡◌, ◌≢◌, Err, IfOk, IfSome, OnErr, OnOk};
+ghost use Rattle.std.specs.Io.KnownBytes.{Appends};
+ghost use Rattle.blot_desk.specs.declared.fault.DeskFault.TheVariants.{Broken};
 ghost use Rattle.blot_console.specs.Answers.{CanBeTold};
-ghost use Rattle.blot_operator.specs.Dialogue.{IsByDay, Ways};
+ghost use Rattle.blot_stream.specs.Texts.{AppendsFront};
+ghost use Rattle.blot_operator.specs.Asking.{AsksFor};
+ghost use Rattle.blot_operator.specs.Dialogue.{Comes, IsByDay, Ways};
 ghost use Rattle.blot_operator.specs.OpenDay.{AsksDay, day_ask_by};
 ghost use Rattle.blot_operator.specs.Operating.{asked_by, with_key};
 
+use crate::{OperatorSeat, write_durable};
 use blot_console::{Answer, DayAsk, Rows, SessionLine, parse_day_line};
 use blot_desk::{Desk, DeskFault, Event, Found, Held, Question, Reply, Seat, Snapshot};
+use blot_gateway::FrameKeeper;
+use blot_stream::{ReplayFault, write_text};
 use std::alloc::{AllocError as NoMemory, Global};
+use std::io::Write;
 use std::sync::Wait;
 use std::sync::ledger::Ledger;
+use std::time;
+
+/// Why an operator's event isn't taken.
+#[derive(Clone, Copy, Debug)]
+pub(crate) enum Declined {
+    /// The desk doesn't take it.
+    Desk(DeskFault),
+    /// Its line can't be kept: it is too long for a record, or an SOH stands in it.
+    Unkept,
+}
+
+impl From<DeskFault> for Declined {
+    ghost use Rattle.std.specs.Prelude.{◌≡◌};
+    ghost use Rattle.blot_operator.specs.declared.operated.Declined.TheVariants.{Desk};
+
+    ghost from_gives = { λ fault declined. declined ≡ Desk fault };
+
+    fn from(fault: DeskFault) -> Declined {
+        Declined::Desk(fault)
+    }
+}
+
+impl From<NoMemory> for Declined {
+    ghost use Rattle.std.specs.Prelude.{◌≡◌};
+    ghost use Rattle.blot_desk.specs.declared.fault.DeskFault.TheVariants.{NoMemory};
+    ghost use Rattle.blot_operator.specs.declared.operated.Declined.TheVariants.{Desk};
+
+    ghost from_gives = { λ _ declined. declined ≡ Desk NoMemory };
+
+    fn from(_fault: NoMemory) -> Declined {
+        Declined::Desk(DeskFault::NoMemory)
+    }
+}
 
 /// What an operator's lines are taken to.
 pub(crate) trait Operated {
@@ -19,11 +60,34 @@ pub(crate) trait Operated {
     /// What it does with an event, and what it may show.
     ghost ways: { Ways Self.State };
 
-    /// Takes an event: the reply to it. A fault changes nothing.
-    fn step(&self, state: &mut Self::State, event: Event) -> Result<Reply, DeskFault>
-        ensures stepped { ways.steps state.old event result state.new }
+    /// What is so where what keeps its events is broken.
+    ghost IsBroken: { Type 0 };
+
+    /// What is so where all that it keeps is durable.
+    ghost IsDurable: { Type 0 };
+
+    /// Takes an event, for which this line asks: the reply to it. What isn't taken changes nothing.
+    fn step(
+        &self,
+        alloc: Global,
+        state: &mut Self::State,
+        event: Event,
+        line: &[u8],
+    ) -> Result<Reply, Declined>
+        requires { AsksFor line.now event }
+        ensures comes { Comes ways state.old event result state.new }
         ensures tellable { IfOk result (λ reply. CanBeTold (with_key (asked_by event) reply)) }
-        ensures err { OnErr result (state.new ≡ state.old) };
+        ensures err { OnErr result (state.new ≡ state.old) }
+        ensures broken { result ≡ Err (Declined.Desk Broken) → IsBroken };
+
+    /// Writes the text of an answer to its end and flushes it, once all is durable that its desk keeps. A fault is Write, or Journal where
+    /// that can't be.
+    fn tell<W: Write>(&self, output: &mut W, text: &[u8]) -> Result<(), ReplayFault>
+        ensures ok { OnOk result (Appends (W.contents output.old) (W.contents output.new) text.now) }
+        ensures err { OnErr result (AppendsFront (W.contents output.old) (W.contents output.new) text.now) }
+        ensures durable { OnOk result IsDurable }
+        ensures never_full { result ≢ Err ReplayFault.Full }
+        ensures broken { result ≡ Err ReplayFault.Journal → IsBroken };
 
     /// The number of its newest entry, which `mine` withdraws.
     fn newest(&self, state: &Self::State) -> Option<u64>
@@ -62,8 +126,22 @@ impl Operated for Own {
 
     ghost ways = { own_ways };
 
-    fn step(&self, held: &mut Held, event: Event) -> Result<Reply, DeskFault> {
-        held.step(event)
+    ghost IsBroken = { ⊥ };
+
+    ghost IsDurable = { Unit {0} };
+
+    fn step(
+        &self,
+        _alloc: Global,
+        held: &mut Held,
+        event: Event,
+        _line: &[u8],
+    ) -> Result<Reply, Declined> {
+        Ok(held.step(event)?)
+    }
+
+    fn tell<W: Write>(&self, output: &mut W, text: &[u8]) -> Result<(), ReplayFault> {
+        write_text(output, text)
     }
 
     fn newest(&self, held: &Held) -> Option<u64> {
@@ -97,8 +175,22 @@ impl<R: Wait, L: Ledger> Operated for Shared<'_, R, L> {
 
     ghost ways = { seat_ways };
 
-    fn step(&self, seat: &mut Seat<L>, event: Event) -> Result<Reply, DeskFault> {
-        self.desk.submit(self.rt, seat, event)
+    ghost IsBroken = { ⊥ };
+
+    ghost IsDurable = { Unit {0} };
+
+    fn step(
+        &self,
+        _alloc: Global,
+        seat: &mut Seat<L>,
+        event: Event,
+        _line: &[u8],
+    ) -> Result<Reply, Declined> {
+        Ok(self.desk.submit(self.rt, seat, event)?)
+    }
+
+    fn tell<W: Write>(&self, output: &mut W, text: &[u8]) -> Result<(), ReplayFault> {
+        write_text(output, text)
     }
 
     fn newest(&self, seat: &Seat<L>) -> Option<u64> {
@@ -118,34 +210,51 @@ impl<R: Wait, L: Ledger> Operated for Shared<'_, R, L> {
     }
 }
 
-/// The same of an open day.
+/// A desk of many on an open day, at which an operator's seat submits.
 #[derive(Drop)]
-pub(crate) struct Open<'a, R, L: Ledger, D> {
-    pub(crate) shared: Shared<'a, R, L>,
+pub(crate) struct Open<'a, R, L: Ledger, K: FrameKeeper, D> {
+    pub(crate) rt: &'a R,
+    pub(crate) desk: &'a Desk<L, K>,
     pub(crate) day: &'a D,
 }
 
-impl<R: Wait, L: Ledger, D: OpenDay> Operated for Open<'_, R, L, D> {
+impl<R: Wait + time::Clock, L: Ledger, K: FrameKeeper, D: OpenDay> Operated
+    for Open<'_, R, L, K, D> {
+    ghost use Rattle.std.specs.Prelude.{◌≡◌, length, true};
     ghost use Rattle.blot_operator.specs.Dialogue.{open_ways};
 
-    type State = Seat<L>;
+    type State = OperatorSeat<L>;
 
-    ghost ways = { open_ways };
+    ghost ways = { open_ways K.IsKept };
 
-    fn step(&self, seat: &mut Seat<L>, event: Event) -> Result<Reply, DeskFault> {
-        self.shared.step(seat, event)
+    ghost IsBroken = { (keeper : K) × (K.is_broken keeper ≡ true) };
+
+    ghost IsDurable = { (keeper : K) × (K.durable keeper ≡ length (K.events keeper)) };
+
+    fn step(
+        &self,
+        alloc: Global,
+        seat: &mut OperatorSeat<L>,
+        event: Event,
+        line: &[u8],
+    ) -> Result<Reply, Declined> {
+        seat.submit(self.rt, alloc, self.desk, event, line)
     }
 
-    fn newest(&self, seat: &Seat<L>) -> Option<u64> {
-        self.shared.newest(seat)
+    fn tell<W: Write>(&self, output: &mut W, text: &[u8]) -> Result<(), ReplayFault> {
+        write_durable(self.rt, self.desk, output, text)
     }
 
-    fn snapshot(&self, seat: &Seat<L>) -> Result<Snapshot, NoMemory> {
-        self.shared.snapshot(seat)
+    fn newest(&self, operator: &OperatorSeat<L>) -> Option<u64> {
+        operator.newest()
     }
 
-    fn look(&self, seat: &Seat<L>, question: &Question) -> Result<Found, NoMemory> {
-        self.shared.look(seat, question)
+    fn snapshot(&self, _seat: &OperatorSeat<L>) -> Result<Snapshot, NoMemory> {
+        self.desk.snapshot(self.rt)
+    }
+
+    fn look(&self, _seat: &OperatorSeat<L>, question: &Question) -> Result<Found, NoMemory> {
+        self.desk.look(self.rt, question)
     }
 
     fn day_answer(&self, alloc: Global, line: &[u8]) -> Result<Option<Answer>, NoMemory> {

@@ -1,6 +1,6 @@
 //! `desk_lines`, `seat_lines` and `open_lines`: the lines of an input answered, at a desk of one's own, from a seat, or from a seat on
 //! an open day.
-ghost use Rattle.std.specs.Prelude.{◌≡◌, ◌≢◌, ◌⊎◌, Err, IfSome, OnOk, OnErr};
+ghost use Rattle.std.specs.Prelude.{◌≡◌, ◌≢◌, ◌⊎◌, Err, IfSome, OnOk, OnErr, true};
 ghost use Rattle.std.specs.Io.KnownBytes.{IsAtEnd};
 ghost use Rattle.blot_stream.specs.Texts.{AppendsOf};
 ghost use Rattle.blot_operator.specs.Dialogue.{open_ways, seat_ways, HeardOf, StopsOf, TellsOf};
@@ -8,15 +8,17 @@ ghost use Rattle.blot_operator.specs.Lines.{lines_of};
 ghost use Rattle.blot_operator.specs.OpenDay.{ClosedOf, EndsOf};
 ghost use Rattle.blot_operator.specs.Operating.{answers_of, told_over, StoppedIn};
 
+use crate::OperatorSeat;
 use crate::lines::{answer_last, answer_piece};
 use crate::operated::{Open, OpenDay, Operated, Own, Shared};
 use blot_desk::{Desk, Held, Seat};
-use blot_gateway::{READS_MAX, empty_piece};
+use blot_gateway::{FrameKeeper, READS_MAX, empty_piece};
 use blot_stream::{ReplayFault, read_piece};
 use std::alloc::Global;
 use std::io::{Read, Write};
 use std::sync::Wait;
 use std::sync::ledger::Ledger;
+use std::time;
 
 /// Answers an operator's lines to the end of the input. Each line's answer is written and flushed before the next line
 /// is taken. `mine` withdraws the newest entry of the desk; where there is none it is no event, and answered by `none`. A
@@ -69,26 +71,32 @@ pub fn seat_lines<R: Read, W: Write, L: Ledger>(
 /// The same on an open day, whose two lines are known too: `sessions` is answered by what the day tells of its sessions, and `close`
 /// by `closed`. Neither is an event. Behind the first `close` nothing is heard: the call is Ok then, without the rest of the input. The
 /// day is closed by whoever calls, as at the end of the input.
-pub fn open_lines<R: Read, W: Write, L: Ledger, D: OpenDay>(
-    rt: &impl Wait,
+///
+/// Where the desk keeps its events, that of a line is kept with the line, `mine` as the withdrawal that it came to, and each answer is written
+/// when all that the desk keeps is durable. A line that can't be kept is answered by `bad>4`, and leaves all as it is. Journal: what keeps the
+/// events can't be written.
+pub fn open_lines<R: Wait + time::Clock, I: Read, O: Write, L: Ledger, K: FrameKeeper, D: OpenDay>(
+    rt: &R,
     alloc: Global,
-    input: &mut R,
-    output: &mut W,
-    desk: &Desk<L>,
-    seat: &mut Seat<L>,
+    input: &mut I,
+    output: &mut O,
+    desk: &Desk<L, K>,
+    seat: &mut OperatorSeat<L>,
     day: &D,
 ) -> Result<(), ReplayFault>
-    ensures told { OnOk result (HeardOf open_ways seat.old (R.remaining input.old) seat.new
-        (W.contents output.old) (W.contents output.new)) }
-    ensures read_to_the_end { OnOk result (IsAtEnd (R.remaining input.new) ⊎ ClosedOf (R.remaining input.old)) }
+    ensures told { OnOk result (HeardOf (open_ways K.IsKept) seat.old (I.remaining input.old) seat.new
+        (O.contents output.old) (O.contents output.new)) }
+    ensures read_to_the_end { OnOk result (IsAtEnd (I.remaining input.new) ⊎ ClosedOf (I.remaining input.old)) }
 
     // After a fault the lines of a front were taken, none of which closes the day, and a front of the last answer was written.
-    ensures fault { OnErr result (StopsOf open_ways seat.old (R.remaining input.old) seat.new
-        (W.contents output.old) (W.contents output.new)) }
+    ensures fault { OnErr result (StopsOf (open_ways K.IsKept) seat.old (I.remaining input.old) seat.new
+        (O.contents output.old) (O.contents output.new)) }
     ensures never_full { result ≢ Err ReplayFault.Full }
+
+    // Journal is told of a keeper that is broken.
+    ensures broken { result ≡ Err ReplayFault.Journal → (keeper : K) × (K.is_broken keeper ≡ true) }
 {
-    let shared = Shared { rt, desk };
-    answer_lines(alloc, input, output, &Open { shared, day }, seat)
+    answer_lines(alloc, input, output, &Open { rt, desk, day }, seat)
 }
 
 // Answers the lines of an input to its end, or to the first that closes the day.
@@ -105,6 +113,7 @@ fn answer_lines<R: Read, W: Write, D: Operated>(
     ensures fault { OnErr result (StopsOf D.ways state.old (R.remaining input.old) state.new
         (W.contents output.old) (W.contents output.new)) }
     ensures never_full { result ≢ Err ReplayFault.Full }
+    ensures broken { result ≡ Err ReplayFault.Journal → D.IsBroken }
 {
     let mut line = Vec::new(alloc);
     let mut buffer = empty_piece(alloc)?;

@@ -1,5 +1,5 @@
 //! The session with one peer.
-ghost use Rattle.std.specs.Prelude.{◌≡◌, ◌+◌, ◌≤◌, List, true, false, is_some, IfOk, OnErr, IsTrue};
+ghost use Rattle.std.specs.Prelude.{◌≡◌, ◌+◌, ◌≤◌, ℕ, List, true, false, is_some, IfOk, OnErr, IsTrue};
 ghost use Rattle.blot_tag.specs.Views.{text_of};
 ghost use Rattle.blot_types.specs.Keys.{same_text};
 ghost use Rattle.blot_types.specs.Text.{is_text};
@@ -193,6 +193,7 @@ impl Session {
         ensures peer { self.new.peer ≡ self.old.peer }
         ensures awaits { IfOk result (λ actions. Awaits self.new actions.items) }
         ensures alone { IfOk result (λ actions. DeliversAlone actions.items) }
+        ensures own { (text : List ℕ) → said.now ≡ said_by text → IfOk result (λ actions. DeliversOwn text actions.items) }
     {
         take_said(alloc, &mut self.state, said, now)
     }

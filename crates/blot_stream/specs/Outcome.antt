@@ -3,7 +3,7 @@ use Rattle.std.specs.Prelude.{ℕ, List, Option, Some, None, Result, Ok, Err, co
 use Rattle.blot_stream.specs.declared.outcome.Outcome.{Outcome}
 use Rattle.blot_stream.specs.declared.outcome.Outcome.TheVariants.{Done, InputFault, BadWords, NoMemory as OutOfMemory}
 use Rattle.blot_stream.specs.declared.outcome.ReplayFault.{ReplayFault}
-use Rattle.blot_stream.specs.declared.outcome.ReplayFault.TheVariants.{Read, Write, Full, NoMemory, TooLong}
+use Rattle.blot_stream.specs.declared.outcome.ReplayFault.TheVariants.{Read, Write, Full, NoMemory, TooLong, Journal}
 use Rattle.blot_stream.specs.declared.outcome.ServeFault.{ServeFault}
 use Rattle.blot_stream.specs.declared.outcome.ServeFault.TheVariants as served
 
@@ -15,6 +15,7 @@ outcome_of (Err Write) = InputFault
 outcome_of (Err Full) = InputFault
 outcome_of (Err NoMemory) = OutOfMemory
 outcome_of (Err TooLong) = InputFault
+outcome_of (Err Journal) = InputFault
 
 -- and so is it where a day is served
 abbrev pub served_outcome : Result (Unit {0}) ServeFault → Outcome

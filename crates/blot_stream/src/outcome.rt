@@ -24,6 +24,9 @@ pub enum ReplayFault {
     /// The input had more than 2^30 pieces.
     #[error("the input is too long")]
     TooLong = 5,
+    /// What keeps the events couldn't be written, and no more events are taken.
+    #[error("the journal can't be written")]
+    Journal = 6,
 }
 
 impl From<NoMemory> for ReplayFault {

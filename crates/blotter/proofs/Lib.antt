@@ -1,1 +1,2 @@
+mod SeatLemmas
 mod ServingLemmas

@@ -1,18 +1,21 @@
 -- What a day that is served comes to.
 use Rattle.std.proofs.Common.{◌≡◌, ℕ, List, [], ◌∷◌, ◌++◌, length, replicate, refl, sym, ap, subst, ◌∙◌, arith, zero, suc}
-use Rattle.std.specs.Prelude.{ℤ, true, ◌&&◌, Option, IsOk, OnOk, OnErr, Result, Ok, Err}
+use Rattle.std.specs.Prelude.{ℤ, true, false, ◌&&◌, Option, IsOk, OnOk, OnErr, Result, Ok, Err, is_err}
 use Rattle.std.specs.Io.KnownBytes.{IsAtEnd}
 use Rattle.std.specs.List.{All, list_all}
+use Rattle.blot_desk.specs.declared.event.Event.{Event}
+use Rattle.blot_desk.specs.declared.event.Recorded.{Recorded}
 use Rattle.blot_desk.specs.declared.receipt.Receipt.{Receipt}
+use Rattle.blot_desk.specs.Keeping.{kept_events}
 use Rattle.blot_gateway.specs.AtOnce.{AddsSubmits, EachAdds, are_submits}
 use Rattle.blot_gateway.proofs.AtOnceLemmas.{adds-none, adds-on, each-adds}
-use Rattle.blot_stream.proofs.ResultLemmas.{ok-says}
+use Rattle.blot_stream.proofs.ResultLemmas.{ok-says, on-ok}
 use Rattle.blot_operator.specs.OpenDay.{EndsOf}
 use Rattle.blot_operator.specs.Dialogue.{HeardOf, TellsOf, open_ways, seat_ways}
 use Rattle.blot_rounds.proofs.RoundLemmas.{as-many}
 use Rattle.blot_rounds.specs.Rounds.{RoundsLead, ServesRound}
 use Rattle.blot_sockets.specs.Sockets.{ClockTicks, SocketDoes}
-use Rattle.blotter.specs.Serving.{DayServed, OpenDayServed, Reported}
+use Rattle.blotter.specs.Serving.{DayServed, KeptReported, OpenDayServed, Reported, ReportedOf}
 
 -- ---- what rounds add
 
@@ -106,9 +109,28 @@ is-served contents round rounds input opened brokers operator sessions day befor
       reported = subst (λ found. Reported day (brokers ++ (operator ∷ [])) (contents between) (contents found)) same reported;
     }
 
+-- what holds once a sync was done holds of all that follows
+pub is-done : {T E U F : Type 0} (P : Type 0) (synced : Result T E) (reported : Result U F) → is_err synced ≡ false → OnOk synced P → OnOk reported P
+is-done P (Ok x) (Ok y) is holds = holds
+is-done P (Ok x) (Err fault) is holds = tt
+is-done P (Err fault) reported is holds = absurd cc
+
+-- a report of a history, of which some events are kept
+pub is-kept : {T E : Type 0} (reported : Result T E) (IsKept : Type 0) (events kept : List Event) (history : List Recorded) (day : ℤ) (seats : List (List Receipt)) (before after : Option (List ℕ))
+    → kept ≡ events → (IsKept → events ≡ kept_events history) → OnOk reported (ReportedOf history day seats before after)
+    → OnOk reported (KeptReported IsKept kept day seats before after)
+is-kept reported IsKept events kept history day seats before after same is all =
+    on-ok reported all (λ of. record { history = history; reported = of; kept = λ keeps. same ∙ is keeps })
+
+-- and a report of a history is one of some history
+pub of-some : {T E : Type 0} (reported : Result T E) (IsKept : Type 0) (events : List Event) (day : ℤ) (seats : List (List Receipt)) (before after : Option (List ℕ))
+    → OnOk reported (KeptReported IsKept events day seats before after) → OnOk reported (Reported day seats before after)
+of-some (Ok x) IsKept events day seats before after kept = (kept.history, kept.reported)
+of-some (Err fault) IsKept events day seats before after kept = tt
+
 -- an open day that is served, of its lines and its report, which leave the output so
 pub is-open-day : {W T E : Type 0} (contents : W → Option (List ℕ)) (answered : Result T E) (input : Option (List ℕ)) (brokers : List (List Receipt)) (first operator : List Receipt) (day : ℤ)
-    (before : Option (List ℕ)) (between new last : W) → first ≡ [] → IsOk answered → OnOk answered (HeardOf open_ways first input operator before (contents between))
+    (before : Option (List ℕ)) (between new last : W) → first ≡ [] → IsOk answered → OnOk answered (HeardOf (open_ways ⊥) first input operator before (contents between))
     → All (λ receipts. are_submits receipts ≡ true) brokers → Reported day (brokers ++ (operator ∷ [])) (contents between) (contents new) → new ≡ last
     → OpenDayServed input day before (contents last)
 is-open-day contents answered input brokers first operator day before between new last empty is heard submits reported same =
@@ -117,6 +139,6 @@ is-open-day contents answered input brokers first operator day before between ne
       operator = operator;
       between = contents between;
       submits = submits;
-      told = subst (λ found. HeardOf open_ways found input operator before (contents between)) empty (ok-says answered is heard);
+      told = subst (λ found. HeardOf (open_ways ⊥) found input operator before (contents between)) empty (ok-says answered is heard);
       reported = subst (λ found. Reported day (brokers ++ (operator ∷ [])) (contents between) (contents found)) same reported;
     }

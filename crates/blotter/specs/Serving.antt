@@ -2,11 +2,13 @@
 use Rattle.std.specs.Prelude.{◌≡◌, ◌<◌, ℕ, ℤ, true, List, [], ◌∷◌, ◌++◌, length, replicate, Option}
 use Rattle.std.specs.List.{All, list_all}
 use Rattle.std.specs.Io.KnownBytes.{Appends}
+use Rattle.blot_desk.specs.declared.event.Event.{Event}
 use Rattle.blot_desk.specs.declared.event.Recorded.{Recorded}
 use Rattle.blot_desk.specs.declared.fault.DeskFault.{DeskFault}
 use Rattle.blot_desk.specs.declared.fault.DeskFault.TheVariants as desk
 use Rattle.blot_desk.specs.declared.receipt.Receipt.{Receipt}
 use Rattle.blot_desk.specs.Desk.{events_of, replies_of, run_of}
+use Rattle.blot_desk.specs.Keeping.{kept_events}
 use Rattle.blot_desk.specs.Receipts.{IsSettled}
 use Rattle.blot_gateway.specs.AtOnce.{are_submits}
 use Rattle.blot_operator.specs.Dialogue.{HeardOf, TellsOf, open_ways, seat_ways}
@@ -15,13 +17,22 @@ use Rattle.blot_rounds.specs.Rounds.{RoundsLead}
 use Rattle.blot_stream.specs.declared.outcome.ServeFault.{ServeFault}
 use Rattle.blot_stream.specs.declared.outcome.ServeFault.TheVariants as fault
 
--- the report of a day is written, of a history in which each receipt of these seats stands once, and in which each reply is that of the
--- run of its events
-pub record Reported (day : ℤ) (seats : List (List Receipt)) (before after : Option (List ℕ)) : Type 0 where
-  pub history : List Recorded
+-- the report of a day is written, of this history, in which each receipt of these seats stands once, and in which each reply is that of the run of
+-- its events
+pub record ReportedOf (history : List Recorded) (day : ℤ) (seats : List (List Receipt)) (before after : Option (List ℕ)) : Type 0 where
   pub settled : IsSettled history seats
   pub replied : (run_of (events_of history)).replies ≡ replies_of history
   pub written : Appends before after (report_of (run_of (events_of history)).book.list day)
+
+-- it is written of some such history
+abbrev pub Reported : ℤ → List (List Receipt) → Option (List ℕ) → Option (List ℕ) → Type 0
+Reported day seats before after = (history : List Recorded) × ReportedOf history day seats before after
+
+-- and where events are kept, they are that history's, asks aside
+pub record KeptReported (IsKept : Type 0) (events : List Event) (day : ℤ) (seats : List (List Receipt)) (before after : Option (List ℕ)) : Type 0 where
+  pub history : List Recorded
+  pub reported : ReportedOf history day seats before after
+  pub kept : IsKept → events ≡ kept_events history
 
 -- a day is served: so many rounds lead from so many empty seats to those of the brokers, whose receipts are of submits alone; the
 -- operator, with a seat that was empty, is told the answers to all lines of the input; and then the report is written of the history of
@@ -51,7 +62,7 @@ pub record OpenDayServed (input : Option (List ℕ)) (day : ℤ) (before after :
   pub operator : List Receipt
   pub between : Option (List ℕ)
   pub submits : All (λ receipts. are_submits receipts ≡ true) brokers
-  pub told : HeardOf open_ways [] input operator before between
+  pub told : HeardOf (open_ways ⊥) [] input operator before between
   pub reported : Reported day (brokers ++ (operator ∷ [])) between after
 
 -- what is told of a desk that isn't settled: receipts that disagree are told as that, and never as want of memory

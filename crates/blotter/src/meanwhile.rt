@@ -4,13 +4,15 @@ ghost use Rattle.std.specs.Prelude.{◌≡◌};
 use blot_command::Rows;
 use blot_console::SessionLine;
 use blot_desk::{Desk, Seat};
+use blot_gateway::FrameKeeper;
 use blot_lanes::{Peers, Task};
-use blot_operator::{OpenDay, open_lines, seat_lines};
+use blot_operator::{OpenDay, OperatorSeat, open_lines, seat_lines};
 use blot_stream::ReplayFault;
 use std::alloc::{AllocError as NoMemory, Global};
 use std::io::{Read, Write};
 use std::sync::Wait;
 use std::sync::ledger::Ledger;
+use std::time::Clock;
 
 /// An operator's lines, with the seat and the streams.
 #[derive(Drop)]
@@ -53,28 +55,42 @@ impl<'a, 'i, 'o, R: Wait, I: Read, O: Write, L: Ledger> Task for Lines<'a, 'i, '
 
 /// An operator's lines on an open day, with the seat, the streams and the peers.
 #[derive(Drop)]
-pub(crate) struct OpenLines<'a, 'i, 'o, R, I, O, L: Ledger> {
+pub(crate) struct OpenLines<'a, 'i, 'o, R, I, O, L: Ledger, K: FrameKeeper> {
     pub(crate) rt: &'a R,
     pub(crate) alloc: Global,
     pub(crate) input: &'i mut I,
     pub(crate) output: &'o mut O,
-    pub(crate) desk: &'a Desk<L>,
-    pub(crate) seat: Seat<L>,
+    pub(crate) desk: &'a Desk<L, K>,
+    pub(crate) seat: OperatorSeat<L>,
     pub(crate) peers: &'a Peers<L>,
 }
 
-impl<'a, 'i, 'o, R: Wait, I: Read, O: Write, L: Ledger> Task for OpenLines<'a, 'i, 'o, R, I, O, L> {
+impl<'a, 'i, 'o, R: Wait + Clock, I: Read, O: Write, L: Ledger, K: FrameKeeper> Task
+    for OpenLines<'a, 'i, 'o, R, I, O, L, K> {
     ghost use Rattle.std.specs.Prelude.{◌≡◌, true, OnOk};
     ghost use Rattle.blot_operator.specs.Dialogue.{HeardOf, open_ways};
     ghost use Rattle.blot_operator.specs.OpenDay.{EndsOf};
 
-    type Output = (Result<(), ReplayFault>, Seat<L>, &'i mut I, &'o mut O);
+    type Output = (
+        Result<(), ReplayFault>,
+        OperatorSeat<L>,
+        &'i mut I,
+        &'o mut O,
+    );
 
     ghost gives = { λ lines given. (given.2.ghost_name ≡ lines.input.ghost_name) × (given.3.ghost_name ≡ lines.output.ghost_name)
         × OnOk given.0 (EndsOf true (I.remaining lines.input.now) (I.remaining given.2.now))
-        × OnOk given.0 (HeardOf open_ways lines.seat (I.remaining lines.input.now) given.1 (O.contents lines.output.now) (O.contents given.3.now)) };
+        × OnOk given.0 (HeardOf (open_ways K.IsKept) lines.seat (I.remaining lines.input.now) given.1
+        (O.contents lines.output.now) (O.contents given.3.now)) };
 
-    fn run(self) -> (Result<(), ReplayFault>, Seat<L>, &'i mut I, &'o mut O) {
+    fn run(
+        self,
+    ) -> (
+        Result<(), ReplayFault>,
+        OperatorSeat<L>,
+        &'i mut I,
+        &'o mut O,
+    ) {
         let OpenLines {
             rt,
             alloc,

@@ -1,26 +1,43 @@
 //! `serve_open_day`: connections served in lanes while an operator's lines are answered, and the report of the day.
-ghost use Rattle.std.specs.Prelude.{◌≡◌, ◌+◌, true, length, OnOk};
-ghost use Rattle.std.specs.List.{IsDistinct};
+ghost use Rattle.std.specs.Prelude.{◌≡◌, ◌+◌, [], true, length, vec_len, IfOk, OnOk};
+ghost use Rattle.std.specs.List.{All, IsDistinct};
 ghost use Rattle.blot_types.specs.Keys.{same_text};
+ghost use Rattle.blot_gateway.specs.AtOnce.{are_submits};
+ghost use Rattle.blot_operator.specs.Dialogue.{HeardOf, open_ways};
 ghost use Rattle.blot_operator.specs.OpenDay.{EndsOf};
 ghost use Rattle.blotter.specs.Serving.{OpenDayServed};
 
 use crate::meanwhile::{OpenLines, take_back};
 use crate::serving::{both, open_desk};
 use crate::settling::{ended, report};
-use blot_lanes::{Peers, serve_lanes};
+use blot_desk::{Desk, Seat};
+use blot_gateway::FrameKeeper;
+use blot_lanes::{BrokerSeat, ListedPeer, Peers, serve_lanes};
+use blot_operator::OperatorSeat;
 use blot_sockets::Door;
-use blot_stream::ServeFault;
+use blot_stream::{ReplayFault, ServeFault};
 use blot_time::Day;
 use blot_types::Text64;
 use log::Log;
-use std::alloc::Global;
+use std::alloc::{AllocError as NoMemory, Global};
 use std::io::{Read, Write};
 use std::net::{OpenListener, OpenStream};
 use std::sync::Wait;
 use std::sync::ledger::{Blank, Ledger};
 use std::thread::Threads;
 use std::time::Clock;
+
+// The name of the operator whose lines come by standard input.
+const OPERATOR: &[u8] = b"operator";
+
+/// What a desk that was served in lanes leaves: the seats of the brokers and of the operator, and how the operator's lines ended.
+#[derive(Drop)]
+pub(crate) struct Served<L: Ledger, K: FrameKeeper> {
+    pub(crate) desk: Desk<L, K>,
+    pub(crate) brokers: Vec<Seat<L>>,
+    pub(crate) operator: Seat<L>,
+    pub(crate) answered: Result<(), ReplayFault>,
+}
 
 /// Serves an open day: each listed peer may connect at any time, leave and come back, whatever the others do, in so many lanes; and meanwhile
 /// an operator's lines are answered, through a seat of their own. Each peer has one session and one seat for the whole day. Where the
@@ -64,10 +81,54 @@ where
     if brokers == u32::MAX {
         return Err(ServeFault::NoMemory);
     }
+    let (desk, seats, operator) = open_desk::<L>(alloc, blank, brokers)?;
+    let listed = first_peers(alloc, peers, seats)?;
+    let operator = OperatorSeat::new(operator, own, Text64::of(OPERATOR), 0);
+    let served = serve_desk(
+        rt, alloc, desk, listener, door, lanes, own, peers, listed, operator, input, output,
+    )?;
+    let Served {
+        desk,
+        brokers,
+        operator,
+        answered,
+    } = served;
+    let reported = report(rt, alloc, desk, brokers, operator, day, output);
+    ended(both(Ok(()), answered), reported)
+}
+
+/// Serves the connections of listed peers at a desk, and answers an operator's lines meanwhile.
+pub(crate) fn serve_desk<L, R, N, H, I, O, K>(
+    rt: &R,
+    alloc: Global,
+    desk: Desk<L, K>,
+    listener: &N,
+    door: &Door<H>,
+    lanes: u16,
+    own: Text64,
+    peers: &[Text64],
+    listed: Vec<ListedPeer<L>>,
+    operator: OperatorSeat<L>,
+    input: &mut I,
+    output: &mut O,
+) -> Result<Served<L, K>, ServeFault>
+where
+    L: Ledger + Send + Sync,
+    R: Threads + Wait + Clock + Log + Sync,
+    N: OpenListener + Sync,
+    N::Stream: Read + Write + OpenStream + Send,
+    H: OpenStream + Sync,
+    I: Read,
+    O: Write,
+    K: FrameKeeper + Send + Sync,
+    ensures submits { IfOk result (λ served. All (λ receipts. are_submits receipts ≡ true) served.brokers.items) }
+    ensures told { IfOk result (λ served. OnOk served.answered (HeardOf (open_ways K.IsKept) operator (I.remaining input.old) served.operator
+        (O.contents output.old) (O.contents output.new))) }
+    ensures read_to_the_end { IfOk result (λ served. OnOk served.answered (EndsOf true (I.remaining input.old) (I.remaining input.new))) }
+{
     // Room for all seats, so that the end of the day asks for no memory to gather them.
     let room = Vec::with_capacity(alloc, peers.len().saturating_add(1))?;
-    let (desk, seats, operator) = open_desk::<L>(alloc, blank, brokers)?;
-    let Ok(peers) = Peers::new(alloc, own, peers, seats) else {
+    let Ok(peers) = Peers::new(alloc, own, peers, listed) else {
         return Err(ServeFault::NoMemory);
     };
     let lines = OpenLines {
@@ -83,7 +144,30 @@ where
         rt, alloc, listener, &peers, &desk, door, lanes, lines,
     )?;
     take_back(input);
+    take_back(output);
     let brokers = peers.into_seats(room)?;
-    let reported = report(rt, alloc, desk, brokers, operator, day, output);
-    ended(both(Ok(()), answered), reported)
+    Ok(Served {
+        desk,
+        brokers,
+        operator: operator.into_seat(),
+        answered,
+    })
+}
+
+// The listed peers of a day that begins, each with one of the seats. Its session expects number 1, and sends number 1 next.
+fn first_peers<L: Ledger>(
+    alloc: Global,
+    peers: &[Text64],
+    seats: Vec<Seat<L>>,
+) -> Result<Vec<ListedPeer<L>>, NoMemory>
+    requires count { vec_len seats ≡ length peers.now }
+    requires empty { All (λ receipts. receipts ≡ []) seats.items }
+{
+    let mut listed = Vec::with_capacity(alloc, peers.len())?;
+    let mut seats = seats.into_iter();
+    for peer in peers {
+        let seat = BrokerSeat::new(seats.next().unwrap(), 0);
+        listed.push(ListedPeer::new(*peer, seat, 1, 1))?;
+    }
+    Ok(listed)
 }

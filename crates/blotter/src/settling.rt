@@ -1,21 +1,23 @@
 //! The end of a day: the seats are settled with the desk, and the report of the day is written.
-ghost use Rattle.std.specs.Prelude.{◌≡◌, ◌≢◌, [], ◌∷◌, ◌++◌, Err, IfOk, IfErr, OnOk, IsOk};
+ghost use Rattle.std.specs.Prelude.{◌≡◌, ◌≢◌, List, [], ◌∷◌, ◌++◌, Err, IfOk, IfErr, OnOk, IsOk, length};
 ghost use Rattle.std.specs.Io.KnownBytes.{Appends};
+ghost use Rattle.blot_desk.specs.declared.event.Event.{Event};
 ghost use Rattle.blot_desk.specs.Desk.{IsRun, list_after};
+ghost use Rattle.blot_desk.specs.Keeping.{IsBeginning};
 ghost use Rattle.blot_desk.specs.Receipts.{IsSettled};
 ghost use Rattle.blot_report.specs.Text.{report_of};
-ghost use Rattle.blotter.specs.Serving.{Reported, settling_fault};
+ghost use Rattle.blotter.specs.Serving.{KeptReported, Reported, ReportedOf, settling_fault};
 
-use blot_desk::{Closed, Desk, DeskFault, Held, Seat, Settled};
+use blot_desk::{Closed, Desk, DeskFault, Held, Keeper, Seat, Settled};
 use blot_report::{day_lines_parallel, report_text};
-use blot_stream::{ServeFault, write_text};
+use blot_stream::{ReplayFault, ServeFault, write_text};
 use blot_time::Day;
 use std::alloc::{AllocError as NoMemory, Global};
 use std::io::Write;
 use std::sync::ledger::Ledger;
 use std::thread::Threads;
 
-/// Settles the seats with the desk, and writes the report of the day.
+/// Settles the seats with a desk that keeps no events, and writes the report of the day.
 pub(crate) fn report<L: Ledger, R: Threads + Sync, O: Write>(
     rt: &R,
     alloc: Global,
@@ -28,7 +30,56 @@ pub(crate) fn report<L: Ledger, R: Threads + Sync, O: Write>(
     ensures reported { OnOk result (Reported day (brokers.items ++ (operator ∷ [])) (O.contents output.old) (O.contents output.new)) }
     ensures connected { result ≢ Err ServeFault.Connection }
 {
-    match settled(desk, brokers, operator) {
+    let (reported, _) = report_kept(rt, alloc, desk, brokers, operator, day, output);
+    reported
+}
+
+/// Makes the events of a desk durable, settles the seats with it, and writes the report of the day. What keeps the events is handed back.
+pub(crate) fn report_kept<L: Ledger, K: Keeper, R: Threads + Sync, O: Write>(
+    rt: &R,
+    alloc: Global,
+    desk: Desk<L, K>,
+    brokers: Vec<Seat<L>>,
+    operator: Seat<L>,
+    day: Day,
+    output: &mut O,
+) -> (Result<(), ServeFault>, K)
+    ensures reported { OnOk result.0 (KeptReported K.IsKept (K.events result.1) day (brokers.items ++ (operator ∷ []))
+        (O.contents output.old) (O.contents output.new)) }
+    ensures connected { result.0 ≢ Err ServeFault.Connection }
+
+    // All of it is durable before a byte of the report is written.
+    ensures durable { OnOk result.0 (K.durable result.1 ≡ length (K.events result.1)) }
+
+    // A crash now leaves a beginning of these events with all that are durable, and one at any moment since the keeper was opened would have
+    // left a beginning of them, whatever the callers did.
+    ensures now { (events_left : List Event) → K.leaves result.1 events_left → IsBeginning (K.durable result.1) (K.events result.1) events_left }
+    ensures ever { (events_left : List Event) → K.left result.1 events_left → IsBeginning (K.found result.1) (K.events result.1) events_left }
+{
+    let (closed, mut keeper) = desk.close_kept();
+    let synced = keeper.sync();
+    keeper.ever();
+    if synced.is_err() {
+        return (Err(ServeFault::Lines(ReplayFault::Journal)), keeper);
+    }
+    let reported = report_closed(rt, alloc, closed, brokers, operator, day, output);
+    (reported, keeper)
+}
+
+// Settles the seats with a desk that is closed, and writes the report of the day.
+fn report_closed<L: Ledger, R: Threads + Sync, O: Write>(
+    rt: &R,
+    alloc: Global,
+    closed: Closed<L>,
+    brokers: Vec<Seat<L>>,
+    operator: Seat<L>,
+    day: Day,
+    output: &mut O,
+) -> Result<(), ServeFault>
+    ensures reported { OnOk result (ReportedOf closed.held.history day (brokers.items ++ (operator ∷ [])) (O.contents output.old) (O.contents output.new)) }
+    ensures connected { result ≢ Err ServeFault.Connection }
+{
+    match settled(closed, brokers, operator) {
         Ok(held) => write_report(rt, alloc, held, day, output),
         Err(fault) => Err(fault),
     }
@@ -36,16 +87,17 @@ pub(crate) fn report<L: Ledger, R: Threads + Sync, O: Write>(
 
 // What the desk held, once the receipts of all seats agree with its history.
 fn settled<L: Ledger>(
-    desk: Desk<L>,
+    closed: Closed<L>,
     brokers: Vec<Seat<L>>,
     operator: Seat<L>,
 ) -> Result<Held, ServeFault>
     ensures settled { IfOk result (λ held. IsSettled held.history (brokers.items ++ (operator ∷ []))) }
+    ensures same { IfOk result (λ held. held ≡ closed.held) }
     ensures run { IfOk result IsRun }
     ensures connected { result ≢ Err ServeFault.Connection }
 {
     let seats = all_seats(brokers, operator)?;
-    match desk.close().settle(seats) {
+    match closed.settle(seats) {
         Ok(settled) => Ok(held_of(settled)),
         Err(refused) => Err(unsettled(refused)),
     }

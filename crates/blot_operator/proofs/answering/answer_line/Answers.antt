@@ -11,8 +11,8 @@ returns-clause-ok g c =
     record {
       answer = c.in_ok-answer.answer;
       answered = c.in_ok-answer.ensures.ok;
-      written = subst (Appends (g.W.Write.contents c.args.output.now) (g.W.Write.contents c.write_text.new.output))
-          (c.deref.ensures.value ∙ c.in_ok-text.ensures) c.in_ok-write_text.ensures.ok;
+      written = subst (Appends (g.W.Write.contents c.args.output.now) (g.W.Write.contents c.tell.new.output))
+          (c.deref.ensures.value ∙ c.in_ok-text.ensures) c.in_ok-tell.ensures.ok;
     }
 
 pub returns-clause-closed : goal.returns-clause-closed
@@ -29,10 +29,10 @@ returns-in_err-text-clause-err g c =
       written = Appends-nil (g.W.Write.contents c.args.output.now);
     }))
 
-pub returns-in_err-write_text-clause-err : goal.returns-in_err-write_text-clause-err
-returns-in_err-write_text-clause-err g c =
-    let wrote = c.in_err-write_text.ensures.err in
-    err-always c.from_residual-in_err-write_text.result (inr (record {
+pub returns-in_err-tell-clause-err : goal.returns-in_err-tell-clause-err
+returns-in_err-tell-clause-err g c =
+    let wrote = c.in_err-tell.ensures.err in
+    err-always c.from_residual-in_err-tell.result (inr (record {
       answer = c.in_ok-answer.answer;
       answered = c.in_ok-answer.ensures.ok;
       front = wrote.0;

@@ -1,7 +1,9 @@
 use Rattle.std.proofs.Common.{◌≡◌, sym, subst, ap, ◌∙◌}
-use Rattle.blot_session.specs.Calls.{on_frame}
+use Rattle.std.proofs.lemmas.Result.{IfOk-weaker}
+use Rattle.blot_session.specs.Calls.{Gives, on_frame}
 use Rattle.blot_session.specs.States.{closed, IsIdle}
 use Rattle.blot_session.proofs.DeliveryLemmas.{alone-taken, frame-peer, behind-taken}
+use Rattle.blot_session.proofs.OwnLemmas.{delivers_own}
 use Rattle.blot_session.proofs.session.Session.on_said.Goals as goal
 
 pub returns-clause-peer : goal.returns-clause-peer
@@ -18,3 +20,9 @@ returns-clause-alone c =
     let state = c.self.inside.state in
     alone-taken (λ actions. actions.items) state c.args.said.now c.args.now c.take_said.result c.take_said.new.state
     (subst IsIdle (sym c.self.view_is) c.requires.idle) c.take_said.ensures.ok
+
+pub returns-clause-own : goal.returns-clause-own
+returns-clause-own c text is =
+    let state = c.self.inside.state in
+    IfOk-weaker c.take_said.result _ _
+    (λ actions gives. delivers_own state c.take_said.new.state actions.items text c.args.now (subst (λ said. Gives (on_frame state said c.args.now) c.take_said.new.state actions) is gives)) c.take_said.ensures.ok
