@@ -2,16 +2,16 @@
 _blotter() {
     local word=${COMP_WORDS[COMP_CWORD]} before=${COMP_WORDS[COMP_CWORD - 1]} words
     case $before in
-        --capture) mapfile -t COMPREPLY < <(compgen -f -- "$word"); return ;;
+        --capture | --journal) mapfile -t COMPREPLY < <(compgen -f -- "$word"); return ;;
         --day) mapfile -t COMPREPLY < <(compgen -W "$(date +%Y%m%d)" -- "$word"); return ;;
         --own | --port | --lanes | --sessions | --rounds) COMPREPLY=(); return ;;
     esac
     case ${COMP_CWORD}:${COMP_WORDS[1]} in
         1:*) words='replay desk audit serve help -h --help -V --version' ;;
         *:replay) words='--own --day -h --help' ;;
-        *:desk) words='--own --capture -h --help' ;;
-        *:audit) words='--own -h --help' ;;
-        *:serve) words='--own --day --port --lanes --sessions --rounds -h --help' ;;
+        *:desk) words='--own --capture --journal -h --help' ;;
+        *:audit) words='--own --journal -h --help' ;;
+        *:serve) words='--own --day --port --lanes --journal --sessions --rounds -h --help' ;;
         *:help) words='replay desk audit serve' ;;
         *) words='' ;;
     esac

@@ -11,6 +11,7 @@ complete -c blotter -n __fish_use_subcommand -s V -l version -d 'Print the versi
 complete -c blotter -n '__fish_seen_subcommand_from replay desk audit serve' -l own -x -d 'Your own CompID'
 complete -c blotter -n '__fish_seen_subcommand_from replay serve' -l day -x -a '(date +%Y%m%d)' -d 'The trading day'
 complete -c blotter -n '__fish_seen_subcommand_from desk' -l capture -r -F -d 'The file with the capture'
+complete -c blotter -n '__fish_seen_subcommand_from desk audit serve' -l journal -r -F -d 'The file that a day is kept in'
 complete -c blotter -n '__fish_seen_subcommand_from serve' -l port -x -d 'The TCP port'
 complete -c blotter -n '__fish_seen_subcommand_from serve' -l lanes -x -d 'Connections served at once'
 complete -c blotter -n '__fish_seen_subcommand_from serve' -l sessions -x -d 'Connections of a round'

@@ -71,6 +71,24 @@ ROWS = [
 ]
 
 
+EARLY = told(9, '0')
+WHOLE = kept(BOOKED + wrapped(2, EARLY))
+
+# Why a file isn't taken up by MO on 20240105 with these peers.
+FAULTS = [
+    ('one that is taken up', WHOLE, ['BRKA'], None),
+    ('a peer is added', WHOLE, ['NEW', 'BRKA'], None),
+    ('a peer that is left out', WHOLE, ['BRKB'], "has a message of BRKA, which isn't listed"),
+    ('a text file', TRADED * 20, ['BRKA'], 'is no journal'),
+    ('cut by one byte', WHOLE[:-1], ['BRKA'], f'is damaged at byte {len(WHOLE) - 1}'),
+    ('its first frame changed', WHOLE.replace('75=20240105', '75=20240106', 1), ['BRKA'], f'is damaged at byte {plain.HEAD}'),
+    ('its Trade changed', WHOLE.replace('32=100', '32=101', 1), ['BRKA'], f'is damaged at byte {plain.HEAD + len(LOGON)}'),
+    ('of another day', kept(frame('UD', 'MO', 'MO', 1, '75=20240108|')), ['BRKA'], 'is the journal of MO, 20240108'),
+    ('of another blotter', kept(frame('UD', 'MX', 'MX', 1, '75=20240105|')), ['BRKA'], 'is the journal of MX, 20240105'),
+    ('a second beginning', kept(BEGUN + BEGUN), ['BRKA'], f'is damaged at byte {plain.HEAD + len(BEGUN)}'),
+]
+
+
 def shown(party, event):
     """An event in words that a row can hold: the party, its name, the kind, and the number or the identifier."""
     return (*party, event.kind, event.key[1]) if isinstance(event, plain.Command) else (*party, type(event).__name__, *event)
@@ -147,6 +165,9 @@ def checks():
     yield 'shorter than a head', read(kept('')[:-1]), 'no journal'
     yield 'a text file', read(TRADED * 20), 'no journal'
     yield 'an empty text', read(kept('')), 'no beginning'
+    yield 'what was received', plain.received(WHOLE), told(1, 'A', '98=0|108=30|') + told(2, '8', TRADE.format('E1')) + EARLY
+    for name, file, peers, wanted in FAULTS:
+        yield name, plain.journal_fault(file, 'MO', '20240105', peers), wanted
     for seed in SEEDS:
         yield f'seed {seed}', *written(seed)
     yield 'the order line', line_of(TRADED), ('MO', '20240105', 'order\tBRKA\tO1\tXYZ\tB\t100\t200\t1050\n')

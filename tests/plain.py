@@ -5,6 +5,8 @@
   answers(capture, own, peers, lines)    what `blotter desk` prints to an operator's lines
   Day(own, peers).take(frame)            one message, with what became of it
   journal(file)                          what a day's journal keeps: its events, the desk after them, and each peer's numbers
+  received(file)                         the messages in it that were received, as they came
+  journal_fault(file, own, day, peers)   why it isn't taken up, in the words that follow its name, or None
 
 Each rule stands once, in the order and the words of docs/FORMATS.md, docs/SESSION.md and docs/DEFINITIONS.md; where the two
 programs differ, the page says which is wrong. Nothing is kept that can be worked out: each answer is computed anew from the list
@@ -1065,13 +1067,14 @@ def numbers_of(frames, own, peer, before=(1, 1)):
 
 
 def step(desk, event):
+    """The desk's answer to an event."""
     match event:
         case Undo(number):
-            desk.undo(number)
+            return desk.undo(number)
         case Redo():
-            desk.redo()
+            return desk.redo()
         case command:
-            desk.submit(command)
+            return desk.submit(command)
 
 
 def journal(file):
@@ -1087,3 +1090,36 @@ def journal(file):
     peers = sorted({it for head in heads if head for it in (head.sender, head.target)} - {own})
     numbers = {peer: numbers_of(frames, own, peer) for peer in peers}
     return Journal(own, first(fields_of(frames[0])[0], 75, day), events, desk, numbers)
+
+
+def received(file):
+    """The messages of a journal that were received, as they came, one behind the other: those that their session didn't take too."""
+    messages, own = '', None
+    for what, _, piece in pieces_of(text_of(file)):
+        head, _ = message_of(piece) if what == 'message' else (None, None)
+        if head and head.kind == 'UD':
+            own = head.sender
+        elif head and head.kind == 'UR':
+            messages += values_of(fields_of(piece)[0], 96)[0]
+        elif head and head.sender != own:
+            messages += piece
+    return messages
+
+
+def journal_fault(file, own, dated, peers):
+    """Why a journal isn't taken up by a blotter of this name, day and peers, in the words behind the file's name: None where it is."""
+    try:
+        text = text_of(file)
+    except NoJournal as why:
+        return 'is no journal' if str(why) == 'no journal' else f'is damaged at byte {len(file)}'
+    for what, offset, piece in pieces_of(text):
+        head, _ = message_of(piece) if what == 'message' else (None, None)
+        if not head or (head.kind == 'UD') != (offset == 0):
+            return f'is damaged at byte {HEAD + offset}'
+        named = first(fields_of(piece)[0], 75, day) if offset == 0 else dated
+        if offset == 0 and (head.sender, named) != (own, dated):
+            return f'is the journal of {head.sender}, {named}'
+        for party in (head.sender, head.target):
+            if party not in (own, *peers):
+                return f"has a message of {party}, which isn't listed"
+    return None

@@ -12,10 +12,13 @@ import datetime
 import itertools
 import os
 import queue
+import pathlib
 import re
+import shutil
 import socket
 import struct
 import subprocess
+import tempfile
 import threading
 import time
 
@@ -30,6 +33,7 @@ CLOSED = re.compile(r'(\S+) is closed after (\d+) to (\d+) seconds')
 NOBODY = re.compile(r'nobody listens at (\S+)')
 ROOM = re.compile(r'the program has (\d+) (MB|open files)')
 SOON = re.compile(r'the program ends within (\d+) seconds')
+AGAIN = re.compile(r'the program is killed and begun again( with the copy)?')
 GETS = re.compile(r'(\S+) gets (35=.*?)(?: within (\d+) seconds)?')
 
 
@@ -84,17 +88,38 @@ def begin(command, said):
     if room:
         limit = f'-v {1024 * int(room[1])}' if room[2] == 'MB' else f'-n {room[1]}'
         command = ['sh', '-c', f'ulimit {limit} && exec "$@"', 'sh', *command]
-    source = subprocess.PIPE if said['lines'] else os.open('/', os.O_RDONLY)
+    talk = {'errors': [], 'begun': now(), 'wires': {}, 'numbers': {}, 'own': {}, 'differences': [], 'wanted_rest': []}
+    run(talk, command, said['lines'])
+    return talk
+
+
+def run(talk, command, has_lines=True):
+    """Runs the program in a conversation, which may have gone on before."""
+    source = subprocess.PIPE if has_lines else os.open('/', os.O_RDONLY)
     process = subprocess.Popen(command, stdin=source, stdout=subprocess.PIPE, stderr=subprocess.PIPE)
-    if not said['lines']:
+    if not has_lines:
         os.close(source)
-    lines, errors = queue.Queue(), []
+    lines = queue.Queue()
     threads = [threading.Thread(target=put_lines, args=(process.stdout, lines)),
-               threading.Thread(target=lambda: errors.append(process.stderr.read()))]
+               threading.Thread(target=lambda: talk['errors'].append(process.stderr.read()))]
     for thread in threads:
         thread.start()
-    return {'process': process, 'lines': lines, 'errors': errors, 'threads': threads, 'begun': now(),
-            'wires': {}, 'numbers': {}, 'own': {}, 'differences': [], 'wanted_rest': []}
+    talk.update(process=process, lines=lines, threads=threads, command=command)
+
+
+def begin_again(talk, has_copy):
+    """Kills the program, so that all connections end, and begins it again, at the journal that it left or at the copy of an earlier one."""
+    talk['process'].kill()
+    talk['process'].wait()
+    for thread in talk['threads']:
+        thread.join()
+    for wire in talk['wires'].values():
+        wire['socket'].close()
+    talk['wires'].clear()
+    close_lines(talk)
+    if has_copy:
+        shutil.copyfile(talk['copy'], talk['journal'])
+    run(talk, talk['command'])
 
 
 def connect(talk, label, port):
@@ -242,6 +267,13 @@ def label_of(text):
 
 def deed_of(talk, port, number, text):
     """What a peer does."""
+    again = AGAIN.fullmatch(text)
+    if again:
+        begin_again(talk, again[1])
+        return
+    if text == 'the journal is copied':
+        shutil.copyfile(talk['journal'], talk['copy'])
+        return
     if text == 'half a second passes':
         time.sleep(0.5)
         return
@@ -270,7 +302,10 @@ def end_lines(talk, answers):
 
 def close_lines(talk):
     if talk['process'].stdin:
-        talk['process'].stdin.close()
+        try:
+            talk['process'].stdin.close()
+        except BrokenPipeError:
+            pass
 
 
 def kind_of(line):
@@ -309,11 +344,19 @@ def finish(talk):
 
 
 def played(command, port, body, seconds):
-    """Plays a body, a list of lines with their numbers and answers, to its end or until the seconds are over."""
+    """Plays a body, a list of lines with their numbers and answers, to its end or until the seconds are over. The word JOURNAL is a file of its own."""
+    with tempfile.TemporaryDirectory(prefix='played-') as room:
+        journal = pathlib.Path(room, 'journal')
+        words = [str(journal) if word == b'JOURNAL' else word for word in command]
+        return played_at(words, port, body, seconds, journal)
+
+
+def played_at(command, port, body, seconds, journal):
     first, said = conditions([text for _, text, _ in body])
     taken = take(port) if said['port'] else None
     talk, begun = begin(command, said), time.monotonic()
-    alarm = threading.Timer(seconds, talk['process'].kill)
+    talk.update(journal=journal, copy=journal.with_name('copy'))
+    alarm = threading.Timer(seconds, lambda: talk['process'].kill())
     alarm.start()
     try:
         converse(talk, port, body[first:])

@@ -17,7 +17,7 @@ use Rattle.blot_diary.specs.Records.{keeps}
 pub line_spelled : {V E : Type 0} (items : V → List ℕ) (made : Result (Option V) E) (line own operator : List ℕ) (number : ℕ) (event : Event) → event_of_line line ≡ Some event
     → IfOk made (λ made. IfSome made (λ text. IsFrame (items text)))
     → IfOk made (λ made. IfSome made (λ text. (event : Event) → event_of_line line ≡ Some event
-        → kept_of (fields_of (items text)) ≡ Some (keeps own own number (Asked operator event))))
+    → kept_of (fields_of (items text)) ≡ Some (keeps own own number (Asked operator event))))
     → IfOk made (λ made. IfSome made (λ text. IsSpelled (λ text event. IsFrame text × (event_in text ≡ Some event)) (items text) event))
 line_spelled items (Ok (Some text)) line own operator number event asks valid kept = λ asked.
     (valid, ap (λ kept. option_map (λ (noted : Noted). noted.event) (option_and_then noted_of kept)) (kept event asks))

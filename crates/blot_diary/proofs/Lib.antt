@@ -1,3 +1,4 @@
+pub mod AskLemmas
 pub mod FoldLemmas
 pub mod KeptLemmas
 mod OneLemmas

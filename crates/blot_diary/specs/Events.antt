@@ -1,5 +1,5 @@
 -- The events of a journal: those that its frames bring, in their order, each with who brought it.
-use Rattle.std.specs.Prelude.{◌≡◌, ℕ, List, [], ◌∷◌, ◌++◌, Option, Some, None, Ok}
+use Rattle.std.specs.Prelude.{◌≡◌, ℕ, false, List, [], ◌∷◌, ◌++◌, Option, Some, None, Ok}
 use Rattle.std.specs.List.{filter_map}
 use Rattle.std.specs.Option.{option_and_then}
 use Rattle.blot_tag.specs.Fields.{Item, fields_of}
@@ -10,6 +10,7 @@ use Rattle.blot_fields.specs.Commands.{command_of}
 use Rattle.blot_fields.specs.Decoding.{decoded}
 use Rattle.blot_fields.specs.declared.message.Message.{Message}
 use Rattle.blot_desk.specs.declared.event.Event.TheVariants.{Submit}
+use Rattle.blot_desk.specs.Keeping.{is_ask}
 use Rattle.blot_diary.specs.declared.kept.Content.{Content}
 use Rattle.blot_diary.specs.declared.kept.Content.TheVariants as contents
 use Rattle.blot_diary.specs.declared.kept.Kept.{Kept}
@@ -56,3 +57,7 @@ BringsLast frames frame noted = events_in (frames ++ frame ∷ []) ≡ with_last
 abbrev pub IsItsSubmit : List Item → Type 0
 IsItsSubmit items = (message : Message) (command : Command) → decoded items ≡ Ok message → command_of message message.head.sender ≡ Some command
     → option_and_then noted_of (kept_of items) ≡ Some (record { party = Peer message.head.sender; event = Submit command })
+
+-- no frame of these fields brings an event that only asks
+abbrev pub BringsNoAsk : List Item → Type 0
+BringsNoAsk items = (noted : Noted) → option_and_then noted_of (kept_of items) ≡ Some noted → is_ask noted.event ≡ false

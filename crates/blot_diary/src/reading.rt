@@ -3,7 +3,7 @@ ghost use Rattle.std.specs.Prelude.{◌≡◌, ℕ, List, IfOk, IfSome, IsErr, I
 ghost use Rattle.blot_tag.specs.Fields.{fields_of};
 ghost use Rattle.blot_tag.specs.Views.{items_of};
 ghost use Rattle.blot_fields.specs.Commands.{command_of};
-ghost use Rattle.blot_diary.specs.Events.{IsItsSubmit};
+ghost use Rattle.blot_diary.specs.Events.{BringsNoAsk, IsItsSubmit};
 ghost use Rattle.blot_diary.specs.Keeping.{IsKept, IsOnAllocation, SaysInRange, TakesMemory, content_of, kept_of};
 
 use crate::kinds::{Kind, kind_of};
@@ -16,13 +16,16 @@ use std::alloc::{AllocError as NoMemory, Global};
 
 /// What a frame of a journal keeps; none of one that is no message without a fault. An error is out of memory: only the lists of an
 /// allocation take memory. This project's rule.
-#[tactic(auto, using(crate::proofs::KeptLemmas::its_submit), unfolding(crate::specs::Keeping::kept_of))]
+#[tactic(auto, using(crate::proofs::AskLemmas::brings_no_ask, crate::proofs::KeptLemmas::its_submit), unfolding(crate::specs::Keeping::kept_of))]
 pub fn read_kept(alloc: Global, frame: &Frame) -> Result<Option<Kept>, NoMemory>
     ensures value { IfOk result (λ kept. kept ≡ kept_of (items_of frame.now)) }
     ensures memory { IsErr result → IsSomeAnd (kept_of (items_of frame.now)) (λ kept. TakesMemory kept.content) }
 
     // A frame that gives a command, as its own sender's, is the submit of it by that sender.
     ensures submit { (text : List ℕ) → IsItsSubmit (fields_of text) }
+
+    // None brings an event that only asks.
+    ensures no_ask { (text : List ℕ) → BringsNoAsk (fields_of text) }
 
     // Each number that it keeps is one that a session can have.
     ensures range { IfOk result (λ kept. IfSome kept IsKept) }

@@ -1,3 +1,4 @@
+mod AskingLemmas
 mod DialogueLemmas
 mod LineLemmas
 mod OpenDayLemmas

@@ -12,7 +12,6 @@ use Rattle.blot_types.specs.declared.TheConstants.{EVENTS_MAX}
 use Rattle.blot_desk.specs.declared.event.Event.{Event}
 use Rattle.blot_desk.specs.declared.event.Event.TheVariants.{Submit}
 use Rattle.blot_desk.specs.declared.event.Reply.{Reply}
-use Rattle.blot_desk.specs.declared.fault.DeskFault.{DeskFault}
 use Rattle.blot_desk.specs.declared.fault.DeskFault.TheVariants.{Full, NoMemory, Broken, Unsettled}
 use Rattle.blot_desk.specs.Desk.{Journal, newest_entry_of, step_of, recorded_of}
 use Rattle.blot_console.specs.declared.answer.Answer.{Answer}
@@ -24,7 +23,7 @@ use Rattle.blot_console.specs.Answers.{answer_text}
 use Rattle.blot_console.specs.Parsing.{parsed}
 use Rattle.blot_operator.specs.declared.operated.Declined.{Declined}
 use Rattle.blot_operator.specs.declared.operated.Declined.TheVariants.{Desk, Unkept}
-use Rattle.blot_operator.specs.Dialogue.{answer_by, AnswersMine, Comes, AnswersAsk, AnswersLine, AnswersLines, TellsLines, Stops, StopsAmong, OwnStep, own_ways}
+use Rattle.blot_operator.specs.Dialogue.{answer_by, AnswersMine, Comes, AnswersAsk, AnswersLine, AnswersLines, TellsLines, Stops, StopsAmong, own_ways}
 use Rattle.blot_operator.specs.Operating.{asked_by, with_key, telling, told_event, told_mine, told_ask, answer_to, told_on, told_over, StoppedIn}
 
 -- an event that is recorded is told by its reply

@@ -133,11 +133,12 @@ fn withdraw_newest<D: Operated>(
 // The line that withdraws the entry of a number. An error is out of memory.
 fn withdrawal_line(alloc: Global, number: u64) -> Result<Vec<u8>, NoMemory>
     ensures text { IfOk result (λ line. line.items ≡ withdrawal_text number) }
+
+    // It asks for this, as a number has nine digits at most.
+    ensures asks { number < 10 ^ 9 → IfOk result (λ line. parsed line.items ≡ Ok (Ask.Step (Submit (Withdraw number)))) }
 {
-    let word = format!(in alloc; "withdraw\t{number}")?;
-    let mut line = Vec::new(alloc);
-    line.extend_from_slice(word.as_bytes())?;
-    Ok(line)
+    let line = format!(in alloc; "withdraw\t{number}")?;
+    Ok(line.into_bytes())
 }
 
 // Takes an event, for which this line asks: the reply to it, that no more events are taken, or that the line can't be kept. An error comes

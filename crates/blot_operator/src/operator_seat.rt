@@ -17,8 +17,8 @@ use std::sync::Wait;
 use std::sync::ledger::Ledger;
 use std::time;
 
-/// The seat of an operator, with whom the records of its events name, and how many there are of them. A contract sees it as the seat's
-/// receipts.
+/// The seat of an operator, the names that stand in the records of the operator's events, and how many of these there are. A contract sees it
+/// as the seat's receipts.
 #[derive(Drop)]
 pub struct OperatorSeat<L: Ledger> {
     seat: Seat<L>,
@@ -35,8 +35,7 @@ impl<L: Ledger> Model for OperatorSeat<L> {
 }
 
 impl<L: Ledger> OperatorSeat<L> {
-    /// The seat of an operator of this name at the desk of a blotter with this CompID, and how many records of events there are of the
-    /// operator.
+    /// The seat of an operator of this name, with the blotter's CompID (`own`), and how many records there are of the operator's events.
     pub fn new(seat: Seat<L>, own: Text64, name: Text64, records: u64) -> OperatorSeat<L>
         ensures { result ≡ seat }
     {

@@ -1,6 +1,6 @@
 -- What the words of the command line ask for.
-use Rattle.std.specs.Prelude.{◌≡◌, ◌≢◌, ℕ, ◌+◌, ◌*◌, ◌<◌, ◌≤◌, ℤ, min, Bool, true, false, List, [], ◌∷◌, codes, length, Option, Some, None, IsSome, IsSomeAnd, IsTrue, option_map, ⊤}
-use Rattle.std.specs.List.{IsDistinct, list_all}
+use Rattle.std.specs.Prelude.{◌≡◌, ◌≢◌, ℕ, ◌+◌, ◌*◌, ◌<◌, ◌≤◌, ℤ, min, Bool, true, false, List, [], ◌∷◌, codes, length, Option, Some, None, IfSome, IsSomeAnd, IsTrue, is_some, option_map, ⊤}
+use Rattle.std.specs.List.{IsDistinct, list_all, list_any}
 use Rattle.std.specs.Str.Parse.{IsNumeral, digits_value, without_leading_plus}
 use Rattle.clap.specs.Matches.{first_value, found_of, matched_of, one_text, raw_values}
 use Rattle.clap.specs.declared.parser.matches.ArgMatches.{ArgMatches}
@@ -10,6 +10,8 @@ use Rattle.blot_types.specs.Text.{is_text}
 use Rattle.blot_words.specs.declared.command_line.TheConstants.{LANES_MAX, PORT_MAX, ROUNDS_MAX, SESSIONS_MAX}
 use Rattle.blot_words.specs.declared.refusal.Refusal.{Refusal}
 use Rattle.blot_words.specs.declared.refusal.Refusal.TheVariants.{NoMemory}
+use Rattle.blot_words.specs.declared.words.DeskSource.{DeskSource}
+use Rattle.blot_words.specs.declared.words.DeskSource.TheVariants.{Capture, Journal}
 use Rattle.blot_words.specs.declared.words.Words.{Words}
 use Rattle.blot_words.specs.declared.words.Words.TheVariants.{Replay, Desk, Audit, Open, Serve}
 
@@ -19,8 +21,12 @@ pub record IsPeerList (peers : List (List ℕ)) : Type 0 where
   pub texts : list_all is_text peers ≡ true
   pub distinct : IsDistinct same_text peers
 
--- the words that clap found, by the option that they come after: one's own CompID, the day, the file with the capture, and all that name
--- a peer
+-- one's own CompID is none of these peers
+abbrev pub IsApart : List ℕ → List (List ℕ) → Type 0
+IsApart own peers = list_any (same_text own) peers ≡ false
+
+-- the words that clap found, by the option that they come after: one's own CompID, the day, the file with the capture, the file with the
+-- journal, and all that name a peer
 abbrev pub own_word : ArgMatches → Option (List ℕ)
 own_word matches = first_value (found_of matches) (codes "own")
 
@@ -29,6 +35,9 @@ day_word matches = first_value (found_of matches) (codes "day")
 
 abbrev pub capture_word : ArgMatches → Option (List ℕ)
 capture_word matches = first_value (found_of matches) (codes "capture")
+
+abbrev pub journal_word : ArgMatches → Option (List ℕ)
+journal_word matches = first_value (found_of matches) (codes "journal")
 
 abbrev pub peer_words : ArgMatches → Option (List (List ℕ))
 peer_words matches = option_map raw_values (matched_of (found_of matches) (codes "peer"))
@@ -57,16 +66,31 @@ pub record IsReplay (matches : ArgMatches) : Type 0 where
   pub day_text : IsDayWord matches
   pub peer_list : IsSomeAnd (peer_words matches) IsPeerList
 
--- the words of a desk: one's own CompID is a text, a file is named, and the peers are as above
+-- where these words name the file of a journal, one's own CompID is none of the peers
+abbrev pub AreApart : ArgMatches → Type 0
+AreApart matches = IfSome (journal_word matches) (λ _. IfSome (own_word matches) (λ own. IfSome (peer_words matches) (IsApart own)))
+
+-- a desk's file: of a capture, or of a journal
+abbrev pub capture_in : DeskSource → Option (List ℕ)
+capture_in (Capture file) = Some file.bytes.items
+capture_in (Journal file) = None
+
+abbrev pub journal_in : DeskSource → Option (List ℕ)
+journal_in (Capture file) = None
+journal_in (Journal file) = Some file.bytes.items
+
+-- the words of a desk: one's own CompID is a text, the file of either a capture or a journal is named, and the peers are as above
 pub record IsDesk (matches : ArgMatches) : Type 0 where
   pub own_text : IsOwnWord matches
-  pub file : IsSome (capture_word matches)
+  pub one_file : is_some (capture_word matches) ≢ is_some (journal_word matches)
   pub peer_list : IsSomeAnd (peer_words matches) IsPeerList
+  pub apart : AreApart matches
 
 -- the words of an audit: one's own CompID is a text, and the peers are as above
 pub record IsAudit (matches : ArgMatches) : Type 0 where
   pub own_text : IsOwnWord matches
   pub peer_list : IsSomeAnd (peer_words matches) IsPeerList
+  pub apart : AreApart matches
 
 -- the number that the digits of a word write, a plus before them passed over
 abbrev pub count_of : List ℕ → ℕ
@@ -78,9 +102,10 @@ pub record IsCount (most : ℕ) (word : List ℕ) : Type 0 where
   pub some : 1 ≤ count_of word
   pub few : count_of word ≤ most
 
--- the words of a server: as of a replay, and the port and the numbers of connections and rounds are counts
+-- the words of a server: as of a replay, and the port and the numbers of connections and rounds are counts; a day of rounds keeps no journal
 pub record IsServe (matches : ArgMatches) : Type 0 where
   pub as_replay : IsReplay matches
+  pub no_journal : journal_word matches ≡ None
   pub port_count : IsSomeAnd (count_word matches (codes "port")) (IsCount PORT_MAX)
   pub sessions_count : IsSomeAnd (count_word matches (codes "sessions")) (IsCount SESSIONS_MAX)
   pub rounds_count : IsSomeAnd (count_word matches (codes "rounds")) (IsCount ROUNDS_MAX)
@@ -95,6 +120,7 @@ pub record IsOpen (matches : ArgMatches) : Type 0 where
   pub as_replay : IsReplay matches
   pub port_count : IsSomeAnd (count_word matches (codes "port")) (IsCount PORT_MAX)
   pub lanes_count : IsCountOrNone LANES_MAX (count_word matches (codes "lanes"))
+  pub apart : AreApart matches
 
 -- how many lanes so many peers have by default: twice as many and two more, but no more than there may be
 abbrev pub default_lanes : ℕ → ℕ
@@ -109,33 +135,40 @@ lanes_by (Some word) peers = count_of word
 abbrev pub RulesOut : Type 0 → Refusal → Type 0
 RulesOut fact refusal = refusal ≢ NoMemory → fact → ⊥
 
--- one's own CompID, the day, the file with the capture, and the peers that the words name
+-- one's own CompID, the day, the file with the capture, the file with the journal, and the peers that the words name
 abbrev pub own_of : Words → List ℕ
 own_of (Replay own day peers) = own
-own_of (Desk own capture peers) = own
-own_of (Audit own peers) = own
-own_of (Open own day port lanes peers) = own
+own_of (Desk own from peers) = own
+own_of (Audit own journal peers) = own
+own_of (Open own day port lanes journal peers) = own
 own_of (Serve own day port sessions rounds peers) = own
 
 abbrev pub day_named : Words → Option ℤ
 day_named (Replay own day peers) = Some day
-day_named (Desk own capture peers) = None
-day_named (Audit own peers) = None
-day_named (Open own day port lanes peers) = Some day
+day_named (Desk own from peers) = None
+day_named (Audit own journal peers) = None
+day_named (Open own day port lanes journal peers) = Some day
 day_named (Serve own day port sessions rounds peers) = Some day
 
 abbrev pub capture_named : Words → Option (List ℕ)
 capture_named (Replay own day peers) = None
-capture_named (Desk own capture peers) = Some capture.bytes.items
-capture_named (Audit own peers) = None
-capture_named (Open own day port lanes peers) = None
+capture_named (Desk own from peers) = capture_in from
+capture_named (Audit own journal peers) = None
+capture_named (Open own day port lanes journal peers) = None
 capture_named (Serve own day port sessions rounds peers) = None
+
+abbrev pub journal_named : Words → Option (List ℕ)
+journal_named (Replay own day peers) = None
+journal_named (Desk own from peers) = journal_in from
+journal_named (Audit own journal peers) = option_map (λ file. file.bytes.items) journal
+journal_named (Open own day port lanes journal peers) = option_map (λ file. file.bytes.items) journal
+journal_named (Serve own day port sessions rounds peers) = None
 
 abbrev pub peers_of : Words → List (List ℕ)
 peers_of (Replay own day peers) = peers.items
-peers_of (Desk own capture peers) = peers.items
-peers_of (Audit own peers) = peers.items
-peers_of (Open own day port lanes peers) = peers.items
+peers_of (Desk own from peers) = peers.items
+peers_of (Audit own journal peers) = peers.items
+peers_of (Open own day port lanes journal peers) = peers.items
 peers_of (Serve own day port sessions rounds peers) = peers.items
 
 -- the port, and how many connections and rounds, of a day of rounds
@@ -145,25 +178,29 @@ counts_named words = []
 
 -- the port and the lanes of an open day
 abbrev pub port_named : Words → Option ℕ
-port_named (Open own day port lanes peers) = Some port
+port_named (Open own day port lanes journal peers) = Some port
 port_named words = None
 
 abbrev pub lanes_named : Words → Option ℕ
-lanes_named (Open own day port lanes peers) = Some lanes
+lanes_named (Open own day port lanes journal peers) = Some lanes
 lanes_named words = None
 
 -- whether they ask for an open day
 abbrev pub is_open : Words → Bool
-is_open (Open own day port lanes peers) = true
+is_open (Open own day port lanes journal peers) = true
 is_open words = false
 
 -- whether what the words ask for is written in one piece, at the end of the input
 abbrev pub is_written_last : Words → Bool
 is_written_last (Replay own day peers) = true
-is_written_last (Audit own peers) = true
+is_written_last (Audit own journal peers) = true
 is_written_last words = false
 
 -- whether they ask for an audit
 abbrev pub is_audit : Words → Bool
-is_audit (Audit own peers) = true
+is_audit (Audit own journal peers) = true
 is_audit words = false
+
+-- where they name the file of a journal, one's own CompID is none of the peers
+abbrev pub AreApartIn : Words → Type 0
+AreApartIn words = IfSome (journal_named words) (λ _. IsApart (own_of words) (peers_of words))

@@ -9,7 +9,7 @@ use clap::{Arg, Command};
 use std::alloc::{AllocError, Global};
 
 /// The version of the program, which `blotter --version` tells.
-pub const VERSION: &str = "1.1.0";
+pub const VERSION: &str = "1.2.0";
 /// The subcommand that replays a capture.
 pub const REPLAY: &str = "replay";
 /// The subcommand that keeps a desk for its operator.
@@ -24,6 +24,8 @@ pub const OWN: &str = "own";
 pub const DAY: &str = "day";
 /// The option with the file that holds a capture.
 pub const CAPTURE: &str = "capture";
+/// The option with the file that keeps a day.
+pub const JOURNAL: &str = "journal";
 /// The option with the TCP port.
 pub const PORT: &str = "port";
 /// The largest TCP port.
@@ -95,7 +97,10 @@ fn desk_command<'a>(alloc: Global) -> Result<Command<'a>, AllocError> {
         .after_long_help(AFTER_DESK)
         .arg_required_else_help(true)
         .arg(own_option(alloc))?
-        .arg(capture_option(alloc))?
+        .arg(capture_option(alloc)?)?
+        .arg(journal_option(alloc).help(
+            "A file with a journal, in place of a capture; it may be in use, and stays as it is",
+        ))?
         .arg(peer_words(alloc))
 }
 
@@ -110,6 +115,9 @@ fn audit_command<'a>(alloc: Global) -> Result<Command<'a>, AllocError> {
         .after_long_help(AFTER_AUDIT)
         .arg_required_else_help(true)
         .arg(own_option(alloc))?
+        .arg(journal_option(alloc).help(
+            "A file with a journal, whose messages are told of in place of standard input's",
+        ))?
         .arg(peer_words(alloc))
 }
 
@@ -129,6 +137,7 @@ fn serve_command<'a>(alloc: Global) -> Result<Command<'a>, AllocError> {
         .arg(lanes_option(alloc)?)?
         .arg(sessions_option(alloc))?
         .arg(rounds_option(alloc)?)?
+        .arg(kept_option(alloc)?)?
         .arg(peer_words(alloc))
 }
 
@@ -177,13 +186,29 @@ fn rounds_option<'a>(alloc: Global) -> Result<Arg<'a>, AllocError> {
         .requires_arg(SESSIONS)
 }
 
-// The option with the file that holds a capture.
-fn capture_option<'a>(alloc: Global) -> Arg<'a> {
+// The option with the file that holds a capture, in place of a journal.
+fn capture_option<'a>(alloc: Global) -> Result<Arg<'a>, AllocError> {
     Arg::new(alloc, CAPTURE)
         .long(CAPTURE)
         .value_name("FILE")
-        .required(true)
         .help("The file with the capture, as examples/first_trade.fix")
+        .required_unless_present(JOURNAL)?
+        .conflicts_with(JOURNAL)
+}
+
+// The option with the file that keeps a day, without what it's told to be for.
+fn journal_option<'a>(alloc: Global) -> Arg<'a> {
+    Arg::new(alloc, JOURNAL).long(JOURNAL).value_name("FILE")
+}
+
+// The option with the file that an open day is kept in. A day of rounds keeps none.
+fn kept_option<'a>(alloc: Global) -> Result<Arg<'a>, AllocError> {
+    journal_option(alloc)
+        .help(
+            "The file that the day is kept in, so that it outlives a crash: made anew, or gone on with",
+        )
+        .conflicts_with(SESSIONS)?
+        .conflicts_with(ROUNDS)
 }
 
 // The option with one's own CompID.

@@ -49,12 +49,14 @@ Exit status:
 pub const ABOUT_DESK: &str = "\
 Reads a capture from a file: the messages of one broker or of several, each broker's from its Logon on.
 Then it answers the lines that its operator types, or that come from standard input, each at once and
-to the end of the input.";
+to the end of the input. With --journal it answers by the file that a served day is kept in, also while
+the day goes on, as far as it has come. What an operator changes here isn't kept.";
 
 /// What `desk -h` ends with.
 pub const DESK_EXAMPLE: &str = "\
 Example:
-  blotter desk --own MO --capture examples/first_trade.fix BRKA";
+  blotter desk --own MO --capture examples/first_trade.fix BRKA
+  blotter desk --own MO --journal 20240105.journal BRKA";
 
 /// What `desk --help` ends with.
 pub const AFTER_DESK: &str = "\
@@ -114,12 +116,14 @@ Exit status:
 /// What `audit --help` begins with.
 pub const ABOUT_AUDIT: &str = "\
 Reads a capture from standard input and, at its end, tells what became of each of its messages, in their
-order: the audit trail. So it says why a report that a broker sent isn't among the lines of its day.";
+order: the audit trail. So it says why a report that a broker sent isn't among the lines of its day.
+With --journal it tells of the messages that a served day received, from the file that the day is kept in.";
 
 /// What `audit -h` ends with.
 pub const AUDIT_EXAMPLE: &str = "\
 Example:
-  blotter audit --own MO BRKA BRKB < examples/day_of_two_brokers.fix";
+  blotter audit --own MO BRKA BRKB < examples/day_of_two_brokers.fix
+  blotter audit --own MO --journal 20240105.journal BRKA BRKB";
 
 /// What `audit --help` ends with.
 pub const AFTER_AUDIT: &str = "\
@@ -166,7 +170,7 @@ the day: each session is logged out, and the day's report is printed.";
 /// What `serve -h` ends with.
 pub const SERVE_EXAMPLE: &str = "\
 Example:
-  blotter serve --own MO --day 20240105 --port 9878 BRKA";
+  blotter serve --own MO --day 20240105 --port 9878 --journal 20240105.journal BRKA";
 
 /// What `serve --help` ends with.
 pub const AFTER_SERVE: &str = "\
@@ -199,6 +203,10 @@ The numbers:
   5  no memory was left for it
   6  no logon came within ten seconds
 
+With --journal the day is kept in a file, as it goes. Killed at any moment and begun again with the same words, it
+goes on where it was: what a broker or an operator was told is in the book, and what is missing is asked of the broker
+again by its number. A file that isn't there is made; it holds one day. `blotter desk` and `blotter audit` read it.
+
 With --sessions the day has rounds instead. A round waits for as many connections as --sessions says, serves them
 at once, answers none before the last has come, and is over when each has ended. After the last round and the end
 of standard input the report is printed. There is no close and no sessions then, and after a round a line of standard
@@ -207,10 +215,12 @@ error tells how each connection ended, in the order in which they came:
 
 Examples:
   blotter serve --own MO --day 20240105 --port 9878 BRKA BRKB
+  blotter serve --own MO --day 20240105 --port 9878 --journal 20240105.journal BRKA BRKB
   blotter serve --own MO --day 20240105 --port 9878 --sessions 2 --rounds 3 BRKA BRKB
 
 Exit status:
   0  done
-  1  the port can't be used, no connection can be accepted for a round, or the input or the output is at fault
+  1  the port or the journal can't be used, no connection can be accepted for a round, or the input or the output is at
+     fault
   2  the words of the command line are refused, or help was asked for
   3  no memory is left";

@@ -9,4 +9,4 @@ mod refusal;
 mod words;
 
 pub use refusal::Refusal;
-pub use words::{Words, given, parse};
+pub use words::{DeskSource, Words, given, parse};

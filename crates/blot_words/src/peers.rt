@@ -1,5 +1,7 @@
 //! The peers whose messages are read.
 ghost use Rattle.std.specs.Prelude.{◌≡◌, ◌≢◌, IfErr, IfOk, true, false, map};
+ghost use Rattle.std.specs.List.{list_any};
+ghost use Rattle.blot_types.specs.Keys.{same_text};
 ghost use Rattle.blot_types.specs.Text.{is_text};
 ghost use Rattle.blot_words.specs.Words.{IsPeerList, RulesOut};
 
@@ -26,6 +28,13 @@ pub fn read_peers(alloc: Global, named: &[&str]) -> Result<Vec<Text64>, Refusal>
         return Err(Refusal::Missing(PEER));
     }
     Ok(peers)
+}
+
+/// Whether one's own CompID is among these peers.
+pub fn is_among(own: &Text64, peers: &[Text64]) -> bool
+    ensures { result ≡ list_any (same_text own.now) peers.now }
+{
+    peers.contains(own)
 }
 
 /// The CompID that a word is.

@@ -23,6 +23,12 @@ pub enum Refusal {
     /// A peer is named twice.
     #[error("peer {0} is named twice")]
     PeerTwice(String),
+    /// One's own CompID is named as a peer, and a journal is.
+    #[error("peer {0} is the blotter itself")]
+    OwnIsPeer(String),
+    /// Two options that don't go together. `clap` refuses them itself.
+    #[error("--{0} and --{1} don't go together")]
+    Together(&'static str, &'static str),
     /// A count is below 1, or above the most. `clap` refuses such a word itself.
     #[error("--{0} is out of range")]
     OutOfRange(&'static str),

@@ -1,14 +1,14 @@
 //! The words of the command line: what they ask for.
-ghost use Rattle.std.specs.Prelude.{◌≡◌, ◌↔◌, Ok, Some, IfErr, IfOk, IfSome, IsOk, IsSomeAnd, true, false, codes, is_none, length, map, option_map};
+ghost use Rattle.std.specs.Prelude.{◌≡◌, ◌↔◌, ◌≢◌, Ok, None, Some, IfErr, IfOk, IfSome, IsOk, IsSomeAnd, true, false, codes, is_none, is_some, length, map, option_map};
 ghost use Rattle.blot_time.specs.Day.{day_of};
 ghost use Rattle.blot_words.specs.declared.command_line.TheConstants.{LANES_MAX};
-ghost use Rattle.blot_words.specs.Words.{IsAudit, IsCount, IsCountOrNone, IsDayWord, IsOpen, IsOwnWord, IsPeerList, IsReplay, IsDesk, IsServe, RulesOut, is_audit, is_open, own_of, own_word, count_of, count_word, count_words, counts_named, day_named, day_word, capture_named, capture_word, default_lanes, lanes_by, lanes_named, peer_words, peers_of, port_named, sessions_word};
+ghost use Rattle.blot_words.specs.Words.{AreApartIn, IsApart, IsAudit, IsCount, IsCountOrNone, IsDayWord, IsOpen, IsOwnWord, IsPeerList, IsReplay, IsDesk, IsServe, RulesOut, is_audit, is_open, own_of, own_word, count_of, count_word, count_words, counts_named, day_named, day_word, capture_in, capture_named, capture_word, default_lanes, journal_in, journal_named, journal_word, lanes_by, lanes_named, peer_words, peers_of, port_named, sessions_word};
 
 use crate::command_line::{
-    AUDIT, CAPTURE, DAY, DESK, LANES, LANES_MAX, OWN, PEER, PORT, PORT_MAX, REPLAY, ROUNDS,
-    ROUNDS_MAX, SERVE, SESSIONS, SESSIONS_MAX, command,
+    AUDIT, CAPTURE, DAY, DESK, JOURNAL, LANES, LANES_MAX, OWN, PEER, PORT, PORT_MAX, REPLAY,
+    ROUNDS, ROUNDS_MAX, SERVE, SESSIONS, SESSIONS_MAX, command,
 };
-use crate::peers::{read_comp_id, read_peers};
+use crate::peers::{is_among, read_comp_id, read_peers};
 use crate::refusal::{Refusal, refusal_of};
 use blot_time::Day;
 use blot_types::Text64;
@@ -27,23 +27,26 @@ pub enum Words {
         day: Day,
         peers: Vec<Text64>,
     },
-    /// The answers to the lines on standard input, of the capture in a file.
+    /// The answers to the lines on standard input, of what a file holds.
     Desk {
         own: Text64,
-        capture: String,
+        from: DeskSource,
         peers: Vec<Text64>,
     },
-    /// What became of each message of the capture on standard input.
+    /// What became of each message of the capture on standard input, or of the journal in this file.
     Audit {
         own: Text64,
+        journal: Option<String>,
         peers: Vec<Text64>,
     },
-    /// The brokers that connect, each whenever it likes, the answers to the lines on standard input, and the report of a day.
+    /// The brokers that connect, each whenever it likes, the answers to the lines on standard input, and the report of a day, which is
+    /// kept in this file, if one is named.
     Open {
         own: Text64,
         day: Day,
         port: u16,
         lanes: u16,
+        journal: Option<String>,
         peers: Vec<Text64>,
     },
     /// The same with brokers that connect in rounds.
@@ -55,6 +58,15 @@ pub enum Words {
         rounds: u16,
         peers: Vec<Text64>,
     },
+}
+
+/// The file that a desk answers by.
+#[derive(Debug, Drop)]
+pub enum DeskSource {
+    /// The file that holds a capture.
+    Capture(String),
+    /// The file that keeps a day.
+    Journal(String),
 }
 
 /// The words that the system gives, the program's name first.
@@ -69,6 +81,7 @@ pub fn given<S: Env + AllocGlobal>(system: &S) -> Result<Vec<String>, Refusal> {
 /// What these words ask for, the first of which is the program's name.
 pub fn parse<S: AsStr>(alloc: Global, words: &[S]) -> Result<Words, Refusal>
     ensures peers { IfOk result (λ words. IsPeerList (peers_of words)) }
+    ensures apart { IfOk result AreApartIn }
 {
     let matches = match command(alloc)?.try_get_matches_from(words) {
         Ok(matches) => matches,
@@ -82,6 +95,7 @@ pub fn parse<S: AsStr>(alloc: Global, words: &[S]) -> Result<Words, Refusal>
 // The words of the command line, as `clap` found them.
 fn read_words(alloc: Global, matches: &ArgMatches<'_>) -> Result<Words, Refusal>
     ensures peers { IfOk result (λ words. IsPeerList (peers_of words)) }
+    ensures apart { IfOk result AreApartIn }
 {
     if let Some(matches) = matches.subcommand_matches(REPLAY) {
         return read_replay(alloc, matches);
@@ -104,6 +118,7 @@ fn read_replay(alloc: Global, matches: &ArgMatches<'_>) -> Result<Words, Refusal
     ensures day { IfOk result (λ words. IfSome (day_word matches.now) (λ word. option_map Ok (day_named words) ≡ Some (day_of word))) }
     ensures named { IfOk result (λ words. peer_words matches.now ≡ Some (peers_of words)) }
     ensures peers { IfOk result (λ words. IsPeerList (peers_of words)) }
+    ensures apart { IfOk result AreApartIn }
     ensures refused { IfErr result (RulesOut (IsReplay matches.now)) }
 {
     let own = read_own(alloc, matches)?;
@@ -119,32 +134,72 @@ fn read_replay(alloc: Global, matches: &ArgMatches<'_>) -> Result<Words, Refusal
 fn read_desk(alloc: Global, matches: &ArgMatches<'_>) -> Result<Words, Refusal>
     ensures own { IfOk result (λ words. own_word matches.now ≡ Some (own_of words)) }
     ensures capture { IfOk result (λ words. capture_word matches.now ≡ capture_named words) }
+    ensures journal { IfOk result (λ words. journal_word matches.now ≡ journal_named words) }
     ensures named { IfOk result (λ words. peer_words matches.now ≡ Some (peers_of words)) }
     ensures peers { IfOk result (λ words. IsPeerList (peers_of words)) }
+    ensures apart { IfOk result AreApartIn }
     ensures refused { IfErr result (RulesOut (IsDesk matches.now)) }
 {
     let own = read_own(alloc, matches)?;
-    let Some(file) = matches.get_str(CAPTURE) else {
-        return Err(Refusal::Missing(CAPTURE));
-    };
     let Some(named) = matches.get_strs(PEER) else {
         return Err(Refusal::Missing(PEER));
     };
-    let capture = String::from_str(alloc, file)?;
     let peers = read_peers(alloc, named)?;
-    Ok(Words::Desk {
-        own,
-        capture,
-        peers,
-    })
+    check_apart(alloc, matches, &own, &peers)?;
+    let from = read_source(alloc, matches)?;
+    Ok(Words::Desk { own, from, peers })
+}
+
+// The file that a desk answers by, as `clap` found it: of a capture or of a journal.
+fn read_source(alloc: Global, matches: &ArgMatches<'_>) -> Result<DeskSource, Refusal>
+    ensures capture { IfOk result (λ from. capture_word matches.now ≡ capture_in from) }
+    ensures journal { IfOk result (λ from. journal_word matches.now ≡ journal_in from) }
+    ensures refused { IfErr result (RulesOut (is_some (capture_word matches.now) ≢ is_some (journal_word matches.now))) }
+{
+    match (matches.get_str(CAPTURE), matches.get_str(JOURNAL)) {
+        (Some(file), None) => Ok(DeskSource::Capture(String::from_str(alloc, file)?)),
+        (None, Some(file)) => Ok(DeskSource::Journal(String::from_str(alloc, file)?)),
+        (Some(_), Some(_)) => Err(Refusal::Together(CAPTURE, JOURNAL)),
+        (None, None) => Err(Refusal::Missing(CAPTURE)),
+    }
+}
+
+// Nothing, unless a journal is named and one's own CompID is among the peers: what the blotter sends would be taken for a peer's there.
+fn check_apart(
+    alloc: Global,
+    matches: &ArgMatches<'_>,
+    own: &Text64,
+    peers: &[Text64],
+) -> Result<(), Refusal>
+    ensures apart { IfOk result (λ _. IfSome (journal_word matches.now) (λ _. IsApart own.now peers.now)) }
+    ensures refused { IfErr result (RulesOut (IfSome (journal_word matches.now) (λ _. IsApart own.now peers.now))) }
+{
+    if matches.get_str(JOURNAL).is_none() || !is_among(own, peers) {
+        return Ok(());
+    }
+    let word = matches.get_str(OWN).unwrap_or(OWN);
+    Err(Refusal::OwnIsPeer(String::from_str(alloc, word)?))
+}
+
+// The file of a journal, if one is named, as `clap` found it.
+fn read_journal(alloc: Global, matches: &ArgMatches<'_>) -> Result<Option<String>, Refusal>
+    ensures value { IfOk result (λ journal. journal_word matches.now ≡ option_map (λ file. file.bytes.items) journal) }
+    ensures refused { IfErr result (λ refusal. refusal ≡ Refusal.NoMemory) }
+{
+    match matches.get_str(JOURNAL) {
+        Some(file) => Ok(Some(String::from_str(alloc, file)?)),
+        None => Ok(None),
+    }
 }
 
 // The words of an audit, as `clap` found them.
 fn read_audit(alloc: Global, matches: &ArgMatches<'_>) -> Result<Words, Refusal>
     ensures audit { IfOk result (λ words. is_audit words ≡ true) }
     ensures own { IfOk result (λ words. own_word matches.now ≡ Some (own_of words)) }
+    ensures journal { IfOk result (λ words. journal_word matches.now ≡ journal_named words) }
     ensures named { IfOk result (λ words. peer_words matches.now ≡ Some (peers_of words)) }
     ensures peers { IfOk result (λ words. IsPeerList (peers_of words)) }
+    ensures apart { IfOk result AreApartIn }
     ensures refused { IfErr result (RulesOut (IsAudit matches.now)) }
 {
     let own = read_own(alloc, matches)?;
@@ -152,13 +207,20 @@ fn read_audit(alloc: Global, matches: &ArgMatches<'_>) -> Result<Words, Refusal>
         return Err(Refusal::Missing(PEER));
     };
     let peers = read_peers(alloc, named)?;
-    Ok(Words::Audit { own, peers })
+    check_apart(alloc, matches, &own, &peers)?;
+    let journal = read_journal(alloc, matches)?;
+    Ok(Words::Audit {
+        own,
+        journal,
+        peers,
+    })
 }
 
 // The words of a server, as `clap` found them: of an open day, unless connections of a round are counted.
 fn read_server(alloc: Global, matches: &ArgMatches<'_>) -> Result<Words, Refusal>
     ensures open { IfOk result (λ words. is_open words ≡ is_none (sessions_word matches.now)) }
     ensures peers { IfOk result (λ words. IsPeerList (peers_of words)) }
+    ensures apart { IfOk result AreApartIn }
 {
     match matches.get_str(SESSIONS) {
         Some(_) => read_serve(alloc, matches),
@@ -173,8 +235,10 @@ fn read_open(alloc: Global, matches: &ArgMatches<'_>) -> Result<Words, Refusal>
     ensures day { IfOk result (λ words. IfSome (day_word matches.now) (λ word. option_map Ok (day_named words) ≡ Some (day_of word))) }
     ensures port { IfOk result (λ words. port_named words ≡ option_map count_of (count_word matches.now (codes "port"))) }
     ensures lanes { IfOk result (λ words. lanes_named words ≡ Some (lanes_by (count_word matches.now (codes "lanes")) (length (peers_of words)))) }
+    ensures journal { IfOk result (λ words. journal_word matches.now ≡ journal_named words) }
     ensures named { IfOk result (λ words. peer_words matches.now ≡ Some (peers_of words)) }
     ensures peers { IfOk result (λ words. IsPeerList (peers_of words)) }
+    ensures apart { IfOk result AreApartIn }
     ensures refused { IfErr result (RulesOut (IsOpen matches.now)) }
 {
     let own = read_own(alloc, matches)?;
@@ -185,11 +249,14 @@ fn read_open(alloc: Global, matches: &ArgMatches<'_>) -> Result<Words, Refusal>
     };
     let lanes = read_lanes(matches, named.len())?;
     let peers = read_peers(alloc, named)?;
+    check_apart(alloc, matches, &own, &peers)?;
+    let journal = read_journal(alloc, matches)?;
     Ok(Words::Open {
         own,
         day,
         port,
         lanes,
+        journal,
         peers,
     })
 }
@@ -200,8 +267,10 @@ fn read_serve(alloc: Global, matches: &ArgMatches<'_>) -> Result<Words, Refusal>
     ensures own { IfOk result (λ words. own_word matches.now ≡ Some (own_of words)) }
     ensures day { IfOk result (λ words. IfSome (day_word matches.now) (λ word. option_map Ok (day_named words) ≡ Some (day_of word))) }
     ensures counts { IfOk result (λ words. counts_named words ≡ map (option_map count_of) (count_words matches.now)) }
+    ensures journal { IfOk result (λ words. journal_word matches.now ≡ journal_named words) }
     ensures named { IfOk result (λ words. peer_words matches.now ≡ Some (peers_of words)) }
     ensures peers { IfOk result (λ words. IsPeerList (peers_of words)) }
+    ensures apart { IfOk result AreApartIn }
     ensures refused { IfErr result (RulesOut (IsServe matches.now)) }
 {
     let own = read_own(alloc, matches)?;
@@ -209,6 +278,9 @@ fn read_serve(alloc: Global, matches: &ArgMatches<'_>) -> Result<Words, Refusal>
     let port = read_count(matches, PORT, PORT_MAX)?;
     let sessions = read_count(matches, SESSIONS, SESSIONS_MAX)?;
     let rounds = read_count(matches, ROUNDS, ROUNDS_MAX)?;
+    if matches.get_str(JOURNAL).is_some() {
+        return Err(Refusal::Together(JOURNAL, SESSIONS));
+    }
     let Some(named) = matches.get_strs(PEER) else {
         return Err(Refusal::Missing(PEER));
     };

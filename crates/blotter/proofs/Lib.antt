@@ -1,2 +1,3 @@
+mod KeepingLemmas
 mod SeatLemmas
 mod ServingLemmas

@@ -3,6 +3,7 @@
 //! and `blot_operator`, and the trail is `blot_trail`'s. The program itself, with its words and its files, stands on these libraries.
 #![tactic(auto)]
 
+mod kept_day;
 mod meanwhile;
 mod open_day;
 mod serving;
@@ -13,5 +14,6 @@ pub use blot_operator::{desk_lines, seat_lines};
 pub use blot_rounds::{Rounds, log_endings};
 pub use blot_sockets::{Door, Socket, SystemClock};
 pub use blot_stream::{Outcome, ReplayFault, ServeFault};
+pub use kept_day::{KeptFault, journal_desk, serve_kept_day};
 pub use open_day::serve_open_day;
 pub use serving::serve_day;

@@ -27,8 +27,8 @@ use std::sync::ledger::{Blank, Ledger};
 use std::thread::Threads;
 use std::time::Clock;
 
-// The name of the operator whose lines come by standard input.
-const OPERATOR: &[u8] = b"operator";
+/// The name of the operator whose lines come by standard input.
+pub(crate) const OPERATOR: &[u8] = b"operator";
 
 /// What a desk that was served in lanes leaves: the seats of the brokers and of the operator, and how the operator's lines ended.
 #[derive(Drop)]

@@ -1,31 +1,56 @@
 -- What a run of the program did.
-use Rattle.std.specs.Prelude.{ℕ, true, List, Option}
+use Rattle.std.specs.Prelude.{ℕ, ℤ, true, List, Option, Some, None}
 use Rattle.std.specs.Io.KnownBytes.{IsAtEnd}
-use Rattle.blot_desk.specs.Desk.{Journal}
+use Rattle.blot_desk.specs.declared.event.Event.{Event}
+use Rattle.blot_desk.specs.Desk.{IsRun, Journal}
 use Rattle.blot_desk.specs.declared.receipt.Receipt.{Receipt}
 use Rattle.blot_stream.specs.Texts.{AppendsOf}
 use Rattle.blot_capture.specs.Replay.{replay_of}
 use Rattle.blot_operator.specs.Operating.{answers_of}
 use Rattle.blot_trail.specs.Audit.{trail_of}
 use Rattle.blot_operator.specs.OpenDay.{EndsOf}
+use Rattle.blotter.specs.Keeping.{KeptDayServed}
 use Rattle.blotter.specs.Serving.{DayServed, OpenDayServed}
 use Rattle.blot_words.specs.declared.words.Words.{Words}
+use Rattle.blot_words.specs.Words.{journal_named}
 use Rattle.blot_words.specs.declared.words.Words.TheVariants.{Replay, Desk, Audit, Open, Serve}
+
+-- a day is served that is kept in a journal, from some text that this had when it was opened, on; or that was new
+abbrev pub ServesJournal : List ℕ → Option (List ℕ) → ℤ → Option (List ℕ) → Option (List ℕ) → Type 0
+ServesJournal own input day before after = (found : List ℕ) × ((events : List Event) × KeptDayServed own found events input day before after)
+
+-- the answers to some lines stand there, of a desk that is the run of its events
+abbrev pub AnswersJournal : Option (List ℕ) → Option (List ℕ) → Option (List ℕ) → Type 0
+AnswersJournal input before after = (journal : Journal) × IsRun journal × AppendsOf (answers_of journal) input before after
+
+-- the trail of what a journal received stands there
+abbrev pub AuditsJournal : List ℕ → List (List ℕ) → Option (List ℕ) → Option (List ℕ) → Type 0
+AuditsJournal own peers before after = (received : List ℕ) × AppendsOf (trail_of own peers) (Some received) before after
+
+-- an audit is done: of a journal, where a file is named, and else of the input
+abbrev pub DidAudit : Option (List ℕ) → List ℕ → List (List ℕ) → Option (List ℕ) → Option (List ℕ) → Option (List ℕ) → Option (List ℕ) → Type 0
+DidAudit None own peers input left before after = IsAtEnd left × AppendsOf (trail_of own peers) input before after
+DidAudit (Some file) own peers input left before after = AuditsJournal own peers before after
+
+-- an open day is served, and kept where a file is named
+abbrev pub DidServe : Option (List ℕ) → List ℕ → Option (List ℕ) → ℤ → Option (List ℕ) → Option (List ℕ) → Type 0
+DidServe None own input day before after = OpenDayServed input day before after
+DidServe (Some file) own input day before after = ServesJournal own input day before after
 
 -- what the words ask for was done, where `round` says what a round under a CompID does to the seats. Of a replay, the input is read to
 -- its end, and the report of the day stands after what was written; of a desk, the input is read to its end, and there stand the answers
--- to its lines, of a desk as the capture left it; of an audit, the input is read to its end, and there stands its trail; of an open day, the
+-- to its lines, of a desk as the capture or the journal left it; of an audit, there stands its trail; of an open day, the
 -- input is read to its end or to a line that closes the day, there stand the answers to its lines, and after them the report of a settled
 -- history; of a day of rounds, the input is read to its end, there stand the answers to its lines, and after them the report of a settled
 -- history, in which the brokers' seats are as so many rounds of so many connections left them
 abbrev pub Did : (List ℕ → List (List Receipt) → List (List Receipt) → Type 0) → Words → Option (List ℕ) → Option (List ℕ) → Option (List ℕ) → Option (List ℕ) → Type 0
 Did round (Replay own day peers) input left before after =
     IsAtEnd left × AppendsOf (replay_of own peers.items day) input before after
-Did round (Desk own capture peers) input left before after =
+Did round (Desk own from peers) input left before after =
     IsAtEnd left × ((journal : Journal) × AppendsOf (answers_of journal) input before after)
-Did round (Audit own peers) input left before after =
-    IsAtEnd left × AppendsOf (trail_of own peers.items) input before after
-Did round (Open own day port lanes peers) input left before after =
-    EndsOf true input left × OpenDayServed input day before after
+Did round (Audit own journal peers) input left before after =
+    DidAudit (journal_named (Audit own journal peers)) own peers.items input left before after
+Did round (Open own day port lanes journal peers) input left before after =
+    EndsOf true input left × DidServe (journal_named (Open own day port lanes journal peers)) own input day before after
 Did round (Serve own day port sessions rounds peers) input left before after =
     IsAtEnd left × DayServed (round own) rounds input sessions day before after

@@ -20,6 +20,27 @@ pub enum Failure {
     /// The file with the capture can't be read: its path.
     #[error("{0} can't be read")]
     Unreadable(String),
+    /// Another program has the journal: its path.
+    #[error("{0} is in use")]
+    InUse(String),
+    /// A file that isn't a journal has the name under which a journal would be made: the journal's path.
+    #[error("{0}.new is in the way")]
+    InTheWay(String),
+    /// The file isn't a journal: its path.
+    #[error("{0} is no journal")]
+    NoJournal(String),
+    /// The journal is another blotter's, or of another day: its path, and whose it is, and of which day.
+    #[error("{0} is the journal of {1}, {2}")]
+    AnotherJournal(String, String, String),
+    /// The journal has a message of a peer that isn't listed, or one to it: its path, and the peer.
+    #[error("{0} has a message of {1}, which isn't listed")]
+    Unlisted(String, String),
+    /// The journal is damaged: its path, and the place of the first byte that is wrong, from 0.
+    #[error("{0} is damaged at byte {1}")]
+    Damaged(String, usize),
+    /// The journal can't be written: its path, and why, in the system's words.
+    #[error("{0} can't be written: {1}")]
+    Unwritable(String, String),
     /// Another program has the port.
     #[error("port {0} is taken")]
     PortTaken(u16),

@@ -4,6 +4,8 @@
 #![tactic(auto)]
 
 mod failure;
+mod journals;
+mod keeping;
 mod running;
 
 use running::run;
@@ -14,6 +16,6 @@ fn main(rt: HostRuntime) -> ExitCode {
     let mut input = rt.stdin();
     let mut output = rt.stdout();
     let mut errors = rt.stderr();
-    let outcome = run(&rt, &rt, &rt, &mut input, &mut output, &mut errors);
+    let outcome = run(&rt, &rt, &rt, &rt, &mut input, &mut output, &mut errors);
     ExitCode::from(outcome.status())
 }

@@ -11,17 +11,19 @@ ghost use Rattle.blot_capture.specs.Replay.{captured_by};
 ghost use Rattle.blot_rounds.specs.Rounds.{ServesRound};
 ghost use Rattle.blotter.specs.Serving.{DayServed, OpenDayServed};
 ghost use Rattle.blot_stream.specs.declared.outcome.Outcome.TheVariants.{BadWords, Done, NoMemory};
-ghost use Rattle.blot_words.specs.Words.{IsPeerList, is_written_last, peers_of};
+ghost use Rattle.blot_words.specs.Words.{AreApartIn, IsPeerList, is_written_last, peers_of};
 ghost use Rattle.blotter_main.specs.Failure.{outcome_of};
 ghost use Rattle.blotter_main.specs.Running.{Did};
 
 use crate::failure::{Failure, system_words};
+use crate::journals::Journals;
+use crate::keeping::{audit_journal, keep_day, open_journal};
 use blot_desk::Held;
 use blot_slots::Slots;
 use blot_time::Day;
 use blot_trail::audit;
 use blot_types::Text64;
-use blot_words::{Refusal, Words, given, parse};
+use blot_words::{DeskSource, Refusal, Words, given, parse};
 use blotter::{
     Door, Outcome, ReplayFault, Rounds, capture, desk_lines, replay, serve_day, serve_open_day,
 };
@@ -39,9 +41,10 @@ use std::thread::Threads;
 use std::time::Clock;
 
 /// Does what the command line asks for, and says how it ended. What the user has to know goes to `errors`.
-pub fn run<S: Env + AllocGlobal, F: Files, T, R: Read, W: Write, E: Write>(
+pub fn run<S: Env + AllocGlobal, F: Files, J: Journals, T, R: Read, W: Write, E: Write>(
     system: &S,
     files: &F,
+    journals: &J,
     rt: &T,
     input: &mut R,
     output: &mut W,
@@ -58,10 +61,12 @@ where
     ensures unwritten { result ≡ BadWords → output.new ≡ output.old }
 {
     match words_of(system) {
-        Ok(words) => match perform(system.alloc(), files, rt, words, input, output) {
-            Ok(()) => Outcome::Done,
-            Err(failure) => tell(errors, failure),
-        },
+        Ok(words) => {
+            match perform(system.alloc(), files, journals, rt, words, input, output) {
+                Ok(()) => Outcome::Done,
+                Err(failure) => tell(errors, failure),
+            }
+        }
         Err(refusal) => tell(errors, Failure::Words(refusal)),
     }
 }
@@ -69,15 +74,17 @@ where
 // What the command line asks for.
 fn words_of<S: Env + AllocGlobal>(system: &S) -> Result<Words, Refusal>
     ensures peers { IfOk result (λ words. IsPeerList (peers_of words)) }
+    ensures apart { IfOk result AreApartIn }
 {
     let words = given(system)?;
     parse(system.alloc(), words.as_slice())
 }
 
 // Does what the words ask for. Out of memory, a replay and an audit have written nothing.
-fn perform<F: Files, T, R: Read, W: Write>(
+fn perform<F: Files, J: Journals, T, R: Read, W: Write>(
     alloc: Global,
     files: &F,
+    journals: &J,
     rt: &T,
     words: Words,
     input: &mut R,
@@ -89,6 +96,7 @@ where
     T::Stream: Send,
     OwnedFd: From<T::Listener>,
     requires peers { IsPeerList (peers_of words) }
+    requires apart { AreApartIn words }
     ensures did { OnOk result
         (Did (ServesRound T T.Stream.remaining T.Stream.contents) words (R.remaining input.old) (R.remaining input.new) (W.contents output.old) (W.contents output.new)) }
     ensures no_memory { IfErr result (λ failure. outcome_of failure ≡ NoMemory
@@ -99,31 +107,55 @@ where
         Words::Replay { own, day, peers } => {
             replay(alloc, input, output, own, peers.as_slice(), day).map_err(Failure::Stopped)
         }
-        Words::Desk {
+        Words::Desk { own, from, peers } => match from {
+            DeskSource::Capture(file) => {
+                open_desk(alloc, files, file, own, peers.as_slice(), input, output)
+            }
+            DeskSource::Journal(file) => {
+                open_journal(alloc, files, file, own, peers.as_slice(), input, output)
+            }
+        },
+        Words::Audit {
             own,
-            capture,
+            journal,
             peers,
-        } => open_desk(alloc, files, capture, own, peers.as_slice(), input, output),
-        Words::Audit { own, peers } => {
-            audit(alloc, input, output, own, peers.as_slice()).map_err(Failure::Stopped)
-        }
+        } => match journal {
+            Some(file) => audit_journal(alloc, files, file, own, peers.as_slice(), output),
+            None => audit(alloc, input, output, own, peers.as_slice()).map_err(Failure::Stopped),
+        },
         Words::Open {
             own,
             day,
             port,
             lanes,
+            journal,
             peers,
-        } => open_port(
-            rt,
-            alloc,
-            own,
-            peers.as_slice(),
-            day,
-            port,
-            lanes,
-            input,
-            output,
-        ),
+        } => match journal {
+            Some(file) => keep_day(
+                journals,
+                rt,
+                alloc,
+                file,
+                own,
+                peers.as_slice(),
+                day,
+                port,
+                lanes,
+                input,
+                output,
+            ),
+            None => open_port(
+                rt,
+                alloc,
+                own,
+                peers.as_slice(),
+                day,
+                port,
+                lanes,
+                input,
+                output,
+            ),
+        },
         Words::Serve {
             own,
             day,
@@ -200,8 +232,8 @@ where
     .map_err(Failure::Served)
 }
 
-// A listener on a port of 127.0.0.1, with its door.
-fn listen<T>(rt: &T, port: u16) -> Result<(T::Listener, Door<TcpStream>), Failure>
+/// A listener on a port of 127.0.0.1, with its door.
+pub(crate) fn listen<T>(rt: &T, port: u16) -> Result<(T::Listener, Door<TcpStream>), Failure>
 where
     T: Net,
     OwnedFd: From<T::Listener>,
@@ -311,8 +343,8 @@ fn untaken(fault: ReplayFault, path: String) -> Failure
     }
 }
 
-// Answers the lines of the input.
-fn answer<R: Read, W: Write>(
+/// Answers the lines of the input.
+pub(crate) fn answer<R: Read, W: Write>(
     alloc: Global,
     held: &mut Held,
     input: &mut R,

@@ -1,0 +1,7 @@
+mod TestLemmas
+mod FrameLemmas
+mod PartyLemmas
+mod TakingLemmas
+mod WalkLemmas
+mod OpeningLemmas
+mod ReceivedLemmas

@@ -1,0 +1,54 @@
+-- Tests of texts, and results.
+use Rattle.std.proofs.Common.{◌≡◌, ℕ, Bool, true, false, ◌&&◌, List, Result, Ok, Err, refl, sym, ap, subst, ◌∙◌}
+use Rattle.std.specs.Prelude.{IfErr, OnOk}
+use Rattle.std.specs.Result.{IsErrAnd}
+use Rattle.std.specs.Cmp.Lexicographic.{same_text as text_same}
+use Rattle.std.proofs.lemmas.Bool.{false≢true}
+use Rattle.std.proofs.lemmas.Cmp.{nat_list_eq_equiv}
+use Rattle.blot_types.specs.Keys.{same_text}
+
+-- texts that are found to be one are one
+pub is_same : (a b : List ℕ) → same_text a b ≡ true → a ≡ b
+is_same a b is = text_same a b (sym is)
+
+pub same-itself : (a : List ℕ) → same_text a a ≡ true
+same-itself a = nat_list_eq_equiv.refl a
+
+-- and those that aren't one, aren't
+pub not_same : (a b : List ℕ) → (a ≡ b → ⊥) → same_text a b ≡ false
+not_same a b differ = by (same_text a b) refl
+  where
+    by : (test : Bool) → same_text a b ≡ test → same_text a b ≡ false
+    by true is = absurd (differ (is_same a b is))
+    by false is = is
+
+pub are_other : (a b : List ℕ) → same_text a b ≡ false → a ≡ b → ⊥
+are_other a b is same = false≢true (sym is ∙ ap (same_text a) (sym same) ∙ same-itself a)
+
+pub both-true : (a b : Bool) → (a && b) ≡ true → (a ≡ true) × (b ≡ true)
+both-true true b is = (refl, is)
+both-true false b is = absurd (false≢true is)
+
+pub middle-false : (a b c : Bool) → b ≡ false → (a && b && c) ≡ false
+middle-false true true c is = absurd (false≢true (sym is))
+middle-false true false c is = refl
+middle-false false b c is = refl
+
+-- ---- results
+
+-- what holds of a fault holds of it as it is told
+pub if-told : {T E : Type 0} (P : E → Type 0) (fault : E) (result : Result T E) → IsErrAnd result (λ told. told ≡ fault) → P fault → IfErr result P
+if-told P fault (Ok value) told holds = tt
+if-told P fault (Err is) told holds = subst P (sym told) holds
+
+pub both-ok : {T E P Q R : Type 0} (result : Result T E) → OnOk result P → OnOk result Q → (P → Q → R) → OnOk result R
+both-ok (Ok value) first second so = so first second
+both-ok (Err fault) first second so = tt
+
+pub three-ok : {T E P Q R S : Type 0} (result : Result T E) → OnOk result P → OnOk result Q → OnOk result R → (P → Q → R → S) → OnOk result S
+three-ok (Ok value) first second third so = so first second third
+three-ok (Err fault) first second third so = tt
+
+pub four-ok : {T E P Q R S U : Type 0} (result : Result T E) → OnOk result P → OnOk result Q → OnOk result R → OnOk result S → (P → Q → R → S → U) → OnOk result U
+four-ok (Ok value) first second third fourth so = so first second third fourth
+four-ok (Err fault) first second third fourth so = tt

@@ -1,0 +1,7 @@
+pub mod Faults
+pub mod Walking
+pub mod Parties
+pub mod Taking
+pub mod Received
+pub mod Opening
+pub mod Moments

@@ -1,0 +1,63 @@
+-- A day that is opened over a file.
+use Rattle.std.specs.Prelude.{◌≡◌, ℕ, ℤ, List, [], IsTrue, Some}
+use Rattle.std.specs.List.{All}
+use Rattle.blot_tag.specs.Fields.{fields_of}
+use Rattle.blot_tag.specs.Frames.{IsFrame}
+use Rattle.blot_desk.specs.Desk.{IsRun, events_of}
+use Rattle.blot_desk.specs.Keeping.{kept_events}
+use Rattle.blot_journal.specs.File.{text_of}
+use Rattle.blot_journal.specs.Recovery.{IsFaultOf as IsFaultOfFile, is_of_file}
+use Rattle.blot_diary.specs.declared.kept.Content.TheVariants.{Beginning}
+use Rattle.blot_diary.specs.Diary.{desk_events}
+use Rattle.blot_diary.specs.Keeping.{kept_of}
+use Rattle.blot_diary.specs.Records.{keeps}
+use Rattle.blot_recovery.specs.declared.fault.RecoverFault.{RecoverFault}
+use Rattle.blot_recovery.specs.declared.opening.OpenFault.{OpenFault}
+use Rattle.blot_recovery.specs.declared.opening.OpenFault.TheVariants.{File, Text, Write}
+use Rattle.blot_recovery.specs.declared.recovering.Recovered.{Recovered}
+use Rattle.blot_recovery.specs.Faults.{BeginsOtherwise, IsFaultOf}
+use Rattle.blot_recovery.specs.Parties.{IsKeptOperator, IsKeptPeer}
+use Rattle.blot_recovery.specs.Taking.{names_of}
+
+-- a text is one frame, the beginning of a journal of this blotter and day
+pub record IsBeginning (own : List ℕ) (day : ℤ) (text : List ℕ) : Type 0 where
+  pub valid : IsFrame text
+  pub kept : kept_of (fields_of text) ≡ Some (keeps own own 1 (Beginning day))
+
+-- a day has the text that was found, and its beginning where none was
+pub record OpensWith (own : List ℕ) (day : ℤ) (found text : List ℕ) : Type 0 where
+  pub new : found ≡ [] → IsBeginning own day text
+  pub same : (found ≡ [] → ⊥) → text ≡ found
+
+-- the text of a day is refused for a fault
+pub record IsRefused (own : List ℕ) (day : ℤ) (found : List ℕ) (fault : RecoverFault) : Type 0 where
+  pub text : List ℕ
+  pub opens : OpensWith own day found text
+  pub fault_is : IsFaultOf (BeginsOtherwise own (Some day) text) text fault
+
+-- what a fault says of the text that was found; that none was, where its beginning couldn't be written
+abbrev pub IsTextFault : List ℕ → ℤ → List ℕ → OpenFault → Type 0
+IsTextFault own day found (File fault) = ⊥
+IsTextFault own day found (Text fault) = IsRefused own day found fault
+IsTextFault own day found (Write fault) = found ≡ []
+
+-- what a fault says of a file
+abbrev pub IsOpenFault : List ℕ → ℤ → List ℕ → OpenFault → Type 0
+IsOpenFault own day file (File fault) = IsFaultOfFile file fault
+IsOpenFault own day file (Text fault) = IsTextFault own day (text_of file) (Text fault)
+IsOpenFault own day file (Write fault) = IsTextFault own day (text_of file) (Write fault)
+
+-- what holds where a fault is the file's own: it is no journal, or ends before its text does
+abbrev pub IfOfFile : OpenFault → Type 0 → Type 0
+IfOfFile (File fault) P = IsTrue (is_of_file fault) → P
+IfOfFile fault P = Unit {0}
+
+-- a text is taken up: the desk is the run of its events, and each party is as it leaves it
+pub record IsRecovered {L : Type 0} (own : List ℕ) (names : List (List ℕ)) (operator text : List ℕ) (recovered : Recovered L) : Type 0 where
+  pub events : events_of recovered.opening.history ≡ desk_events text
+  pub run : IsRun recovered.opening
+  pub kept : kept_events recovered.opening.history ≡ desk_events text
+  pub listed : names_of recovered.peers.items ≡ names
+  pub peers : All (IsKeptPeer own text) recovered.peers.items
+  pub name : recovered.operator.name ≡ operator
+  pub operator_is : IsKeptOperator text recovered.operator
