@@ -128,3 +128,21 @@ pub fn images(alloc: Global, device: &MemoryDevice) -> Result<Vec<Vec<u8>>, NoMe
     }
     Ok(images)
 }
+
+/// A few images of any count of changes: each of them as far as `few_of` says, in every combination.
+pub fn few_images(alloc: Global, device: &MemoryDevice) -> Result<Vec<Vec<u8>>, NoMemory> {
+    let mut images = Vec::new(alloc);
+    images.push(device.durable().to_vec(alloc)?)?;
+    for change in device.changes() {
+        let mut more = Vec::new(alloc);
+        for image in images.iter() {
+            for part in few_of(change) {
+                let mut file = image.to_vec(alloc)?;
+                apply(&mut file, change, part)?;
+                more.push(file)?;
+            }
+        }
+        images = more;
+    }
+    Ok(images)
+}

@@ -2,6 +2,7 @@
 //! place, and what becomes of a file that can't be taken up.
 #![tactic(auto)]
 
+mod days;
 mod images;
 mod refused;
 mod runs;

@@ -266,7 +266,11 @@ fn nothing_is_written_before_a_sync(rt: HostRuntime) -> Result<(), Fail> {
         (Wrong::Nothing, Ended::End, DONE),
         (Wrong::Broken(1), Ended::WriteFault, BROKEN),
         (Wrong::NoNumbers, Ended::WriteFault, LOST),
-        (Wrong::NoEvents, Ended::Closed(CloseReason::NotTaken), DECLINED),
+        (
+            Wrong::NoEvents,
+            Ended::Closed(CloseReason::NotTaken),
+            DECLINED,
+        ),
     ] {
         let (ended, was_done) = served::<Brand, _>(&rt, rt.alloc(), Blank::new(1), wrong)?;
         if ended != ending || was_done.as_slice() != done.as_bytes() {
