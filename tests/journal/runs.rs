@@ -19,8 +19,10 @@ pub const BATCHES: [&[&str]; 12] = [
     &["twelve"],
 ];
 
-/// The calls of a recovery, and of a batch.
-pub const RECOVERY_CALLS: u64 = 4;
+/// The calls of a recovery, of it and of the cut behind the text, and of a batch.
+pub const RECOVERY_CALLS: u64 = 2;
+
+pub const OPENING_CALLS: u64 = 4;
 
 pub const BATCH_CALLS: u64 = 5;
 
@@ -70,6 +72,12 @@ pub fn run(alloc: Global, fails_in: Option<u64>) -> Result<Run, Fail> {
         });
     };
     let mut durable = 0;
+    if journal.trim().is_err() {
+        return Ok(Run {
+            journal: Some(journal),
+            durable,
+        });
+    }
     for batch in BATCHES.iter() {
         if !append(&mut journal, batch)? {
             break;

@@ -1,16 +1,22 @@
 //! Each call of a run fails in turn, and each image that a crash may then leave is taken up.
 use crate::images::images;
-use crate::runs::{BATCH_CALLS, BATCHES, RECOVERY_CALLS, append, empty_file, read, run, text_of};
-use blot_journal::{Change, Device, Journal, JournalFault, MemoryDevice};
+use crate::runs::{
+    BATCH_CALLS, BATCHES, OPENING_CALLS, RECOVERY_CALLS, append, empty_file, read, run, text_of,
+};
+use blot_journal::{Change, Device, HEAD, Journal, JournalFault, MemoryDevice};
 use std::alloc::Global;
 use std::test::Fail;
 
-// Takes an image up: the text is that of the durable batches, or of one more. Then the run goes on to its end.
+// Takes an image up: the text is that of the durable batches, or of one more, and nothing of the file is changed. What stands behind the text is cut
+// off, and the run goes on.
 fn expect_image(alloc: Global, image: &[u8], durable: usize) -> Result<(), Fail> {
     let device = MemoryDevice::new(alloc, image, None)?;
     let Ok(mut journal) = Journal::recover(alloc, device) else {
         return Err(Fail::new(format_args!("not taken up behind {durable} batches")));
     };
+    if !is_untouched(journal.device(), image) {
+        return Err(Fail::new(format_args!("changed behind {durable} batches")));
+    }
     let text = read(alloc, &mut journal)?;
     let found = if text == text_of(alloc, durable)? {
         durable
@@ -19,6 +25,9 @@ fn expect_image(alloc: Global, image: &[u8], durable: usize) -> Result<(), Fail>
     } else {
         return Err(Fail::new(format_args!("another text behind {durable} batches")));
     };
+    if journal.trim().is_err() || !is_untouched(journal.device(), &image[..HEAD + text.len()]) {
+        return Err(Fail::new(format_args!("not cut behind {durable} batches")));
+    }
     if found < BATCHES.len() {
         if !append(&mut journal, BATCHES[found])?
             || journal.len() != text_of(alloc, found + 1)?.len()
@@ -29,14 +38,36 @@ fn expect_image(alloc: Global, image: &[u8], durable: usize) -> Result<(), Fail>
     Ok(())
 }
 
-// The recovery itself fails at each call, and what that leaves is taken up.
-fn expect_recovery(alloc: Global, image: &[u8], durable: usize) -> Result<(), Fail> {
+// Whether a file has just these bytes, all of them durable.
+fn is_untouched(device: &MemoryDevice, bytes: &[u8]) -> bool {
+    *device.bytes() == *bytes && *device.durable() == *bytes && device.changes().is_empty()
+}
+
+// The recovery itself fails at each call, and leaves the file as it was.
+fn expect_recovery(alloc: Global, image: &[u8]) -> Result<(), Fail> {
     for call in 0..RECOVERY_CALLS {
         let device = MemoryDevice::new(alloc, image, Some(call))?;
         let Err((_, device)) = Journal::recover(alloc, device) else {
             return Err(Fail::new(format_args!("call {call} didn't fail")));
         };
-        for left in images(alloc, &device)?.iter() {
+        if !is_untouched(&device, image) {
+            return Err(Fail::new(format_args!("changed by call {call}")));
+        }
+    }
+    Ok(())
+}
+
+// The cut behind the text fails at each call, and what that leaves is taken up.
+fn expect_cut(alloc: Global, image: &[u8], durable: usize) -> Result<(), Fail> {
+    for call in RECOVERY_CALLS..OPENING_CALLS {
+        let device = MemoryDevice::new(alloc, image, Some(call))?;
+        let Ok(mut journal) = Journal::recover(alloc, device) else {
+            return Err(Fail::new(format_args!("call {call} failed before its turn")));
+        };
+        if journal.trim() != Err(JournalFault::Failed) || !journal.is_broken() {
+            return Err(Fail::new(format_args!("call {call} didn't fail")));
+        }
+        for left in images(alloc, journal.device())?.iter() {
             expect_image(alloc, left, durable)?;
         }
     }
@@ -50,7 +81,9 @@ fn expect_calls(alloc: Global, from: u64, to: u64) -> Result<(), Fail> {
         let Some(mut journal) = ended.journal else {
             continue;
         };
-        if ended.durable as u64 != (call - RECOVERY_CALLS) / BATCH_CALLS || !journal.is_broken() {
+        if ended.durable as u64 != call.saturating_sub(OPENING_CALLS) / BATCH_CALLS
+            || !journal.is_broken()
+        {
             return Err(Fail::new(format_args!("{} batches at call {call}", ended.durable)));
         }
         if !matches!(journal.sync(), Err(JournalFault::Broken))
@@ -61,23 +94,24 @@ fn expect_calls(alloc: Global, from: u64, to: u64) -> Result<(), Fail> {
         let left = images(alloc, journal.device())?;
         for image in left.iter() {
             expect_image(alloc, image, ended.durable)?;
+            expect_recovery(alloc, image)?;
         }
-        expect_recovery(alloc, &left[left.len() / 2], ended.durable)?;
+        expect_cut(alloc, &left[left.len() / 2], ended.durable)?;
     }
     Ok(())
 }
 
 #[test]
 fn each_call_of_the_first_batches(rt: HostRuntime) -> Result<(), Fail> {
-    expect_calls(rt.alloc(), 0, RECOVERY_CALLS + 4 * BATCH_CALLS)
+    expect_calls(rt.alloc(), 0, OPENING_CALLS + 4 * BATCH_CALLS)
 }
 
 #[test]
 fn each_call_of_the_next_batches(rt: HostRuntime) -> Result<(), Fail> {
     expect_calls(
         rt.alloc(),
-        RECOVERY_CALLS + 4 * BATCH_CALLS,
-        RECOVERY_CALLS + 8 * BATCH_CALLS,
+        OPENING_CALLS + 4 * BATCH_CALLS,
+        OPENING_CALLS + 8 * BATCH_CALLS,
     )
 }
 
@@ -85,8 +119,8 @@ fn each_call_of_the_next_batches(rt: HostRuntime) -> Result<(), Fail> {
 fn each_call_of_the_last_batches(rt: HostRuntime) -> Result<(), Fail> {
     expect_calls(
         rt.alloc(),
-        RECOVERY_CALLS + 8 * BATCH_CALLS,
-        RECOVERY_CALLS + 12 * BATCH_CALLS,
+        OPENING_CALLS + 8 * BATCH_CALLS,
+        OPENING_CALLS + 12 * BATCH_CALLS,
     )
 }
 

@@ -235,8 +235,8 @@ where
         return Err(Fail::new("no seat"));
     };
     let mut listed = Vec::new(alloc);
-    listed.push(ListedPeer::new(peer, BrokerSeat::new(seat, 0), 1, 1))?;
-    let Ok(peers) = Peers::new(alloc, own, &[peer], listed) else {
+    listed.push(ListedPeer::new(BrokerSeat::new(peer, seat, 0), 1, 1))?;
+    let Ok(peers) = Peers::new(alloc, own, listed) else {
         return Err(Fail::new("no peers"));
     };
     let listener = TcpListener::bind(rt, SocketAddrV4::new(Ipv4Addr::LOCALHOST, 0));

@@ -1,17 +1,16 @@
 -- What a recovery finds.
 use Rattle.std.proofs.Common.{◌≡◌, ℕ, ◌+◌, ◌≤◌, Bool, true, false, List, length, take, drop, Result, Ok, Err, IfErr, nat_eq, refl, sym, ◌∙◌, ap, subst, arith}
 use Rattle.std.specs.Cmp.Lexicographic.{pointwise, same_text, other_text}
-use Rattle.std.proofs.lemmas.List.{take-take}
+use Rattle.std.proofs.lemmas.List.{take-take, take_all}
 use Rattle.std.specs.Int.{w64, from_le_bytes}
 use Rattle.blot_journal.specs.Device.{Cut, Follows, Only}
-use Rattle.blot_journal.specs.File.{is_second, place, signed_in, size_in, text_of, IsWhole, SameText, HasHead}
-use Rattle.blot_journal.specs.Recovery.{IsCounted, IsHeadFault, IsFaultOf, is_of_file, told_fault}
-use Rattle.blot_journal.specs.declared.device.DeviceFault.{DeviceFault}
-use Rattle.blot_journal.specs.declared.device.DeviceFault.TheVariants as device
+use Rattle.blot_journal.specs.File.{is_second, place, signed_in, size_in, text_of, IsWhole, HasHead}
+use Rattle.blot_journal.specs.Recovery.{IsCounted, IsCutBehind, IsHeadFault, IsFaultOf, trimmed}
 use Rattle.blot_journal.specs.declared.recovery.RecoveryFault.{RecoveryFault}
 use Rattle.blot_journal.specs.declared.recovery.RecoveryFault.TheVariants.{NoMemory, Failed, NoJournal, Damaged}
 use Rattle.blot_journal.proofs.WriteLemmas.{part_less}
-use Rattle.blot_journal.proofs.HeadLemmas.{front_switch, place_low, cut_behind}
+use Rattle.blot_journal.proofs.HeadLemmas.{front_switch, place_low, cut_behind, head_whole}
+use Rattle.blot_journal.proofs.JournalLemmas.{text_long}
 
 -- the head of a file says the same as the file
 module _ (file head : List ℕ) (front : take 4096 head ≡ take 4096 file) where
@@ -46,15 +45,22 @@ module _ (file head : List ℕ) (front : take 4096 head ≡ take 4096 file) wher
 pub front_read : (file head : List ℕ) → head ≡ take 4096 file → take 4096 head ≡ take 4096 file
 front_read file head is = ap (λ (l : List ℕ). take 4096 l) is ∙ take-take 4096 4096 file (omega arith)
 
-pub trim_crash : (old : List ℕ) (second : Bool) (size : ℕ) → HasHead second size old → (was now : List ℕ → Type 0) → Only old was → Follows (Cut (size + 4096)) was now → (file : List ℕ) → now file → SameText old file
+-- a whole file is one that was cut nowhere
+pub uncut : (old : List ℕ) (second : Bool) (size : ℕ) → HasHead second size old → IsCutBehind old old
+uncut old second size head = record { front = take_all (length old) old (omega arith); stands = record { says = refl; whole = head_whole second size old head } }
+
+pub trim_crash : (old : List ℕ) (second : Bool) (size : ℕ) → HasHead second size old → (was now : List ℕ → Type 0) → Only old was → Follows (Cut (size + 4096)) was now → (file : List ℕ) → now file
+    → IsCutBehind old file
 trim_crash old second size head was now only follows file left =
     let from = follows file left in
-    cut_behind old second size head file (subst (λ f. Cut (size + 4096) f file) (only from.0 from.1) from.2)
+    let cut : Cut (size + 4096) old file = subst (λ f. Cut (size + 4096) f file) (only from.0 from.1) from.2 in
+    let same = cut_behind old second size head file cut in
+    record { front = cut.front; stands = record { says = same.says; whole = same.whole (head_whole second size old head) } }
 
--- a fault of the device isn't the file's
-pub told_other : (fault : DeviceFault) → is_of_file (told_fault fault) ≡ true → ⊥
-told_other device.NoMemory is = cc
-told_other device.Failed is = cc
+-- what a cut behind the text leaves
+pub cut_trims : (old : List ℕ) (second : Bool) (size : ℕ) → HasHead second size old → take (size + 4096) old ≡ trimmed old
+cut_trims old second size head =
+    ap (λ (n : ℕ). take n old) (omega (arith, text_long old second size head))
 
 -- what a test of two texts says
 pub decided : (xs ys zs : List ℕ) (r : Bool) → r ≡ pointwise nat_eq xs ys → ys ≡ zs → (r ≡ true → xs ≡ zs) × (xs ≡ zs → r ≡ true)

@@ -1,7 +1,7 @@
--- What is said of a file that isn't taken up.
-use Rattle.std.specs.Prelude.{◌≡◌, ◌⊎◌, ℕ, ◌+◌, ◌<◌, ◌≤◌, Bool, true, false, List, length}
+-- What is said of a file that is taken up, or isn't.
+use Rattle.std.specs.Prelude.{◌≡◌, ◌⊎◌, ℕ, ◌+◌, ◌<◌, ◌≤◌, Bool, true, false, List, length, take}
 use Rattle.blot_journal.specs.Device.{LeavesOnly}
-use Rattle.blot_journal.specs.File.{IsJournal, IsWhole, SameText, is_second, signature, signed_in, size_in}
+use Rattle.blot_journal.specs.File.{IsJournal, IsWhole, Stands, is_second, signature, signed_in, size_in, text_of}
 use Rattle.blot_journal.specs.declared.device.DeviceFault.{DeviceFault}
 use Rattle.blot_journal.specs.declared.device.DeviceFault.TheVariants as device
 use Rattle.blot_journal.specs.declared.recovery.RecoveryFault.{RecoveryFault}
@@ -41,11 +41,16 @@ is_of_file fault = false
 abbrev pub IsOrWas : List ℕ → (List ℕ → Type 0) → List ℕ → Type 0
 IsOrWas seen may_leave file = (file ≡ seen) ⊎ may_leave file
 
--- it leaves the same text, or what a crash might have left before
-abbrev pub SameOrWas : List ℕ → (List ℕ → Type 0) → List ℕ → Type 0
-SameOrWas seen may_leave file = SameText seen file ⊎ may_leave file
-
--- a file is left as it was
+-- a file is left as it was, bytes and all
 pub record IsLeft {D : Type 0} (seen : D → List ℕ) (may_leave : D → List ℕ → Type 0) (moment : D → ℕ) (left_since : D → ℕ → List ℕ → Type 0) (old new : D) : Type 0 where
   pub seen_is : seen new ≡ seen old
   pub any_moment : LeavesOnly moment left_since old new (IsOrWas (seen old) (may_leave old))
+
+-- a file without what stands behind its text
+abbrev pub trimmed : List ℕ → List ℕ
+trimmed file = take (4096 + length (text_of file)) file
+
+-- a file was cut somewhere behind its text
+pub record IsCutBehind (old file : List ℕ) : Type 0 where
+  pub front : take (length file) old ≡ file
+  pub stands : Stands (text_of old) file

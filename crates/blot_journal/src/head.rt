@@ -4,8 +4,8 @@ ghost use Rattle.blot_journal.specs.File.{Stands, place, signature, signed_in, s
 
 use std::alloc::{AllocError as NoMemory, Global};
 
-/// The bytes of the head.
-pub(crate) const HEAD: usize = 4096;
+/// How many bytes of a file stand before its text.
+pub const HEAD: usize = 4096;
 
 /// Where the first or the second length stands.
 pub(crate) fn place(second: bool) -> usize

@@ -2,14 +2,14 @@
 ghost use Rattle.std.specs.Prelude.{◌≡◌, ◌↔◌, ◌+◌, ◌<◌, ◌≤◌, ◌^◌, ◌++◌, [], ℕ, List, false, true, length, take, drop, Err, IfErr, IfOk, IsErrOf, IsOk, IsTrue, OnErr, OnOk};
 ghost use Rattle.std.specs.List.{concat};
 ghost use Rattle.blot_journal.specs.declared.journal.JournalFault.TheVariants.{NoMemory as OutOfMemory};
-ghost use Rattle.blot_journal.specs.Device.{LeavesOnly};
+ghost use Rattle.blot_journal.specs.Device.{LeavesOnly, Only};
 ghost use Rattle.blot_journal.specs.File.{IsWhole, Stands, StandsBeforeOrAfter, text_of};
 ghost use Rattle.blot_journal.specs.Journal.{StandsAmong, contents, text_in_journal, told_by_journal};
-ghost use Rattle.blot_journal.specs.Recovery.{IsFaultOf, IsLeft, SameOrWas, is_of_file};
+ghost use Rattle.blot_journal.specs.Recovery.{IsCutBehind, IsFaultOf, IsLeft, trimmed};
 
 use crate::batch::make_durable;
 use crate::head::HEAD;
-use crate::recovery::recover;
+use crate::recovery::{Counted, recover, trim};
 use crate::{Device, DeviceFault, RecoveryFault};
 use std::alloc::{AllocError as NoMemory, Global};
 use std::marker::Model;
@@ -76,8 +76,8 @@ impl<D: Device> Model for Journal<D> {
 }
 
 impl<D: Device> Journal<D> {
-    /// Takes up a file that a crash may have left: makes it durable as it is, and cuts off what stands behind the text that counts.
-    /// A fault hands the file back, and at NoJournal and Damaged it is left as it was. It may crash too.
+    /// Takes up a file that a crash may have left: makes it durable as it is, and finds the text that counts. Nothing of the file is changed: what stands
+    /// behind the text is cut off by `trim`, once the text is taken up. A fault hands the file back. It may crash too.
     pub fn recover(alloc: Global, device: D) -> Result<Journal<D>, (RecoveryFault, D)>
         requires readable { IsTrue (D.is_readable device) }
         ensures text { IfOk result (λ journal. text_in_journal D.seen journal ≡ text_of (D.seen device)) }
@@ -89,12 +89,14 @@ impl<D: Device> Journal<D> {
         // Nothing is taken up by a device of which a call has failed.
         ensures unfailed { OnOk result (D.failures device ≡ 0) }
 
-        // A crash at any moment leaves the same text, or what the crash before might have left.
-        ensures any_moment { IfOk result (λ journal. LeavesOnly D.moment D.left_since device journal.device (SameOrWas (D.seen device) (D.may_leave device))) }
-        ensures any_moment_err { IfErr result (λ refused. LeavesOnly D.moment D.left_since device refused.1 (SameOrWas (D.seen device) (D.may_leave device))) }
+        // The file is left as it was, bytes and all: a crash at any moment leaves just them, or what the crash before might have left.
+        ensures untouched { IfOk result (λ journal. IsLeft D.seen D.may_leave D.moment D.left_since device journal.device) }
+        ensures untouched_err { IfErr result (λ refused. IsLeft D.seen D.may_leave D.moment D.left_since device refused.1) }
+
+        // From then on each crash leaves just them.
+        ensures durable { IfOk result (λ journal. Only (D.seen journal.device) (D.may_leave journal.device)) }
 
         ensures refused { IfErr result (λ refused. IsFaultOf (D.seen device) refused.0) }
-        ensures untouched { IfErr result (λ refused. IsTrue (is_of_file refused.0) → IsLeft D.seen D.may_leave D.moment D.left_since device refused.1) }
         ensures cause { IfErr result (λ refused. refused.0 ≡ RecoveryFault.Failed → D.failures device < D.failures refused.1) }
     {
         let mut device = device;
@@ -155,13 +157,48 @@ impl<D: Device> Journal<D> {
         requires within { at + length buffer.old ≤ length (text_in_journal D.seen self.old) }
         requires readable { IsTrue (D.is_readable self.old.device) }
         ensures bytes { OnOk result (buffer.new ≡ take (length buffer.old) (drop at (text_in_journal D.seen self.old))) }
-        ensures text { text_in_journal D.seen self.new ≡ text_in_journal D.seen self.old }
+        ensures seen { D.seen self.new.device ≡ D.seen self.old.device }
         ensures same { self.new ≡ record self.old { device = self.new.device } }
         ensures readable { IsTrue (D.is_readable self.new.device) }
-        ensures any_moment { LeavesOnly D.moment D.left_since self.old.device self.new.device (Stands (text_in_journal D.seen self.old)) }
+
+        // A crash at any moment leaves the file as it is.
+        ensures any_moment { LeavesOnly D.moment D.left_since self.old.device self.new.device (λ file. file ≡ D.seen self.old.device) }
         ensures cause { IsErrOf result DeviceFault.Failed → D.failures self.old.device < D.failures self.new.device }
     {
         self.device.read_at(at + HEAD, buffer)
+    }
+
+    /// Cuts off what stands behind the durable text, as a batch that a crash cut short left it, and makes that durable. After a fault the journal is
+    /// broken, as after that of a sync.
+    pub fn trim(&mut self) -> Result<(), JournalFault>
+        requires unbroken { self.old.is_broken ≡ false }
+        ensures trimmed { OnOk result (D.seen self.new.device ≡ trimmed (D.seen self.old.device)) }
+        ensures text { OnOk result (text_in_journal D.seen self.new ≡ text_in_journal D.seen self.old) }
+        ensures same { OnOk result (self.new ≡ record self.old { device = self.new.device }) }
+        ensures readable { D.is_readable self.new.device ≡ D.is_readable self.old.device }
+        ensures broken { OnErr result (self.new.is_broken ≡ true) }
+
+        // From then on each crash leaves just that.
+        ensures durable { OnOk result (Only (D.seen self.new.device) (D.may_leave self.new.device)) }
+
+        // A crash at any moment of the call leaves a beginning of the file that has the whole text.
+        ensures any_moment { LeavesOnly D.moment D.left_since self.old.device self.new.device (IsCutBehind (D.seen self.old.device)) }
+
+        // An error has a cause.
+        ensures failed { IsErrOf result JournalFault.Failed → D.failures self.old.device < D.failures self.new.device }
+        ensures no_fewer { D.failures self.old.device ≤ D.failures self.new.device }
+        ensures was_broken { IsErrOf result JournalFault.Broken → ⊥ }
+        ensures full { IsErrOf result JournalFault.Full → ⊥ }
+    {
+        // Until all is done nothing is known of the file.
+        self.is_broken = true;
+        let counted = Counted {
+            second: self.second,
+            size: self.size,
+        };
+        trim(&mut self.device, counted)?;
+        self.is_broken = false;
+        Ok(())
     }
 
     /// Makes room for so many bytes more. The file isn't touched.

@@ -14,6 +14,7 @@ mod recovery;
 
 pub use device::{Device, DeviceFault};
 pub use file::{FileDevice, FileFault};
+pub use head::HEAD;
 pub use journal::{Journal, JournalFault};
 pub use memory::{Change, MemoryDevice};
 pub use opening::open_file;

@@ -10,7 +10,8 @@ use std::fs::{self, File, OpenOptions, TryLockError};
 use std::io::{self, Write};
 use std::os::unix::fs::OpenOptionsExt;
 
-/// Opens the file of a journal for this process alone, and makes it where it isn't there.
+/// Opens the file of a journal for this process alone, and makes it where it isn't there. Its name is durable before it is used, also where a crash
+/// came between the making of it and that.
 pub fn open_file(rt: &HostRuntime, path: &str) -> Result<FileDevice, FileFault>
     ensures readable { IfOk result (λ device. IsTrue (is_readable_after device)) }
     ensures durable { IfOk result (λ device. Only (seen_after device) (leaves_after device)) }
@@ -24,7 +25,10 @@ pub fn open_file(rt: &HostRuntime, path: &str) -> Result<FileDevice, FileFault>
         opened => opened?,
     };
     match file.try_lock() {
-        Ok(()) => FileDevice::new(rt.alloc(), file),
+        Ok(()) => {
+            sync_folder(rt, path)?;
+            FileDevice::new(rt.alloc(), file)
+        }
         Err(TryLockError::WouldBlock) => Err(FileFault::InUse),
         Err(TryLockError::Error(error)) => Err(FileFault::Io(error)),
     }
@@ -50,8 +54,7 @@ fn make(rt: &HostRuntime, path: &str) -> Result<(), FileFault> {
     if fs::symlink_metadata(rt, path).is_ok() {
         return Err(FileFault::InUse);
     }
-    fs::rename(rt, new.as_str(), path)?;
-    sync_folder(rt, path)
+    Ok(fs::rename(rt, new.as_str(), path)?)
 }
 
 // Removes what a crash left of a file that was being made.

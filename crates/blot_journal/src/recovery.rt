@@ -1,15 +1,15 @@
-//! A file that a crash may have left.
+//! A file that a crash may have left: the text that counts is found, and what stands behind it can be cut off.
 ghost use Rattle.std.specs.Prelude.{◌≡◌, ◌<◌, ◌≤◌, ◌+◌, ◌^◌, length, IfErr, IfOk, IsErrOf, IsTrue, OnOk};
 ghost use Rattle.blot_journal.specs.declared.recovery.RecoveryFault.TheVariants.{NoMemory as OutOfMemory};
 ghost use Rattle.blot_journal.specs.Device.{HasCause, LeavesOnly, Only};
-ghost use Rattle.blot_journal.specs.File.{HasHead, IsWhole, SameText, text_of};
-ghost use Rattle.blot_journal.specs.Recovery.{IsCounted, IsFaultOf, IsHeadFault, IsLeft, SameOrWas, is_of_file, told_fault};
+ghost use Rattle.blot_journal.specs.File.{HasHead, IsWhole, text_of};
+ghost use Rattle.blot_journal.specs.Recovery.{IsCounted, IsCutBehind, IsFaultOf, IsHeadFault, IsLeft, is_of_file, told_fault, trimmed};
 
 use crate::head::{HEAD, is_signed, size_in, zeros};
 use crate::{Device, DeviceFault};
 use std::alloc::{AllocError as NoMemory, Global};
 
-/// Why a file isn't taken up. At NoJournal and Damaged it is left as it was.
+/// Why a file isn't taken up. It is left as it was.
 #[derive(Clone, Copy, Debug, PartialEq, Eq)]
 pub enum RecoveryFault {
     NoMemory,
@@ -47,26 +47,22 @@ pub(crate) struct Counted {
     pub size: usize,
 }
 
-/// Makes a file durable as it is, finds the text that counts, and cuts off what stands behind it. It may crash too.
+/// Makes a file durable as it is, and finds the text that counts. Nothing of the file is changed, and it may crash too.
 pub(crate) fn recover<D: Device>(alloc: Global, device: &mut D) -> Result<Counted, RecoveryFault>
     requires readable { IsTrue (D.is_readable device.old) }
     ensures head { IfOk result (λ counted. HasHead counted.second counted.size (D.seen device.new)) }
     ensures fits { IfOk result (λ counted. counted.size + 4096 < 2 ^ 64) }
-    ensures same { OnOk result (text_of (D.seen device.new) ≡ text_of (D.seen device.old)) }
     ensures durable { OnOk result (Only (D.seen device.new) (D.may_leave device.new)) }
     ensures readable { D.is_readable device.new ≡ D.is_readable device.old }
     ensures whole { OnOk result (IsWhole (D.seen device.old)) }
     ensures unfailed { OnOk result (D.failures device.old ≡ 0) }
-    ensures any_moment { LeavesOnly D.moment D.left_since device.old device.new (SameOrWas (D.seen device.old) (D.may_leave device.old)) }
+    ensures untouched { IsLeft D.seen D.may_leave D.moment D.left_since device.old device.new }
     ensures refused { IfErr result (IsFaultOf (D.seen device.old)) }
-    ensures untouched { IfErr result (λ fault. IsTrue (is_of_file fault) → IsLeft D.seen D.may_leave D.moment D.left_since device.old device.new) }
     ensures cause { IsErrOf result RecoveryFault.Failed → D.failures device.old < D.failures device.new }
 {
     let mut head = zeros(alloc, HEAD)?;
     device.sync()?;
-    let counted = find(device, &mut head)?;
-    trim(device, counted)?;
-    Ok(counted)
+    find(device, &mut head)
 }
 
 // Reads the head of a file, and finds the text that counts.
@@ -130,16 +126,17 @@ fn counted_in(head: &[u8], len: usize) -> Result<Counted, RecoveryFault>
     })
 }
 
-// Cuts off what stands behind the text.
-fn trim<D: Device>(device: &mut D, counted: Counted) -> Result<(), DeviceFault>
+/// Cuts off what stands behind the text, and makes that durable.
+pub(crate) fn trim<D: Device>(device: &mut D, counted: Counted) -> Result<(), DeviceFault>
     requires head { HasHead counted.second counted.size (D.seen device.old) }
     requires fits { counted.size + 4096 < 2 ^ 64 }
     requires durable { Only (D.seen device.old) (D.may_leave device.old) }
     ensures head { OnOk result (HasHead counted.second counted.size (D.seen device.new)) }
+    ensures cut { OnOk result (D.seen device.new ≡ trimmed (D.seen device.old)) }
     ensures same { OnOk result (text_of (D.seen device.new) ≡ text_of (D.seen device.old)) }
     ensures durable { OnOk result (Only (D.seen device.new) (D.may_leave device.new)) }
     ensures readable { D.is_readable device.new ≡ D.is_readable device.old }
-    ensures any_moment { LeavesOnly D.moment D.left_since device.old device.new (SameText (D.seen device.old)) }
+    ensures any_moment { LeavesOnly D.moment D.left_since device.old device.new (IsCutBehind (D.seen device.old)) }
     ensures cause { HasCause (D.failures device.old) (D.failures device.new) result }
 {
     device.cut(counted.size + HEAD)?;

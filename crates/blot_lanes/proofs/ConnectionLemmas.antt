@@ -1,13 +1,12 @@
 -- A connection of an open day, put together.
-use Rattle.std.proofs.Common.{◌≡◌, ℕ, ◌≤◌, List, [], Result, Ok, Err, refl, sym, subst, inl, inr}
+use Rattle.std.proofs.Common.{◌≡◌, ℕ, ◌≤◌, List, [], Result, Ok, Err, refl, sym, ap, subst, ◌∙◌, inl, inr}
 use Rattle.std.specs.Prelude.{ℤ, ◌⊎◌, ⊤, true}
-use Rattle.blot_desk.specs.declared.receipt.Receipt.{Receipt}
 use Rattle.blot_session.specs.declared.state.State.{State}
 use Rattle.blot_slots.specs.Slots.{IsWaiting}
 use Rattle.blot_slots.specs.declared.slot_fault.SlotFault.{SlotFault}
 use Rattle.blot_slots.specs.declared.slot_fault.SlotFault.TheVariants as faults
 use Rattle.blot_gateway.proofs.ServingLemmas.{counted-behind}
-use Rattle.blot_gateway.specs.AtOnce.{TakesReceipt, are_submits, turned_by}
+use Rattle.blot_gateway.specs.AtOnce.{are_submits, turned_by}
 use Rattle.blot_gateway.specs.Greeting.{Greeted}
 use Rattle.blot_gateway.specs.Serving.{IsCounted, parties}
 use Rattle.blot_gateway.specs.Stopping.{ServedUntil}
@@ -15,6 +14,7 @@ use Rattle.blot_gateway.specs.Wires.{Did}
 use Rattle.blot_gateway.specs.declared.ended.Ended.{Ended}
 use Rattle.blot_lanes.specs.Lanes.{ServesConnection}
 use Rattle.blot_lanes.specs.declared.connection.TheConstants.{GREETING_READS}
+use Rattle.blot_lanes.specs.Seats.{Seated, TakesAs}
 
 turned-counted : (fault : SlotFault) (before after : ℕ) → before ≤ after → IsCounted before after (turned_by fault)
 turned-counted faults.UnknownPeer before after one = one
@@ -60,11 +60,12 @@ turned-away does ticks failures own known peer answer end fault wire after clock
     }
 
 pub served-out : {W C : Type 0} (does : W → Did → W → Type 0) (ticks : C → ℤ → C → Type 0) (failures : W → ℕ) (own known peer : List ℕ) (answer : Result (List ℕ) Ended) (end : Ended)
-    (wire after last_wire : W) (clock last_clock : C) (unread left : List ℕ) (session last : State) (receipts last_receipts : List Receipt)
+    (wire after last_wire : W) (clock last_clock : C) (unread left : List ℕ) (session last : State) (seat given last_seat : Seated)
     → known ≡ own → answer ≡ Ok peer → unread ≡ [] → Greeted does known GREETING_READS answer wire unread after left
-    → failures wire ≤ failures after → IsWaiting peer session → are_submits receipts ≡ true → ServedUntil does ticks TakesReceipt ⊤ end (parties after clock receipts session) left (parties last_wire last_clock last_receipts last)
+    → failures wire ≤ failures after → IsWaiting peer session → given.peer ≡ peer → seat ≡ given → are_submits seat.receipts ≡ true
+    → ServedUntil does ticks TakesAs ⊤ end (parties after clock seat session) left (parties last_wire last_clock last_seat last)
     → IsCounted (failures after) (failures last_wire) end → ServesConnection does ticks failures own wire clock end
-served-out does ticks failures own known peer answer end wire after last_wire clock last_clock unread left session last receipts last_receipts same gives empty greeted kept waits earlier served counted =
+served-out does ticks failures own known peer answer end wire after last_wire clock last_clock unread left session last seat given last_seat same gives empty greeted kept waits of_peer is earlier served counted =
     record {
       wire_after = last_wire;
       clock_after = last_clock;
@@ -72,6 +73,15 @@ served-out does ticks failures own known peer answer end wire after last_wire cl
       greeted = after;
       unread = left;
       greets = greeted-so does own known answer (Ok peer) wire after unread left same gives empty greeted;
-      follows = inr (record { session = session; last = last; receipts = receipts; receipts_after = last_receipts; waits = waits; earlier = earlier; served = served });
+      follows = inr (record {
+        session = session;
+        last = last;
+        seat = seat;
+        seat_after = last_seat;
+        waits = waits;
+        of_peer = ap (λ seat. seat.peer) is ∙ of_peer;
+        earlier = earlier;
+        served = served;
+      });
       counted = counted-behind end (failures wire) (failures after) (failures last_wire) kept counted;
     }

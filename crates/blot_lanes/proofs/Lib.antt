@@ -1,3 +1,5 @@
 mod ConnectionLemmas
+mod ListingLemmas
 mod PeerLemmas
+mod SeatLemmas
 mod SubmitLemmas

@@ -1,3 +1,5 @@
 pub mod Lanes
 pub mod Listing
+pub mod Seating
+pub mod Seats
 pub mod Storing

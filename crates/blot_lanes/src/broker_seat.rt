@@ -1,51 +1,64 @@
 //! A broker's seat at a desk.
-ghost use Rattle.std.specs.Prelude.{◌≡◌, [], Some, true};
+ghost use Rattle.std.specs.Prelude.{◌≡◌, Some, true};
 ghost use Rattle.blot_fields.specs.Bringing.{brought};
 ghost use Rattle.blot_tag.specs.Views.{text_of};
-ghost use Rattle.blot_gateway.specs.AtOnce.{TakesReceipt, are_submits};
+ghost use Rattle.blot_gateway.specs.AtOnce.{are_submits};
+ghost use Rattle.blot_lanes.specs.Seats.{TakesAs};
 
 use crate::PeerStore;
 use blot_desk::{Desk, DeskFault, Event, Reply, Seat};
 use blot_gateway::{FrameKeeper, FrameSink, Heard};
 use blot_tag::Frame;
-use blot_types::Command;
+use blot_types::{Command, Text64};
 use std::marker::Model;
 use std::sync::Wait;
 use std::sync::ledger::Ledger;
 use std::time::Clock;
 
-/// A broker's seat: all its receipts are of submits. A contract sees them.
+/// A broker's seat: whose it is, for good, and its receipts, which are all of submits. A contract sees these two.
 #[derive(Drop)]
 pub struct BrokerSeat<L: Ledger> {
+    peer: Text64,
     seat: Seat<L>,
     // How many records of their own kinds there are of the broker.
     pub(crate) records: u64,
 }
 
 impl<L: Ledger> Model for BrokerSeat<L> {
-    ghost use Rattle.std.specs.Prelude.{◌≡◌, List, true};
-    ghost use Rattle.blot_desk.specs.declared.receipt.Receipt.{Receipt};
+    ghost use Rattle.std.specs.Prelude.{◌≡◌, true};
     ghost use Rattle.blot_gateway.specs.AtOnce.{are_submits};
+    ghost use Rattle.blot_lanes.specs.Seats.{Seated};
 
-    ghost Value = { List Receipt };
+    ghost Value = { Seated };
 
-    ghost view = { λ broker. broker.seat };
+    ghost view = { λ broker. record { peer = broker.peer; receipts = broker.seat } };
 
     ghost invariant = { λ broker. are_submits broker.seat ≡ true };
 }
 
 impl<L: Ledger> BrokerSeat<L> {
-    /// A seat whose receipts are of submits, as the seat of a broker of whom there are so many records of their own kinds.
-    pub fn new(seat: Seat<L>, records: u64) -> BrokerSeat<L>
+    /// The seat of this peer, of whom there are so many records of their own kinds. Its receipts are of submits.
+    pub fn new(peer: Text64, seat: Seat<L>, records: u64) -> BrokerSeat<L>
         requires { are_submits seat ≡ true }
-        ensures { result ≡ seat }
+        ensures { result ≡ record { peer = peer; receipts = seat } }
     {
-        BrokerSeat { seat, records }
+        BrokerSeat {
+            peer,
+            seat,
+            records,
+        }
+    }
+
+    /// The peer.
+    pub(crate) fn peer(&self) -> &Text64
+        ensures { result.now ≡ self.now.peer }
+    {
+        &self.peer
     }
 
     /// The seat.
     pub fn into_seat(self) -> Seat<L>
-        ensures same { result ≡ self }
+        ensures same { result ≡ self.receipts }
         ensures submits { are_submits result ≡ true }
     {
         let BrokerSeat { seat, .. } = self;
@@ -53,7 +66,7 @@ impl<L: Ledger> BrokerSeat<L> {
     }
 }
 
-/// A broker's seat at a desk, as the sink of a session: each command is a submit. A contract sees the receipts of the seat.
+/// A broker's seat at a desk, as the sink of a session: each command is a submit. A contract sees the seat.
 #[derive(Drop)]
 pub(crate) struct SeatAt<'a, R, L: Ledger, K: FrameKeeper> {
     rt: &'a R,
@@ -63,10 +76,9 @@ pub(crate) struct SeatAt<'a, R, L: Ledger, K: FrameKeeper> {
 }
 
 impl<'a, R, L: Ledger, K: FrameKeeper> Model for SeatAt<'a, R, L, K> {
-    ghost use Rattle.std.specs.Prelude.{List};
-    ghost use Rattle.blot_desk.specs.declared.receipt.Receipt.{Receipt};
+    ghost use Rattle.blot_lanes.specs.Seats.{Seated};
 
-    ghost Value = { List Receipt };
+    ghost Value = { Seated };
 
     ghost view = { λ sink. sink.seat };
 }
@@ -80,7 +92,7 @@ impl<'a, R, L: Ledger, K: FrameKeeper> SeatAt<'a, R, L, K> {
         seat: BrokerSeat<L>,
     ) -> Self
         ensures same { result ≡ seat }
-        ensures submits { are_submits result ≡ true }
+        ensures submits { are_submits result.receipts ≡ true }
     {
         SeatAt {
             rt,
@@ -100,9 +112,9 @@ impl<'a, R, L: Ledger, K: FrameKeeper> SeatAt<'a, R, L, K> {
 }
 
 impl<'a, R: Wait + Clock, L: Ledger, K: FrameKeeper> FrameSink for SeatAt<'a, R, L, K> {
-    ghost use Rattle.blot_gateway.specs.AtOnce.{TakesReceipt};
+    ghost use Rattle.blot_lanes.specs.Seats.{TakesAs};
 
-    ghost takes = { TakesReceipt };
+    ghost takes = { TakesAs };
 
     #[tactic(auto, using(crate::proofs::SubmitLemmas::submits_kept))]
     fn take(&mut self, frame: &Frame, command: Command) -> Result<Reply, DeskFault> {
@@ -135,7 +147,7 @@ impl<L: Ledger> BrokerSeat<L> {
         command: Command,
     ) -> Result<Reply, DeskFault>
         requires { brought (text_of frame.now) ≡ Some command }
-        ensures { TakesReceipt self.old (record { command = command; answer = result }) self.new }
+        ensures { TakesAs self.old (record { command = command; answer = result }) self.new }
     {
         desk.submit_with(rt, &mut self.seat, Event::Submit(command), frame.text())
     }

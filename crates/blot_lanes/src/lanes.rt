@@ -6,7 +6,7 @@ use crate::{PeerNotes, PeerStore, Peers, serve_connection};
 use blot_desk::Desk;
 use blot_gateway::{Ended, FrameKeeper, StoredWire};
 use blot_sockets::{Door, Socket, SystemClock};
-use log::{Log, info, warn};
+use log::{Log, error, info, warn};
 use std::alloc::{AllocError as NoMemory, Global};
 use std::io::{self, ErrorKind, Read, Write};
 use std::net::{OpenListener, OpenStream, SocketAddr};
@@ -125,7 +125,7 @@ where
         }
     }
 
-    // Serves a connection. One that is gone already can't be set up. Where the journal can't be written any more, the day ends.
+    // Serves a connection. One that is gone already can't be set up. Where the journal can't be written any more, the day ends, which is logged.
     fn serve(&self, stream: N::Stream, address: SocketAddr) {
         self.is_failing.store(false, SeqCst);
         let Ok(socket) = Socket::new(stream) else {
@@ -139,7 +139,8 @@ where
         serve_connection(
             self.rt, self.alloc, self.peers, self.desk, &notes, self.door, address, wire, clock,
         );
-        if self.desk.sync(self.rt).is_err() {
+        if self.desk.sync(self.rt).is_err() && !self.door.is_closed() {
+            error!(self.rt; "the journal can't be written, so the day ends");
             self.door.close();
         }
     }

@@ -5,11 +5,13 @@
 mod broker_seat;
 mod connection;
 mod lanes;
+mod listed_peer;
 mod peer_store;
 mod peers;
 
 pub use broker_seat::BrokerSeat;
 pub use connection::{GREETING_READS, serve_connection};
 pub use lanes::{Task, serve_lanes};
+pub use listed_peer::ListedPeer;
 pub use peer_store::{PeerNotes, PeerStore};
-pub use peers::{ListedPeer, Peers};
+pub use peers::Peers;

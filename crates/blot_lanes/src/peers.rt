@@ -1,15 +1,16 @@
 //! The listed peers of an open day, each with its session and its seat.
 ghost use Rattle.std.specs.List.{All, IsDistinct};
 ghost use Rattle.std.specs.Map.{lookup, set_value};
-ghost use Rattle.std.specs.Prelude.{◌≡◌, ◌↔◌, ◌⊎◌, ◌≤◌, ◌+◌, [], true, is_some, Ok, Err, Some, None, IfOk, IfErr, IsSomeAnd, OnOk};
+ghost use Rattle.std.specs.Prelude.{◌≡◌, ◌↔◌, ◌⊎◌, [], true, is_some, Ok, Err, Some, None, IfOk, IfErr, IfSome, OnOk};
 ghost use Rattle.blot_types.specs.Keys.{same_text};
-ghost use Rattle.blot_fields.specs.declared.TheConstants.{SEQUENCE_MAX};
 ghost use Rattle.blot_gateway.specs.AtOnce.{are_submits};
-ghost use Rattle.blot_lanes.specs.Lanes.{seat_of};
-ghost use Rattle.blot_session.specs.States.{IsIdle, resumed, waiting_again};
+ghost use Rattle.blot_lanes.specs.Listing.{peers_of};
+ghost use Rattle.blot_lanes.specs.Seating.{AreOwnSeats, seat_of};
+ghost use Rattle.blot_session.specs.States.{IsIdle, waiting_again};
 ghost use Rattle.blot_slots.specs.Slots.{IsWaiting, checked_out, slot_of, with_slot};
 
-use crate::BrokerSeat;
+use crate::listed_peer::resumed_sessions;
+use crate::{BrokerSeat, ListedPeer};
 use blot_console::SessionLine;
 use blot_desk::Seat;
 use blot_session::Session;
@@ -35,15 +36,26 @@ struct PeerTable<L: Ledger> {
     peers: IndexMap<Text64, Peer<L>>,
 }
 
+impl<L: Ledger> Model for PeerTable<L> {
+    ghost use Rattle.blot_lanes.specs.Seating.{AreOwnSeats, Seating};
+
+    ghost Value = { Seating L };
+
+    ghost view = { λ table. record { sessions = table.sessions; peers = table.peers.entries } };
+
+    ghost invariant = { λ table. AreOwnSeats table.peers.entries };
+}
+
 impl<L: Ledger> PeerTable<L> {
     // Hands out the session and the seat of a peer.
     fn check_out(&mut self, peer: &Text64) -> Result<(Session, BrokerSeat<L>), SlotFault>
         ensures session { IfOk result (λ out. checked_out self.old.sessions peer.now ≡ Ok out.0) }
-        ensures seat { IfOk result (λ out. seat_of peer.now self.old.peers.entries ≡ Some out.1) }
+        ensures seat { IfOk result (λ out. seat_of peer.now self.old.peers ≡ Some out.1) }
         ensures left { OnOk result (self.new.sessions ≡ with_slot peer.now None self.old.sessions) }
         ensures err { IfErr result (λ fault. (fault ≡ SlotFault.UnknownPeer) ⊎ (fault ≡ SlotFault.AlreadyOn)) }
         ensures waiting { IfOk result (λ out. IsWaiting peer.now out.0) }
         ensures idle { IfOk result (λ out. IsIdle out.0) }
+        ensures of_peer { IfOk result (λ out. out.1.peer ≡ peer.now) }
     {
         let session = match self.sessions.check_out(peer) {
             Ok(session) => session,
@@ -58,22 +70,20 @@ impl<L: Ledger> PeerTable<L> {
         }
     }
 
-    // Takes them back, where they are out. The session keeps its numbers.
+    // Takes them back, each under its own peer's name, where it is out. The session keeps its numbers.
     fn check_in(&mut self, session: Session, seat: BrokerSeat<L>)
         ensures session { slot_of self.old.sessions session.peer ≡ Some None
             → self.new.sessions ≡ with_slot session.peer (Some (waiting_again session)) self.old.sessions }
-        ensures seat { is_some (lookup (same_text session.peer) self.old.peers.entries) ≡ true
-            → self.new.peers.entries ≡ set_value (same_text session.peer) self.old.peers.entries (record { seat = Some seat; expected = session.expected }) }
+        ensures seat { is_some (lookup (same_text seat.peer) self.old.peers) ≡ true
+            → self.new.peers ≡ set_value (same_text seat.peer) self.old.peers (record { seat = Some seat; expected = session.expected }) }
     {
-        put_seat(&mut self.peers, &session, seat);
+        put_seat(&mut self.peers, seat, session.expected());
         self.sessions.take_back(session);
     }
 
     // Notes the number that a peer's session expects.
     fn note(&mut self, peer: &Text64, expected: u64) {
-        if let Some(noted) = self.peers.get_mut(peer) {
-            noted.expected = expected;
-        }
+        note_expected(&mut self.peers, peer, expected);
     }
 
     // The session of each peer, in their order.
@@ -95,7 +105,10 @@ fn take_seat<L: Ledger>(
     peers: &mut IndexMap<Text64, Peer<L>>,
     peer: &Text64,
 ) -> Option<BrokerSeat<L>>
-    ensures { result ≡ seat_of peer.now peers.old.entries }
+    requires own { AreOwnSeats peers.old.entries }
+    ensures seat { result ≡ seat_of peer.now peers.old.entries }
+    ensures of_peer { IfSome result (λ seat. seat.peer ≡ peer.now) }
+    ensures own { AreOwnSeats peers.new.entries }
 {
     match peers.get_mut(peer) {
         Some(listed) => listed.seat.take(),
@@ -103,57 +116,28 @@ fn take_seat<L: Ledger>(
     }
 }
 
-// Puts the seat of a session's peer in, where the peer is listed.
-fn put_seat<L: Ledger>(
-    peers: &mut IndexMap<Text64, Peer<L>>,
-    session: &Session,
-    seat: BrokerSeat<L>,
-)
-    ensures { is_some (lookup (same_text session.now.peer) peers.old.entries) ≡ true
-        → peers.new.entries ≡ set_value (same_text session.now.peer) peers.old.entries (record { seat = Some seat; expected = session.now.expected }) }
+// Puts a seat in under its peer's name, where the peer is listed, with the number that its session expects.
+fn put_seat<L: Ledger>(peers: &mut IndexMap<Text64, Peer<L>>, seat: BrokerSeat<L>, expected: u64)
+    requires own { AreOwnSeats peers.old.entries }
+    ensures put { is_some (lookup (same_text seat.peer) peers.old.entries) ≡ true
+        → peers.new.entries ≡ set_value (same_text seat.peer) peers.old.entries (record { seat = Some seat; expected = expected }) }
+    ensures own { AreOwnSeats peers.new.entries }
 {
-    if let Some(peer) = peers.get_mut(session.peer()) {
+    if let Some(peer) = peers.get_mut(seat.peer()) {
         *peer = Peer {
             seat: Some(seat),
-            expected: session.expected(),
+            expected,
         };
     }
 }
 
-/// A listed peer as a day begins with it: its seat, and the numbers of its session.
-#[derive(Drop)]
-pub struct ListedPeer<L: Ledger> {
-    peer: Text64,
-    seat: BrokerSeat<L>,
-    expected: u64,
-    next: u64,
-}
-
-impl<L: Ledger> Model for ListedPeer<L> {
-    ghost use Rattle.std.specs.Prelude.{◌≤◌, ◌+◌};
-    ghost use Rattle.blot_fields.specs.declared.TheConstants.{SEQUENCE_MAX};
-    ghost use Rattle.blot_lanes.specs.Listing.{Listed};
-
-    ghost Value = { Listed };
-
-    ghost view = { λ listed. record { peer = listed.peer; receipts = listed.seat; expected = listed.expected; next = listed.next } };
-
-    ghost invariant = { λ listed. ((1 ≤ listed.expected) × (listed.expected ≤ SEQUENCE_MAX + 1)) × ((1 ≤ listed.next) × (listed.next ≤ SEQUENCE_MAX + 1)) };
-}
-
-impl<L: Ledger> ListedPeer<L> {
-    /// A peer whose session expects this number, and sends that one next, 1 to 1,000,000,000 each.
-    pub fn new(peer: Text64, seat: BrokerSeat<L>, expected: u64, next: u64) -> ListedPeer<L>
-        requires expected { (1 ≤ expected) × (expected ≤ SEQUENCE_MAX + 1) }
-        requires next { (1 ≤ next) × (next ≤ SEQUENCE_MAX + 1) }
-        ensures { result ≡ record { peer = peer; receipts = seat; expected = expected; next = next } }
-    {
-        ListedPeer {
-            peer,
-            seat,
-            expected,
-            next,
-        }
+// Notes the number that a peer's session expects, where the peer is listed.
+fn note_expected<L: Ledger>(peers: &mut IndexMap<Text64, Peer<L>>, peer: &Text64, expected: u64)
+    requires { AreOwnSeats peers.old.entries }
+    ensures { AreOwnSeats peers.new.entries }
+{
+    if let Some(noted) = peers.get_mut(peer) {
+        noted.expected = expected;
     }
 }
 
@@ -178,17 +162,13 @@ impl<L: Ledger> Peers<L> {
     pub fn new(
         alloc: Global,
         own: Text64,
-        names: &[Text64],
         listed: Vec<ListedPeer<L>>,
     ) -> Result<Peers<L>, SlotFault>
         ensures own { IfOk result (λ made. made ≡ own) }
-        ensures repeated { (result ≡ Err SlotFault.RepeatedPeer) ↔ (IsDistinct same_text names.now → ⊥) }
+        ensures repeated { (result ≡ Err SlotFault.RepeatedPeer) ↔ (IsDistinct same_text (peers_of listed.items) → ⊥) }
         ensures err { IfErr result (λ fault. (fault ≡ SlotFault.RepeatedPeer) ⊎ (fault ≡ SlotFault.NoMemory)) }
     {
-        let mut sessions = SlotTable::new(alloc, own, names)?;
-        for peer in &listed {
-            resume(&mut sessions, own, peer);
-        }
+        let sessions = resumed_sessions(alloc, own, &listed)?;
         let peers = seated(alloc, listed)?;
         let table = Mutex::new(PeerTable { sessions, peers });
         Ok(Peers { own, table })
@@ -210,14 +190,15 @@ impl<L: Ledger> Peers<L> {
     ) -> Result<(Session, BrokerSeat<L>), SlotFault>
         ensures err { IfErr result (λ fault. (fault ≡ SlotFault.UnknownPeer) ⊎ (fault ≡ SlotFault.AlreadyOn)) }
 
-        // The session is the peer's, and waits for its Logon.
+        // The session is the peer's, and waits for its Logon; and so is the seat.
         ensures waiting { IfOk result (λ out. IsWaiting peer.now out.0) }
         ensures idle { IfOk result (λ out. IsIdle out.0) }
+        ensures of_peer { IfOk result (λ out. out.1.peer ≡ peer.now) }
     {
         self.table.lock(rt).check_out(peer)
     }
 
-    /// Takes back the session and the seat of a peer. The session waits for a Logon again, and keeps both numbers. No memory is taken.
+    /// Takes back a session and a seat, each under its own peer's name. The session waits for a Logon again, and keeps both numbers. No memory is taken.
     pub fn check_in(&self, rt: &impl Wait, session: Session, seat: BrokerSeat<L>) {
         self.table.lock(rt).check_in(session, seat);
     }
@@ -243,29 +224,17 @@ impl<L: Ledger> Peers<L> {
     }
 }
 
-// Gives the session of a listed peer the numbers that the day begins with.
-fn resume<L: Ledger>(sessions: &mut SlotTable, own: Text64, listed: &ListedPeer<L>)
-    ensures { IsSomeAnd (slot_of sessions.old listed.now.peer) (λ slot. is_some slot ≡ true)
-        → sessions.new ≡ with_slot listed.now.peer (Some (resumed own listed.now.peer listed.now.expected listed.now.next)) sessions.old }
-{
-    if sessions.check_out(&listed.peer).is_ok() {
-        sessions.take_back(Session::resume(own, listed.peer, listed.expected, listed.next));
-    }
-}
-
-// Each peer with its seat.
+// The seat of each peer, under its own name.
 fn seated<L: Ledger>(
     alloc: Global,
     listed: Vec<ListedPeer<L>>,
-) -> Result<IndexMap<Text64, Peer<L>>, NoMemory> {
+) -> Result<IndexMap<Text64, Peer<L>>, NoMemory>
+    ensures { IfOk result (λ peers. AreOwnSeats peers.entries) }
+{
     let mut seated = IndexMap::with_capacity(alloc, listed.len())?;
     for it in listed {
-        let ListedPeer {
-            peer,
-            seat,
-            expected,
-            next: _,
-        } = it;
+        let (seat, expected) = it.into_seat();
+        let peer = *seat.peer();
         let seat = Some(seat);
         seated.insert(peer, Peer { seat, expected })?;
     }

@@ -1,19 +1,23 @@
 -- A day that is opened over a file.
-use Rattle.std.proofs.Common.{◌≡◌, inl, inr, ⊎_elim, ◌++◌, ap, sym, ℕ, ℤ, List, [], ◌∷◌, length, refl, subst, ◌∙◌, arith}
-use Rattle.std.proofs.lemmas.List.{append-nil}
+use Rattle.std.proofs.Common.{◌≡◌, ◌⊎◌, ◌<◌, inl, inr, ⊎_elim, ◌+◌, true, ap, sym, ℕ, ℤ, List, [], ◌∷◌, length, take, refl, subst, ◌∙◌, arith}
+use Rattle.std.proofs.lemmas.List.{append-nil, take-take}
 use Rattle.blot_tag.proofs.JoinedLemmas.{has_last}
 use Rattle.blot_journal.specs.Device.{LeavesOnly}
-use Rattle.blot_journal.specs.File.{Stands, StandsBeforeOrAfter, text_of}
-use Rattle.blot_journal.specs.Journal.{Open, text_in_journal}
-use Rattle.blot_journal.specs.Recovery.{SameOrWas}
+use Rattle.blot_journal.specs.File.{StandsBeforeOrAfter, text_of}
+use Rattle.blot_journal.specs.Journal.{Open}
+use Rattle.blot_journal.specs.Recovery.{IsCutBehind, IsLeft, IsOrWas, trimmed}
+use Rattle.blot_journal.specs.declared.journal.JournalFault.{JournalFault}
+use Rattle.blot_journal.specs.declared.journal.JournalFault.TheVariants as writing
+use Rattle.blot_journal.specs.declared.recovery.RecoveryFault.{RecoveryFault}
+use Rattle.blot_journal.specs.declared.recovery.RecoveryFault.TheVariants as reading
 use Rattle.blot_diary.specs.declared.kept.Content.TheVariants.{Beginning}
 use Rattle.blot_diary.specs.declared.kept.Kept.{Kept}
 use Rattle.blot_diary.specs.Diary.{desk_events}
 use Rattle.blot_diary.specs.Records.{keeps}
 use Rattle.blot_recovery.specs.declared.opening.OpenFault.{OpenFault}
 use Rattle.blot_recovery.specs.declared.opening.OpenFault.TheVariants.{File, Text, Write}
-use Rattle.blot_recovery.specs.Moments.{IsBegun, IsOrLeaves, IsOrWasRead, SameOrBegun, StandsOrBegun, WasRead, later-on}
-use Rattle.blot_recovery.specs.Opening.{IfOfFile, IsBeginning, IsOpenFault, IsTextFault, OpensWith}
+use Rattle.blot_recovery.specs.Moments.{IsBegun, IsOpening, IsOrLeaves, IsOrWasRead, SameOrBegun, WasRead, later-on}
+use Rattle.blot_recovery.specs.Opening.{IfRefused, IsBeginning, IsOpenFault, IsOpened, IsTextFault, IsWriteFault, OpensWith, is_of_disk}
 use Rattle.blot_recovery.proofs.FrameLemmas.{desk_events-last, desk_events-nil, keeps_last, whole-nil}
 
 -- a text of no bytes
@@ -42,69 +46,135 @@ open-fault own day file found (File fault) is of = absurd of
 open-fault own day file found (Text fault) is of = subst (λ found. IsTextFault own day found (Text fault)) is of
 open-fault own day file found (Write fault) is of = subst (λ found. IsTextFault own day found (Write fault)) is of
 
--- and isn't the file's own
-pub not-of-file : (own : List ℕ) (day : ℤ) (found : List ℕ) (fault : OpenFault) (P : Type 0) → IsTextFault own day found fault → IfOfFile fault P
-not-of-file own day found (File fault) P of = absurd of
-not-of-file own day found (Text fault) P of = tt
-not-of-file own day found (Write fault) P of = tt
+-- what a fault of a write says of the text
+pub write-fault : (found : List ℕ) (fault : JournalFault) → (fault ≡ writing.Full → found ≡ []) → (fault ≡ writing.Broken → ⊥) → IsWriteFault found fault
+write-fault found writing.NoMemory full broken = tt
+write-fault found writing.Failed full broken = tt
+write-fault found writing.Full full broken = full refl
+write-fault found writing.Broken full broken = broken refl
+
+-- ---- a disk that failed
+
+pub file-cause : (fault : RecoveryFault) (before now : ℕ) → (fault ≡ reading.Failed → before < now) → is_of_disk (File fault) ≡ true → before < now
+file-cause reading.NoMemory before now failed is = cc
+file-cause reading.Failed before now failed is = failed refl
+file-cause reading.NoJournal before now failed is = cc
+file-cause (reading.Damaged end) before now failed is = cc
+
+pub write-cause : (fault : JournalFault) (before mid now : ℕ) → before ≡ 0 → (fault ≡ writing.Failed → mid < now) → is_of_disk (Write fault) ≡ true → before < now
+write-cause writing.NoMemory before mid now none failed is = cc
+write-cause writing.Failed before mid now none failed is = omega (arith, none, failed refl)
+write-cause writing.Full before mid now none failed is = cc
+write-cause writing.Broken before mid now none failed is = cc
+
+pub text-cause : (own : List ℕ) (day : ℤ) (found : List ℕ) (fault : OpenFault) (before mid now : ℕ) → before ≡ 0 → IsTextFault own day found fault
+    → (fault ≡ Write writing.Failed → mid < now) → is_of_disk fault ≡ true → before < now
+text-cause own day found (File fault) before mid now none of failed is = absurd of
+text-cause own day found (Text fault) before mid now none of failed is = cc
+text-cause own day found (Write fault) before mid now none of failed is =
+    write-cause fault before mid now none (λ same. failed (ap (λ (fault : JournalFault). Write fault) same)) is
+
+-- ---- the file
+
+-- a text is empty or it isn't
+pub empty-or : (text : List ℕ) → (text ≡ []) ⊎ (text ≡ [] → ⊥)
+empty-or [] = inl refl
+empty-or (byte ∷ text) = inr (λ none. absurd (empty-not byte text none))
+  where
+    empty-not : (byte : ℕ) (text : List ℕ) → byte ∷ text ≡ [] → ⊥
+    empty-not byte text none = omega (arith, ap length none)
+
+-- what was read is as it was
+pub read-same : {D : Type 0} (seen : D → List ℕ) (moment : D → ℕ) (left_since : D → ℕ → List ℕ → Type 0) (old new : Open D) → IsOrWasRead (WasRead seen moment left_since) old new
+    → seen new.device ≡ seen old.device
+read-same seen moment left_since old new (inl same) = ap (λ journal. seen journal.device) same
+read-same seen moment left_since old new (inr read) = read.seen_is
+
+-- the file that is opened, once what stood behind its text is cut off
+pub opened-file : (old mid new : List ℕ) → ((text_of old ≡ [] → ⊥) → mid ≡ old) → new ≡ trimmed mid → text_of new ≡ text_of mid → IsOpened old new
+opened-file old mid new same is text =
+    record {
+      trimmed_is = ap (λ (n : ℕ). take (4096 + n) new) (ap length text) ∙ ap (λ (file : List ℕ). take (4096 + length (text_of mid)) file) is
+          ∙ take-take (4096 + length (text_of mid)) (4096 + length (text_of mid)) mid (omega arith) ∙ sym is;
+      same = λ some. is ∙ ap trimmed (same some);
+    }
 
 -- ---- moments
 
 module _ {D : Type 0} (moment : D → ℕ) (left_since : D → ℕ → List ℕ → Type 0) where
+  weaker : (old new : D) (P Q : List ℕ → Type 0) → LeavesOnly moment left_since old new P → ((file : List ℕ) → P file → Q file) → LeavesOnly moment left_since old new Q
+  weaker old new P Q leaves so = record {
+    later = leaves.later;
+    each = λ file left. so file (leaves.each file left);
+    before = λ start file le left. ⊎_elim inl (λ has. inr (so file has)) (leaves.before start file le left);
+  }
+
   is-or-weaker : (old new : D) (P Q : List ℕ → Type 0) → IsOrLeaves moment left_since old new P → ((file : List ℕ) → P file → Q file) → IsOrLeaves moment left_since old new Q
   is-or-weaker old new P Q (inl same) so = inl same
   is-or-weaker old new P Q (inr leaves) so = inr (weaker old new P Q leaves so)
-    where
-      weaker : (old new : D) (P Q : List ℕ → Type 0) → LeavesOnly moment left_since old new P → ((file : List ℕ) → P file → Q file) → LeavesOnly moment left_since old new Q
-      weaker old new P Q leaves so = record {
-        later = leaves.later;
-        each = λ file left. so file (leaves.each file left);
-        before = λ start file le left. ⊎_elim inl (λ has. inr (so file has)) (leaves.before start file le left);
-      }
 
   -- a journal that was read
   pub read-moments : (own : List ℕ) (day : ℤ) (seen : D → List ℕ) (old new : Open D) → IsOrWasRead (WasRead seen moment left_since) old new
-      → IsOrLeaves moment left_since old.device new.device (StandsOrBegun own day (text_in_journal seen old))
+      → IsOrLeaves moment left_since old.device new.device (SameOrBegun own day (seen old.device))
   read-moments own day seen old new (inl same) = inl (ap (λ (journal : Open D). journal.device) same)
   read-moments own day seen old new (inr read) =
-      is-or-weaker old.device new.device (Stands (text_in_journal seen old)) (StandsOrBegun own day (text_in_journal seen old)) (inr read.leaves) (λ file stands. inl stands)
+      is-or-weaker old.device new.device (λ file. file ≡ seen old.device) (SameOrBegun own day (seen old.device)) (inr read.leaves) (λ file is. inl is)
 
   -- one whose text was begun
-  pub begun-moments : (own : List ℕ) (day : ℤ) (found text : List ℕ) (old new : D) → found ≡ [] → IsBeginning own day text
-      → IsOrLeaves moment left_since old new (StandsBeforeOrAfter found text) → IsOrLeaves moment left_since old new (StandsOrBegun own day found)
-  begun-moments own day found text old new none begins leaves =
-      is-or-weaker old new (StandsBeforeOrAfter found text) (StandsOrBegun own day found) leaves each
-    where
-      each : (file : List ℕ) → StandsBeforeOrAfter found text file → StandsOrBegun own day found file
-      each file (inl stands) = inl stands
-      each file (inr stands) = inr (record { none = none; text = text; begins = begins; stands = subst (λ (found : List ℕ). Stands (found ++ text) file) none stands })
+  pub begun-moments : (own : List ℕ) (day : ℤ) (seen text : List ℕ) (old new : D) → text_of seen ≡ [] → IsBeginning own day text
+      → IsOrLeaves moment left_since old new (StandsBeforeOrAfter (text_of seen) text) → IsOrLeaves moment left_since old new (SameOrBegun own day seen)
+  begun-moments own day seen text old new none begins leaves =
+      is-or-weaker old new (StandsBeforeOrAfter (text_of seen) text) (SameOrBegun own day seen) leaves
+      (λ file stands. inr (record { none = none; text = text; begins = begins; stands = subst (λ (found : List ℕ). StandsBeforeOrAfter found text file) none stands }))
 
-  -- the file was recovered, and its text taken up
-  pub opened-moments : (own : List ℕ) (day : ℤ) (seen found : List ℕ) (may_leave : List ℕ → Type 0) (device old new : D) → found ≡ text_of seen
-      → LeavesOnly moment left_since device old (SameOrWas seen may_leave) → IsOrLeaves moment left_since old new (StandsOrBegun own day found)
-      → LeavesOnly moment left_since device new (SameOrBegun own day seen may_leave)
-  opened-moments own day seen found may_leave device old new is first second = by second
-    where
-      recovered : LeavesOnly moment left_since device old (SameOrBegun own day seen may_leave)
-      recovered = record {
-        later = first.later;
-        each = λ file left. inl (first.each file left);
-        before = λ start file le left. ⊎_elim inl (λ has. inr (inl has)) (first.before start file le left);
-      }
-
-      each : (file : List ℕ) → StandsOrBegun own day found file → SameOrBegun own day seen may_leave file
-      each file (inl stands) = inl (inl (record { says = stands.says ∙ is; whole = λ _. stands.whole }))
-      each file (inr begun) = inr (subst (λ found. IsBegun own day found file) is begun)
-
-      by : IsOrLeaves moment left_since old new (StandsOrBegun own day found) → LeavesOnly moment left_since device new (SameOrBegun own day seen may_leave)
-      by (inl same) = subst (λ new. LeavesOnly moment left_since device new (SameOrBegun own day seen may_leave)) (sym same) recovered
-      by (inr leaves) = later-on moment left_since device old new (SameOrBegun own day seen may_leave) (StandsOrBegun own day found) recovered leaves each
-
-  -- a file that isn't taken up
-  pub refused-moments : (own : List ℕ) (day : ℤ) (seen : List ℕ) (may_leave : List ℕ → Type 0) (device new : D)
-      → LeavesOnly moment left_since device new (SameOrWas seen may_leave) → LeavesOnly moment left_since device new (SameOrBegun own day seen may_leave)
-  refused-moments own day seen may_leave device new leaves = record {
-    later = leaves.later;
-    each = λ file left. inl (leaves.each file left);
-    before = λ start file le left. ⊎_elim inl (λ has. inr (inl has)) (leaves.before start file le left);
+  -- a file that was recovered and read is left as it was
+  pub left-read : (seen : D → List ℕ) (may_leave : D → List ℕ → Type 0) (device : D) (old new : Open D) → IsLeft seen may_leave moment left_since device old.device
+      → IsOrWasRead (WasRead seen moment left_since) old new → IsLeft seen may_leave moment left_since device new.device
+  left-read seen may_leave device old new left (inl same) = subst (λ (journal : Open D). IsLeft seen may_leave moment left_since device journal.device) (sym same) left
+  left-read seen may_leave device old new left (inr read) = record {
+    seen_is = read.seen_is ∙ left.seen_is;
+    any_moment = later-on moment left_since device old.device new.device (IsOrWas (seen device) (may_leave device)) (λ file. file ≡ seen old.device) left.any_moment read.leaves
+        (λ file is. inl (is ∙ left.seen_is));
   }
+
+  -- and so where it is refused
+  pub refused-left : (seen : D → List ℕ) (may_leave : D → List ℕ → Type 0) (device : D) (old new : Open D) (fault : OpenFault) → IsLeft seen may_leave moment left_since device old.device
+      → IfRefused fault (IsOrWasRead (WasRead seen moment left_since) old new) → IfRefused fault (IsLeft seen may_leave moment left_since device new.device)
+  refused-left seen may_leave device old new (File fault) left read = left-read seen may_leave device old new left read
+  refused-left seen may_leave device old new (Text fault) left read = left-read seen may_leave device old new left read
+  refused-left seen may_leave device old new (Write fault) left read = tt
+
+  module _ (own : List ℕ) (day : ℤ) (seen : D → List ℕ) (may_leave : D → List ℕ → Type 0) (device : D) where
+    -- a file that was recovered
+    pub left-moments : (new : D) → IsLeft seen may_leave moment left_since device new → LeavesOnly moment left_since device new (IsOpening own day (seen device) (may_leave device))
+    left-moments new left = weaker device new (IsOrWas (seen device) (may_leave device)) (IsOpening own day (seen device) (may_leave device)) left.any_moment (λ file is. inl is)
+
+    -- and its text taken up
+    pub taken-moments : (old new : D) → IsLeft seen may_leave moment left_since device old → IsOrLeaves moment left_since old new (SameOrBegun own day (seen old))
+        → LeavesOnly moment left_since device new (IsOpening own day (seen device) (may_leave device))
+    taken-moments old new left second = by second
+      where
+        P : List ℕ → Type 0
+        P = IsOpening own day (seen device) (may_leave device)
+
+        each : (file : List ℕ) → SameOrBegun own day (seen old) file → P file
+        each file (inl is) = inl (inl (is ∙ left.seen_is))
+        each file (inr begun) = inr (inr (subst (λ old. IsBegun own day (text_of old) file) left.seen_is begun))
+
+        by : IsOrLeaves moment left_since old new (SameOrBegun own day (seen old)) → LeavesOnly moment left_since device new P
+        by (inl same) = subst (λ new. LeavesOnly moment left_since device new P) (sym same) (left-moments old left)
+        by (inr leaves) = later-on moment left_since device old new P (SameOrBegun own day (seen old)) (left-moments old left) leaves each
+
+    -- and what stands behind the text cut off
+    pub cut-moments : (mid new : D) → OpensWith own day (text_of (seen device)) (text_of (seen mid)) → ((text_of (seen device) ≡ [] → ⊥) → seen mid ≡ seen device)
+        → LeavesOnly moment left_since device mid (IsOpening own day (seen device) (may_leave device)) → LeavesOnly moment left_since mid new (IsCutBehind (seen mid))
+        → LeavesOnly moment left_since device new (IsOpening own day (seen device) (may_leave device))
+    cut-moments mid new opens same first second =
+        later-on moment left_since device mid new (IsOpening own day (seen device) (may_leave device)) (IsCutBehind (seen mid)) first second each
+      where
+        by : (file : List ℕ) → (text_of (seen device) ≡ []) ⊎ (text_of (seen device) ≡ [] → ⊥) → IsCutBehind (seen mid) file → IsOpening own day (seen device) (may_leave device) file
+        by file (inl none) cut = inr (inr (record { none = none; text = text_of (seen mid); begins = opens.new none; stands = inr cut.stands }))
+        by file (inr some) cut = inr (inl (subst (λ old. IsCutBehind old file) (same some) cut))
+
+        each : (file : List ℕ) → IsCutBehind (seen mid) file → IsOpening own day (seen device) (may_leave device) file
+        each file cut = by file (empty-or (text_of (seen device))) cut

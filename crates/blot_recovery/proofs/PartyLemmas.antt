@@ -20,7 +20,8 @@ use Rattle.blot_diary.specs.Keeping.{IsInRange, IsKept, kept_in}
 use Rattle.blot_diary.specs.Numbering.{expected_by, first_numbers, next_by, numbers_after, numbers_in, numbers_of, sent_after}
 use Rattle.blot_recovery.specs.declared.parties.KeptOperator.{KeptOperator}
 use Rattle.blot_recovery.specs.declared.parties.KeptPeer.{KeptPeer}
-use Rattle.blot_recovery.specs.Parties.{IsKeptOperator, IsKeptPeer, are_submits, brought_by, events_told, is_operator, is_peer, is_submit, operator_record_after, operator_record_by, operator_records_of, peer_record_after, peer_record_by, peer_records_of}
+use Rattle.blot_gateway.specs.AtOnce.{are_submits, is_submit}
+use Rattle.blot_recovery.specs.Parties.{IsKeptOperator, IsKeptPeer, brought_by, events_told, is_operator, is_peer, operator_record_after, operator_record_by, operator_records_of, peer_record_after, peer_record_by, peer_records_of}
 use Rattle.blot_recovery.specs.Taking.{IsAskedBy, KeepsLast, event_noted, stands_by, stands_for, with_event}
 use Rattle.blot_recovery.proofs.FrameLemmas.{brought-nil, brought-others, brought-theirs, frames_of-nil, numbers_of-last, operator_records_of-last, peer_records_of-last}
 use Rattle.blot_recovery.proofs.TestLemmas.{both-true, is_same, middle-false, not_same, same-itself}

@@ -1,12 +1,15 @@
 -- A day that is opened over a file.
-use Rattle.std.specs.Prelude.{◌≡◌, ℕ, ℤ, List, [], IsTrue, Some}
+use Rattle.std.specs.Prelude.{◌≡◌, ℕ, ℤ, Bool, true, false, List, [], Some}
 use Rattle.std.specs.List.{All}
 use Rattle.blot_tag.specs.Fields.{fields_of}
 use Rattle.blot_tag.specs.Frames.{IsFrame}
 use Rattle.blot_desk.specs.Desk.{IsRun, events_of}
 use Rattle.blot_desk.specs.Keeping.{kept_events}
 use Rattle.blot_journal.specs.File.{text_of}
-use Rattle.blot_journal.specs.Recovery.{IsFaultOf as IsFaultOfFile, is_of_file}
+use Rattle.blot_journal.specs.Recovery.{IsFaultOf as IsFaultOfFile, trimmed}
+use Rattle.blot_journal.specs.declared.journal.JournalFault.{JournalFault}
+use Rattle.blot_journal.specs.declared.journal.JournalFault.TheVariants as writing
+use Rattle.blot_journal.specs.declared.recovery.RecoveryFault.TheVariants as reading
 use Rattle.blot_diary.specs.declared.kept.Content.TheVariants.{Beginning}
 use Rattle.blot_diary.specs.Diary.{desk_events}
 use Rattle.blot_diary.specs.Keeping.{kept_of}
@@ -35,11 +38,17 @@ pub record IsRefused (own : List ℕ) (day : ℤ) (found : List ℕ) (fault : Re
   pub opens : OpensWith own day found text
   pub fault_is : IsFaultOf (BeginsOtherwise own (Some day) text) text fault
 
--- what a fault says of the text that was found; that none was, where its beginning couldn't be written
+-- what a fault of a write says of the text that was found: Full comes only where none was, and Broken never
+abbrev pub IsWriteFault : List ℕ → JournalFault → Type 0
+IsWriteFault found writing.Full = found ≡ []
+IsWriteFault found writing.Broken = ⊥
+IsWriteFault found fault = Unit {0}
+
+-- what a fault says of the text that was found
 abbrev pub IsTextFault : List ℕ → ℤ → List ℕ → OpenFault → Type 0
 IsTextFault own day found (File fault) = ⊥
 IsTextFault own day found (Text fault) = IsRefused own day found fault
-IsTextFault own day found (Write fault) = found ≡ []
+IsTextFault own day found (Write fault) = IsWriteFault found fault
 
 -- what a fault says of a file
 abbrev pub IsOpenFault : List ℕ → ℤ → List ℕ → OpenFault → Type 0
@@ -47,10 +56,22 @@ IsOpenFault own day file (File fault) = IsFaultOfFile file fault
 IsOpenFault own day file (Text fault) = IsTextFault own day (text_of file) (Text fault)
 IsOpenFault own day file (Write fault) = IsTextFault own day (text_of file) (Write fault)
 
--- what holds where a fault is the file's own: it is no journal, or ends before its text does
-abbrev pub IfOfFile : OpenFault → Type 0 → Type 0
-IfOfFile (File fault) P = IsTrue (is_of_file fault) → P
-IfOfFile fault P = Unit {0}
+-- what holds of a file that is refused, by itself or by its text
+abbrev pub IfRefused : OpenFault → Type 0 → Type 0
+IfRefused (File fault) P = P
+IfRefused (Text fault) P = P
+IfRefused (Write fault) P = Unit {0}
+
+-- whether a fault says that the disk failed
+abbrev pub is_of_disk : OpenFault → Bool
+is_of_disk (File reading.Failed) = true
+is_of_disk (Write writing.Failed) = true
+is_of_disk fault = false
+
+-- the file of a day that is opened: nothing stands behind its text, and where it had one nothing else was changed
+pub record IsOpened (old new : List ℕ) : Type 0 where
+  pub trimmed_is : trimmed new ≡ new
+  pub same : (text_of old ≡ [] → ⊥) → new ≡ trimmed old
 
 -- a text is taken up: the desk is the run of its events, and each party is as it leaves it
 pub record IsRecovered {L : Type 0} (own : List ℕ) (names : List (List ℕ)) (operator text : List ℕ) (recovered : Recovered L) : Type 0 where

@@ -1,12 +1,11 @@
 -- What each party of a journal brought, and where its records of its own kinds stand.
 use Rattle.std.specs.Prelude.{◌≡◌, ℕ, ◌≤◌, Bool, true, false, List, fold, map, filter, if◌then◌else◌}
-use Rattle.std.specs.List.{list_all}
 use Rattle.blot_types.specs.Keys.{same_text}
 use Rattle.blot_fields.specs.declared.TheConstants.{SEQUENCE_MAX}
 use Rattle.blot_tag.specs.Walking.{frames_of}
 use Rattle.blot_desk.specs.declared.event.Event.{Event}
-use Rattle.blot_desk.specs.declared.event.Event.TheVariants.{Submit}
 use Rattle.blot_desk.specs.declared.receipt.Receipt.{Receipt}
+use Rattle.blot_gateway.specs.AtOnce.{are_submits}
 use Rattle.blot_diary.specs.declared.kept.Content.{Content}
 use Rattle.blot_diary.specs.declared.kept.Content.TheVariants as contents
 use Rattle.blot_diary.specs.declared.kept.Kept.{Kept}
@@ -37,15 +36,6 @@ brought_by is_one text = map (λ noted. noted.event) (filter (λ noted. is_one n
 -- the events of some receipts
 abbrev pub events_told : List Receipt → List Event
 events_told receipts = map (λ receipt. receipt.event) receipts
-
--- whether an event is a submit
-abbrev pub is_submit : Event → Bool
-is_submit (Submit command) = true
-is_submit event = false
-
--- whether all these receipts are of submits
-abbrev pub are_submits : List Receipt → Bool
-are_submits receipts = list_all (λ receipt. is_submit receipt.event) receipts
 
 -- ---- records
 

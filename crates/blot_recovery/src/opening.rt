@@ -1,6 +1,6 @@
 //! A day that is opened over the file of a journal.
 ghost use Rattle.std.specs.List.{All, IsDistinct, list_any};
-ghost use Rattle.std.specs.Prelude.{◌≡◌, ◌≢◌, ◌+◌, ◌++◌, [], false, length, IfErr, IfOk, IsTrue, OnOk, Some};
+ghost use Rattle.std.specs.Prelude.{◌≡◌, ◌≢◌, ◌+◌, ◌++◌, ◌<◌, [], false, length, IfErr, IfOk, IsErrOf, IsTrue, OnOk, Some, true};
 ghost use Rattle.blot_types.specs.Keys.{same_text};
 ghost use Rattle.blot_tag.specs.Joined.{IsWhole};
 ghost use Rattle.blot_desk.specs.Desk.{IsRun, events_of};
@@ -10,8 +10,8 @@ ghost use Rattle.blot_journal.specs.File.{StandsBeforeOrAfter, text_of};
 ghost use Rattle.blot_journal.specs.Journal.{text_in_journal};
 ghost use Rattle.blot_journal.specs.Recovery.{IsLeft};
 ghost use Rattle.blot_diary.specs.Diary.{desk_events};
-ghost use Rattle.blot_recovery.specs.Moments.{IsOrLeaves, SameOrBegun, StandsOrBegun};
-ghost use Rattle.blot_recovery.specs.Opening.{IfOfFile, IsBeginning, IsOpenFault, IsRecovered, IsTextFault, OpensWith};
+ghost use Rattle.blot_recovery.specs.Moments.{IsOpening, IsOrLeaves, IsOrWasRead, SameOrBegun, WasRead};
+ghost use Rattle.blot_recovery.specs.Opening.{IfRefused, IsBeginning, IsOpenFault, IsOpened, IsRecovered, IsTextFault, OpensWith, is_of_disk};
 ghost use Rattle.blot_recovery.specs.Parties.{IsKeptOperator, IsKeptPeer};
 ghost use Rattle.blot_recovery.specs.Taking.{names_of};
 
@@ -30,12 +30,12 @@ pub enum OpenFault {
     File(RecoveryFault),
     /// Its text isn't taken up.
     Text(RecoverFault),
-    /// It has no text, and the beginning can't be written.
+    /// It can't be written: it has no text, and the beginning fails, or what stands behind its text can't be cut off.
     Write(JournalFault),
 }
 
-/// Opens the day of this blotter over the file of a journal: takes its text up, and where there is none begins it, as of now. A fault hands the file
-/// back.
+/// Opens the day of this blotter over the file of a journal: takes its text up, and where there is none begins it, as of now. What stands behind
+/// the text is cut off once that is taken up. A fault hands the file back.
 pub fn open_day<L: Ledger, D: Device>(
     alloc: Global,
     blank: Blank,
@@ -55,12 +55,14 @@ pub fn open_day<L: Ledger, D: Device>(
 
     // The diary has the text of the file, all of it durable, and that of a new file has a beginning.
     ensures text { IfOk result (λ opened. OpensWith own day (text_of (D.seen device)) opened.0.text) }
+    ensures file { IfOk result (λ opened. IsOpened (D.seen device) (D.seen opened.0.device)) }
     ensures durable { IfOk result (λ opened. opened.0.durable ≡ opened.0.text) }
     ensures found { IfOk result (λ opened. opened.0.found ≡ opened.0.text) }
     ensures since { IfOk result (λ opened. opened.0.since ≡ D.moment opened.0.device) }
     ensures unbroken { IfOk result (λ opened. opened.0.is_broken ≡ false) }
 
-    // The desk is the run of the events of the file, and of those that the diary keeps.
+    // The day is the one asked for, and its desk the run of the events of the file, and of those that the diary keeps.
+    ensures day { IfOk result (λ opened. opened.1.day ≡ day) }
     ensures events { IfOk result (λ opened. events_of opened.1.opening.history ≡ desk_events (text_of (D.seen device))) }
     ensures run { IfOk result (λ opened. IsRun opened.1.opening) }
     ensures kept { IfOk result (λ opened. kept_events opened.1.opening.history ≡ desk_events opened.0.text) }
@@ -71,21 +73,27 @@ pub fn open_day<L: Ledger, D: Device>(
     ensures name { IfOk result (λ opened. opened.1.operator.name ≡ operator) }
     ensures operator { IfOk result (λ opened. IsKeptOperator opened.0.text opened.1.operator) }
 
-    // A file that is no journal, or that ends before its text does, is left as it was.
+    // A file that is refused, by itself or by its text, is left as it was, bytes and all.
     ensures fault { IfErr result (λ refused. IsOpenFault own day (D.seen device) refused.0) }
-    ensures untouched { IfErr result (λ refused. IfOfFile refused.0 (IsLeft D.seen D.may_leave D.moment D.left_since device refused.1)) }
+    ensures untouched { IfErr result (λ refused. IfRefused refused.0 (IsLeft D.seen D.may_leave D.moment D.left_since device refused.1)) }
+    ensures cause { IfErr result (λ refused. is_of_disk refused.0 ≡ true → D.failures device < D.failures refused.1) }
 
-    // A crash at any moment leaves the same text, or what the crash before might have left, or of a file without a text its beginning.
-    ensures any_moment { IfOk result (λ opened. LeavesOnly D.moment D.left_since device opened.0.device (SameOrBegun own day (D.seen device) (D.may_leave device))) }
-    ensures any_moment_err { IfErr result (λ refused. LeavesOnly D.moment D.left_since device refused.1 (SameOrBegun own day (D.seen device) (D.may_leave device))) }
+    // A crash at any moment leaves the file as it was or as the crash before might have left it, a beginning of it that has the whole text, or of one
+    // without a text its beginning.
+    ensures any_moment { IfOk result (λ opened. LeavesOnly D.moment D.left_since device opened.0.device (IsOpening own day (D.seen device) (D.may_leave device))) }
+    ensures any_moment_err { IfErr result (λ refused. LeavesOnly D.moment D.left_since device refused.1 (IsOpening own day (D.seen device) (D.may_leave device))) }
 {
     let mut journal = match Journal::recover(alloc, device) {
         Ok(journal) => journal,
         Err((fault, device)) => return Err((OpenFault::File(fault), device)),
     };
-    match take_up(alloc, blank, &mut journal, own, day, now, peers, operator) {
-        Ok(recovered) => Ok((Diary::new(journal), recovered)),
-        Err(fault) => Err((fault, journal.into_device())),
+    let recovered = match take_up(alloc, blank, &mut journal, own, day, now, peers, operator) {
+        Ok(recovered) => recovered,
+        Err(fault) => return Err((fault, journal.into_device())),
+    };
+    match journal.trim() {
+        Ok(()) => Ok((Diary::new(journal), recovered)),
+        Err(fault) => Err((OpenFault::Write(fault), journal.into_device())),
     }
 }
 
@@ -109,12 +117,16 @@ fn take_up<L: Ledger, D: Device>(
     requires none_waiting { journal.old.waiting ≡ [] }
     requires readable { IsTrue (D.is_readable journal.old.device) }
     ensures opens { OnOk result (OpensWith own day (text_in_journal D.seen journal.old) (text_in_journal D.seen journal.new)) }
+    ensures file { OnOk result (text_in_journal D.seen journal.old ≢ [] → D.seen journal.new.device ≡ D.seen journal.old.device) }
     ensures whole { OnOk result (IsWhole (text_in_journal D.seen journal.new)) }
     ensures recovered { IfOk result (IsRecovered own peers.now operator (text_in_journal D.seen journal.new)) }
+    ensures day { IfOk result (λ recovered. recovered.day ≡ day) }
     ensures events { IfOk result (λ recovered. events_of recovered.opening.history ≡ desk_events (text_in_journal D.seen journal.old)) }
     ensures unbroken { OnOk result (journal.new.is_broken ≡ false) }
     ensures none_waiting { OnOk result (journal.new.waiting ≡ []) }
-    ensures any_moment { IsOrLeaves D.moment D.left_since journal.old.device journal.new.device (StandsOrBegun own day (text_in_journal D.seen journal.old)) }
+    ensures any_moment { IsOrLeaves D.moment D.left_since journal.old.device journal.new.device (SameOrBegun own day (D.seen journal.old.device)) }
+    ensures untouched { IfErr result (λ fault. IfRefused fault (IsOrWasRead (WasRead D.seen D.moment D.left_since) journal.old journal.new)) }
+    ensures failed { IsErrOf result (OpenFault.Write JournalFault.Failed) → D.failures journal.old.device < D.failures journal.new.device }
     ensures fault { IfErr result (IsTextFault own day (text_in_journal D.seen journal.old)) }
 {
     if journal.len() == 0 {
@@ -124,7 +136,7 @@ fn take_up<L: Ledger, D: Device>(
     }
 }
 
-// Begins the text of a new file, makes it durable, and takes it up.
+// Begins the text of a new file: takes it up, and makes it durable.
 fn begin<L: Ledger, D: Device>(
     alloc: Global,
     blank: Blank,
@@ -146,24 +158,27 @@ fn begin<L: Ledger, D: Device>(
     ensures begins { OnOk result (IsBeginning own day (text_in_journal D.seen journal.new)) }
     ensures whole { OnOk result (IsWhole (text_in_journal D.seen journal.new)) }
     ensures recovered { IfOk result (IsRecovered own peers.now operator (text_in_journal D.seen journal.new)) }
+    ensures day { IfOk result (λ recovered. recovered.day ≡ day) }
     ensures events { IfOk result (λ recovered. events_of recovered.opening.history ≡ []) }
     ensures unbroken { OnOk result (journal.new.is_broken ≡ false) }
     ensures none_waiting { OnOk result (journal.new.waiting ≡ []) }
-    ensures any_moment { IsOrLeaves D.moment D.left_since journal.old.device journal.new.device (StandsOrBegun own day (text_in_journal D.seen journal.old)) }
+    ensures any_moment { IsOrLeaves D.moment D.left_since journal.old.device journal.new.device (SameOrBegun own day (D.seen journal.old.device)) }
+    ensures untouched { IfErr result (λ fault. IfRefused fault (IsOrWasRead (WasRead D.seen D.moment D.left_since) journal.old journal.new)) }
+    ensures failed { IsErrOf result (OpenFault.Write JournalFault.Failed) → D.failures journal.old.device < D.failures journal.new.device }
     ensures fault { IfErr result (IsTextFault own day []) }
 {
     let record = match beginning_record(alloc, &own, day, now) {
         Ok(record) => record,
         Err(_) => return Err(OpenFault::Write(JournalFault::NoMemory)),
     };
-    match write(journal, &record) {
-        Ok(()) => {}
-        Err(fault) => return Err(OpenFault::Write(fault)),
-    }
     let mut text = InMemory { text: &record };
-    match recover(alloc, blank, &mut text, own, Some(day), peers, operator) {
-        Ok(recovered) => Ok(recovered),
-        Err(fault) => Err(OpenFault::Text(fault)),
+    let recovered = match recover(alloc, blank, &mut text, own, Some(day), peers, operator) {
+        Ok(recovered) => recovered,
+        Err(fault) => return Err(OpenFault::Text(fault)),
+    };
+    match write(journal, &record) {
+        Ok(()) => Ok(recovered),
+        Err(fault) => Err(OpenFault::Write(fault)),
     }
 }
 
@@ -172,6 +187,8 @@ fn write<D: Device>(journal: &mut Journal<D>, text: &[u8]) -> Result<(), Journal
     requires unbroken { journal.old.is_broken ≡ false }
     requires none_waiting { journal.old.waiting ≡ [] }
     ensures text { OnOk result (text_in_journal D.seen journal.new ≡ text_in_journal D.seen journal.old ++ text.now) }
+    ensures failed { IsErrOf result JournalFault.Failed → D.failures journal.old.device < D.failures journal.new.device }
+    ensures was_broken { IsErrOf result JournalFault.Broken → ⊥ }
     ensures any_moment { IsOrLeaves D.moment D.left_since journal.old.device journal.new.device (StandsBeforeOrAfter (text_in_journal D.seen journal.old) text.now) }
     ensures unbroken { OnOk result (journal.new.is_broken ≡ false) }
     ensures none_waiting { OnOk result (journal.new.waiting ≡ []) }
@@ -203,9 +220,11 @@ fn go_on<L: Ledger, D: Device>(
     ensures same { text_in_journal D.seen journal.new ≡ text_in_journal D.seen journal.old }
     ensures whole { OnOk result (IsWhole (text_in_journal D.seen journal.new)) }
     ensures recovered { IfOk result (IsRecovered own peers.now operator (text_in_journal D.seen journal.new)) }
+    ensures day { IfOk result (λ recovered. recovered.day ≡ day) }
     ensures unbroken { journal.new.is_broken ≡ false }
     ensures none_waiting { journal.new.waiting ≡ [] }
-    ensures any_moment { IsOrLeaves D.moment D.left_since journal.old.device journal.new.device (StandsOrBegun own day (text_in_journal D.seen journal.old)) }
+    ensures read { IsOrWasRead (WasRead D.seen D.moment D.left_since) journal.old journal.new }
+    ensures unwritten { IsErrOf result (OpenFault.Write JournalFault.Failed) → ⊥ }
     ensures fault { IfErr result (IsTextFault own day (text_in_journal D.seen journal.old)) }
 {
     match recover(alloc, blank, journal, own, Some(day), peers, operator) {

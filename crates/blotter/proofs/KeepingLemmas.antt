@@ -1,38 +1,23 @@
 -- What a day comes to that is kept.
-use Rattle.std.proofs.Common.{◌≡◌, ℕ, List, [], ◌∷◌, ◌++◌, refl, ap, subst, true, ◌∙◌}
-use Rattle.std.specs.Prelude.{ℤ, ◌&&◌, Option, IfOk, IsOk, OnOk, Result, codes, slice_index_or}
+use Rattle.std.proofs.Common.{◌≡◌, ℕ, List, [], ◌∷◌, ◌++◌, ap, subst, true, ◌∙◌}
+use Rattle.std.specs.Prelude.{ℤ, Option, IfOk, IsOk, OnOk, Result, codes}
 use Rattle.std.proofs.lemmas.Result.{IfOk-weaker}
 use Rattle.std.specs.List.{All}
 use Rattle.blot_desk.specs.declared.event.Event.{Event}
-use Rattle.blot_desk.specs.declared.event.Event.TheVariants as events
 use Rattle.blot_desk.specs.declared.receipt.Receipt.{Receipt}
-use Rattle.blot_gateway.specs.AtOnce.{are_submits, is_submit}
+use Rattle.blot_gateway.specs.AtOnce.{are_submits}
 use Rattle.blot_operator.specs.Dialogue.{HeardOf, open_ways}
 use Rattle.blot_recovery.specs.declared.parties.KeptPeer.{KeptPeer}
 use Rattle.blot_recovery.specs.Opening.{OpensWith}
-use Rattle.blot_recovery.specs.Parties as recovered
 use Rattle.blot_recovery.specs.Parties.{IsKeptPeer, brought_by, events_told, is_operator}
 use Rattle.blot_stream.proofs.ResultLemmas.{ok-says}
 use Rattle.blotter.specs.Keeping.{IsListed, KeptDayServed, ServesKept}
 use Rattle.blotter.specs.Serving.{KeptReported}
 
-submit-same : (event : Event) → is_submit event ≡ recovered.is_submit event
-submit-same (events.Submit command) = refl
-submit-same (events.Undo newest) = refl
-submit-same events.Redo = refl
-submit-same (events.AskOrder order) = refl
-submit-same (events.AskPosition account symbol) = refl
-
--- the receipts of a peer of a journal are of submits
-submits-same : (receipts : List Receipt) → are_submits receipts ≡ recovered.are_submits receipts
-submits-same [] = refl
-submits-same (receipt ∷ later) =
-    ap (λ first. first && are_submits later) (submit-same receipt.event) ∙ ap (λ rest. recovered.is_submit receipt.event && rest) (submits-same later)
-
 pub all-listed : {L : Type 0} (own text : List ℕ) (peers : List (KeptPeer L)) → All (IsKeptPeer own text) peers → All IsListed peers
 all-listed own text peers all k d less =
     let kept = all k d less in
-    record { submits = submits-same (slice_index_or peers k d).seat ∙ kept.submits; range = kept.range }
+    record { submits = kept.submits; range = kept.range }
 
 pub serves-kept : {W T E U F : Type 0} (contents : W → Option (List ℕ)) (answered : Result T E) (reported : Result U F) (events : List Event) (input : Option (List ℕ)) (brokers : List (List Receipt))
     (first seat operator : List Receipt) (day : ℤ) (before : Option (List ℕ)) (between new : W) → first ≡ seat → IsOk answered → IsOk reported

@@ -6,6 +6,7 @@ use Rattle.blot_desk.specs.declared.receipt.Receipt.{Receipt}
 use Rattle.blot_gateway.specs.AtOnce.{are_submits}
 use Rattle.blot_operator.specs.Dialogue.{HeardOf, open_ways}
 use Rattle.blot_diary.specs.Keeping.{IsInRange}
+use Rattle.blot_lanes.specs.Listing.{Listed}
 use Rattle.blot_recovery.specs.declared.parties.KeptPeer.{KeptPeer}
 use Rattle.blot_recovery.specs.Opening.{IsOpenFault, OpensWith}
 use Rattle.blot_recovery.specs.Parties.{brought_by, events_told, is_operator}
@@ -36,6 +37,10 @@ pub record KeptDayServed (own found : List ℕ) (events : List Event) (input : O
 pub record IsListed {L : Type 0} (peer : KeptPeer L) : Type 0 where
   pub submits : are_submits peer.seat ≡ true
   pub range : IsInRange peer.numbers
+
+-- the listed peer that it is in a day that goes on, with its own seat and numbers
+abbrev pub listed_as : {L : Type 0} → KeptPeer L → Listed
+listed_as peer = record { peer = peer.peer; receipts = peer.seat; expected = peer.numbers.expected; next = peer.numbers.next }
 
 -- what a fault says of the file of a journal
 abbrev pub IsUnkept : List ℕ → ℤ → List ℕ → KeptFault → Type 0

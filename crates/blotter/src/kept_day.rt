@@ -1,5 +1,5 @@
 //! `serve_kept_day`: an open day that is kept in a journal, so that it outlives a crash; and the desk that a journal leads to.
-ghost use Rattle.std.specs.Prelude.{◌≡◌, ◌+◌, ℕ, List, false, true, length, IfErr, IfOk, IsTrue};
+ghost use Rattle.std.specs.Prelude.{◌≡◌, ◌+◌, ℕ, List, false, true, length, map, IfErr, IfOk, IsTrue};
 ghost use Rattle.std.specs.List.{All, IsDistinct, list_any};
 ghost use Rattle.blot_types.specs.Keys.{same_text};
 ghost use Rattle.blot_desk.specs.declared.event.Event.{Event};
@@ -10,7 +10,7 @@ ghost use Rattle.blot_operator.specs.OpenDay.{EndsOf};
 ghost use Rattle.blot_diary.specs.Diary.{Leaves, desk_events};
 ghost use Rattle.blot_recovery.specs.Opening.{IsOpenFault};
 ghost use Rattle.blot_recovery.specs.Parties.{IsKeptPeer};
-ghost use Rattle.blotter.specs.Keeping.{IsListed, IsUnkept, KeptDayServed, ServesKept};
+ghost use Rattle.blotter.specs.Keeping.{IsListed, IsUnkept, KeptDayServed, ServesKept, listed_as};
 
 use crate::open_day::{OPERATOR, Served, serve_desk};
 use crate::serving::both;
@@ -98,7 +98,7 @@ where
     let operator = Text64::of(OPERATOR);
     match open_day::<L, D>(alloc, blank, device, own, day, now, peers, operator) {
         Ok((diary, recovered)) => serve_recovered(
-            rt, alloc, recovered, diary, listener, door, lanes, own, peers, day, input, output,
+            rt, alloc, recovered, diary, listener, door, lanes, own, day, input, output,
         ),
         Err((fault, device)) => Err((KeptFault::Opening(fault), Some(device))),
     }
@@ -114,7 +114,6 @@ fn serve_recovered<L, R, N, H, I, O, D>(
     door: &Door<H>,
     lanes: u16,
     own: Text64,
-    peers: &[Text64],
     day: Day,
     input: &mut I,
     output: &mut O,
@@ -152,7 +151,7 @@ where
     let desk = opening.open(diary);
     let operator = OperatorSeat::new(operator.seat, own, operator.name, operator.records);
     let served = match serve_desk(
-        rt, alloc, desk, listener, door, lanes, own, peers, listed, operator, input, output,
+        rt, alloc, desk, listener, door, lanes, own, listed, operator, input, output,
     ) {
         Ok(served) => served,
         Err(fault) => return Err((KeptFault::Serving(fault), None)),
@@ -176,6 +175,7 @@ fn kept_peers<L: Ledger>(
     kept: Vec<KeptPeer<L>>,
 ) -> Result<Vec<ListedPeer<L>>, NoMemory>
     requires { All IsListed kept.items }
+    ensures { IfOk result (λ listed. listed.items ≡ map listed_as kept.items) }
 {
     let mut listed = Vec::with_capacity(alloc, kept.len())?;
     for it in kept {
@@ -185,8 +185,8 @@ fn kept_peers<L: Ledger>(
             numbers,
             records,
         } = it;
-        let seat = BrokerSeat::new(seat, records);
-        listed.push(ListedPeer::new(peer, seat, numbers.expected, numbers.next))?;
+        let seat = BrokerSeat::new(peer, seat, records);
+        listed.push(ListedPeer::new(seat, numbers.expected, numbers.next))?;
     }
     Ok(listed)
 }

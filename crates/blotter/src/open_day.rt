@@ -85,7 +85,7 @@ where
     let listed = first_peers(alloc, peers, seats)?;
     let operator = OperatorSeat::new(operator, own, Text64::of(OPERATOR), 0);
     let served = serve_desk(
-        rt, alloc, desk, listener, door, lanes, own, peers, listed, operator, input, output,
+        rt, alloc, desk, listener, door, lanes, own, listed, operator, input, output,
     )?;
     let Served {
         desk,
@@ -106,7 +106,6 @@ pub(crate) fn serve_desk<L, R, N, H, I, O, K>(
     door: &Door<H>,
     lanes: u16,
     own: Text64,
-    peers: &[Text64],
     listed: Vec<ListedPeer<L>>,
     operator: OperatorSeat<L>,
     input: &mut I,
@@ -127,8 +126,8 @@ where
     ensures read_to_the_end { IfOk result (λ served. OnOk served.answered (EndsOf true (I.remaining input.old) (I.remaining input.new))) }
 {
     // Room for all seats, so that the end of the day asks for no memory to gather them.
-    let room = Vec::with_capacity(alloc, peers.len().saturating_add(1))?;
-    let Ok(peers) = Peers::new(alloc, own, peers, listed) else {
+    let room = Vec::with_capacity(alloc, listed.len().saturating_add(1))?;
+    let Ok(peers) = Peers::new(alloc, own, listed) else {
         return Err(ServeFault::NoMemory);
     };
     let lines = OpenLines {
@@ -166,8 +165,8 @@ fn first_peers<L: Ledger>(
     let mut listed = Vec::with_capacity(alloc, peers.len())?;
     let mut seats = seats.into_iter();
     for peer in peers {
-        let seat = BrokerSeat::new(seats.next().unwrap(), 0);
-        listed.push(ListedPeer::new(*peer, seat, 1, 1))?;
+        let seat = BrokerSeat::new(*peer, seats.next().unwrap(), 0);
+        listed.push(ListedPeer::new(seat, 1, 1))?;
     }
     Ok(listed)
 }

@@ -20,7 +20,7 @@ use crate::journals::Journals;
 use crate::running::{answer, listen};
 use blot_desk::Held;
 use blot_diary::Beginning;
-use blot_journal::{FileDevice, FileFault, JournalFault, RecoveryFault, text_in};
+use blot_journal::{FileDevice, FileFault, HEAD, JournalFault, RecoveryFault, text_in};
 use blot_recovery::{InMemory, OpenFault, RecoverFault, received};
 use blot_time::Day;
 use blot_trail::audit;
@@ -38,9 +38,6 @@ use std::sync::Wait;
 use std::sync::ledger::Blank;
 use std::thread::Threads;
 use std::time::Clock;
-
-// How many bytes of a journal's file stand before its text.
-const HEAD: usize = 4_096;
 
 /// Serves an open day over a port of 127.0.0.1, and keeps it in a file.
 pub(crate) fn keep_day<J: Journals, T, R: Read, W: Write>(

@@ -49,7 +49,7 @@ fn tell_refused(rt: &HostRuntime, fault: RecoveryFault) -> io::Result<bool> {
     Ok(false)
 }
 
-// Tells what was found, and appends the batches.
+// Takes up what was found, as a day does: what stands behind it is cut off once the rows are read. Then tells it, and appends the batches.
 fn go_on(
     rt: &HostRuntime,
     journal: &mut Journal<FileDevice>,
@@ -69,6 +69,10 @@ fn go_on(
         return Ok(false);
     };
     drop(text);
+    if let Err(fault) = journal.trim() {
+        tell_stopped(rt, journal, fault)?;
+        return Ok(false);
+    }
     println!(rt; "found {count}")?;
     for _ in 0..batches {
         if let Err(fault) = append_batch(journal, count, rows) {

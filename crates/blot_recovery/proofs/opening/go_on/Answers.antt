@@ -1,7 +1,7 @@
 use Rattle.std.proofs.Common.{refl, sym, subst}
 use Rattle.blot_journal.specs.Journal.{text_in_journal}
 use Rattle.blot_recovery.specs.Opening.{IsRecovered}
-use Rattle.blot_recovery.proofs.OpeningLemmas.{opens-same, read-moments}
+use Rattle.blot_recovery.proofs.OpeningLemmas.{opens-same}
 use Rattle.blot_recovery.proofs.opening.go_on.Goals as goal
 
 pub returns-in-Ok-clause-recovered : goal.returns-in-Ok-clause-recovered
@@ -24,11 +24,3 @@ returns-in-Err-clause-fault g c =
       opens = opens-same c.args.own c.args.day found found c.requires.some refl;
       fault_is = c.in-Err.ensures.fault;
     }
-
-pub returns-in-Ok-clause-any_moment : goal.returns-in-Ok-clause-any_moment
-returns-in-Ok-clause-any_moment g c =
-    read-moments g.D.Device.moment g.D.Device.left_since c.args.own c.args.day g.D.Device.seen c.args.journal.now c.recover.new.text c.in-Ok.ensures.read
-
-pub returns-in-Err-clause-any_moment : goal.returns-in-Err-clause-any_moment
-returns-in-Err-clause-any_moment g c =
-    read-moments g.D.Device.moment g.D.Device.left_since c.args.own c.args.day g.D.Device.seen c.args.journal.now c.recover.new.text c.in-Err.ensures.read

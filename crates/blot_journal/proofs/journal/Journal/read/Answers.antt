@@ -1,9 +1,9 @@
 use Rattle.std.proofs.Common.{◌≡◌, ◌+◌, ◌≤◌, ℕ, List, length, take, drop, ap, subst, arith, ◌∙◌}
 use Rattle.std.proofs.lemmas.Result.{on_ok_weaker}
 use Rattle.blot_journal.specs.Device.{LeavesOnly}
-use Rattle.blot_journal.specs.File.{Stands, text_of}
+use Rattle.blot_journal.specs.File.{text_of}
 use Rattle.blot_journal.specs.Journal.{text_in_journal}
-use Rattle.blot_journal.proofs.JournalLemmas.{open_stands, piece, text_long}
+use Rattle.blot_journal.proofs.JournalLemmas.{piece, text_long}
 use Rattle.blot_journal.proofs.MomentLemmas.{goes_on, started}
 use Rattle.blot_journal.proofs.journal.Journal.read.Goals as goal
 
@@ -29,8 +29,7 @@ returns-clause-any_moment g c =
     let own = c.self.inside in
     let device = own.device in
     let is = c.self.invariant (ap (λ k. k.is_broken) c.self.view_is ∙ c.requires.unbroken) in
-    let P = Stands (text_of (g.D.Device.seen device)) in
-    let stands = open_stands g.D.Device.seen g.D.Device.may_leave device own.second own.size (length own.waiting.items) is in
-    let start = started g.D.Device.moment g.D.Device.left_since device P (λ f left. stands f (g.met.D.Device.only_now device f left)) in
-    subst (λ k. LeavesOnly g.D.Device.moment g.D.Device.left_since k.device c.read_at.new.self (Stands (text_in_journal g.D.Device.seen k))) c.self.view_is
-    (goes_on g.D.Device.moment g.D.Device.left_since device device c.read_at.new.self P _ start c.read_at.ensures.time (λ f now. stands f (c.read_at.ensures.crash f now)))
+    let P = λ (file : List ℕ). file ≡ g.D.Device.seen device in
+    let start = started g.D.Device.moment g.D.Device.left_since device P (λ f left. is.durable f (g.met.D.Device.only_now device f left)) in
+    subst (λ k. LeavesOnly g.D.Device.moment g.D.Device.left_since k.device c.read_at.new.self (λ file. file ≡ g.D.Device.seen k.device)) c.self.view_is
+    (goes_on g.D.Device.moment g.D.Device.left_since device device c.read_at.new.self P _ start c.read_at.ensures.time (λ f now. is.durable f (c.read_at.ensures.crash f now)))
