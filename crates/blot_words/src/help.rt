@@ -109,7 +109,7 @@ Example:
 
 Exit status:
   0  done
-  1  the input, the output or the capture is at fault, or the file can't be opened
+  1  the input, the output, the capture or the journal is at fault, or the file can't be opened
   2  the words of the command line are refused, or help was asked for
   3  no memory is left";
 
@@ -153,10 +153,11 @@ stands, and how many bytes are skipped and rest.
 
 Example:
   blotter audit --own MO BRKA BRKB < examples/day_of_two_brokers.fix
+  blotter audit --own MO --journal 20240105.journal BRKA BRKB
 
 Exit status:
   0  done
-  1  the input, the output or the capture is at fault
+  1  the input, the output, the capture or the journal is at fault
   2  the words of the command line are refused, or help was asked for
   3  no memory is left";
 
@@ -195,6 +196,8 @@ Standard error tells who comes and goes:
                            so has one that named no broker of yours
   no connection can be accepted: WHY
                            the system gives none; it is tried again until it does
+  the journal can't be written, so the day ends
+                           your next line ends the program, which then tells why; there is no report
 The numbers:
   0  the session was closed, for the reason that the word names: a logout, a number below the expected one ..
   1  the broker ended the connection

@@ -1,5 +1,5 @@
 //! `serve_kept_day`: an open day that is kept in a journal, so that it outlives a crash; and the desk that a journal leads to.
-ghost use Rattle.std.specs.Prelude.{◌≡◌, ◌+◌, ℕ, List, false, true, length, map, IfErr, IfOk, IsTrue};
+ghost use Rattle.std.specs.Prelude.{◌≡◌, ◌+◌, ℕ, List, [], false, true, length, map, IfErr, IfOk, IsTrue};
 ghost use Rattle.std.specs.List.{All, IsDistinct, list_any};
 ghost use Rattle.blot_types.specs.Keys.{same_text};
 ghost use Rattle.blot_desk.specs.declared.event.Event.{Event};
@@ -191,7 +191,8 @@ fn kept_peers<L: Ledger>(
     Ok(listed)
 }
 
-/// The desk of the text of a journal of this blotter: its events, each stepped by its party. The day of the journal isn't asked for.
+/// The desk of the text of a journal of this blotter: its events, each stepped by its party. The day of the journal isn't asked for. Before
+/// its first frame it has no event.
 pub fn journal_desk<L: Ledger>(
     alloc: Global,
     blank: Blank,
@@ -207,12 +208,26 @@ pub fn journal_desk<L: Ledger>(
     ensures events { IfOk result (λ held. events_of held.history ≡ desk_events text.now) }
     ensures run { IfOk result IsRun }
 {
+    if text.is_empty() {
+        return Ok(empty_desk(alloc));
+    }
     let mut text = InMemory { text };
     let operator = Text64::of(OPERATOR);
     match recover::<L, _>(alloc, blank, &mut text, own, None, peers, operator) {
         Ok(recovered) => Ok(held_of(recovered)),
         Err(fault) => Err(fault),
     }
+}
+
+// The desk of a day to which nothing has come yet.
+fn empty_desk(alloc: Global) -> Held
+    ensures events { events_of result.history ≡ [] }
+    ensures run { IsRun result }
+{
+    let held = Held::new(alloc);
+    // The history promises that it is that of a run.
+    let _ = held.history();
+    held
 }
 
 // The desk of what was taken up.

@@ -1,5 +1,5 @@
 //! The end of a day: the seats are settled with the desk, and the report of the day is written.
-ghost use Rattle.std.specs.Prelude.{◌≡◌, ◌≢◌, List, [], ◌∷◌, ◌++◌, Err, IfOk, IfErr, OnOk, IsOk, length};
+ghost use Rattle.std.specs.Prelude.{◌≡◌, ◌≢◌, ◌⊎◌, List, [], ◌∷◌, ◌++◌, Err, IfOk, IfErr, OnOk, IsOk, length};
 ghost use Rattle.std.specs.Io.KnownBytes.{Appends};
 ghost use Rattle.blot_desk.specs.declared.event.Event.{Event};
 ghost use Rattle.blot_desk.specs.Desk.{IsRun, list_after};
@@ -48,8 +48,9 @@ pub(crate) fn report_kept<L: Ledger, K: Keeper, R: Threads + Sync, O: Write>(
         (O.contents output.old) (O.contents output.new)) }
     ensures connected { result.0 ≢ Err ServeFault.Connection }
 
-    // All of it is durable before a byte of the report is written.
+    // All of it is durable, whatever was written of the report.
     ensures durable { OnOk result.0 (K.durable result.1 ≡ length (K.events result.1)) }
+    ensures untold { (O.contents output.new ≡ O.contents output.old) ⊎ (K.durable result.1 ≡ length (K.events result.1)) }
 
     // A crash now leaves a beginning of these events with all that are durable, and one at any moment since the keeper was opened would have
     // left a beginning of them, whatever the callers did.

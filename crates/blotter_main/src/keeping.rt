@@ -260,7 +260,7 @@ pub(crate) fn audit_journal<F: Files, W: Write>(
     }
 }
 
-// What the journal in the bytes of a file received.
+// What the journal in the bytes of a file received: nothing before its first frame.
 fn received_in(alloc: Global, file: &[u8], path: String, own: Text64) -> Result<Vec<u8>, Failure>
     ensures received { IfOk result (λ received. received.items ≡ received_of own (text_of file.now)) }
     ensures words { IfErr result (λ failure. outcome_of failure ≢ BadWords) }
@@ -269,6 +269,9 @@ fn received_in(alloc: Global, file: &[u8], path: String, own: Text64) -> Result<
         Ok(text) => text,
         Err(fault) => return Err(unrecovered(fault, path)),
     };
+    if text.is_empty() {
+        return Ok(Vec::new(alloc));
+    }
     let mut text = InMemory { text };
     match received(alloc, &mut text, own) {
         Ok(received) => Ok(received),
