@@ -124,8 +124,8 @@ fn positions_text(alloc: Global, rows: &[PositionRow]) -> Result<Vec<u8>, NoMemo
     Ok(text)
 }
 
-// The line of a fault, with the place of a bad word.
-fn bad_text(alloc: Global, fault: LineFault) -> Result<Vec<u8>, NoMemory>
+/// The line of a fault, with the place of a bad word.
+pub(crate) fn bad_text(alloc: Global, fault: LineFault) -> Result<Vec<u8>, NoMemory>
     ensures { IfOk result (λ text. text.items ≡ bad_text fault) }
 {
     let mut text = Vec::new(alloc);

@@ -38,6 +38,7 @@ use Rattle.blot_operator.specs.declared.operated.Declined.TheVariants.{Desk, Unk
 use Rattle.blot_operator.specs.Lines.{split_of, kept, lines_of}
 use Rattle.blot_operator.specs.OpenDay.{closes_by, day_ask_by, heard_by}
 use Rattle.blot_operator.specs.Operating.{asked_by, with_key}
+use Rattle.blot_operator.specs.Seats.{Named}
 
 -- the ways of a desk, as far as an operator sees them
 pub record Ways (S : Type 0) : Type 1 where
@@ -47,8 +48,8 @@ pub record Ways (S : Type 0) : Type 1 where
   pub newest : S → Option ℕ
   -- a list that it may show
   pub shows : S → List Entry → Type 0
-  -- what it may find to a question
-  pub finds : S → Question → Found → Type 0
+  -- what it may answer to a question
+  pub finds : S → Question → Answer → Type 0
   -- whether the day is open
   pub is_open : Bool
   -- that it keeps the events, each by its line
@@ -104,12 +105,6 @@ pub record AnswersReport {S : Type 0} (ways : Ways S) (before : S) (day : ℤ) (
   pub shown : ways.shows before list
   pub answer_is : answer ≡ answers.Report (day_lines_of list day)
 
--- a question is answered by what is found
-pub record AnswersQuestion {S : Type 0} (ways : Ways S) (before : S) (question : Question) (answer : Answer) : Type 0 where
-  pub found : Found
-  pub finds : ways.finds before question found
-  pub answer_is : answer ≡ answers.Found found
-
 -- the lines of all orders, or of all positions, are made of a list that may be shown
 pub record AnswersOrders {S : Type 0} (ways : Ways S) (before : S) (peer : Option (List ℕ)) (answer : Answer) : Type 0 where
   pub list : List Entry
@@ -126,7 +121,7 @@ abbrev pub AnswersAsk : {S : Type 0} → Ways S → S → Result Ask LineFault �
 AnswersAsk ways before (Ok (asks.Step event)) answer after = AnswersEvent ways before event answer after
 AnswersAsk ways before (Ok (asks.Report day)) answer after = (after ≡ before) × AnswersReport ways before day answer
 AnswersAsk ways before (Ok asks.Mine) answer after = AnswersMine ways before (ways.newest before) answer after
-AnswersAsk ways before (Ok (asks.Look question)) answer after = (after ≡ before) × AnswersQuestion ways before question answer
+AnswersAsk ways before (Ok (asks.Look question)) answer after = (after ≡ before) × ways.finds before question answer
 AnswersAsk ways before (Ok (asks.Orders peer)) answer after = (after ≡ before) × AnswersOrders ways before peer answer
 AnswersAsk ways before (Ok (asks.Positions account)) answer after = (after ≡ before) × AnswersPositions ways before account answer
 AnswersAsk ways before (Err fault) answer after = (after ≡ before) × (answer ≡ answers.Bad fault)
@@ -271,7 +266,7 @@ own_ways = record {
   steps = OwnStep;
   newest = λ journal. newest_entry_of journal.book.list;
   shows = OwnList;
-  finds = λ journal question found. found ≡ found_of journal question;
+  finds = λ journal question answer. answer ≡ answers.Found (found_of journal question);
   is_open = false;
   IsKept = ⊥;
 }
@@ -285,10 +280,28 @@ pub record SeatStep (before : List Receipt) (event : Event) (given : Result Repl
 abbrev pub SeatList : List Receipt → List Entry → Type 0
 SeatList receipts list = IsTrue (is_book list)
 
--- the ways of a seat; to a question it may find what a desk held after some events: that of the moment, which others change
-abbrev pub seat_ways : Ways (List Receipt)
-seat_ways = record { steps = SeatStep; newest = newest_of; shows = SeatList; finds = λ receipts. IsFound; is_open = false; IsKept = ⊥ }
+-- to a question it may find what a desk held after some events: that of the moment, which others change
+pub record Finds (question : Question) (answer : Answer) : Type 0 where
+  pub found : Found
+  pub is_found : IsFound question found
+  pub answer_is : answer ≡ answers.Found found
 
--- the ways of a seat on an open day, by whether its events are kept
-abbrev pub open_ways : Type 0 → Ways (List Receipt)
-open_ways IsKept = record { steps = SeatStep; newest = newest_of; shows = SeatList; finds = λ receipts. IsFound; is_open = true; IsKept = IsKept }
+-- the ways of a seat
+abbrev pub seat_ways : Ways (List Receipt)
+seat_ways = record { steps = SeatStep; newest = newest_of; shows = SeatList; finds = λ receipts. Finds; is_open = false; IsKept = ⊥ }
+
+-- an event of an operator's seat, which stays the same operator's
+pub record NamedStep (before : Named) (event : Event) (given : Result Reply DeskFault) (after : Named) : Type 0 where
+  pub step : SeatStep before.receipts event given after.receipts
+  pub same_name : after.name ≡ before.name
+
+-- the ways of an operator's seat on an open day, by whether its events are kept
+abbrev pub open_ways : Type 0 → Ways Named
+open_ways IsKept = record {
+  steps = NamedStep;
+  newest = λ seat. newest_of seat.receipts;
+  shows = λ seat. SeatList seat.receipts;
+  finds = λ seat. Finds;
+  is_open = true;
+  IsKept = IsKept;
+}

@@ -4,4 +4,5 @@ mod PartyLemmas
 mod TakingLemmas
 mod WalkLemmas
 mod OpeningLemmas
+mod OperatorLemmas
 mod ReceivedLemmas

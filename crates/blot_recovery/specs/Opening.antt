@@ -1,5 +1,5 @@
 -- A day that is opened over a file.
-use Rattle.std.specs.Prelude.{◌≡◌, ℕ, ℤ, Bool, true, false, List, [], Some}
+use Rattle.std.specs.Prelude.{◌≡◌, ℕ, ℤ, Bool, true, false, List, [], Option, Some}
 use Rattle.std.specs.List.{All}
 use Rattle.blot_tag.specs.Fields.{fields_of}
 use Rattle.blot_tag.specs.Frames.{IsFrame}
@@ -19,7 +19,7 @@ use Rattle.blot_recovery.specs.declared.opening.OpenFault.{OpenFault}
 use Rattle.blot_recovery.specs.declared.opening.OpenFault.TheVariants.{File, Text, Write}
 use Rattle.blot_recovery.specs.declared.recovering.Recovered.{Recovered}
 use Rattle.blot_recovery.specs.Faults.{BeginsOtherwise, IsFaultOf}
-use Rattle.blot_recovery.specs.Parties.{IsKeptOperator, IsKeptPeer}
+use Rattle.blot_recovery.specs.Parties.{AreKeptOperators, IsFirst, IsKeptPeer, operator_names}
 use Rattle.blot_recovery.specs.Taking.{names_of}
 
 -- a text is one frame, the beginning of a journal of this blotter and day
@@ -74,11 +74,11 @@ pub record IsOpened (old new : List ℕ) : Type 0 where
   pub same : (text_of old ≡ [] → ⊥) → new ≡ trimmed old
 
 -- a text is taken up: the desk is the run of its events, and each party is as it leaves it
-pub record IsRecovered {L : Type 0} (own : List ℕ) (names : List (List ℕ)) (operator text : List ℕ) (recovered : Recovered L) : Type 0 where
+pub record IsRecovered {L : Type 0} (own : List ℕ) (names : List (List ℕ)) (operator : Option (List ℕ)) (text : List ℕ) (recovered : Recovered L) : Type 0 where
   pub events : events_of recovered.opening.history ≡ desk_events text
   pub run : IsRun recovered.opening
   pub kept : kept_events recovered.opening.history ≡ desk_events text
   pub listed : names_of recovered.peers.items ≡ names
   pub peers : All (IsKeptPeer own text) recovered.peers.items
-  pub name : recovered.operator.name ≡ operator
-  pub operator_is : IsKeptOperator text recovered.operator
+  pub operators : AreKeptOperators text recovered.operators
+  pub first : IsFirst operator (operator_names recovered.operators.named.items)

@@ -71,9 +71,7 @@ impl<L: Ledger> KeptPeer<L> {
 impl<L: Ledger> KeptOperator<L> {
     /// An operator that was never heard of.
     pub(crate) fn new(name: Text64, seat: Seat<L>) -> KeptOperator<L>
-        requires { seat ≡ [] }
-        ensures name { result.name ≡ name }
-        ensures kept { IsKeptOperator [] result }
+        ensures { result ≡ record { name = name; seat = seat; records = 0 } }
     {
         KeptOperator {
             name,

@@ -5,10 +5,11 @@ ghost use Rattle.blot_diary.specs.declared.kept.Beginning.{Beginning};
 ghost use Rattle.blot_diary.specs.Beginnings.{begun_by};
 ghost use Rattle.blot_diary.specs.Keeping.{IsKept};
 ghost use Rattle.blot_recovery.specs.Faults.{BeginsOtherwise, IsHere, IsWanted};
-ghost use Rattle.blot_recovery.specs.Parties.{IsKeptPeer};
+ghost use Rattle.blot_recovery.specs.Parties.{IsFirst, IsKeptPeer, operator_names};
 ghost use Rattle.blot_recovery.specs.Taking.{AreApart, AsksSame, HasTaken, IsOfParty, IsPartyOf, KeepsLast, TakesUpAll, begun_on, names_of, stands_for};
 
-use crate::parties::{KeptOperator, KeptPeer};
+use crate::operators::{KeptOperators, OPERATOR_SEATS};
+use crate::parties::KeptPeer;
 use crate::walking::Takes;
 use crate::{RecoverFault, Recovered};
 use blot_desk::{Opening, Seat};
@@ -30,46 +31,48 @@ pub(crate) struct Taking<L: Ledger> {
     begun: Option<Day>,
     opening: Opening<L>,
     peers: Vec<KeptPeer<L>>,
-    operator: KeptOperator<L>,
+    operators: KeptOperators<L>,
 }
 
 // Who a frame is of.
 enum Party {
-    Operator,
+    // The operator of this name.
+    Operator(Text64),
     // The peer at this place.
     Peer(usize),
 }
 
 impl<L: Ledger> Taking<L> {
-    /// Before the first frame: each party has a seat, the operator the last.
+    /// Before the first frame: each peer has a seat, and so have the operators.
     pub(crate) fn new(
         alloc: Global,
         blank: Blank,
         own: Text64,
         wanted: Option<Day>,
         peers: &[Text64],
-        operator: Text64,
+        operator: Option<Text64>,
     ) -> Result<Taking<L>, RecoverFault>
         requires name { blank.name ≡ L.name }
         requires parts { blank.parts ≡ L.parts }
-        requires seats { blank.parts ≡ length peers.now + 1 }
+        requires seats { blank.parts ≡ length peers.now + OPERATOR_SEATS }
         requires apart { AreApart own peers.now }
         ensures own { IfOk result (λ made. made.own ≡ own) }
         ensures wanted { IfOk result (λ made. made.wanted ≡ wanted) }
         ensures listed { IfOk result (λ made. names_of made.peers.items ≡ peers.now) }
-        ensures name { IfOk result (λ made. made.operator.name ≡ operator) }
+        ensures operator { IfOk result (λ made. IsFirst operator (operator_names made.operators.named.items)) }
         ensures first { IfOk result (λ made. TakesUpAll made [] made) }
         ensures memory { IfErr result (λ fault. fault ≡ RecoverFault.NoMemory) }
     {
         let Ok(brokers) = u32::try_from(peers.len()) else {
             return Err(RecoverFault::NoMemory);
         };
-        if brokers == u32::MAX {
+        if brokers > u32::MAX - OPERATOR_SEATS {
             return Err(RecoverFault::NoMemory);
         }
-        let (opening, seats) = Opening::<L>::new(alloc, blank, brokers + 1)?;
+        let (opening, seats) = Opening::<L>::new(alloc, blank, brokers + OPERATOR_SEATS)?;
         let mut seats = seats;
-        let seat = seats.pop().unwrap();
+        let spare = seats.split_off(peers.len())?;
+        let operators = KeptOperators::new(alloc, operator, spare)?;
         let peers = seated(alloc, peers, seats)?;
         Ok(Taking {
             alloc,
@@ -78,7 +81,7 @@ impl<L: Ledger> Taking<L> {
             begun: None,
             opening,
             peers,
-            operator: KeptOperator::new(operator, seat),
+            operators,
         })
     }
 
@@ -87,14 +90,14 @@ impl<L: Ledger> Taking<L> {
         ensures begun { IfOk result (λ recovered. self.begun ≡ Some recovered.day) }
         ensures opening { IfOk result (λ recovered. recovered.opening ≡ self.opening) }
         ensures peers { IfOk result (λ recovered. recovered.peers.items ≡ self.peers.items) }
-        ensures operator { IfOk result (λ recovered. recovered.operator ≡ self.operator) }
+        ensures operators { IfOk result (λ recovered. recovered.operators ≡ self.operators) }
         ensures none { IfErr result (λ fault. (fault ≡ RecoverFault.Damaged 0) × (self.begun ≡ None)) }
     {
         let Taking {
             begun,
             opening,
             peers,
-            operator,
+            operators,
             ..
         } = self;
         match begun {
@@ -102,7 +105,7 @@ impl<L: Ledger> Taking<L> {
                 day,
                 opening,
                 peers,
-                operator,
+                operators,
             }),
             None => Err(RecoverFault::Damaged(0)),
         }
@@ -136,13 +139,15 @@ impl<L: Ledger> Taking<L> {
         requires { IsKept kept }
         ensures held { OnOk result ((text more : List ℕ) → KeepsLast text kept more → AreApart self.old.own (names_of self.old.peers.items)
             → HasTaken text self.old → HasTaken more self.new) }
-        ensures of { OnOk result (IsOfParty self.old.own (names_of self.old.peers.items) self.old.operator.name kept) }
+        ensures of { OnOk result (IsOfParty self.old.own (names_of self.old.peers.items) kept) }
         ensures asks { OnOk result (AsksSame self.old self.new) }
         ensures begun { OnOk result (self.new.begun ≡ self.old.begun) }
         ensures fault { IfErr result (IsHere place) }
     {
         match self.party_of(&kept, place)? {
-            Party::Operator => self.operator.take(&mut self.opening, kept, place),
+            Party::Operator(name) => {
+                self.operators.take(&mut self.opening, name, kept, place)
+            }
             Party::Peer(at) => self.peers[at].take(&self.own, &mut self.opening, kept, place),
         }
     }
@@ -161,20 +166,16 @@ impl<L: Ledger> Taking<L> {
         }
     }
 
-    // That a frame is an event of the operator's.
+    // That a frame is an event of this operator's.
     fn asked_by(&self, operator: &Text64, kept: &Kept, place: usize) -> Result<Party, RecoverFault>
-        ensures party { IfOk result (λ party. party ≡ Party.Operator) }
+        ensures party { IfOk result (λ party. party ≡ Party.Operator operator.now) }
         ensures own { OnOk result ((kept.now.from ≡ self.now.own) × (kept.now.to ≡ self.now.own)) }
-        ensures name { OnOk result (operator.now ≡ self.now.operator.name) }
         ensures fault { IfErr result (IsHere place) }
     {
         if kept.from != self.own || kept.to != self.own {
             return Err(RecoverFault::Damaged(place));
         }
-        if *operator != self.operator.name {
-            return Err(RecoverFault::Unlisted(*operator));
-        }
-        Ok(Party::Operator)
+        Ok(Party::Operator(*operator))
     }
 
     // The peer that a frame is of or to.

@@ -15,8 +15,8 @@ returns-in-Ok-write-clause-recovered g c =
       kept = does.kept;
       listed = does.listed;
       peers = does.peers;
-      name = does.name;
-      operator_is = does.operator;
+      operators = does.operators;
+      first = does.first;
     })
 
 pub returns-in-Ok-write-clause-events : goal.returns-in-Ok-write-clause-events

@@ -13,8 +13,8 @@ returns-in-Ok-clause-recovered g c =
       kept = does.kept;
       listed = does.listed;
       peers = does.peers;
-      name = does.name;
-      operator_is = does.operator;
+      operators = does.operators;
+      first = does.first;
     })
 
 pub returns-in-Err-clause-fault : goal.returns-in-Err-clause-fault

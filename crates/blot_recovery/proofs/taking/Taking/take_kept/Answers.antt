@@ -10,8 +10,8 @@ pub returns-in-Operator-clause-held : goal.returns-in-Operator-clause-held
 returns-in-Operator-clause-held g c =
     let old = c.args.self.now in
     let by = subst (IsPartyOf old c.args.kept) c.in-Operator.is c.in_ok-party_of.ensures.party in
-    both-ok c.take.result c.take.ensures.opening c.take.ensures.operator (λ up holds text more last apart has.
-    asked-taken old c.take.new.opening c.take.new.self text more c.args.kept last by.asked up (holds text more last has.operator) has)
+    both-ok c.take.result c.take.ensures.opening c.take.ensures.operators (λ up holds text more last apart has.
+    asked-taken old c.take.new.opening c.take.new.self c.in-Operator.name text more c.args.kept last by.asked up (holds text more last has.operators) has)
 
 pub returns-in-Peer-clause-held : goal.returns-in-Peer-clause-held
 returns-in-Peer-clause-held g c =
@@ -29,13 +29,13 @@ returns-in-Peer-clause-asks g c =
       own_is = refl;
       wanted_is = refl;
       names_are = same-names c.args.self.now.peers.items c.in-Peer.at c.index_mut.result.now c.take-in-Peer.new.self c.index_mut.ensures.value c.take-in-Peer.ensures.name;
-      name_is = refl;
+      first_is = λ _ first. first;
     }) c.take-in-Peer.ensures.opening
 
 pub returns-in-Operator-clause-of : goal.returns-in-Operator-clause-of
 returns-in-Operator-clause-of g c =
     let by = subst (IsPartyOf c.args.self.now c.args.kept) c.in-Operator.is c.in_ok-party_of.ensures.party in
-    on_ok_weaker c.take.result (λ _. inl by) c.take.ensures.opening
+    on_ok_weaker c.take.result (λ _. inl (c.in-Operator.name, by)) c.take.ensures.opening
 
 pub returns-in-Peer-clause-of : goal.returns-in-Peer-clause-of
 returns-in-Peer-clause-of g c =
