@@ -158,13 +158,14 @@ fn day_until<L: Ledger>(
     };
     let (mut broker, mut operator, mut durable) = (peer.seat, operator.seat, 0);
     for (line, record) in LINES.iter().zip(records(alloc)?.iter()) {
-        let seat: &mut Seat<L> = if line.is_some() {
-            &mut operator
+        let (seat, maker): (&mut Seat<L>, Text64) = if line.is_some() {
+            (&mut operator, name(b"ANNA")?)
         } else {
-            &mut broker
+            (&mut broker, name(b"BRKA")?)
         };
         let event = event_of(alloc, record)?;
-        if desk.submit_with(rt, seat, event, record).is_err() || desk.sync(rt).is_err() {
+        let answer = desk.submit_with(rt, seat, &maker, event, record);
+        if answer.is_err() || desk.sync(rt).is_err() {
             break;
         }
         durable += 1;

@@ -13,6 +13,7 @@ mod fault;
 mod held;
 mod keeper;
 mod looking;
+mod makers;
 mod opening;
 mod past;
 mod question;

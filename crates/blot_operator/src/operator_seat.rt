@@ -83,7 +83,7 @@ impl<L: Ledger> OperatorSeat<L> {
         let OperatorSeat { seat, operator } = self;
         let is_ask = event.is_ask();
         let text = operator.record::<R, K>(rt, alloc, &event, line)?;
-        let reply = desk.submit_with(rt, seat, event, &text)?;
+        let reply = desk.submit_with(rt, seat, &operator.name, event, &text)?;
         operator.count(is_ask);
         Ok(reply)
     }

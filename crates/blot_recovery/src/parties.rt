@@ -64,7 +64,13 @@ impl<L: Ledger> KeptPeer<L> {
     {
         self.numbers = self.numbers.after(own, &self.peer, &kept);
         self.records = peer_record_after(&self.peer, self.records, &kept);
-        take_up(opening, &mut self.seat, kept.into_noted(), place)
+        take_up(
+            opening,
+            &mut self.seat,
+            &self.peer,
+            kept.into_noted(),
+            place,
+        )
     }
 }
 
@@ -95,7 +101,13 @@ impl<L: Ledger> KeptOperator<L> {
         ensures fault { IfErr result (IsHere place) }
     {
         self.records = kept.number;
-        take_up(opening, &mut self.seat, kept.into_noted(), place)
+        take_up(
+            opening,
+            &mut self.seat,
+            &self.name,
+            kept.into_noted(),
+            place,
+        )
     }
 }
 
@@ -109,10 +121,11 @@ fn peer_record_after(peer: &Text64, last: u64, kept: &Kept) -> u64
     }
 }
 
-// Takes an event to a desk, if there is one, by a seat.
+// Takes an event of this maker to a desk, if there is one, by a seat.
 fn take_up<L: Ledger>(
     opening: &mut Opening<L>,
     seat: &mut Seat<L>,
+    maker: &Text64,
     noted: Option<Noted>,
     place: usize,
 ) -> Result<(), RecoverFault>
@@ -123,7 +136,7 @@ fn take_up<L: Ledger>(
     let Some(Noted { event, .. }) = noted else {
         return Ok(());
     };
-    match opening.step(seat, event) {
+    match opening.step(seat, maker, event) {
         Ok(_) => Ok(()),
         Err(DeskFault::NoMemory) => Err(RecoverFault::NoMemory),
         Err(DeskFault::Full | DeskFault::Broken | DeskFault::Unsettled) => {
