@@ -1,9 +1,10 @@
 //! The operators of a day, each with a seat.
 ghost use Rattle.std.specs.List.{All};
 ghost use Rattle.std.specs.Map.{lookup, set_value};
-ghost use Rattle.std.specs.Prelude.{◌≡◌, ◌≢◌, ◌↔◌, ◌⊎◌, ◌≤◌, ◌≤◌, [], ◌++◌, Err, IfErr, IfOk, IfSome, None, OnErr, OnOk, Some, is_some, length, true, vec_len};
+ghost use Rattle.std.specs.Prelude.{◌≡◌, ◌≢◌, ◌↔◌, ◌⊎◌, ◌≤◌, [], ◌++◌, List, Err, IfErr, IfOk, IfSome, None, OnErr, OnOk, Some, is_some, length, true, vec_len};
 ghost use Rattle.indexmap.specs.IndexMap.{insert_entry};
 ghost use Rattle.blot_types.specs.Keys.{same_text};
+ghost use Rattle.blot_desk.specs.declared.receipt.Receipt.{Receipt};
 ghost use Rattle.blot_operator.specs.Seats.{Named};
 ghost use Rattle.blot_terminals.specs.Staff.{AreOwnSeats, IsSeatOf, first_seat};
 
@@ -160,7 +161,9 @@ impl<L: Ledger> Operators<L> {
 
     /// The seats of the operators that aren't on, and those that nobody had, behind some others. An error is out of memory, which can't be
     /// where there is room.
-    pub fn into_seats(self, others: Vec<Seat<L>>) -> Result<Vec<Seat<L>>, NoMemory> {
+    pub fn into_seats(self, others: Vec<Seat<L>>) -> Result<Vec<Seat<L>>, NoMemory>
+        ensures { IfOk result (λ seats. (more : List (List Receipt)) × (seats.items ≡ others.items ++ more)) }
+    {
         let Operators { table } = self;
         let OperatorTable { spare, named, .. } = table.into_inner();
         let mut seats = others;

@@ -7,11 +7,16 @@ use blot_desk::{Desk, Seat};
 use blot_gateway::FrameKeeper;
 use blot_lanes::{Peers, Task};
 use blot_operator::{OpenDay, OperatorSeat, open_lines, seat_lines};
+use blot_sockets::Door;
 use blot_stream::ReplayFault;
+use blot_terminals::{Operators, Terminals, serve_terminals};
+use log::Log;
 use std::alloc::{AllocError as NoMemory, Global};
 use std::io::{Read, Write};
+use std::net::OpenStream;
 use std::sync::Wait;
 use std::sync::ledger::Ledger;
+use std::thread::Threads;
 use std::time::Clock;
 
 /// An operator's lines, with the seat and the streams.
@@ -53,9 +58,9 @@ impl<'a, 'i, 'o, R: Wait, I: Read, O: Write, L: Ledger> Task for Lines<'a, 'i, '
     }
 }
 
-/// An operator's lines on an open day, with the seat, the streams and the peers.
+/// An operator's lines on an open day, with the seat, the streams, the peers and the door.
 #[derive(Drop)]
-pub(crate) struct OpenLines<'a, 'i, 'o, R, I, O, L: Ledger, K: FrameKeeper> {
+pub(crate) struct OpenLines<'a, 'i, 'o, R, I, O, L: Ledger, K: FrameKeeper, H> {
     pub(crate) rt: &'a R,
     pub(crate) alloc: Global,
     pub(crate) input: &'i mut I,
@@ -63,10 +68,11 @@ pub(crate) struct OpenLines<'a, 'i, 'o, R, I, O, L: Ledger, K: FrameKeeper> {
     pub(crate) desk: &'a Desk<L, K>,
     pub(crate) seat: OperatorSeat<L>,
     pub(crate) peers: &'a Peers<L>,
+    pub(crate) door: &'a Door<H>,
 }
 
-impl<'a, 'i, 'o, R: Wait + Clock, I: Read, O: Write, L: Ledger, K: FrameKeeper> Task
-    for OpenLines<'a, 'i, 'o, R, I, O, L, K> {
+impl<'a, 'i, 'o, R: Wait + Clock, I: Read, O: Write, L: Ledger, K: FrameKeeper, H: OpenStream> Task
+    for OpenLines<'a, 'i, 'o, R, I, O, L, K, H> {
     ghost use Rattle.std.specs.Prelude.{◌≡◌, true, OnOk};
     ghost use Rattle.blot_operator.specs.Dialogue.{HeardOf, open_ways};
     ghost use Rattle.blot_operator.specs.OpenDay.{EndsOf};
@@ -99,24 +105,71 @@ impl<'a, 'i, 'o, R: Wait + Clock, I: Read, O: Write, L: Ledger, K: FrameKeeper> 
             desk,
             seat,
             peers,
+            door,
         } = self;
         let mut seat = seat;
-        let day = ListedPeers { rt, peers };
+        let day = PeersDay { rt, peers, door };
         let answered = open_lines(rt, alloc, input, output, desk, &mut seat, &day);
         (answered, seat, input, output)
     }
 }
 
-// The listed peers, of whose sessions an operator may ask.
+/// The operators of an open day who come over a socket, with the peers and the door.
 #[derive(Drop)]
-struct ListedPeers<'a, R, L: Ledger> {
-    rt: &'a R,
-    peers: &'a Peers<L>,
+pub(crate) struct OverSocket<'a, R, T, L: Ledger, K: FrameKeeper, H> {
+    pub(crate) rt: &'a R,
+    pub(crate) alloc: Global,
+    pub(crate) terminals: &'a T,
+    pub(crate) operators: &'a Operators<L>,
+    pub(crate) desk: &'a Desk<L, K>,
+    pub(crate) peers: &'a Peers<L>,
+    pub(crate) door: &'a Door<H>,
 }
 
-impl<'a, R: Wait, L: Ledger> OpenDay for ListedPeers<'a, R, L> {
+impl<'a, R, T, L, K, H> Task for OverSocket<'a, R, T, L, K, H>
+where
+    R: Threads + Wait + Clock + Log + Sync,
+    T: Terminals + Sync,
+    T::Input: Send,
+    T::Output: Send,
+    L: Ledger + Send + Sync,
+    K: FrameKeeper + Send + Sync,
+    H: OpenStream + Sync,
+{
+    type Output = Result<(), NoMemory>;
+
+    ghost gives = { λ _ _. Unit {0} };
+
+    fn run(self) -> Result<(), NoMemory> {
+        let OverSocket {
+            rt,
+            alloc,
+            terminals,
+            operators,
+            desk,
+            peers,
+            door,
+        } = self;
+        let day = PeersDay { rt, peers, door };
+        serve_terminals(rt, alloc, terminals, operators, desk, &day, door)
+    }
+}
+
+// An open day, as its operators ask of it: the sessions of the listed peers, and the door.
+#[derive(Drop)]
+struct PeersDay<'a, R, L: Ledger, H> {
+    rt: &'a R,
+    peers: &'a Peers<L>,
+    door: &'a Door<H>,
+}
+
+impl<'a, R: Wait, L: Ledger, H: OpenStream> OpenDay for PeersDay<'a, R, L, H> {
     fn sessions(&self, alloc: Global) -> Result<Rows<SessionLine>, NoMemory> {
         Ok(Rows::new(self.peers.sessions(self.rt, alloc)?))
+    }
+
+    fn close(&self) {
+        self.door.close();
     }
 }
 

@@ -1,13 +1,16 @@
 use Rattle.blot_diary.specs.Diary.{desk_events}
 use Rattle.blot_journal.specs.File.{text_of}
 use Rattle.blot_stream.proofs.ResultLemmas.{if-err}
-use Rattle.blotter.proofs.KeepingLemmas.{kept-day}
+use Rattle.blotter.proofs.KeepingLemmas.{kept-day, some-first}
 use Rattle.blotter.proofs.kept_day.serve_kept_day.Goals as goal
+
+pub serve_recovered-requires-some : goal.serve_recovered-requires-some
+serve_recovered-requires-some g c = some-first _ c.in-Ok.recovered.operators.named.items c.in-Ok.ensures.first
 
 pub returns-in-Ok-clause-served : goal.returns-in-Ok-clause-served
 returns-in-Ok-clause-served g c =
-    kept-day c.args.own (text_of (g.D.Device.seen c.args.device)) c.in-Ok.diary.text (λ last. desk_events last.text) c.serve_recovered.result _ _ c.of-operator.result _ c.args.day _ _
-    c.in-Ok.ensures.text c.in-Ok.ensures.operator.events c.in-Ok.ensures.name c.of-operator.ensures c.serve_recovered.ensures.served
+    kept-day c.args.own (text_of (g.D.Device.seen c.args.device)) c.in-Ok.diary.text (λ last. desk_events last.text) c.serve_recovered.result c.in-Ok.recovered.operators c.of-operator.result _
+    c.args.day _ _ c.in-Ok.ensures.text c.in-Ok.ensures.operators c.in-Ok.ensures.first c.of-operator.ensures c.serve_recovered.ensures.served
 
 pub returns-in-Ok-clause-fault : goal.returns-in-Ok-clause-fault
 returns-in-Ok-clause-fault g c =
