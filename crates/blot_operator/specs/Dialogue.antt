@@ -18,6 +18,7 @@ use Rattle.blot_desk.specs.Keeping.{is_ask}
 use Rattle.blot_desk.specs.Receipts.{IsOneMore, newest_of}
 use Rattle.blot_desk.specs.declared.question.Found.{Found}
 use Rattle.blot_desk.specs.declared.question.Question.{Question}
+use Rattle.blot_desk.specs.Makers.{IsFoundBy}
 use Rattle.blot_desk.specs.Questions.{IsFound, found_of}
 use Rattle.blot_report.specs.Lines.{day_lines_of, order_lines_of, position_lines_of}
 use Rattle.blot_console.specs.declared.answer.Answer.{Answer}
@@ -48,8 +49,8 @@ pub record Ways (S : Type 0) : Type 1 where
   pub newest : S → Option ℕ
   -- a list that it may show
   pub shows : S → List Entry → Type 0
-  -- what it may answer to a question
-  pub finds : S → Question → Answer → Type 0
+  -- what it may find to a question, and who made its rows, where that is told
+  pub finds : S → Question → Found → Option (List (List ℕ)) → Type 0
   -- whether the day is open
   pub is_open : Bool
   -- that it keeps the events, each by its line
@@ -105,6 +106,18 @@ pub record AnswersReport {S : Type 0} (ways : Ways S) (before : S) (day : ℤ) (
   pub shown : ways.shows before list
   pub answer_is : answer ≡ answers.Report (day_lines_of list day)
 
+-- what was found, with who made its rows where that is told
+abbrev pub found_answer : Found → Option (List (List ℕ)) → Answer
+found_answer found None = answers.Found found
+found_answer found (Some makers) = answers.FoundBy found makers
+
+-- a question is answered by what is found
+pub record AnswersQuestion {S : Type 0} (ways : Ways S) (before : S) (question : Question) (answer : Answer) : Type 0 where
+  pub found : Found
+  pub makers : Option (List (List ℕ))
+  pub finds : ways.finds before question found makers
+  pub answer_is : answer ≡ found_answer found makers
+
 -- the lines of all orders, or of all positions, are made of a list that may be shown
 pub record AnswersOrders {S : Type 0} (ways : Ways S) (before : S) (peer : Option (List ℕ)) (answer : Answer) : Type 0 where
   pub list : List Entry
@@ -121,7 +134,7 @@ abbrev pub AnswersAsk : {S : Type 0} → Ways S → S → Result Ask LineFault �
 AnswersAsk ways before (Ok (asks.Step event)) answer after = AnswersEvent ways before event answer after
 AnswersAsk ways before (Ok (asks.Report day)) answer after = (after ≡ before) × AnswersReport ways before day answer
 AnswersAsk ways before (Ok asks.Mine) answer after = AnswersMine ways before (ways.newest before) answer after
-AnswersAsk ways before (Ok (asks.Look question)) answer after = (after ≡ before) × ways.finds before question answer
+AnswersAsk ways before (Ok (asks.Look question)) answer after = (after ≡ before) × AnswersQuestion ways before question answer
 AnswersAsk ways before (Ok (asks.Orders peer)) answer after = (after ≡ before) × AnswersOrders ways before peer answer
 AnswersAsk ways before (Ok (asks.Positions account)) answer after = (after ≡ before) × AnswersPositions ways before account answer
 AnswersAsk ways before (Err fault) answer after = (after ≡ before) × (answer ≡ answers.Bad fault)
@@ -266,7 +279,7 @@ own_ways = record {
   steps = OwnStep;
   newest = λ journal. newest_entry_of journal.book.list;
   shows = OwnList;
-  finds = λ journal question answer. answer ≡ answers.Found (found_of journal question);
+  finds = λ journal question found makers. (found ≡ found_of journal question) × (makers ≡ None);
   is_open = false;
   IsKept = ⊥;
 }
@@ -280,15 +293,21 @@ pub record SeatStep (before : List Receipt) (event : Event) (given : Result Repl
 abbrev pub SeatList : List Receipt → List Entry → Type 0
 SeatList receipts list = IsTrue (is_book list)
 
--- to a question it may find what a desk held after some events: that of the moment, which others change
-pub record Finds (question : Question) (answer : Answer) : Type 0 where
-  pub found : Found
-  pub is_found : IsFound question found
-  pub answer_is : answer ≡ answers.Found found
+-- to a question it may find what a desk held after some events, that of the moment, which others change; and who made what is told
+abbrev pub FindsBy : Question → Found → Option (List (List ℕ)) → Type 0
+FindsBy question found None = IsFound question found
+FindsBy question found (Some makers) = IsFoundBy question found makers
 
 -- the ways of a seat
 abbrev pub seat_ways : Ways (List Receipt)
-seat_ways = record { steps = SeatStep; newest = newest_of; shows = SeatList; finds = λ receipts. Finds; is_open = false; IsKept = ⊥ }
+seat_ways = record {
+  steps = SeatStep;
+  newest = newest_of;
+  shows = SeatList;
+  finds = λ receipts question found makers. IsFound question found × (makers ≡ None);
+  is_open = false;
+  IsKept = ⊥;
+}
 
 -- an event of an operator's seat, which stays the same operator's
 pub record NamedStep (before : Named) (event : Event) (given : Result Reply DeskFault) (after : Named) : Type 0 where
@@ -301,7 +320,7 @@ open_ways IsKept = record {
   steps = NamedStep;
   newest = λ seat. newest_of seat.receipts;
   shows = λ seat. SeatList seat.receipts;
-  finds = λ seat. Finds;
+  finds = λ seat. FindsBy;
   is_open = true;
   IsKept = IsKept;
 }

@@ -5,7 +5,7 @@ ghost use Rattle.blot_desk.specs.declared.fault.DeskFault.TheVariants.{Broken};
 ghost use Rattle.blot_console.specs.Answers.{CanBeTold};
 ghost use Rattle.blot_stream.specs.Texts.{AppendsFront};
 ghost use Rattle.blot_operator.specs.Asking.{AsksFor};
-ghost use Rattle.blot_operator.specs.Dialogue.{Comes, IsByDay, Ways};
+ghost use Rattle.blot_operator.specs.Dialogue.{AnswersQuestion, Comes, IsByDay, Ways};
 ghost use Rattle.blot_operator.specs.OpenDay.{AsksDay, day_ask_by};
 ghost use Rattle.blot_operator.specs.Operating.{asked_by, with_key};
 
@@ -99,7 +99,7 @@ pub(crate) trait Operated {
 
     /// What it answers to a question.
     fn look(&self, state: &Self::State, question: &Question) -> Result<Answer, NoMemory>
-        ensures finds { IfOk result (λ answer. ways.finds state.now question.now answer) }
+        ensures finds { IfOk result (AnswersQuestion ways state.now question.now) }
         ensures tellable { IfOk result CanBeTold };
 
     /// What its day answers to a line that only an open day knows. An error is out of memory, and comes only where the line
@@ -114,6 +114,9 @@ pub(crate) trait Operated {
 pub trait OpenDay {
     /// The session of each listed peer, in the order in which they are listed. An error is out of memory.
     fn sessions(&self, alloc: Global) -> Result<Rows<SessionLine>, NoMemory>;
+
+    /// Whether it is told who made each step and each refused command: where several operators are on.
+    fn tells_makers(&self) -> bool;
 
     /// Closes the day: no connection is taken any more, and each that is on ends.
     fn close(&self);
@@ -258,7 +261,11 @@ impl<R: Wait + time::Clock, L: Ledger, K: FrameKeeper, D: OpenDay> Operated
     }
 
     fn look(&self, _seat: &OperatorSeat<L>, question: &Question) -> Result<Answer, NoMemory> {
-        Ok(Answer::Found(self.desk.look(self.rt, question)?))
+        if !self.day.tells_makers() {
+            return Ok(Answer::Found(self.desk.look(self.rt, question)?));
+        }
+        let (found, makers) = self.desk.look_by(self.rt, question)?;
+        Ok(Answer::FoundBy(found, Rows::new(makers)))
     }
 
     fn day_answer(&self, alloc: Global, line: &[u8]) -> Result<Option<Answer>, NoMemory> {

@@ -108,7 +108,12 @@ impl<'a, 'i, 'o, R: Wait + Clock, I: Read, O: Write, L: Ledger, K: FrameKeeper, 
             door,
         } = self;
         let mut seat = seat;
-        let day = PeersDay { rt, peers, door };
+        let day = PeersDay {
+            rt,
+            peers,
+            door,
+            has_operators: false,
+        };
         let answered = open_lines(rt, alloc, input, output, desk, &mut seat, &day);
         (answered, seat, input, output)
     }
@@ -150,22 +155,32 @@ where
             peers,
             door,
         } = self;
-        let day = PeersDay { rt, peers, door };
+        let day = PeersDay {
+            rt,
+            peers,
+            door,
+            has_operators: true,
+        };
         serve_terminals(rt, alloc, terminals, operators, desk, &day, door)
     }
 }
 
-// An open day, as its operators ask of it: the sessions of the listed peers, and the door.
+// An open day, as its operators ask of it: the sessions of the listed peers, the door, and whether operators come over a socket.
 #[derive(Drop)]
 struct PeersDay<'a, R, L: Ledger, H> {
     rt: &'a R,
     peers: &'a Peers<L>,
     door: &'a Door<H>,
+    has_operators: bool,
 }
 
 impl<'a, R: Wait, L: Ledger, H: OpenStream> OpenDay for PeersDay<'a, R, L, H> {
     fn sessions(&self, alloc: Global) -> Result<Rows<SessionLine>, NoMemory> {
         Ok(Rows::new(self.peers.sessions(self.rt, alloc)?))
+    }
+
+    fn tells_makers(&self) -> bool {
+        self.has_operators
     }
 
     fn close(&self) {
