@@ -1,5 +1,5 @@
 -- Who made each command of a desk, by the name that the caller of its seat has.
-use Rattle.std.specs.Prelude.{◌≡◌, ℕ, ◌-◌, ◌<◌, List, [], ◌∷◌, ◌++◌, All, codes, length, map, reverse, slice_index_or, take}
+use Rattle.std.specs.Prelude.{◌≡◌, ℕ, ◌+◌, ◌-◌, ◌<◌, List, [], ◌∷◌, ◌++◌, All, codes, length, map, reverse, slice_index_or, take}
 use Rattle.blot_desk.specs.declared.event.Event.{Event}
 use Rattle.blot_desk.specs.declared.event.Event.TheVariants.{Submit}
 use Rattle.blot_desk.specs.declared.event.Reply.{Reply}
@@ -10,7 +10,7 @@ use Rattle.blot_desk.specs.declared.question.Question.{Question}
 use Rattle.blot_desk.specs.declared.question.StepRow.{StepRow}
 use Rattle.blot_desk.specs.declared.question.StepRow.TheVariants as steps
 use Rattle.blot_desk.specs.Desk.{IsRun, Journal}
-use Rattle.blot_desk.specs.Questions.{found_of}
+use Rattle.blot_desk.specs.Questions.{found_of, refusals_from}
 
 -- the makers of the commands that were accepted, the k-th that of the command of number k; and of those that were refused, in their order
 pub record Makers : Type 0 where
@@ -26,6 +26,12 @@ abbrev pub with_maker : List ℕ → Event → Reply → Makers → Makers
 with_maker maker (Submit command) (Accepted number) makers = record makers { accepted = makers.accepted ++ maker ∷ [] }
 with_maker maker (Submit command) (Refused reason) makers = record makers { refused = makers.refused ++ maker ∷ [] }
 with_maker maker event reply makers = makers
+
+-- the makers are those of what a desk holds: a command that is accepted has the next number, and so many numbers are given as makers of such
+-- commands are noted; and each refused command has its maker
+pub record AreMakers (makers : Makers) (journal : Journal) : Type 0 where
+  pub of_accepted : length makers.accepted + 1 ≡ journal.book.next
+  pub of_refused : length makers.refused ≡ length (refusals_from 1 journal.history)
 
 -- ---- who made what a question is answered
 
@@ -56,11 +62,12 @@ makers_of makers (found.Steps rows) = step_makers makers rows
 makers_of makers (found.Refusals rows) = refusal_makers (length rows) makers
 makers_of makers other = []
 
--- an answer is that of what a desk held after a run of some events, and the names are those of its makers
+-- an answer is that of what a desk held after a run of some events, and the names are those of its makers then
 pub record IsFoundBy (question : Question) (answer : Found) (names : List (List ℕ)) : Type 0 where
   pub journal : Journal
   pub makers : Makers
   pub run : IsRun journal
+  pub made : AreMakers makers journal
   pub found_is : answer ≡ found_of journal question
   pub names_are : names ≡ makers_of makers answer
 

@@ -12,7 +12,8 @@ use std::marker::Model;
 use std::sync::ledger::{Book, Ledger};
 
 /// The book with its history, the count of all receipts, who made the commands, and what keeps the events. A contract sees the book with its
-/// history, the makers, and the keeper. There are as many receipts as events are recorded, and the recorded events are kept, asks aside.
+/// history, the makers, and the keeper. There are as many receipts as events are recorded, the recorded events are kept, asks aside, and
+/// each command has its maker.
 #[derive(Drop)]
 pub(crate) struct Counted<L: Ledger, K: Keeper> {
     pub(crate) held: Held,
@@ -24,13 +25,15 @@ pub(crate) struct Counted<L: Ledger, K: Keeper> {
 impl<L: Ledger, K: Keeper> Model for Counted<L, K> {
     ghost use Rattle.std.specs.Prelude.{◌≡◌, length};
     ghost use Rattle.blot_desk.specs.Keeping.{Under, kept_events};
+    ghost use Rattle.blot_desk.specs.Makers.{AreMakers};
 
     ghost Value = { Under K };
 
     ghost view = { λ counted. record { journal = counted.held; makers = counted.makers.makers; keeper = counted.keeper } };
 
     ghost invariant = { λ counted. (length counted.held.history ≡ counted.book.total)
-        × (K.IsKept → K.events counted.keeper ≡ kept_events counted.held.history) };
+        × (K.IsKept → K.events counted.keeper ≡ kept_events counted.held.history)
+        × AreMakers counted.makers.makers counted.held };
 }
 
 impl<L: Ledger, K: Keeper> Counted<L, K> {
@@ -66,6 +69,8 @@ impl<L: Ledger, K: Keeper> Counted<L, K> {
         ensures names { IfOk result (λ found. found.1.items ≡ makers_of self.now.makers found.0) }
         ensures by { IfOk result (λ found. IsFoundBy question.now found.0 found.1.items) }
     {
+        // There are as many makers as commands.
+        let _ = &self.book;
         let found = self.held.look(question)?;
         let names = self.makers.of(alloc, &found)?;
         Ok((found, names))

@@ -46,8 +46,9 @@ impl<L: Ledger> Seat<L> {
         }
     }
 
-    /// Takes an event to a desk, which keeps it by its record unless it only asks, and notes who made it; and keeps a receipt of the reply. Where the desk is
-    /// full, memory runs out, or the keeper of what doesn't only ask is broken, nothing is recorded or kept, and there is no receipt.
+    /// Takes an event to a desk, which keeps it by its record unless it only asks, and notes who made it; and keeps a receipt of the reply.
+    /// Where the desk is full, memory runs out, or the keeper of what doesn't only ask is broken, nothing is recorded or kept, and there is
+    /// no receipt.
     pub(crate) fn take<K: Keeper>(
         &mut self,
         alloc: Global,
