@@ -10,6 +10,7 @@ use Rattle.blot_desk.specs.declared.event.Event.TheVariants.{Submit}
 use Rattle.blot_desk.specs.declared.event.Reply.{Reply}
 use Rattle.blot_desk.specs.declared.event.Reply.TheVariants as replies
 use Rattle.blot_desk.specs.declared.fault.DeskFault.TheVariants.{Full, NoMemory, Broken, Unsettled}
+use Rattle.blot_desk.specs.declared.question.Found.{Found}
 use Rattle.blot_types.specs.declared.command.Command.TheVariants.{Withdraw}
 use Rattle.blot_console.specs.declared.answer.Answer.{Answer}
 use Rattle.blot_console.specs.declared.answer.Answer.TheVariants as answers
@@ -26,7 +27,7 @@ use Rattle.blot_operator.specs.declared.answering.Asked.{Asked}
 use Rattle.blot_operator.specs.declared.answering.Asked.TheVariants as asked
 use Rattle.blot_operator.specs.declared.operated.Declined.{Declined}
 use Rattle.blot_operator.specs.declared.operated.Declined.TheVariants.{Desk, Unkept}
-use Rattle.blot_operator.specs.Dialogue.{Ways, answer_by, AnswersAsk, AnswersBy, AnswersLine, AnswersMine}
+use Rattle.blot_operator.specs.Dialogue.{Ways, answer_by, found_answer, AnswersAsk, AnswersBy, AnswersLine, AnswersMine}
 use Rattle.blot_operator.specs.Lines.{kept, lines_of}
 use Rattle.blot_operator.specs.OpenDay.{is_close, closes, heard, day_ask_by, closes_by, heard_by, is_closed, EndsOf}
 use Rattle.blot_operator.specs.Operating.{asked_by, with_key}
