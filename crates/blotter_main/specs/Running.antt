@@ -13,7 +13,7 @@ use Rattle.blotter.specs.Keeping.{KeptDayServed}
 use Rattle.blotter.specs.Serving.{DayServed, OpenDayServed}
 use Rattle.blot_words.specs.declared.words.Words.{Words}
 use Rattle.blot_words.specs.Words.{journal_named}
-use Rattle.blot_words.specs.declared.words.Words.TheVariants.{Replay, Desk, Audit, Open, Serve}
+use Rattle.blot_words.specs.declared.words.Words.TheVariants.{Replay, Desk, Audit, Open, Serve, Ask}
 
 -- a day is served that is kept in a journal, from some text that this had when it was opened, on; or that was new
 abbrev pub ServesJournal : List ℕ → Option (List ℕ) → ℤ → Option (List ℕ) → Option (List ℕ) → Type 0
@@ -50,7 +50,8 @@ Did round (Desk own from peers) input left before after =
     IsAtEnd left × ((journal : Journal) × AppendsOf (answers_of journal) input before after)
 Did round (Audit own journal peers) input left before after =
     DidAudit (journal_named (Audit own journal peers)) own peers.items input left before after
-Did round (Open own day port lanes journal peers) input left before after =
-    EndsOf true input left × DidServe (journal_named (Open own day port lanes journal peers)) own input day before after
+Did round (Open own day port lanes journal operators peers) input left before after =
+    EndsOf true input left × DidServe (journal_named (Open own day port lanes journal operators peers)) own input day before after
 Did round (Serve own day port sessions rounds peers) input left before after =
     IsAtEnd left × DayServed (round own) rounds input sessions day before after
+Did round (Ask path name) input left before after = IsAtEnd left

@@ -41,6 +41,9 @@ pub enum Failure {
     /// The journal can't be written: its path, and why, in the system's words.
     #[error("{0} can't be written: {1}")]
     Unwritable(String, String),
+    /// Nobody serves at the socket: its path.
+    #[error("{0}: nobody listens there")]
+    NoServer(String),
     /// Another program has the port.
     #[error("port {0} is taken")]
     PortTaken(u16),

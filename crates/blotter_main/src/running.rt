@@ -11,7 +11,7 @@ ghost use Rattle.blot_capture.specs.Replay.{captured_by};
 ghost use Rattle.blot_rounds.specs.Rounds.{ServesRound};
 ghost use Rattle.blotter.specs.Serving.{DayServed, OpenDayServed};
 ghost use Rattle.blot_stream.specs.declared.outcome.Outcome.TheVariants.{BadWords, Done, NoMemory};
-ghost use Rattle.blot_words.specs.Words.{AreApartIn, IsPeerList, is_written_last, peers_of};
+ghost use Rattle.blot_words.specs.Words.{AreApartIn, HasPeers, is_written_last};
 ghost use Rattle.blotter_main.specs.Failure.{outcome_of};
 ghost use Rattle.blotter_main.specs.Running.{Did};
 
@@ -55,7 +55,7 @@ where
     T::Listener: Sync,
     T::Stream: Send,
     OwnedFd: From<T::Listener>,
-    ensures did { result ≡ Done → (words : Words) × IsPeerList (peers_of words)
+    ensures did { result ≡ Done → (words : Words) × HasPeers words
         × Did (ServesRound T T.Stream.remaining T.Stream.contents) words (R.remaining input.old) (R.remaining input.new) (W.contents output.old) (W.contents output.new) }
     ensures unread { result ≡ BadWords → input.new ≡ input.old }
     ensures unwritten { result ≡ BadWords → output.new ≡ output.old }
@@ -73,7 +73,7 @@ where
 
 // What the command line asks for.
 fn words_of<S: Env + AllocGlobal>(system: &S) -> Result<Words, Refusal>
-    ensures peers { IfOk result (λ words. IsPeerList (peers_of words)) }
+    ensures peers { IfOk result HasPeers }
     ensures apart { IfOk result AreApartIn }
 {
     let words = given(system)?;
@@ -95,7 +95,7 @@ where
     T::Listener: Sync,
     T::Stream: Send,
     OwnedFd: From<T::Listener>,
-    requires peers { IsPeerList (peers_of words) }
+    requires peers { HasPeers words }
     requires apart { AreApartIn words }
     ensures did { OnOk result
         (Did (ServesRound T T.Stream.remaining T.Stream.contents) words (R.remaining input.old) (R.remaining input.new) (W.contents output.old) (W.contents output.new)) }
@@ -129,6 +129,7 @@ where
             port,
             lanes,
             journal,
+            operators: _,
             peers,
         } => match journal {
             Some(file) => keep_day(
@@ -170,6 +171,7 @@ where
             }
             Err(_) => Err(Failure::NoMemory),
         },
+        Words::Ask { path, name: _ } => Err(Failure::NoServer(path)),
     }
 }
 
