@@ -48,7 +48,8 @@ impl Ahead {
         stream: &mut R,
         line: &mut Vec<u8>,
     ) -> Result<bool, ReplayFault>
-        ensures taken { IfOk result (λ ended. TakesLine ended (unread self.old (R.remaining stream.old)) (unread self.new (R.remaining stream.new)) line.new.items) }
+        ensures taken { IfOk result (λ ended.
+            TakesLine ended (unread self.old (R.remaining stream.old)) (unread self.new (R.remaining stream.new)) line.new.items) }
     {
         line.clear();
         for _ in 0..u64::MAX {

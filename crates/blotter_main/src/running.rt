@@ -15,6 +15,7 @@ ghost use Rattle.blot_words.specs.Words.{AreApartIn, HasPeers, is_written_last};
 ghost use Rattle.blotter_main.specs.Failure.{outcome_of};
 ghost use Rattle.blotter_main.specs.Running.{Did};
 
+use crate::asking::ask_server;
 use crate::failure::{Failure, system_words};
 use crate::journals::Journals;
 use crate::keeping::{audit_journal, keep_day, open_journal};
@@ -40,12 +41,14 @@ use std::sync::ledger::Blank;
 use std::thread::Threads;
 use std::time::Clock;
 
-/// Does what the command line asks for, and says how it ended. What the user has to know goes to `errors`.
+/// Does what the command line asks for, and says how it ended. What the user has to know goes to `errors`. With `prompts` a client
+/// says when a line is wanted.
 pub fn run<S: Env + AllocGlobal, F: Files, J: Journals, T, R: Read, W: Write, E: Write>(
     system: &S,
     files: &F,
     journals: &J,
     rt: &T,
+    prompts: bool,
     input: &mut R,
     output: &mut W,
     errors: &mut E,
@@ -62,7 +65,7 @@ where
 {
     match words_of(system) {
         Ok(words) => {
-            match perform(system.alloc(), files, journals, rt, words, input, output) {
+            match perform(system, files, journals, rt, words, prompts, input, output) {
                 Ok(()) => Outcome::Done,
                 Err(failure) => tell(errors, failure),
             }
@@ -81,12 +84,13 @@ fn words_of<S: Env + AllocGlobal>(system: &S) -> Result<Words, Refusal>
 }
 
 // Does what the words ask for. Out of memory, a replay and an audit have written nothing.
-fn perform<F: Files, J: Journals, T, R: Read, W: Write>(
-    alloc: Global,
+fn perform<S: Env + AllocGlobal, F: Files, J: Journals, T, R: Read, W: Write>(
+    system: &S,
     files: &F,
     journals: &J,
     rt: &T,
     words: Words,
+    prompts: bool,
     input: &mut R,
     output: &mut W,
 ) -> Result<(), Failure>
@@ -103,6 +107,7 @@ where
         → (is_written_last words ≡ false) ⊎ Keeps (W.contents output.old) (W.contents output.new)) }
     ensures words { IfErr result (λ failure. outcome_of failure ≢ BadWords) }
 {
+    let alloc = system.alloc();
     match words {
         Words::Replay { own, day, peers } => {
             replay(alloc, input, output, own, peers.as_slice(), day).map_err(Failure::Stopped)
@@ -171,7 +176,7 @@ where
             }
             Err(_) => Err(Failure::NoMemory),
         },
-        Words::Ask { path, name: _ } => Err(Failure::NoServer(path)),
+        Words::Ask { path, name } => ask_server(system, rt, path, name, prompts, input, output),
     }
 }
 
