@@ -1,5 +1,5 @@
 -- The lines of an answer, and turns, one after the other.
-use Rattle.std.proofs.Common.{◌≡◌, ℕ, Bool, true, false, List, [], ◌∷◌, ◌++◌, Option, Some, None, Result, Ok, Err, refl, sym, ap, subst, ◌∙◌}
+use Rattle.std.proofs.Common.{◌≡◌, ℕ, Bool, true, false, List, [], ◌∷◌, ◌++◌, map, Option, Some, None, Result, Ok, Err, refl, sym, ap, subst, ◌∙◌}
 use Rattle.std.specs.Prelude.{◌&&◌, not, IfSome, IsErrAnd}
 use Rattle.std.specs.List.{flat_map, list_all}
 use Rattle.std.specs.Io.KnownBytes.{Appends, Consumes, IsAtEnd}
@@ -8,9 +8,10 @@ use Rattle.std.proofs.lemmas.Bool.{and_from, and_parts}
 use Rattle.std.proofs.lemmas.List.{append_assoc, append-nil, map-append}
 use Rattle.std.proofs.lemmas.List.Folds.{list_all-append}
 use Rattle.std.proofs.lemmas.Grind.{flat_map-append}
+use Rattle.blot_stream.specs.Texts.{AppendsFront, AppendsFrontOf, AppendsOf}
 use Rattle.blot_stream.proofs.ResultLemmas.{same-fault}
 use Rattle.blot_ask.specs.Answers.{is_answer, is_answer_from, is_complete}
-use Rattle.blot_ask.specs.Asking.{IsAnsweredBy, IsAsked, IsTalked, IsTurnedAwayBy, TakesLines, Talks, TalksOn, TellsAnswer, TellsLine, Turn, came_of, is_turn, naming, prompt_by, sent_of, shown_of}
+use Rattle.blot_ask.specs.Asking.{IsAnsweredBy, IsAsked, IsTalked, IsTurnedAwayBy, TakesLines, Talks, TalksOn, TellsAnswer, TellsLine, Turn, came_of, is_turn, naming, prompt_by, request_of, requests_of, sent_by, sent_of, shown_of}
 use Rattle.blot_ask.specs.Lines.{TakesInput, is_blank, lines_of, text_of, unread, with_end}
 use Rattle.blot_ask.specs.Typed.{typed}
 use Rattle.blot_ask.proofs.AheadLemmas.{ahead_read}
@@ -252,3 +253,84 @@ turned_away answer name sent sent_after came came_after first left is by = (
 pub passed : {T E : Type 0} (result : Result T E) (residual fault : E) → IsErrAnd result (λ passed. passed ≡ residual) → result ≡ Err fault → residual ≡ fault
 passed (Ok x) residual fault is same = absurd is
 passed (Err e) residual fault is same = sym is ∙ same-fault e fault same
+
+-- ---- what is sent
+
+front_none : (before : Option (List ℕ)) (text : List ℕ) → AppendsFront before before text
+front_none before text = ([], text, refl, Appends-nil before)
+
+pub front_all : (before after : Option (List ℕ)) (text : List ℕ) → Appends before after text → AppendsFront before after text
+front_all before after text all = (text, [], append-nil text, all)
+
+front_more : (before after : Option (List ℕ)) (text more : List ℕ) → AppendsFront before after text → AppendsFront before after (text ++ more)
+front_more before after text more front =
+    (front.0, front.1 ++ more, sym (append_assoc front.0 front.1 more) ∙ ap (λ text. text ++ more) front.2, front.3)
+
+front_behind : (before now after : Option (List ℕ)) (first more : List ℕ) → Appends before now first → AppendsFront now after more → AppendsFront before after (first ++ more)
+front_behind before now after first more all front =
+    (first ++ front.0, front.1, append_assoc first front.0 front.1 ∙ ap (λ more. first ++ more) front.2, Appends-trans before now after first front.0 all front.3)
+
+pub nothing_sent : (input sent : Option (List ℕ)) → AppendsFrontOf requests_of input sent sent
+nothing_sent None sent = tt
+nothing_sent (Some bytes) sent = front_none sent (requests_of bytes)
+
+line_sent : (input input_after sent sent_after : Option (List ℕ)) (line : List ℕ)
+    → TakesInput true input input_after line → AppendsFront sent sent_after (request_of line) → AppendsFrontOf requests_of input sent sent_after
+line_sent None input_after sent sent_after line taken front = tt
+line_sent (Some bytes) input_after sent sent_after line taken front =
+    subst (AppendsFront sent sent_after) (sym (ap (flat_map request_of) taken.2)) (front_more sent sent_after (request_of line) _ front)
+
+asks_by : (line asked : List ℕ) → is_blank line ≡ false → asked ≡ typed line → request_of line ≡ with_end asked
+asks_by line asked blank is = rw blank (ap with_end (sym is))
+
+pub asked_in_part : (more : Bool) (input input_after sent sent_after : Option (List ℕ)) (line asked : List ℕ) → more ≡ true
+    → TakesInput more input input_after line → is_blank line ≡ false → asked ≡ typed line → AppendsFront sent sent_after (with_end asked)
+    → AppendsFrontOf requests_of input sent sent_after
+asked_in_part false input input_after sent sent_after line asked is taken blank is_asked front = absurd cc
+asked_in_part true input input_after sent sent_after line asked is taken blank is_asked front =
+    line_sent input input_after sent sent_after line taken (subst (AppendsFront sent sent_after) (sym (asks_by line asked blank is_asked)) front)
+
+sent_in_turns : (turns : List Turn) → flat_map sent_of turns ≡ flat_map request_of (map (λ turn. turn.line) turns)
+sent_in_turns [] = refl
+sent_in_turns (turn ∷ turns) = ap (λ more. request_of turn.line ++ more) (sent_in_turns turns)
+
+pub turns_sent :
+    (prompts : Bool) (input input_now sent sent_now sent_after came came_now told told_now : Option (List ℕ))
+    → TalksSoFar prompts input input_now sent sent_now came came_now told told_now → AppendsFrontOf requests_of input_now sent_now sent_after
+    → AppendsFrontOf requests_of input sent sent_after
+turns_sent prompts None input_now sent sent_now sent_after came came_now told told_now so_far front = tt
+turns_sent prompts (Some bytes) None sent sent_now sent_after came came_now told told_now so_far front = absurd (cc so_far.1.taken.1)
+turns_sent prompts (Some bytes) (Some now) sent sent_now sent_after came came_now told told_now so_far front =
+    let taken = so_far.1.taken in
+    let rest : flat_map request_of (lines_of now) ≡ flat_map request_of (lines_of taken.0) = ap (λ now. flat_map request_of (lines_of now)) (some_is now taken.0 taken.1) in
+    let all : flat_map request_of (lines_of bytes) ≡ flat_map sent_of so_far.0 ++ flat_map request_of (lines_of now) =
+    ap (flat_map request_of) taken.2 ∙ flat_map-append request_of (map (λ turn. turn.line) so_far.0) (lines_of taken.0)
+    ∙ ap (λ first. first ++ flat_map request_of (lines_of taken.0)) (sym (sent_in_turns so_far.0)) ∙ ap (λ rest. flat_map sent_of so_far.0 ++ rest) (sym rest) in
+    subst (AppendsFront sent sent_after) (sym all) (front_behind sent sent_now sent_after _ _ so_far.1.asks front)
+  where
+    given : Option (List ℕ) → List ℕ
+    given None = []
+    given (Some bytes) = bytes
+    some_is : (a b : List ℕ) → Some a ≡ Some b → a ≡ b
+    some_is a b is = ap given is
+
+-- behind the name
+pub name_in_part : (name : List ℕ) (input sent sent_after : Option (List ℕ)) → AppendsFront sent sent_after (with_end (naming name)) → AppendsFrontOf (sent_by name) input sent sent_after
+name_in_part name None sent sent_after front = tt
+name_in_part name (Some bytes) sent sent_after front = front_more sent sent_after (with_end (naming name)) (requests_of bytes) front
+
+pub none_in_part : (name : List ℕ) (input sent : Option (List ℕ)) → AppendsFrontOf (sent_by name) input sent sent
+none_in_part name None sent = tt
+none_in_part name (Some bytes) sent = front_none sent (sent_by name bytes)
+
+pub lines_in_part : (name : List ℕ) (input sent sent_now sent_after : Option (List ℕ)) → Appends sent sent_now (with_end (naming name))
+    → AppendsFrontOf requests_of input sent_now sent_after → AppendsFrontOf (sent_by name) input sent sent_after
+lines_in_part name None sent sent_now sent_after first front = tt
+lines_in_part name (Some bytes) sent sent_now sent_after first front = front_behind sent sent_now sent_after (with_end (naming name)) (requests_of bytes) first front
+
+pub sent_in_all :
+    (name : List ℕ) (prompts : Bool) (input sent sent_after came came_after told told_after : Option (List ℕ))
+    → IsAsked name prompts input sent sent_after came came_after told told_after → AppendsOf (sent_by name) input sent sent_after
+sent_in_all name prompts None sent sent_after came came_after told told_after asked = tt
+sent_in_all name prompts (Some bytes) sent sent_after came came_after told told_after asked =
+    subst (λ more. Appends sent sent_after (with_end (naming name) ++ more)) (sent_in_turns asked.turns ∙ ap (flat_map request_of) asked.lines) asked.asks

@@ -21,9 +21,18 @@ pub record Turn : Type 0 where
 abbrev pub is_turn : Turn → Bool
 is_turn turn = if is_blank turn.line then is_none turn.answer else is_answer (typed turn.line) turn.answer
 
--- what is sent of it
+-- what is sent of a line, of a turn, and of all lines of an input; and behind a name
+abbrev pub request_of : List ℕ → List ℕ
+request_of line = if is_blank line then [] else with_end (typed line)
+
 abbrev pub sent_of : Turn → List ℕ
-sent_of turn = if is_blank turn.line then [] else with_end (typed turn.line)
+sent_of turn = request_of turn.line
+
+abbrev pub requests_of : List ℕ → List ℕ
+requests_of bytes = flat_map request_of (lines_of bytes)
+
+abbrev pub sent_by : List ℕ → List ℕ → List ℕ
+sent_by name bytes = with_end (naming name) ++ requests_of bytes
 
 -- what comes back
 abbrev pub came_of : Turn → List ℕ

@@ -1,7 +1,8 @@
 //! `ask`: the lines of an input, each asked of a served day and answered before the next.
-ghost use Rattle.std.specs.Prelude.{◌≡◌, ◌==◌, [], codes, length, not, Err, IfErr, IfOk, OnOk, if◌then◌else◌};
+ghost use Rattle.std.specs.Prelude.{◌≡◌, ◌==◌, [], codes, length, not, Err, IfErr, IfOk, OnErr, OnOk, if◌then◌else◌};
 ghost use Rattle.std.specs.Io.KnownBytes.{Appends, Consumes, IsAtEnd, Keeps};
-ghost use Rattle.blot_ask.specs.Asking.{IsAnsweredBy, IsAsked, IsLate, IsTalked, IsTurnedAwayBy, TalksOn, TellsAnswer, TellsLine, naming, prompt_by};
+ghost use Rattle.blot_stream.specs.Texts.{AppendsFront, AppendsFrontOf, AppendsOf};
+ghost use Rattle.blot_ask.specs.Asking.{IsAnsweredBy, IsAsked, IsLate, IsTalked, IsTurnedAwayBy, TalksOn, TellsAnswer, TellsLine, naming, prompt_by, requests_of, sent_by};
 ghost use Rattle.blot_ask.specs.Lines.{TakesInput, is_blank, unread, with_end};
 
 use crate::ahead::Ahead;
@@ -32,6 +33,10 @@ pub fn ask<I: Read, O: Write, Q: Write, A: Read>(
     ensures asked { OnOk result (IsAsked name.now prompts (I.remaining input.old) (Q.contents requests.old) (Q.contents requests.new)
         (A.remaining answers.old) (A.remaining answers.new) (O.contents output.old) (O.contents output.new)) }
     ensures read_to_the_end { OnOk result (IsAtEnd (I.remaining input.new)) }
+
+    // What is sent is the name and the lines, and a front of that after a fault.
+    ensures sent { OnOk result (AppendsOf (sent_by name.now) (I.remaining input.old) (Q.contents requests.old) (Q.contents requests.new)) }
+    ensures fault { OnErr result (AppendsFrontOf (sent_by name.now) (I.remaining input.old) (Q.contents requests.old) (Q.contents requests.new)) }
     ensures taken { result ≡ Err AskFault.Taken → IsTurnedAwayBy (codes "taken") name.now (Q.contents requests.old) (Q.contents requests.new)
         (A.remaining answers.old) (A.remaining answers.new) }
     ensures full { result ≡ Err AskFault.Full → IsTurnedAwayBy (codes "full") name.now (Q.contents requests.old) (Q.contents requests.new)
@@ -57,6 +62,7 @@ fn enter<Q: Write, A: Read>(
 ) -> Result<(), AskFault>
     ensures let_in { OnOk result (IsAnsweredBy (naming name.now) name.now (Q.contents requests.old) (Q.contents requests.new)
         (unread came.old (A.remaining answers.old)) (unread came.new (A.remaining answers.new))) }
+    ensures fault { OnErr result (AppendsFront (Q.contents requests.old) (Q.contents requests.new) (with_end (naming name.now))) }
     ensures taken { result ≡ Err AskFault.Taken → IsAnsweredBy (codes "taken") name.now (Q.contents requests.old) (Q.contents requests.new)
         (unread came.old (A.remaining answers.old)) (unread came.new (A.remaining answers.new)) }
     ensures full { result ≡ Err AskFault.Full → IsAnsweredBy (codes "full") name.now (Q.contents requests.old) (Q.contents requests.new)
@@ -100,6 +106,7 @@ fn talk<I: Read, O: Write, Q: Write, A: Read>(
     ensures talked { OnOk result (IsTalked prompts (I.remaining input.old) (Q.contents requests.old) (Q.contents requests.new)
         (unread came.old (A.remaining answers.old)) (unread came.new (A.remaining answers.new)) (O.contents output.old) (O.contents output.new)) }
     ensures read_to_the_end { OnOk result (IsAtEnd (I.remaining input.new)) }
+    ensures fault { OnErr result (AppendsFrontOf requests_of (I.remaining input.old) (Q.contents requests.old) (Q.contents requests.new)) }
     ensures late { IfErr result IsLate }
 {
     let mut ahead = Ahead::new(alloc)?;
@@ -129,6 +136,8 @@ fn turn<I: Read, O: Write, Q: Write, A: Read>(
     ensures talks { IfOk result (λ more. TalksOn more prompts (unread ahead.old (I.remaining input.old)) (unread ahead.new (I.remaining input.new))
         (Q.contents requests.old) (Q.contents requests.new)
         (unread came.old (A.remaining answers.old)) (unread came.new (A.remaining answers.new)) (O.contents output.old) (O.contents output.new)) }
+    ensures fault { OnErr result (AppendsFrontOf requests_of (unread ahead.old (I.remaining input.old))
+        (Q.contents requests.old) (Q.contents requests.new)) }
     ensures late { IfErr result IsLate }
 {
     show_where(prompts, output, b"blotter> ")?;
@@ -179,14 +188,17 @@ fn is_blank(line: &[u8]) -> bool
 fn send<Q: Write>(requests: &mut Q, line: &mut Vec<u8>) -> Result<(), AskFault>
     ensures sent { OnOk result (Appends (Q.contents requests.old) (Q.contents requests.new) (with_end line.old.items)) }
     ensures kept { OnOk result (line.new.items ≡ line.old.items) }
+    ensures fault { OnErr result (AppendsFront (Q.contents requests.old) (Q.contents requests.new) (with_end line.old.items)) }
     ensures late { IfErr result IsLate }
 {
     line.push(b'\n')?;
-    if write_text(requests, line).is_err() {
-        return Err(AskFault::Gone);
+    match write_text(requests, line) {
+        Ok(()) => {
+            line.pop();
+            Ok(())
+        }
+        Err(_) => Err(AskFault::Gone),
     }
-    line.pop();
-    Ok(())
 }
 
 // Tells the lines of an answer as they come, to the one that completes it.

@@ -1,5 +1,6 @@
+use Rattle.blot_stream.proofs.ResultLemmas.{err-always}
 use Rattle.blot_ask.proofs.AheadLemmas.{rest_over}
-use Rattle.blot_ask.proofs.AskingLemmas.{nothing_said, one_turn_more, talked}
+use Rattle.blot_ask.proofs.AskingLemmas.{nothing_said, nothing_sent, one_turn_more, talked, turns_sent}
 use Rattle.blot_ask.proofs.asking.talk.Goals as goal
 
 pub loop-init : goal.loop-init
@@ -16,3 +17,10 @@ returns-then-not-more-clause-talked g c = (talked c.args.prompts c.in_ok-more.mo
 pub returns-then-not-more-clause-read_to_the_end : goal.returns-then-not-more-clause-read_to_the_end
 returns-then-not-more-clause-read_to_the_end g c =
     rest_over c.turn.new.ahead _ (talked c.args.prompts c.in_ok-more.more _ _ _ _ _ _ _ _ _ _ _ _ c.if-not-more.true c.loop.invariant c.in_ok-more.ensures.talks).1
+
+pub returns-in_err-more-clause-fault : goal.returns-in_err-more-clause-fault
+returns-in_err-more-clause-fault g c =
+    err-always c.from_residual-in_err-more.result (turns_sent c.args.prompts _ _ _ _ _ _ _ _ _ c.loop.invariant c.in_err-more.ensures.fault)
+
+pub returns-clause-fault : goal.returns-clause-fault
+returns-clause-fault g c = turns_sent c.args.prompts _ _ _ _ _ _ _ _ _ c.loop.invariant (nothing_sent _ _)
