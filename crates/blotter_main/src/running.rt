@@ -11,10 +11,11 @@ ghost use Rattle.blot_capture.specs.Replay.{captured_by};
 ghost use Rattle.blot_rounds.specs.Rounds.{ServesRound};
 ghost use Rattle.blotter.specs.Serving.{DayServed, OpenDayServed};
 ghost use Rattle.blot_stream.specs.declared.outcome.Outcome.TheVariants.{BadWords, Done, NoMemory};
-ghost use Rattle.blot_words.specs.Words.{AreApartIn, IsPeerList, is_written_last, peers_of};
+ghost use Rattle.blot_words.specs.Words.{AreApartIn, HasPeers, is_written_last};
 ghost use Rattle.blotter_main.specs.Failure.{outcome_of};
 ghost use Rattle.blotter_main.specs.Running.{Did};
 
+use crate::asking::ask_server;
 use crate::failure::{Failure, system_words};
 use crate::journals::Journals;
 use crate::keeping::{audit_journal, keep_day, open_journal};
@@ -40,12 +41,14 @@ use std::sync::ledger::Blank;
 use std::thread::Threads;
 use std::time::Clock;
 
-/// Does what the command line asks for, and says how it ended. What the user has to know goes to `errors`.
+/// Does what the command line asks for, and says how it ended. What the user has to know goes to `errors`. With `prompts` a client
+/// says when a line is wanted.
 pub fn run<S: Env + AllocGlobal, F: Files, J: Journals, T, R: Read, W: Write, E: Write>(
     system: &S,
     files: &F,
     journals: &J,
     rt: &T,
+    prompts: bool,
     input: &mut R,
     output: &mut W,
     errors: &mut E,
@@ -55,14 +58,14 @@ where
     T::Listener: Sync,
     T::Stream: Send,
     OwnedFd: From<T::Listener>,
-    ensures did { result ≡ Done → (words : Words) × IsPeerList (peers_of words)
+    ensures did { result ≡ Done → (words : Words) × HasPeers words
         × Did (ServesRound T T.Stream.remaining T.Stream.contents) words (R.remaining input.old) (R.remaining input.new) (W.contents output.old) (W.contents output.new) }
     ensures unread { result ≡ BadWords → input.new ≡ input.old }
     ensures unwritten { result ≡ BadWords → output.new ≡ output.old }
 {
     match words_of(system) {
         Ok(words) => {
-            match perform(system.alloc(), files, journals, rt, words, input, output) {
+            match perform(system, files, journals, rt, words, prompts, input, output) {
                 Ok(()) => Outcome::Done,
                 Err(failure) => tell(errors, failure),
             }
@@ -73,7 +76,7 @@ where
 
 // What the command line asks for.
 fn words_of<S: Env + AllocGlobal>(system: &S) -> Result<Words, Refusal>
-    ensures peers { IfOk result (λ words. IsPeerList (peers_of words)) }
+    ensures peers { IfOk result HasPeers }
     ensures apart { IfOk result AreApartIn }
 {
     let words = given(system)?;
@@ -81,12 +84,13 @@ fn words_of<S: Env + AllocGlobal>(system: &S) -> Result<Words, Refusal>
 }
 
 // Does what the words ask for. Out of memory, a replay and an audit have written nothing.
-fn perform<F: Files, J: Journals, T, R: Read, W: Write>(
-    alloc: Global,
+fn perform<S: Env + AllocGlobal, F: Files, J: Journals, T, R: Read, W: Write>(
+    system: &S,
     files: &F,
     journals: &J,
     rt: &T,
     words: Words,
+    prompts: bool,
     input: &mut R,
     output: &mut W,
 ) -> Result<(), Failure>
@@ -95,7 +99,7 @@ where
     T::Listener: Sync,
     T::Stream: Send,
     OwnedFd: From<T::Listener>,
-    requires peers { IsPeerList (peers_of words) }
+    requires peers { HasPeers words }
     requires apart { AreApartIn words }
     ensures did { OnOk result
         (Did (ServesRound T T.Stream.remaining T.Stream.contents) words (R.remaining input.old) (R.remaining input.new) (W.contents output.old) (W.contents output.new)) }
@@ -103,6 +107,7 @@ where
         → (is_written_last words ≡ false) ⊎ Keeps (W.contents output.old) (W.contents output.new)) }
     ensures words { IfErr result (λ failure. outcome_of failure ≢ BadWords) }
 {
+    let alloc = system.alloc();
     match words {
         Words::Replay { own, day, peers } => {
             replay(alloc, input, output, own, peers.as_slice(), day).map_err(Failure::Stopped)
@@ -129,6 +134,7 @@ where
             port,
             lanes,
             journal,
+            operators: _,
             peers,
         } => match journal {
             Some(file) => keep_day(
@@ -170,6 +176,7 @@ where
             }
             Err(_) => Err(Failure::NoMemory),
         },
+        Words::Ask { path, name } => ask_server(system, rt, path, name, prompts, input, output),
     }
 }
 
