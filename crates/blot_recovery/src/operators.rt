@@ -1,6 +1,6 @@
 //! The operators of a journal, as a text leaves them.
 ghost use Rattle.std.specs.List.{All, slice_get};
-ghost use Rattle.std.specs.Prelude.{◌≡◌, ◌<◌, ℕ, List, [], false, length, IfErr, IfOk, IfSome, IsNone, None, OnOk, Some, option_to_list};
+ghost use Rattle.std.specs.Prelude.{◌≡◌, ◌<◌, ℕ, List, [], false, length, IfErr, IfOk, IfSome, None, OnOk, Option, Some};
 ghost use Rattle.std.specs.List.{list_any};
 ghost use Rattle.blot_types.specs.Keys.{same_text};
 ghost use Rattle.blot_diary.specs.Events.{noted_of};
@@ -84,8 +84,10 @@ impl<L: Ledger> KeptOperators<L> {
             return Err(RecoverFault::Damaged(place));
         };
         let at = self.named.len();
-        self.named.push(KeptOperator::new(name, seat))?;
-        Ok(at)
+        match self.named.push(KeptOperator::new(name, seat)) {
+            Ok(()) => Ok(at),
+            Err(_) => Err(RecoverFault::NoMemory),
+        }
     }
 }
 

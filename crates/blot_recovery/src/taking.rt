@@ -145,9 +145,7 @@ impl<L: Ledger> Taking<L> {
         ensures fault { IfErr result (IsHere place) }
     {
         match self.party_of(&kept, place)? {
-            Party::Operator(name) => {
-                self.operators.take(&mut self.opening, name, kept, place)
-            }
+            Party::Operator(name) => { self.operators.take(&mut self.opening, name, kept, place) }
             Party::Peer(at) => self.peers[at].take(&self.own, &mut self.opening, kept, place),
         }
     }

@@ -19,6 +19,7 @@ use std::time::{Clock, Duration};
 // How often it is looked whether an operator who is on goes, and how many milliseconds lie between two looks: one who comes back at once
 // needs no second try.
 const LOOKS: u32 = 10;
+
 const LOOK_PAUSE: u64 = 100;
 
 /// Has a connection named: each of its lines is answered, until one gives it the name of an operator who isn't on. That operator's seat, or

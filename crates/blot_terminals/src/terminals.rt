@@ -17,10 +17,9 @@ use std::sync::Wait;
 use std::sync::atomic::AtomicBool;
 use std::sync::atomic::Ordering::SeqCst;
 use std::sync::ledger::Ledger;
-use std::thread;
 use std::thread::Threads;
 use std::time::{Clock, Duration};
-use std::str;
+use std::{str, thread};
 
 // How many terminals are served at once: twice as many as a day has operators, so that those without a name keep nobody out.
 const TERMINALS: u16 = 32;
@@ -152,9 +151,7 @@ where
         self.is_failing.store(false, SeqCst);
         let mut input = Patient::new(input, self.door, NAMING_READS);
         let mut output = output;
-        let named = named_seat(
-            self.rt, self.alloc, self.operators, &mut input, &mut output,
-        );
+        let named = named_seat(self.rt, self.alloc, self.operators, &mut input, &mut output);
         let Ok(Some(seat)) = named else {
             return;
         };
@@ -163,7 +160,13 @@ where
         let name = *seat.name();
         info!(self.rt; "operator {} on", shown(&name));
         let answered = open_lines(
-            self.rt, self.alloc, &mut input, &mut output, self.desk, &mut seat, self.day,
+            self.rt,
+            self.alloc,
+            &mut input,
+            &mut output,
+            self.desk,
+            &mut seat,
+            self.day,
         );
         info!(self.rt; "operator {} off", shown(&name));
         self.operators.give_back(self.rt, seat);

@@ -21,7 +21,10 @@ use blot_gateway::Clock as _;
 use blot_journal::Device;
 use blot_lanes::{BrokerSeat, ListedPeer};
 use blot_operator::OperatorSeat;
-use blot_recovery::{InMemory, KeptOperator, KeptOperators, KeptPeer, OPERATOR_SEATS, OpenFault, RecoverFault, Recovered, open_day, recover};
+use blot_recovery::{
+    InMemory, KeptOperator, KeptOperators, KeptPeer, OPERATOR_SEATS, OpenFault, RecoverFault,
+    Recovered, open_day, recover,
+};
 use blot_sockets::{Door, SystemClock};
 use blot_stream::ServeFault;
 use blot_time::Day;

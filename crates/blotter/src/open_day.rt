@@ -124,7 +124,10 @@ where
     ensures read_to_the_end { IfOk result (λ served. OnOk served.answered (EndsOf true (I.remaining input.old) (I.remaining input.new))) }
 {
     // Room for all seats, so that the end of the day asks for no memory to gather them.
-    let room = Vec::with_capacity(alloc, listed.len().saturating_add(1).saturating_add(others.len()))?;
+    let room = Vec::with_capacity(
+        alloc,
+        listed.len().saturating_add(1).saturating_add(others.len()),
+    )?;
     let Ok(peers) = Peers::new(alloc, own, listed) else {
         return Err(ServeFault::NoMemory);
     };
@@ -153,7 +156,10 @@ where
 }
 
 // Some seats, and others behind them.
-fn put_behind<L: Ledger>(seats: Vec<Seat<L>>, others: Vec<Seat<L>>) -> Result<Vec<Seat<L>>, NoMemory>
+fn put_behind<L: Ledger>(
+    seats: Vec<Seat<L>>,
+    others: Vec<Seat<L>>,
+) -> Result<Vec<Seat<L>>, NoMemory>
     ensures { IfOk result (λ all. all.items ≡ seats.items ++ others.items) }
 {
     let mut all = seats;

@@ -98,7 +98,10 @@ fn settled<L: Ledger>(closed: Closed<L>, seats: Vec<Seat<L>>) -> Result<Held, Se
 }
 
 /// The seats of the brokers, and after them the operator's.
-pub(crate) fn all_seats<L: Ledger>(brokers: Vec<Seat<L>>, operator: Seat<L>) -> Result<Vec<Seat<L>>, NoMemory>
+pub(crate) fn all_seats<L: Ledger>(
+    brokers: Vec<Seat<L>>,
+    operator: Seat<L>,
+) -> Result<Vec<Seat<L>>, NoMemory>
     ensures { IfOk result (λ seats. seats.items ≡ brokers.items ++ (operator ∷ [])) }
 {
     let mut seats = brokers;

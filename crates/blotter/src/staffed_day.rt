@@ -265,9 +265,7 @@ where
         peers: &peers,
         door,
     };
-    let served = serve_lanes(
-        rt, alloc, listener, &peers, &desk, door, lanes, task,
-    )?;
+    let served = serve_lanes(rt, alloc, listener, &peers, &desk, door, lanes, task)?;
     let brokers = peers.into_seats(room)?;
     let seats = operators.into_seats(brokers)?;
     Ok(Staffed {

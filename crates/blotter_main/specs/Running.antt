@@ -10,12 +10,12 @@ use Rattle.blot_capture.specs.Replay.{replay_of}
 use Rattle.blot_operator.specs.Operating.{answers_of}
 use Rattle.blot_trail.specs.Audit.{trail_of}
 use Rattle.blot_operator.specs.OpenDay.{EndsOf}
-use Rattle.blotter.specs.Keeping.{KeptDayServed}
-use Rattle.blotter.specs.Serving.{DayServed, OpenDayServed}
+use Rattle.blotter.specs.Keeping.{KeptDayServed, ServesStaffed}
+use Rattle.blotter.specs.Serving.{DayServed, OpenDayServed, StaffedDayServed}
 use Rattle.blot_ask.specs.Asking.{Turn, is_turn, shown_last, shown_of}
 use Rattle.blot_ask.specs.Lines.{lines_of}
 use Rattle.blot_words.specs.declared.words.Words.{Words}
-use Rattle.blot_words.specs.Words.{journal_named}
+use Rattle.blot_words.specs.Words.{journal_named, operators_named}
 use Rattle.blot_words.specs.declared.words.Words.TheVariants.{Replay, Desk, Audit, Open, Serve, Ask}
 
 -- a day is served that is kept in a journal, from some text that this had when it was opened, on; or that was new
@@ -40,6 +40,20 @@ abbrev pub DidServe : Option (List ℕ) → List ℕ → Option (List ℕ) → �
 DidServe None own input day before after = OpenDayServed input day before after
 DidServe (Some file) own input day before after = ServesJournal own input day before after
 
+-- a day is kept whose operators come over a socket
+abbrev pub KeepsStaffed : ℤ → Option (List ℕ) → Option (List ℕ) → Type 0
+KeepsStaffed day before after = (events : List Event) × ServesStaffed events day before after
+
+-- a day is served whose operators come over a socket, and kept in a journal where one is named
+abbrev pub DidStaff : Option (List ℕ) → ℤ → Option (List ℕ) → Option (List ℕ) → Type 0
+DidStaff None day before after = StaffedDayServed day before after
+DidStaff (Some file) day before after = KeepsStaffed day before after
+
+-- an open day: its operator's lines come by the input, or nothing is read of it where operators come over a socket
+abbrev pub DidOpen : Option (List ℕ) → Option (List ℕ) → List ℕ → Option (List ℕ) → Option (List ℕ) → ℤ → Option (List ℕ) → Option (List ℕ) → Type 0
+DidOpen None journal own input left day before after = EndsOf true input left × DidServe journal own input day before after
+DidOpen (Some socket) journal own input left day before after = (left ≡ input) × DidStaff journal day before after
+
 -- a served day is asked: each line of the input is answered, or is blank, and there stand the answers, with prompts or without
 abbrev pub DidAsk : Option (List ℕ) → Option (List ℕ) → Option (List ℕ) → Type 0
 DidAsk input before after =
@@ -50,7 +64,7 @@ DidAsk input before after =
 -- its end, and the report of the day stands after what was written; of a desk, the input is read to its end, and there stand the answers
 -- to its lines, of a desk as the capture or the journal left it; of an audit, there stands its trail; of an open day, the
 -- input is read to its end or to a line that closes the day, there stand the answers to its lines, and after them the report of a settled
--- history; of a day of rounds, the input is read to its end, there stand the answers to its lines, and after them the report of a settled
+-- history, or that report alone where the operators come over a socket; of a day of rounds, the input is read to its end, there stand the answers to its lines, and after them the report of a settled
 -- history, in which the brokers' seats are as so many rounds of so many connections left them; of a client, the input is read to its end,
 -- and there stand the answers of the day to its lines
 abbrev pub Did : (List ℕ → List (List Receipt) → List (List Receipt) → Type 0) → Words → Option (List ℕ) → Option (List ℕ) → Option (List ℕ) → Option (List ℕ) → Type 0
@@ -61,7 +75,7 @@ Did round (Desk own from peers) input left before after =
 Did round (Audit own journal peers) input left before after =
     DidAudit (journal_named (Audit own journal peers)) own peers.items input left before after
 Did round (Open own day port lanes journal operators peers) input left before after =
-    EndsOf true input left × DidServe (journal_named (Open own day port lanes journal operators peers)) own input day before after
+    DidOpen (operators_named (Open own day port lanes journal operators peers)) (journal_named (Open own day port lanes journal operators peers)) own input left day before after
 Did round (Serve own day port sessions rounds peers) input left before after =
     IsAtEnd left × DayServed (round own) rounds input sessions day before after
 Did round (Ask path name) input left before after = IsAtEnd left × DidAsk input before after

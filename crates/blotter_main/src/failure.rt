@@ -41,6 +41,9 @@ pub enum Failure {
     /// The journal can't be written: its path, and why, in the system's words.
     #[error("{0} can't be written: {1}")]
     Unwritable(String, String),
+    /// What stands where the operators' socket was to be is no socket: its path.
+    #[error("{0} is no socket")]
+    NoSocket(String),
     /// Nobody serves at the socket: its path.
     #[error("{0}: nobody listens there")]
     NoServer(String),

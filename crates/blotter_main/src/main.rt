@@ -8,6 +8,8 @@ mod failure;
 mod journals;
 mod keeping;
 mod running;
+mod sockets;
+mod staffing;
 
 use running::run;
 use std::io::IsTerminal;

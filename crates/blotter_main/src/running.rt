@@ -19,6 +19,8 @@ use crate::asking::ask_server;
 use crate::failure::{Failure, system_words};
 use crate::journals::Journals;
 use crate::keeping::{audit_journal, keep_day, open_journal};
+use crate::sockets::Sockets;
+use crate::staffing::{keep_staffed, staff_port};
 use blot_desk::Held;
 use blot_slots::Slots;
 use blot_time::Day;
@@ -43,7 +45,7 @@ use std::time::Clock;
 
 /// Does what the command line asks for, and says how it ended. What the user has to know goes to `errors`. With `prompts` a client
 /// says when a line is wanted.
-pub fn run<S: Env + AllocGlobal, F: Files, J: Journals, T, R: Read, W: Write, E: Write>(
+pub fn run<S: Env + AllocGlobal, F: Files, J: Journals + Sockets, T, R: Read, W: Write, E: Write>(
     system: &S,
     files: &F,
     journals: &J,
@@ -84,7 +86,7 @@ fn words_of<S: Env + AllocGlobal>(system: &S) -> Result<Words, Refusal>
 }
 
 // Does what the words ask for. Out of memory, a replay and an audit have written nothing.
-fn perform<S: Env + AllocGlobal, F: Files, J: Journals, T, R: Read, W: Write>(
+fn perform<S: Env + AllocGlobal, F: Files, J: Journals + Sockets, T, R: Read, W: Write>(
     system: &S,
     files: &F,
     journals: &J,
@@ -134,10 +136,21 @@ where
             port,
             lanes,
             journal,
-            operators: _,
+            operators,
             peers,
-        } => match journal {
-            Some(file) => keep_day(
+        } => match (operators, journal) {
+            (None, None) => open_port(
+                rt,
+                alloc,
+                own,
+                peers.as_slice(),
+                day,
+                port,
+                lanes,
+                input,
+                output,
+            ),
+            (None, Some(file)) => keep_day(
                 journals,
                 rt,
                 alloc,
@@ -150,15 +163,29 @@ where
                 input,
                 output,
             ),
-            None => open_port(
+            (Some(path), None) => staff_port(
+                journals,
                 rt,
                 alloc,
+                path,
                 own,
                 peers.as_slice(),
                 day,
                 port,
                 lanes,
-                input,
+                output,
+            ),
+            (Some(path), Some(file)) => keep_staffed(
+                journals,
+                rt,
+                alloc,
+                file,
+                path,
+                own,
+                peers.as_slice(),
+                day,
+                port,
+                lanes,
                 output,
             ),
         },
@@ -202,7 +229,8 @@ where
     ensures read_to_the_end { OnOk result (EndsOf true (R.remaining input.old) (R.remaining input.new)) }
     ensures words { IfErr result (λ failure. outcome_of failure ≢ BadWords) }
 {
-    let (listener, door) = listen(rt, port)?;
+    let (listener, handle) = bind(rt, port)?;
+    let door = Door::new(handle);
     let blank = Blank::new(peers.len() as u64 + 1);
     serve_open_day::<Brand, _, _, _, _, _>(
         rt, alloc, blank, &listener, &door, lanes, own, peers, day, input, output,
@@ -231,7 +259,8 @@ where
     ensures read_to_the_end { OnOk result (IsAtEnd (R.remaining input.new)) }
     ensures words { IfErr result (λ failure. outcome_of failure ≢ BadWords) }
 {
-    let (listener, door) = listen(rt, port)?;
+    let (listener, handle) = bind(rt, port)?;
+    let door = Door::new(handle);
     let blank = Blank::new(u64::from(rounds.sessions) + 1);
     serve_day::<Brand, _, _, _, _, _>(
         rt, alloc, blank, &listener, &door, rounds, slots, day, input, output,
@@ -239,8 +268,8 @@ where
     .map_err(Failure::Served)
 }
 
-/// A listener on a port of 127.0.0.1, with its door.
-pub(crate) fn listen<T>(rt: &T, port: u16) -> Result<(T::Listener, Door<TcpStream>), Failure>
+/// A listener on a port of 127.0.0.1, and another handle of it, taken as a stream, by which it is closed.
+pub(crate) fn bind<T>(rt: &T, port: u16) -> Result<(T::Listener, TcpStream), Failure>
 where
     T: Net,
     OwnedFd: From<T::Listener>,
@@ -252,7 +281,7 @@ where
         Err(error) => return Err(port_failure(port, error.kind())),
     };
     match listener.try_clone() {
-        Ok(handle) => Ok((listener, Door::new(TcpStream::from(OwnedFd::from(handle))))),
+        Ok(handle) => Ok((listener, TcpStream::from(OwnedFd::from(handle)))),
         Err(error) => Err(port_failure(port, error.kind())),
     }
 }
