@@ -1,11 +1,11 @@
 -- The operators of a journal, after one frame more.
-use Rattle.std.proofs.Common.{◌≡◌, ◌⊎◌, inl, inr, ℕ, zero, suc, ◌+◌, ◌<◌, Bool, true, false, ◌||◌, List, [], ◌∷◌, ◌++◌, length, get_or, Option, Some, None, refl, sym, ap, subst, ◌∙◌, arith}
+use Rattle.std.proofs.Common.{◌≡◌, ◌⊎◌, inl, inr, ℕ, zero, suc, ◌+◌, ◌<◌, Bool, true, false, ◌||◌, List, [], ◌∷◌, ◌++◌, length, get_or, take, Option, Some, None, refl, sym, ap, subst, ◌∙◌, arith}
 use Rattle.std.specs.List.{All, list_any, slice_get}
 use Rattle.std.proofs.Math.ListN.{set}
 use Rattle.std.proofs.Math.Seq.{map-set_same}
 use Rattle.std.proofs.lemmas.Bool.{cases_order, false≢true}
 use Rattle.std.proofs.lemmas.Grind.{get_or-set_at}
-use Rattle.std.proofs.lemmas.List.{get_or-map, get_or-set_other, length-map, length-set, map-append}
+use Rattle.std.proofs.lemmas.List.{get_or-map, get_or-set_other, length-map, length-set, map-append, take_all}
 use Rattle.std.proofs.lemmas.List.Elements.{All-push}
 use Rattle.std.proofs.lemmas.Option.{get_or_from_slice_get}
 use Rattle.blot_types.specs.Keys.{same_text}
@@ -27,7 +27,7 @@ length-names operators = length-map operators (λ operator. operator.name)
 
 named : {L : Type 0} (operators : List (KeptOperator L)) (k : ℕ) (d : KeptOperator L) (e : List ℕ) → k < length operators
     → get_or (operator_names operators) k e ≡ (get_or operators k d).name
-named operators k d e less = get_or-map (λ (operator : KeptOperator L). operator.name) operators k d e less
+named {L = L} operators k d e less = get_or-map (λ (operator : KeptOperator L). operator.name) operators k d e less
 
 -- where none passes a test, one doesn't
 none-of : {X : Type 0} (p : X → Bool) (xs : List X) (k : ℕ) (d : X) → list_any p xs ≡ false → k < length xs → p (get_or xs k d) ≡ false
@@ -43,14 +43,31 @@ none-of p (x ∷ xs) (suc k) d none less = none-of p xs k d (rest (p x) (list_an
     rest true b is = absurd (false≢true (sym is))
     rest false b is = is
 
+-- where the rest follows, so do both
+either-none : (a b c : Bool) → (b ≡ false → c ≡ false) → (a || b) ≡ false → (a || c) ≡ false
+either-none true b c rest is = absurd (false≢true (sym is))
+either-none false b c rest is = rest is
+
 -- and none of a part of them does
 none-before : {X : Type 0} (p : X → Bool) (xs ys : List X) → list_any p (xs ++ ys) ≡ false → list_any p xs ≡ false
 none-before p [] ys none = refl
-none-before p (x ∷ xs) ys none = by (p x) none
-  where
-    by : (a : Bool) → (a || list_any p (xs ++ ys)) ≡ false → (a || list_any p xs) ≡ false
-    by true is = absurd (false≢true (sym is))
-    by false is = none-before p xs ys is
+none-before p (x ∷ xs) ys none = either-none (p x) (list_any p (xs ++ ys)) (list_any p xs) (none-before p xs ys) none
+
+-- where none of the first passes a test, and the next doesn't
+pub none-next : {L : Type 0} (operators : List (KeptOperator L)) (name : List ℕ) (at : ℕ) (found : KeptOperator L) → at < length operators → get_or operators at found ≡ found
+    → same_text found.name name ≡ false → list_any (same_text name) (take at (operator_names operators)) ≡ false
+    → list_any (same_text name) (take (suc at) (operator_names operators)) ≡ false
+none-next [] name at found less is differ none = absurd (omega (arith, less))
+none-next (operator ∷ operators) name zero found less is differ none =
+    ap (λ test. test || false) (not_same name operator.name (λ same. are_other found.name name differ (ap (λ (operator : KeptOperator _). operator.name) (sym is) ∙ sym same)))
+none-next (operator ∷ operators) name (suc at) found less is differ none =
+    either-none (same_text name operator.name) _ _ (none-next operators name at found (omega (arith, less)) is differ) none
+
+-- where none of all does
+pub none-all : {L : Type 0} (operators : List (KeptOperator L)) (name : List ℕ) (at : ℕ) → length operators ≡ at
+    → list_any (same_text name) (take at (operator_names operators)) ≡ false → list_any (same_text name) (operator_names operators) ≡ false
+none-all operators name at is none =
+    sym (ap (list_any (same_text name)) (take_all at (operator_names operators) (omega (arith, length-names operators, is)))) ∙ none
 
 -- a name that isn't one of some differs from one of them
 pub differs : (names : List (List ℕ)) (at : ℕ) (name other : List ℕ) → at < length names → slice_get names at ≡ Some name → list_any (same_text other) names ≡ false
@@ -71,7 +88,7 @@ get_or-last (y ∷ xs) x d = get_or-last xs x d
 
 length-more : {X : Type 0} (xs : List X) (x : X) → length (xs ++ x ∷ []) ≡ length xs + 1
 length-more [] x = refl
-length-more (y ∷ xs) x = ap suc (length-more xs x)
+length-more (y ∷ xs) x = omega (arith, length-more xs x)
 
 different-more : (names : List (List ℕ)) (name : List ℕ) → AreDifferent names → list_any (same_text name) names ≡ false → AreDifferent (names ++ name ∷ [])
 different-more names name apart none j k d before within same =
@@ -90,12 +107,12 @@ different-more names name apart none j k d before within same =
 -- ---- an operator comes
 
 all-before : {X : Type 0} (P : X → Type 0) (xs ys : List X) → All P (xs ++ ys) → All P xs
-all-before P xs ys all k d less =
+all-before {X = X} P xs ys all k d less =
     subst P (get_or-front xs ys k d less) (all k d (omega (arith, less, length-append)))
   where
     length-both : (xs ys : List X) → length (xs ++ ys) ≡ length xs + length ys
-    length-both [] ys = refl
-    length-both (x ∷ xs) ys = ap suc (length-both xs ys)
+    length-both [] ys = omega arith
+    length-both (x ∷ xs) ys = omega (arith, length-both xs ys)
 
     length-append : length (xs ++ ys) ≡ length xs + length ys
     length-append = length-both xs ys
@@ -125,6 +142,12 @@ pub first-more : {L : Type 0} (first : Option (List ℕ)) (old new : List (KeptO
 first-more None old new operator is holds = tt
 first-more (Some name) [] new operator is holds = absurd cc
 first-more (Some name) (other ∷ old) new operator is holds = ap (λ operators. slice_get (operator_names operators) 0) is ∙ holds
+
+-- the first stays the first
+pub first-set : {L : Type 0} (first : Option (List ℕ)) (old new : List (KeptOperator L)) (at : ℕ) (operator is : KeptOperator L) → is ≡ get_or old at is → operator.name ≡ is.name
+    → new ≡ set old at operator → IsFirst first (operator_names old) → IsFirst first (operator_names new)
+first-set first old new at operator is found same put holds =
+    subst (IsFirst first) (sym (ap operator_names put ∙ map-set_same (λ operator. operator.name) old at operator is (same ∙ ap (λ operator. operator.name) found))) holds
 
 -- ---- one frame more
 
@@ -194,12 +217,6 @@ module _ {L : Type 0} (text more : List ℕ) (kept : Kept) (last : KeepsLast tex
               subst (IsKeptOperator more) (sym (get_or-set_other operators at k operator d (apart_places k differ)))
               (operator-asked text more kept last name (get_or operators k d) asked
               (not_same name (get_or operators k d).name (λ is. other k d differ within_k (sym is))) (holds.named k d within_k))
-
-  -- the first stays the first
-  pub first-set : (first : Option (List ℕ)) (old new : List (KeptOperator L)) (at : ℕ) (operator is : KeptOperator L) → is ≡ get_or old at is → operator.name ≡ is.name
-      → new ≡ set old at operator → IsFirst first (operator_names old) → IsFirst first (operator_names new)
-  first-set first old new at operator is found same put holds =
-      subst (IsFirst first) (sym (ap operator_names put ∙ map-set_same (λ operator. operator.name) old at operator is (same ∙ ap (λ operator. operator.name) found))) holds
 
 -- before the first frame
 pub operators-first : {L : Type 0} (operators : KeptOperators L) → operators.named.items ≡ [] → All (λ receipts. receipts ≡ []) operators.spare.items → AreKeptOperators [] operators

@@ -39,15 +39,13 @@ impl<L: Ledger> KeptOperators<L> {
         ensures first { IfOk result (λ made. IsFirst first (operator_names made.named.items)) }
         ensures kept { IfOk result (AreKeptOperators []) }
     {
-        let mut spare = seats;
-        let mut named = Vec::new(alloc);
-        if let Some(name) = first {
-            let Some(seat) = spare.pop() else {
-                return Err(NoMemory);
-            };
-            named.push(KeptOperator::new(name, seat))?;
+        match first {
+            Some(name) => with_first(alloc, name, seats),
+            None => Ok(KeptOperators {
+                named: Vec::new(alloc),
+                spare: seats,
+            }),
         }
-        Ok(KeptOperators { named, spare })
     }
 
     /// Takes a frame that is an event of this operator's: it goes to the desk by the operator's seat.
@@ -77,18 +75,49 @@ impl<L: Ledger> KeptOperators<L> {
         ensures first { OnOk result ((first : Option (List ℕ)) → IsFirst first (operator_names self.old.named.items) → IsFirst first (operator_names self.new.named.items)) }
         ensures fault { IfErr result (IsHere place) }
     {
-        if let Some(at) = place_of(&self.named, &name) {
-            return Ok(at);
+        match place_of(&self.named, &name) {
+            Some(at) => Ok(at),
+            None => self.put_behind(name, place),
         }
+    }
+
+    // Puts an operator of this name, of whom none came yet, behind the others: the place. Damaged where no seat is left.
+    fn put_behind(&mut self, name: Text64, place: usize) -> Result<usize, RecoverFault>
+        requires { list_any (same_text name) (operator_names self.old.named.items) ≡ false }
+        ensures within { IfOk result (λ at. at < length self.new.named.items) }
+        ensures name { IfOk result (λ at. slice_get (operator_names self.new.named.items) at ≡ Some name) }
+        ensures kept { OnOk result ((text : List ℕ) → AreKeptOperators text self.old → AreKeptOperators text self.new) }
+        ensures first { OnOk result ((first : Option (List ℕ)) → IsFirst first (operator_names self.old.named.items) → IsFirst first (operator_names self.new.named.items)) }
+        ensures fault { IfErr result (IsHere place) }
+    {
         let Some(seat) = self.spare.pop() else {
             return Err(RecoverFault::Damaged(place));
         };
         let at = self.named.len();
-        match self.named.push(KeptOperator::new(name, seat)) {
-            Ok(()) => Ok(at),
-            Err(_) => Err(RecoverFault::NoMemory),
-        }
+        let Ok(()) = self.named.push(KeptOperator::new(name, seat)) else {
+            return Err(RecoverFault::NoMemory);
+        };
+        Ok(at)
     }
+}
+
+// Seats of which the last is this operator's.
+fn with_first<L: Ledger>(
+    alloc: Global,
+    name: Text64,
+    seats: Vec<Seat<L>>,
+) -> Result<KeptOperators<L>, NoMemory>
+    requires empty { All (λ receipts. receipts ≡ []) seats.items }
+    ensures first { IfOk result (λ made. slice_get (operator_names made.named.items) 0 ≡ Some name) }
+    ensures kept { IfOk result (AreKeptOperators []) }
+{
+    let mut spare = seats;
+    let Some(seat) = spare.pop() else {
+        return Err(NoMemory);
+    };
+    let mut named = Vec::new(alloc);
+    named.push(KeptOperator::new(name, seat))?;
+    Ok(KeptOperators { named, spare })
 }
 
 // Where the operator of this name stands among some.

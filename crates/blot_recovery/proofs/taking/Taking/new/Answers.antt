@@ -2,18 +2,13 @@ use Rattle.std.proofs.Common.{◌≡◌, [], refl, subst, sym}
 use Rattle.blot_recovery.specs.declared.fault.RecoverFault.TheVariants.{NoMemory}
 use Rattle.blot_recovery.specs.Taking.{AreApart}
 use Rattle.blot_recovery.proofs.TestLemmas.{if-told}
-use Rattle.blot_recovery.proofs.TakingLemmas.{last-holds, none-taken}
+use Rattle.blot_recovery.proofs.TakingLemmas.{none-taken}
 use Rattle.blot_recovery.proofs.taking.Taking.new.Goals as goal
 
 pub returns-in_err-peers-clause-memory : goal.returns-in_err-peers-clause-memory
 returns-in_err-peers-clause-memory g c = if-told _ NoMemory c.from_residual-in_err-peers.result c.from_residual-in_err-peers.ensures.1 refl
 
-pub new-requires-2 : goal.new-requires-2
-new-requires-2 g c =
-    last-holds (λ receipts. receipts ≡ []) c.in_ok-opening.seats.items c.pop.new.self.items c.pop.result c.unwrap-seat.result c.unwrap-seat.ensures
-    c.pop.ensures.items c.in_ok-opening.ensures.empty
-
 pub returns-clause-first : goal.returns-clause-first
 returns-clause-first g c =
     none-taken _ refl c.in_ok-opening.ensures.desk (subst (AreApart c.args.own) (sym c.in_ok-peers.ensures.listed) c.requires.apart)
-    (c.in_ok-peers.ensures.kept c.args.own) c.new-2.ensures.kept
+    (c.in_ok-peers.ensures.kept c.args.own) c.in_ok-operators.ensures.kept
