@@ -154,8 +154,9 @@ fn run<L: Ledger>(rt: &impl Wait, alloc: Global, blank: Blank) -> Result<(), Fai
         events,
         ..
     } = day;
-    if plain.done.len() < EACH || plain.refused.len() < EACH || plain.redone < 5 {
-        return Err(Fail::new("too few of a kind"));
+    let (done, refused, redone) = (plain.done.len(), plain.refused.len(), plain.redone);
+    if done < 20 || refused < 20 || redone < 5 {
+        return Err(Fail::new(format_args!("{done} done, {refused} refused, {redone} redone")));
     }
     settle(desk.close(), seats, events)?;
     Ok(())

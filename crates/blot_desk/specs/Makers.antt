@@ -84,8 +84,8 @@ names_at names places = map (name_at names) places
 abbrev pub AreWithin : List (List ℕ) → List ℕ → Type 0
 AreWithin names places = All (λ place. place < length names) places
 
--- the makers, the names that have a place, and for how many more makers of commands of either kind there is room
-pub record Kept : Type 0 where
+-- makers as they are noted: who they are, the names that have a place, and for how many more commands there is room
+pub record NotedMakers : Type 0 where
   pub makers : Makers
   pub names : List (List ℕ)
   pub room : ℕ

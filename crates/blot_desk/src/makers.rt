@@ -26,17 +26,17 @@ pub(crate) struct Makers {
 
 impl Model for Makers {
     ghost use Rattle.std.specs.Prelude.{◌-◌, length, min, vec_capacity};
-    ghost use Rattle.blot_desk.specs.Makers.{AreWithin, Kept, names_at};
+    ghost use Rattle.blot_desk.specs.Makers.{AreWithin, NotedMakers, names_at};
 
-    ghost Value = { Kept };
+    ghost Value = { NotedMakers };
 
-    ghost view = { λ kept. record {
-      makers = record { accepted = names_at kept.names.keys kept.accepted.items; refused = names_at kept.names.keys kept.refused.items };
-      names = kept.names.keys;
-      room = min (vec_capacity kept.accepted - length kept.accepted.items) (vec_capacity kept.refused - length kept.refused.items);
+    ghost view = { λ noted. record {
+      makers = record { accepted = names_at noted.names.keys noted.accepted.items; refused = names_at noted.names.keys noted.refused.items };
+      names = noted.names.keys;
+      room = min (vec_capacity noted.accepted - length noted.accepted.items) (vec_capacity noted.refused - length noted.refused.items);
     } };
 
-    ghost invariant = { λ kept. AreWithin kept.names.keys kept.accepted.items × AreWithin kept.names.keys kept.refused.items };
+    ghost invariant = { λ noted. AreWithin noted.names.keys noted.accepted.items × AreWithin noted.names.keys noted.refused.items };
 }
 
 impl Makers {
