@@ -1,5 +1,5 @@
 -- The operators of a day, each with a seat.
-use Rattle.std.specs.Prelude.{◌≡◌, ℕ, List, [], Option, None, Some, IfSome}
+use Rattle.std.specs.Prelude.{◌≡◌, ℕ, List, [], ◌++◌, Option, None, Some, IfSome}
 use Rattle.std.specs.List.{All}
 use Rattle.blot_desk.specs.declared.receipt.Receipt.{Receipt}
 use Rattle.blot_operator.specs.Seats.{Named}
@@ -26,3 +26,8 @@ abbrev pub IsSeatOf : List ℕ → Option (Option Named) → Named → Type 0
 IsSeatOf name (Some (Some own)) seat = seat ≡ own
 IsSeatOf name (Some None) seat = ⊥
 IsSeatOf name None seat = seat ≡ first_seat name
+
+-- some seats, and more behind them
+pub record Grows (before after : List (List Receipt)) : Type 0 where
+  pub more : List (List Receipt)
+  pub grown : after ≡ before ++ more

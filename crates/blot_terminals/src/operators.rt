@@ -1,12 +1,11 @@
 //! The operators of a day, each with a seat.
 ghost use Rattle.std.specs.List.{All};
 ghost use Rattle.std.specs.Map.{lookup, set_value};
-ghost use Rattle.std.specs.Prelude.{◌≡◌, ◌≢◌, ◌↔◌, ◌⊎◌, ◌≤◌, [], ◌++◌, List, Err, IfErr, IfOk, IfSome, None, OnErr, OnOk, Some, is_some, length, true, vec_len};
+ghost use Rattle.std.specs.Prelude.{◌≡◌, ◌≢◌, ◌↔◌, ◌⊎◌, ◌≤◌, [], Err, IfErr, IfOk, IfSome, None, OnErr, OnOk, Some, is_some, length, true, vec_len};
 ghost use Rattle.indexmap.specs.IndexMap.{insert_entry};
 ghost use Rattle.blot_types.specs.Keys.{same_text};
-ghost use Rattle.blot_desk.specs.declared.receipt.Receipt.{Receipt};
 ghost use Rattle.blot_operator.specs.Seats.{Named};
-ghost use Rattle.blot_terminals.specs.Staff.{AreOwnSeats, IsSeatOf, first_seat};
+ghost use Rattle.blot_terminals.specs.Staff.{AreOwnSeats, Grows, IsSeatOf, first_seat};
 
 use blot_desk::Seat;
 use blot_operator::OperatorSeat;
@@ -76,12 +75,15 @@ impl<L: Ledger> OperatorTable<L> {
         ensures named { OnOk result (self.new.named ≡ insert_entry same_text self.old.named name None) }
         ensures err { OnErr result (self.new ≡ self.old) }
     {
-        if self.named.len() >= OPERATORS_MAX || self.spare.is_empty() {
+        if self.named.len() >= OPERATORS_MAX {
             return Err(NameFault::Full);
         }
-        if self.named.insert(name, None).is_err() {
-            return Err(NameFault::NoMemory);
+        if self.spare.is_empty() {
+            return Err(NameFault::Full);
         }
+        let Ok(_) = self.named.insert(name, None) else {
+            return Err(NameFault::NoMemory);
+        };
         let seat = self.spare.pop().unwrap();
         Ok(OperatorSeat::new(seat, self.own, name, 0))
     }
@@ -162,21 +164,40 @@ impl<L: Ledger> Operators<L> {
     /// The seats of the operators that aren't on, and those that nobody had, behind some others. An error is out of memory, which can't be
     /// where there is room.
     pub fn into_seats(self, others: Vec<Seat<L>>) -> Result<Vec<Seat<L>>, NoMemory>
-        ensures { IfOk result (λ seats. (more : List (List Receipt)) × (seats.items ≡ others.items ++ more)) }
+        ensures { IfOk result (λ seats. Grows others.items seats.items) }
     {
         let Operators { table } = self;
         let OperatorTable { spare, named, .. } = table.into_inner();
-        let mut seats = others;
-        for seat in named.into_values() {
-            if let Some(seat) = seat {
-                seats.push(seat.into_seat())?;
-            }
-        }
-        for seat in spare {
-            seats.push(seat)?;
-        }
-        Ok(seats)
+        let seats = put_named(others, named)?;
+        put_spare(seats, spare)
     }
+}
+
+// Puts the seats of the operators that aren't on behind others.
+fn put_named<L: Ledger>(
+    others: Vec<Seat<L>>,
+    named: IndexMap<Text64, Option<OperatorSeat<L>>>,
+) -> Result<Vec<Seat<L>>, NoMemory>
+    ensures { IfOk result (λ seats. Grows others.items seats.items) }
+{
+    let mut seats = others;
+    for seat in named.into_values() {
+        if let Some(seat) = seat {
+            seats.push(seat.into_seat())?;
+        }
+    }
+    Ok(seats)
+}
+
+// Puts the seats that nobody had behind others.
+fn put_spare<L: Ledger>(others: Vec<Seat<L>>, spare: Vec<Seat<L>>) -> Result<Vec<Seat<L>>, NoMemory>
+    ensures { IfOk result (λ seats. Grows others.items seats.items) }
+{
+    let mut seats = others;
+    for seat in spare {
+        seats.push(seat)?;
+    }
+    Ok(seats)
 }
 
 // The seat of each operator, under its own name.
