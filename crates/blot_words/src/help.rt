@@ -250,7 +250,7 @@ pub const AFTER_ASK: &str = "\
 The lines and their answers are those of `blotter desk` and `blotter serve` (see their help). You may divide
 the words of a line by spaces:
   order BRKA O1             as order, BRKA and O1 with a tab between two
-  position \"HOUSE A\" XYZ   what stands between two quotes is one word, or part of one, with its spaces
+  position \"HOUSE A\" XYZ    what stands between two quotes is one word, or part of one, with its spaces
 A line with a tab in it is sent as it is. A line without a word is passed over.
 
 mine withdraws the newest command that was entered under your name. A name is on once at a time, and
