@@ -1,1 +1,2 @@
+mod NamingLemmas
 mod StaffLemmas

@@ -21,6 +21,11 @@ IsNaming (Ok name) namings.Taken seat = seat ≡ None
 IsNaming (Ok name) namings.Full seat = seat ≡ None
 IsNaming (Ok name) (namings.Bad fault) seat = ⊥
 
+-- something is told
+pub record Tells (before after : Option (List ℕ)) : Type 0 where
+  pub front : List ℕ
+  pub written : Appends before after front
+
 -- the last that is told is the name
 pub record TellsName (name : List ℕ) (before after : Option (List ℕ)) : Type 0 where
   pub front : List ℕ

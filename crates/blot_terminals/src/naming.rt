@@ -1,6 +1,7 @@
 //! The lines of an operator's connection until it has a name.
-ghost use Rattle.std.specs.Prelude.{◌≡◌, IfErr, IfOk, IfSome, Ok};
-ghost use Rattle.blot_console.specs.Naming.{name_parsed};
+ghost use Rattle.std.specs.Prelude.{◌≡◌, IfOk, IfSome, OnOk};
+ghost use Rattle.std.specs.Io.KnownBytes.{Appends};
+ghost use Rattle.blot_console.specs.Naming.{name_parsed, naming_text};
 ghost use Rattle.blot_terminals.specs.Naming.{IsNaming, TellsName};
 
 use crate::{NameFault, Operators};
@@ -54,7 +55,9 @@ pub(crate) fn named_seat<R: Wait + Clock, I: Read, O: Write, L: Ledger>(
 }
 
 // Writes the answer to a line.
-fn tell<O: Write>(alloc: Global, output: &mut O, naming: &Naming) -> Result<(), ReplayFault> {
+fn tell<O: Write>(alloc: Global, output: &mut O, naming: &Naming) -> Result<(), ReplayFault>
+    ensures { OnOk result (Appends (O.contents output.old) (O.contents output.new) (naming_text naming.now)) }
+{
     let text = naming_text(alloc, naming)?;
     write_text(output, &text)
 }
