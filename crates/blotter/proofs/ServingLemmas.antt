@@ -11,7 +11,7 @@ use Rattle.blot_gateway.specs.AtOnce.{AddsSubmits, EachAdds, are_submits}
 use Rattle.blot_gateway.proofs.AtOnceLemmas.{adds-none, adds-on, each-adds}
 use Rattle.blot_stream.proofs.ResultLemmas.{ok-says, on-ok}
 use Rattle.blot_operator.specs.OpenDay.{EndsOf}
-use Rattle.blot_operator.specs.Dialogue.{TellsOf, seat_ways}
+use Rattle.blot_operator.specs.Dialogue.{HeardOf, TellsOf, open_ways, seat_ways}
 use Rattle.blot_operator.specs.Seats.{Named}
 use Rattle.blot_rounds.proofs.RoundLemmas.{as-many}
 use Rattle.blot_rounds.specs.Rounds.{RoundsLead, ServesRound}
@@ -128,6 +128,18 @@ pub of-some : {T E : Type 0} (reported : Result T E) (IsKept : Type 0) (events :
     → OnOk reported (KeptReported IsKept events day seats before after) → OnOk reported (Reported day seats before after)
 of-some (Ok x) IsKept events day seats before after kept = (kept.history, kept.reported)
 of-some (Err fault) IsKept events day seats before after kept = tt
+
+-- the same of the same seats
+pub of-seats : {T E : Type 0} (reported : Result T E) (day : ℤ) (all seats : List (List Receipt)) (before after : Option (List ℕ)) → all ≡ seats
+    → OnOk reported (Reported day all before after) → OnOk reported (Reported day seats before after)
+of-seats reported day all seats before after same holds = subst (λ seats. OnOk reported (Reported day seats before after)) same holds
+
+-- an operator is told the answers, and these are the seats then
+pub served-by : {T E : Type 0} (answered : Result T E) (IsKept : Type 0) (seat operator : Named) (others brokers seats : List (List Receipt)) (input before after : Option (List ℕ))
+    → OnOk answered (HeardOf (open_ways IsKept) seat input operator before after) → All (λ receipts. are_submits receipts ≡ true) brokers
+    → seats ≡ (brokers ++ (operator.receipts ∷ [])) ++ others → OnOk answered (ServedBy IsKept seat others input before after seats)
+served-by answered IsKept seat operator others brokers seats input before after heard submits are =
+    on-ok answered heard (λ told. record { brokers = brokers; operator = operator; submits = submits; told = told; seats_are = are })
 
 -- an open day that is served, of its lines and its report, which leave the output so
 pub is-open-day : {W T E : Type 0} (contents : W → Option (List ℕ)) (answered : Result T E) (input : Option (List ℕ)) (seats others : List (List Receipt)) (first : Named)

@@ -1,5 +1,5 @@
 //! `serve_open_day`: connections served in lanes while an operator's lines are answered, and the report of the day.
-ghost use Rattle.std.specs.Prelude.{◌≡◌, ◌+◌, ◌++◌, [], length, vec_len, IfOk, OnOk};
+ghost use Rattle.std.specs.Prelude.{◌≡◌, ◌+◌, ◌++◌, [], length, true, vec_len, IfOk, OnOk};
 ghost use Rattle.std.specs.List.{All, IsDistinct};
 ghost use Rattle.blot_types.specs.Keys.{same_text};
 ghost use Rattle.blot_operator.specs.OpenDay.{EndsOf};
@@ -163,10 +163,11 @@ fn put_behind<L: Ledger>(
     ensures { IfOk result (λ all. all.items ≡ seats.items ++ others.items) }
 {
     let mut all = seats;
-    for seat in others {
-        all.push(seat)?;
+    let mut others = others;
+    match all.append(&mut others) {
+        Ok(()) => Ok(all),
+        Err(_) => Err(NoMemory),
     }
-    Ok(all)
 }
 
 /// The listed peers of a day that begins, each with one of the seats. Its session expects number 1, and sends number 1 next.
