@@ -4,9 +4,7 @@ use crate::expect::text;
 use crate::frames::stream;
 use crate::streams::moments;
 use blot_desk::{Event, KeepFault, Keeper, Opening};
-use blot_gateway::{
-    Ended, FrameKeeper, ListClock, MemoryWire, Reading, RecordHead, Wire, Writing,
-};
+use blot_gateway::{Ended, FrameKeeper, ListClock, MemoryWire, Reading, RecordHead, Wire, Writing};
 use blot_lanes::{BrokerSeat, ListedPeer, Peers, serve_connection};
 use blot_session::CloseReason;
 use blot_sockets::Door;
@@ -251,9 +249,7 @@ where
     };
     let clock = ListClock::new(moments(alloc, "20240105-10:00:01.000")?);
     let address = SocketAddr::V4(SocketAddrV4::new(Ipv4Addr::LOCALHOST, 1));
-    let ended = serve_connection(
-        rt, alloc, &peers, &desk, &door, address, wire, clock,
-    );
+    let ended = serve_connection(rt, alloc, &peers, &desk, &door, address, wire, clock);
     drop(desk);
     Ok((ended, noted.into_inner()))
 }
