@@ -3,7 +3,7 @@ ghost use Rattle.std.specs.List.{All, IsDistinct};
 ghost use Rattle.std.specs.Prelude.{◌≡◌, ◌↔◌, ◌⊎◌, [], true, Err, Some, None, IfOk, IfErr, IfSome, OnOk, OnErr};
 ghost use Rattle.blot_types.specs.Keys.{same_text};
 ghost use Rattle.blot_gateway.specs.AtOnce.{are_submits};
-ghost use Rattle.blot_lanes.specs.Listing.{peers_of};
+ghost use Rattle.blot_lanes.specs.Listing.{all_resumed, peers_of};
 ghost use Rattle.blot_lanes.specs.Seating.{AreOwnSeats, handed_out, seat_of, with_expected, with_seat, without_seat};
 ghost use Rattle.blot_session.specs.States.{IsIdle, waiting_again};
 ghost use Rattle.blot_slots.specs.Slots.{IsWaiting, checked_out, slot_of, with_slot};
@@ -173,9 +173,7 @@ impl<L: Ledger> Peers<L> {
         ensures repeated { (result ≡ Err SlotFault.RepeatedPeer) ↔ (IsDistinct same_text (peers_of listed.items) → ⊥) }
         ensures err { IfErr result (λ fault. (fault ≡ SlotFault.RepeatedPeer) ⊎ (fault ≡ SlotFault.NoMemory)) }
     {
-        let sessions = resumed_sessions(alloc, own, &listed)?;
-        let peers = seated(alloc, listed)?;
-        let table = Mutex::new(PeerTable { sessions, peers });
+        let table = Mutex::new(seated_table(alloc, own, listed)?);
         Ok(Peers { own, table })
     }
 
@@ -227,6 +225,21 @@ impl<L: Ledger> Peers<L> {
         let PeerTable { sessions: _, peers } = table.into_inner();
         put_seats(room, peers)
     }
+}
+
+// The table of these peers: the session of each waits with its numbers. RepeatedPeer where two of them are the same.
+fn seated_table<L: Ledger>(
+    alloc: Global,
+    own: Text64,
+    listed: Vec<ListedPeer<L>>,
+) -> Result<PeerTable<L>, SlotFault>
+    ensures sessions { IfOk result (λ table. table.sessions ≡ all_resumed own listed.items) }
+    ensures repeated { (result ≡ Err SlotFault.RepeatedPeer) ↔ (IsDistinct same_text (peers_of listed.items) → ⊥) }
+    ensures err { IfErr result (λ fault. (fault ≡ SlotFault.RepeatedPeer) ⊎ (fault ≡ SlotFault.NoMemory)) }
+{
+    let sessions = resumed_sessions(alloc, own, &listed)?;
+    let peers = seated(alloc, listed)?;
+    Ok(PeerTable { sessions, peers })
 }
 
 // The seat of each peer, under its own name.
