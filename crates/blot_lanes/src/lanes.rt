@@ -2,9 +2,9 @@
 ghost use Rattle.std.specs.Prelude.{◌≡◌, IfOk};
 
 use crate::connection::log_stranger;
-use crate::{PeerNotes, PeerStore, Peers, serve_connection};
+use crate::{Peers, serve_connection};
 use blot_desk::Desk;
-use blot_gateway::{Ended, FrameKeeper, StoredWire};
+use blot_gateway::{Ended, FrameKeeper};
 use blot_sockets::{Door, Socket, SystemClock};
 use log::{Log, error, info, warn};
 use std::alloc::{AllocError as NoMemory, Global};
@@ -132,12 +132,9 @@ where
             log_stranger(self.rt, address, Ended::ReadFault);
             return;
         };
-        let notes = PeerNotes::new(self.peers.own());
-        let store = PeerStore::new(self.rt, self.alloc, self.desk, &notes);
-        let wire = StoredWire::new(socket, store);
         let clock = SystemClock::new(self.rt);
         serve_connection(
-            self.rt, self.alloc, self.peers, self.desk, &notes, self.door, address, wire, clock,
+            self.rt, self.alloc, self.peers, self.desk, self.door, address, socket, clock,
         );
         if self.desk.sync(self.rt).is_err() && !self.door.is_closed() {
             error!(self.rt; "the journal can't be written, so the day ends");
