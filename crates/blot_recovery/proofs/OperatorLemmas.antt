@@ -15,10 +15,10 @@ use Rattle.blot_diary.specs.declared.kept.Kept.{Kept}
 use Rattle.blot_diary.specs.Beginnings.{begun_by}
 use Rattle.blot_recovery.specs.declared.operators.KeptOperators.{KeptOperators}
 use Rattle.blot_recovery.specs.declared.parties.KeptOperator.{KeptOperator}
-use Rattle.blot_recovery.specs.Parties.{AreDifferent, AreKeptOperators, GivesSeat, HasSeat, IsFirst, IsKeptOperator, IsUnheard, operator_names}
+use Rattle.blot_recovery.specs.Parties.{AreDifferent, AreKeptOperators, GivesSeat, HasSeat, IsFirst, IsKeptOperator, operator_names}
 use Rattle.blot_recovery.specs.Taking.{IsAskedBy, KeepsLast, stands_for}
 use Rattle.blot_recovery.proofs.PartyLemmas.{operator-asked, operator-begun, operator-comes, operator-other, unheard-asked, unheard-begun, unheard-first, unheard-other}
-use Rattle.blot_recovery.proofs.TestLemmas.{are_other, is_same, not_same, same-itself}
+use Rattle.blot_recovery.proofs.TestLemmas.{are_other, not_same}
 
 -- ---- names
 

@@ -1,12 +1,11 @@
 -- What a fault says of a text, by what was taken up before it.
-use Rattle.std.proofs.Common.{◌≡◌, ◌⊎◌, inl, inr, ℕ, zero, suc, ◌+◌, ◌<◌, Bool, true, false, ◌&&◌, ◌||◌, List, [], ◌∷◌, ◌++◌, drop, get_or, length, take, Option, Some, None, refl, sym, ap, subst, ◌∙◌, arith}
+use Rattle.std.proofs.Common.{◌≡◌, ◌⊎◌, inl, inr, ℕ, zero, suc, ◌<◌, Bool, true, false, ◌&&◌, ◌||◌, List, [], ◌∷◌, drop, get_or, length, take, Option, Some, None, refl, sym, ap, subst, ◌∙◌, arith}
 use Rattle.std.specs.Prelude.{ℤ, IfSome, IsSome, option_map, if◌then◌else◌}
 use Rattle.std.specs.List.{All, list_any, slice_get}
 use Rattle.std.proofs.lemmas.Bool.{false≢true}
 use Rattle.std.proofs.lemmas.List.{length-map}
 use Rattle.blot_types.specs.Keys.{same_text}
 use Rattle.blot_tag.specs.Fields.{fields_of}
-use Rattle.blot_desk.specs.Desk.{events_of}
 use Rattle.blot_diary.specs.declared.kept.Beginning.{Beginning}
 use Rattle.blot_diary.specs.declared.kept.Content.{Content}
 use Rattle.blot_diary.specs.declared.kept.Content.TheVariants as contents
@@ -17,12 +16,11 @@ use Rattle.blot_diary.specs.Events.{noted_of}
 use Rattle.blot_diary.specs.Keeping.{kept_of}
 use Rattle.blot_recovery.specs.declared.fault.RecoverFault.{RecoverFault}
 use Rattle.blot_recovery.specs.declared.fault.RecoverFault.TheVariants.{NoMemory, Unreadable, Another, Unlisted, Damaged}
-use Rattle.blot_recovery.specs.declared.operators.KeptOperators.{KeptOperators}
 use Rattle.blot_recovery.specs.declared.parties.KeptPeer.{KeptPeer}
 use Rattle.blot_recovery.specs.declared.taking.Taking.{Taking}
 use Rattle.blot_recovery.specs.Faults.{BeginsOtherwise, HasNoFrame, HasRefused, IsFaultOf, IsWanted}
 use Rattle.blot_recovery.specs.Parties.{HasSeat, operator_names}
-use Rattle.blot_recovery.specs.Refusals.{AsksWithoutSeat, BeginsIts, BringsUnlisted, FindsNoRoom, HasNoSeat, IsDamage, IsMisplaced, IsOfNoParty, IsOfUnlisted, IsOneTooMany, IsRecoverFault, RefusesBy, RefusesFrame, RefusesKept, RefusesNext, StandsSoFar, other_of}
+use Rattle.blot_recovery.specs.Refusals.{AsksWithoutSeat, BeginsIts, HasNoSeat, IsDamage, IsMisplaced, IsOfNoParty, IsOfUnlisted, IsOneTooMany, IsRecoverFault, RefusesFrame, RefusesKept, RefusesNext, StandsSoFar, other_of}
 use Rattle.blot_recovery.specs.Taking.{AreInPlace, IsAskedBy, IsInPlace, IsOfParty, IsOfPeer, TakesUpAll, begun_on, names_of, stands_by, stands_for}
 use Rattle.blot_recovery.specs.Walking.{IsFaultIn, IsTakenBy, RefusesBehind}
 use Rattle.blot_recovery.proofs.FrameLemmas.{frames_of-nil, whole-nil}

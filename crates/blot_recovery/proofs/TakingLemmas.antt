@@ -31,7 +31,7 @@ use Rattle.blot_recovery.specs.declared.operators.KeptOperators.{KeptOperators}
 use Rattle.blot_recovery.specs.declared.parties.KeptPeer.{KeptPeer}
 use Rattle.blot_recovery.specs.declared.taking.Taking.{Taking}
 use Rattle.blot_recovery.specs.Faults.{BeginsOtherwise, IsWanted}
-use Rattle.blot_recovery.specs.Parties.{AreKeptOperators, AreSeated, GivesSeat, HasSeat, IsFirst, IsKeptPeer, brought_by, is_operator, operator_names}
+use Rattle.blot_recovery.specs.Parties.{AreKeptOperators, AreSeated, GivesSeat, HasSeat, IsKeptPeer, brought_by, is_operator, operator_names}
 use Rattle.blot_recovery.specs.Taking.{AreApart, AreInPlace, AsksSame, HasTaken, IsAskedBy, IsInPlace, IsOfParty, KeepsLast, TakesUp, TakesUpAll, begun_on, names_of, stands_for, with_event}
 use Rattle.blot_recovery.proofs.FrameLemmas.{brought-last, brought-theirs, desk_events-last, desk_events-nil, frames_of-nil, keeps_last}
 use Rattle.blot_recovery.proofs.OperatorLemmas.{operators-begun, operators-other}

@@ -13,7 +13,7 @@ use Rattle.blot_diary.specs.Diary.{desk_events}
 use Rattle.blot_diary.specs.Events.{noted_of}
 use Rattle.blot_diary.specs.Keeping.{kept_of}
 use Rattle.blot_recovery.specs.declared.fault.RecoverFault.{RecoverFault}
-use Rattle.blot_recovery.specs.declared.fault.RecoverFault.TheVariants.{NoMemory, Unreadable, Another, Unlisted, Damaged}
+use Rattle.blot_recovery.specs.declared.fault.RecoverFault.TheVariants.{NoMemory, Unlisted, Damaged}
 use Rattle.blot_recovery.specs.declared.operators.KeptOperators.{KeptOperators}
 use Rattle.blot_recovery.specs.declared.operators.TheConstants.{OPERATOR_SEATS}
 use Rattle.blot_recovery.specs.declared.taking.Taking.{Taking}

@@ -1,4 +1,4 @@
-use Rattle.std.proofs.Common.{◌++◌, Err, ap, subst, sym, ◌∙◌, append_assoc}
+use Rattle.std.proofs.Common.{Err, ap, subst, sym, ◌∙◌, append_assoc}
 use Rattle.blot_tag.specs.Views.{text_of}
 use Rattle.blot_recovery.proofs.WalkLemmas.{fault-here, one-more}
 use Rattle.blot_recovery.proofs.walking.taken_by.Goals as goal
