@@ -6,3 +6,4 @@ mod WalkLemmas
 mod OpeningLemmas
 mod OperatorLemmas
 mod ReceivedLemmas
+mod RefusalLemmas

@@ -15,10 +15,10 @@ use Rattle.blot_diary.specs.declared.kept.Kept.{Kept}
 use Rattle.blot_diary.specs.Beginnings.{begun_by}
 use Rattle.blot_recovery.specs.declared.operators.KeptOperators.{KeptOperators}
 use Rattle.blot_recovery.specs.declared.parties.KeptOperator.{KeptOperator}
-use Rattle.blot_recovery.specs.Parties.{AreDifferent, AreKeptOperators, IsFirst, IsKeptOperator, IsUnheard, operator_names}
+use Rattle.blot_recovery.specs.Parties.{AreDifferent, AreKeptOperators, GivesSeat, HasSeat, IsFirst, IsKeptOperator, operator_names}
 use Rattle.blot_recovery.specs.Taking.{IsAskedBy, KeepsLast, stands_for}
 use Rattle.blot_recovery.proofs.PartyLemmas.{operator-asked, operator-begun, operator-comes, operator-other, unheard-asked, unheard-begun, unheard-first, unheard-other}
-use Rattle.blot_recovery.proofs.TestLemmas.{are_other, is_same, not_same, same-itself}
+use Rattle.blot_recovery.proofs.TestLemmas.{are_other, not_same}
 
 -- ---- names
 
@@ -226,3 +226,31 @@ operators-first operators none spare = record {
   others = λ name _. unheard-first name;
   spare = spare;
 }
+
+-- ---- seats
+
+all-more : {X : Type 0} (P : X → Type 0) (old new : List X) (x : X) → new ≡ old ++ x ∷ [] → All P old → P x → All P new
+all-more P old new x is all holds = subst (All P) (sym is) (All-push P old x all holds)
+
+-- an operator who is put behind the others gets a spare seat
+pub seat-put : {L : Type 0} (old new : KeptOperators L) (operator : KeptOperator L) (seat : List Receipt) (name : List ℕ) → operator.name ≡ name
+    → new.named.items ≡ old.named.items ++ operator ∷ [] → old.spare.items ≡ new.spare.items ++ seat ∷ [] → GivesSeat name old new
+seat-put old new operator seat name is more fewer = record {
+  total = omega (arith, ap length more, ap length fewer, length-more old.named.items operator, length-more new.spare.items seat);
+  each = λ named text all has. all-more (HasSeat named text) (operator_names old.named.items) (operator_names new.named.items) operator.name
+      (ap operator_names more ∙ map-append (λ operator. operator.name) old.named.items (operator ∷ [])) all (subst (HasSeat named text) (sym is) has);
+}
+
+-- who has one already keeps it
+pub seat-same : {L : Type 0} (name : List ℕ) (operators : KeptOperators L) → GivesSeat name operators operators
+seat-same name operators = record { total = refl; each = λ named text all has. all }
+
+-- and so it is where that operator's event is taken
+pub seat-set : {L : Type 0} (name : List ℕ) (old mid new : KeptOperators L) (at : ℕ) (operator is : KeptOperator L) → is ≡ get_or mid.named.items at is → operator.name ≡ is.name
+    → new.named.items ≡ set mid.named.items at operator → new.spare.items ≡ mid.spare.items → GivesSeat name old mid → GivesSeat name old new
+seat-set name old mid new at operator is found same put spare gives =
+    let names = ap operator_names put ∙ map-set_same (λ operator. operator.name) mid.named.items at operator is (same ∙ ap (λ operator. operator.name) found) in
+    record {
+      total = omega (arith, gives.total, ap length put, ap length spare, length-set mid.named.items at operator);
+      each = λ named text all has. subst (All (HasSeat named text)) (sym names) (gives.each named text all has);
+    }

@@ -81,7 +81,7 @@ no-operator name from Unclear received sent is = refl
 no-operator name from Message received sent is = refl
 
 -- what an operator asks is the operator's, and no peer's
-asked : (name from : List ℕ) (content : Content) → IsAskedBy name content → of_operator name (noted_by from content) ≡ cons_option (noted_by from content) []
+pub asked : (name from : List ℕ) (content : Content) → IsAskedBy name content → of_operator name (noted_by from content) ≡ cons_option (noted_by from content) []
 asked name from (Asked operator event) is =
     let noted : Noted = record { party = Operator operator; event = event } in
     ap (λ test. cond test (noted ∷ []) []) (ap (λ operator. same_text operator name) is ∙ same-itself name)

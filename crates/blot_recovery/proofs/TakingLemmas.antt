@@ -1,5 +1,5 @@
 -- The frames of a journal, taken up one by one.
-use Rattle.std.proofs.Common.{◌≡◌, ◌⊎◌, inl, inr, ℕ, zero, suc, ◌<◌, Bool, true, false, ◌||◌, List, [], ◌∷◌, ◌++◌, drop, length, get_or, Option, Some, None, refl, sym, ap, subst, ◌∙◌, arith}
+use Rattle.std.proofs.Common.{◌≡◌, ◌⊎◌, inl, inr, ℕ, zero, suc, ◌+◌, ◌<◌, Bool, true, false, ◌||◌, List, [], ◌∷◌, ◌++◌, drop, length, get_or, Option, Some, None, refl, sym, ap, subst, ◌∙◌, arith}
 use Rattle.std.specs.Prelude.{ℤ, IfSome, IsSome, option_map}
 use Rattle.std.specs.Bool.{Decides}
 use Rattle.std.specs.List.{All, list_any, slice_get}
@@ -18,7 +18,11 @@ use Rattle.blot_tag.specs.Joined.{FrameComesFirst, HasLastFrame}
 use Rattle.blot_tag.specs.Walking.{Walk, frames_of}
 use Rattle.blot_desk.specs.Desk.{IsRun, Journal, empty_journal, events_of}
 use Rattle.blot_diary.specs.declared.kept.Beginning.{Beginning}
+use Rattle.blot_desk.specs.declared.event.Event.{Event}
+use Rattle.blot_diary.specs.declared.kept.Content.{Content}
+use Rattle.blot_diary.specs.declared.kept.Content.TheVariants as contents
 use Rattle.blot_diary.specs.declared.kept.Kept.{Kept}
+use Rattle.blot_recovery.specs.declared.operators.TheConstants.{OPERATOR_SEATS}
 use Rattle.blot_diary.specs.Beginnings.{beginning_of, begun_by}
 use Rattle.blot_diary.specs.Diary.{desk_events}
 use Rattle.blot_diary.specs.Events.{noted_by, noted_of}
@@ -27,11 +31,11 @@ use Rattle.blot_recovery.specs.declared.operators.KeptOperators.{KeptOperators}
 use Rattle.blot_recovery.specs.declared.parties.KeptPeer.{KeptPeer}
 use Rattle.blot_recovery.specs.declared.taking.Taking.{Taking}
 use Rattle.blot_recovery.specs.Faults.{BeginsOtherwise, IsWanted}
-use Rattle.blot_recovery.specs.Parties.{AreKeptOperators, IsFirst, IsKeptPeer, operator_names}
+use Rattle.blot_recovery.specs.Parties.{AreKeptOperators, AreSeated, GivesSeat, HasSeat, IsKeptPeer, brought_by, is_operator, operator_names}
 use Rattle.blot_recovery.specs.Taking.{AreApart, AreInPlace, AsksSame, HasTaken, IsAskedBy, IsInPlace, IsOfParty, KeepsLast, TakesUp, TakesUpAll, begun_on, names_of, stands_for, with_event}
-use Rattle.blot_recovery.proofs.FrameLemmas.{desk_events-last, desk_events-nil, frames_of-nil, keeps_last}
+use Rattle.blot_recovery.proofs.FrameLemmas.{brought-last, brought-theirs, desk_events-last, desk_events-nil, frames_of-nil, keeps_last}
 use Rattle.blot_recovery.proofs.OperatorLemmas.{operators-begun, operators-other}
-use Rattle.blot_recovery.proofs.PartyLemmas.{is-beginning, peer-asked, peer-begun, peer-other}
+use Rattle.blot_recovery.proofs.PartyLemmas.{asked as asked-theirs, is-beginning, peer-asked, peer-begun, peer-other}
 use Rattle.blot_recovery.proofs.TestLemmas.{are_other, is_same, same-itself}
 
 -- ---- a list of peers
@@ -146,6 +150,49 @@ events-more : (text more : List ℕ) (kept : Kept) → KeepsLast text kept more 
 events-more text more kept last before after up events =
     up.events ∙ ap (λ events. with_event events (noted_of kept)) events ∙ sym (desk_events-last text more kept last)
 
+-- who has a seat has it still
+brought-more : (text more : List ℕ) (kept : Kept) → KeepsLast text kept more → (name : List ℕ) → brought_by (is_operator name) more ≡ [] → brought_by (is_operator name) text ≡ []
+brought-more text more kept last name none =
+    append-none (brought_by (is_operator name) text) _ (sym (brought-last text more kept last (is_operator name)) ∙ none)
+  where
+    append-none : {X : Type 0} (xs ys : List X) → xs ++ ys ≡ [] → xs ≡ []
+    append-none [] ys is = refl
+    append-none (x ∷ xs) ys is = absurd cc
+
+seat-more : (named : List (List ℕ)) (text more : List ℕ) (kept : Kept) → KeepsLast text kept more → (name : List ℕ) → HasSeat named text name → HasSeat named more name
+seat-more named text more kept last name (inl is) = inl is
+seat-more named text more kept last name (inr some) = inr (λ none. some (brought-more text more kept last name none))
+
+pub seated-more : {L : Type 0} (named : List (List ℕ)) (text more : List ℕ) (kept : Kept) → KeepsLast text kept more → (operators : KeptOperators L)
+    → AreSeated named text operators → AreSeated named more operators
+seated-more named text more kept last operators seated = record {
+  total = seated.total;
+  each = λ k d less. seat-more named text more kept last (get_or (operator_names operators.named.items) k d) (seated.each k d less);
+}
+
+-- an operator's event gives a seat
+brought-some : (text more : List ℕ) (kept : Kept) → KeepsLast text kept more → (name : List ℕ) → IsAskedBy name kept.content → brought_by (is_operator name) more ≡ [] → ⊥
+brought-some text more kept last name asked none =
+    by (brought_by (is_operator name) text) kept.content asked
+    (sym (brought-theirs text more kept last (is_operator name) (asked-theirs name kept.from kept.content asked)) ∙ none)
+  where
+    by : (before : List Event) (content : Content) → IsAskedBy name content → with_event before (noted_by kept.from content) ≡ [] → ⊥
+    by [] (contents.Asked operator event) asked is = absurd cc
+    by (first ∷ before) (contents.Asked operator event) asked is = absurd cc
+    by before (contents.Command command) asked is = absurd asked
+    by before (contents.Beginning day) asked is = absurd asked
+    by before (contents.Numbers numbers) asked is = absurd asked
+    by before contents.Wrapped asked is = absurd asked
+    by before contents.Unclear asked is = absurd asked
+    by before contents.Message asked is = absurd asked
+
+pub seated-asked : {L : Type 0} (named : List (List ℕ)) (text more : List ℕ) (kept : Kept) → KeepsLast text kept more → (name : List ℕ) → IsAskedBy name kept.content
+    → (old new : KeptOperators L) → GivesSeat name old new → AreSeated named text old → AreSeated named more new
+seated-asked named text more kept last name asked old new gives seated = record {
+  total = gives.total ∙ seated.total;
+  each = gives.each named more (seated-more named text more kept last old seated).each (inr (brought-some text more kept last name asked));
+}
+
 -- the first
 pub first-taken : {L : Type 0} (first old : Taking L) (begun : Option ℤ) (text frame : List ℕ) (kept : Kept) → FrameComesFirst frame → HasLastFrame text frame
     → kept_of (fields_of frame) ≡ Some kept → old.begun ≡ None → begun_by kept ≡ option_map (begun_on old.own) begun → IsSome begun
@@ -159,6 +206,7 @@ first-taken first old (Some day) text frame kept comes_first last is none begins
     let has = up.taken.has in
     let empty = up.taken.nothing none in
     record {
+      seated = seated-more (operator_names first.operators.named.items) text more kept keeps old.operators up.seated;
       asks = record { own_is = up.asks.own_is; wanted_is = up.asks.wanted_is; names_are = up.asks.names_are; first_is = up.asks.first_is };
       taken = record {
         apart = up.taken.apart;
@@ -181,11 +229,14 @@ first-taken first old (Some day) text frame kept comes_first last is none begins
 pub kept-taken : {L : Type 0} (first old new : Taking L) (day : ℤ) (text frame : List ℕ) (kept : Kept) → HasLastFrame text frame
     → kept_of (fields_of frame) ≡ Some kept → old.begun ≡ Some day → AsksSame old new → new.begun ≡ old.begun
     → ((text more : List ℕ) → KeepsLast text kept more → AreApart old.own (names_of old.peers.items) → HasTaken text old → HasTaken more new)
-    → IsOfParty old.own (names_of old.peers.items) kept → TakesUpAll first text old → TakesUpAll first (text ++ frame) new
-kept-taken first old new day text frame kept last is begun asks same holds of up =
+    → IsOfParty old.own (names_of old.peers.items) kept
+    → ((named : List (List ℕ)) (text more : List ℕ) → KeepsLast text kept more → AreSeated named text old.operators → AreSeated named more new.operators)
+    → TakesUpAll first text old → TakesUpAll first (text ++ frame) new
+kept-taken first old new day text frame kept last is begun asks same holds of seats up =
     let keeps = keeps_last text frame kept last.frames is in
     let still : new.begun ≡ Some day = same ∙ begun in
     record {
+      seated = seats (operator_names first.operators.named.items) text (text ++ frame) keeps up.seated;
       asks = record {
         own_is = asks.own_is ∙ up.asks.own_is;
         wanted_is = asks.wanted_is ∙ up.asks.wanted_is;
@@ -220,15 +271,30 @@ other-taken first old text frame behind kept found comes_first is none begins un
 }
 
 -- before the first
-beginning_of-nil : beginning_of [] ≡ None
+pub beginning_of-nil : beginning_of [] ≡ None
 beginning_of-nil = ap (λ frames. option_and_then begun_by (option_and_then (λ frame. kept_of (fields_of frame)) (slice_get frames 0))) frames_of-nil
+
+-- each of some names is one of them
+is-one : (names : List (List ℕ)) (k : ℕ) (d : List ℕ) → k < length names → list_any (same_text (get_or names k d)) names ≡ true
+is-one [] k d less = absurd (omega (arith, less))
+is-one (name ∷ names) zero d less = ap (λ test. test || list_any (same_text name) names) (same-itself name)
+is-one (name ∷ names) (suc k) d less = also (same_text (get_or names k d) name) (list_any (same_text (get_or names k d)) names) (is-one names k d (omega (arith, less)))
+  where
+    also : (a b : Bool) → b ≡ true → (a || b) ≡ true
+    also true b is = refl
+    also false b is = is
+
+all-seated : (names : List (List ℕ)) → All (HasSeat names []) names
+all-seated names = λ k d less. inl (is-one names k d less)
 
 empty-run : IsRun empty_journal
 empty-run = refl
 
 pub none-taken : {L : Type 0} (made : Taking L) → made.begun ≡ None → made.opening ≡ empty_journal → AreApart made.own (names_of made.peers.items)
-    → All (IsKeptPeer made.own []) made.peers.items → AreKeptOperators [] made.operators → TakesUpAll made [] made
-none-taken made none empty apart peers operators = record {
+    → All (IsKeptPeer made.own []) made.peers.items → AreKeptOperators [] made.operators → length made.operators.named.items + length made.operators.spare.items ≡ OPERATOR_SEATS
+    → TakesUpAll made [] made
+none-taken made none empty apart peers operators total = record {
+  seated = record { total = total; each = all-seated (operator_names made.operators.named.items) };
   asks = record { own_is = refl; wanted_is = refl; names_are = refl; first_is = λ _ first. first };
   taken = record {
     apart = apart;

@@ -1,5 +1,5 @@
 -- What each party of a journal brought, and where its records of its own kinds stand.
-use Rattle.std.specs.Prelude.{◌≡◌, ℕ, ◌<◌, ◌≤◌, Bool, true, false, List, [], Option, None, Some, fold, get_or, length, map, filter, if◌then◌else◌}
+use Rattle.std.specs.Prelude.{◌≡◌, ◌⊎◌, ℕ, ◌+◌, ◌<◌, ◌≤◌, Bool, true, false, List, [], Option, None, Some, fold, get_or, length, map, filter, if◌then◌else◌}
 use Rattle.std.specs.List.{All, list_any, slice_get}
 use Rattle.blot_types.specs.Keys.{same_text}
 use Rattle.blot_fields.specs.declared.TheConstants.{SEQUENCE_MAX}
@@ -16,6 +16,7 @@ use Rattle.blot_diary.specs.Events.{events_of}
 use Rattle.blot_diary.specs.Keeping.{IsInRange, kept_in}
 use Rattle.blot_diary.specs.Numbering.{numbers_of}
 use Rattle.blot_recovery.specs.declared.operators.KeptOperators.{KeptOperators}
+use Rattle.blot_recovery.specs.declared.operators.TheConstants.{OPERATOR_SEATS}
 use Rattle.blot_recovery.specs.declared.parties.KeptOperator.{KeptOperator}
 use Rattle.blot_recovery.specs.declared.parties.KeptPeer.{KeptPeer}
 
@@ -107,3 +108,20 @@ pub record AreKeptOperators {L : Type 0} (text : List ℕ) (operators : KeptOper
 abbrev pub IsFirst : Option (List ℕ) → List (List ℕ) → Type 0
 IsFirst None names = Unit {0}
 IsFirst (Some name) names = slice_get names 0 ≡ Some name
+
+-- ---- seats
+
+-- an operator has a seat: named from the beginning, or heard of in the text
+abbrev pub HasSeat : List (List ℕ) → List ℕ → List ℕ → Type 0
+HasSeat named text name = (list_any (same_text name) named ≡ true) ⊎ (brought_by (is_operator name) text ≡ [] → ⊥)
+
+-- an operator has a seat now, and who had one has it still
+pub record GivesSeat {L : Type 0} (name : List ℕ) (old new : KeptOperators L) : Type 0 where
+  pub total : length new.named.items + length new.spare.items ≡ length old.named.items + length old.spare.items
+  pub each : (named : List (List ℕ)) (text : List ℕ) → All (HasSeat named text) (operator_names old.named.items) → HasSeat named text name
+      → All (HasSeat named text) (operator_names new.named.items)
+
+-- all seats are given out, each to an operator who has one, or to nobody yet
+pub record AreSeated {L : Type 0} (named : List (List ℕ)) (text : List ℕ) (operators : KeptOperators L) : Type 0 where
+  pub total : length operators.named.items + length operators.spare.items ≡ OPERATOR_SEATS
+  pub each : All (HasSeat named text) (operator_names operators.named.items)

@@ -19,7 +19,7 @@ use Rattle.blot_recovery.specs.declared.taking.Party.{Party}
 use Rattle.blot_recovery.specs.declared.taking.Party.TheVariants.{Operator, Peer}
 use Rattle.blot_recovery.specs.declared.taking.Taking.{Taking}
 use Rattle.blot_recovery.specs.Faults.{IsWanted}
-use Rattle.blot_recovery.specs.Parties.{AreKeptOperators, IsFirst, IsKeptPeer, operator_names}
+use Rattle.blot_recovery.specs.Parties.{AreKeptOperators, AreSeated, IsFirst, IsKeptPeer, operator_names}
 
 -- ---- which frames may stand in a journal
 
@@ -140,4 +140,5 @@ pub record IsTakenUp {L : Type 0} (text : List ℕ) (now : Taking L) : Type 0 wh
 -- the same, by what was asked for
 pub record TakesUpAll {L : Type 0} (first : Taking L) (text : List ℕ) (now : Taking L) : Type 0 where
   pub asks : AsksSame first now
+  pub seated : AreSeated (operator_names first.operators.named.items) text now.operators
   pub taken : IsTakenUp text now

@@ -1,12 +1,14 @@
 //! The operators of a journal, as a text leaves them.
 ghost use Rattle.std.specs.List.{All, slice_get};
-ghost use Rattle.std.specs.Prelude.{◌≡◌, ◌<◌, ℕ, List, [], false, length, IfErr, IfOk, IfSome, None, OnOk, Option, Some};
+ghost use Rattle.std.specs.Prelude.{◌≡◌, ◌+◌, ◌<◌, ℕ, List, [], ◌∷◌, false, length, IfErr, IfOk, IfSome, None, OnOk, Option, Some};
 ghost use Rattle.std.specs.List.{list_any};
+ghost use Rattle.std.specs.Option.{option_to_list};
 ghost use Rattle.blot_types.specs.Keys.{same_text};
 ghost use Rattle.blot_diary.specs.Events.{noted_of};
 ghost use Rattle.blot_diary.specs.Keeping.{IsKept};
 ghost use Rattle.blot_recovery.specs.Faults.{IsHere};
-ghost use Rattle.blot_recovery.specs.Parties.{AreKeptOperators, IsFirst, operator_names};
+ghost use Rattle.blot_recovery.specs.Parties.{AreKeptOperators, GivesSeat, IsFirst, operator_names};
+ghost use Rattle.blot_recovery.specs.Refusals.{IsOfOperators, IsOfSeats};
 ghost use Rattle.blot_recovery.specs.Taking.{IsAskedBy, KeepsLast, TakesUp};
 
 use crate::RecoverFault;
@@ -38,6 +40,8 @@ impl<L: Ledger> KeptOperators<L> {
         requires empty { All (λ receipts. receipts ≡ []) seats.items }
         ensures first { IfOk result (λ made. IsFirst first (operator_names made.named.items)) }
         ensures kept { IfOk result (AreKeptOperators []) }
+        ensures named { IfOk result (λ made. operator_names made.named.items ≡ option_to_list first) }
+        ensures total { IfOk result (λ made. length made.named.items + length made.spare.items ≡ length seats.items) }
     {
         match first {
             Some(name) => with_first(alloc, name, seats),
@@ -59,6 +63,8 @@ impl<L: Ledger> KeptOperators<L> {
         requires kept { IsKept kept }
         requires asked { IsAskedBy name kept.content }
         ensures opening { OnOk result (TakesUp opening.old opening.new (noted_of kept)) }
+        ensures seat { OnOk result (GivesSeat name self.old self.new) }
+        ensures refused { IfErr result (IsOfOperators self.old name opening.old (noted_of kept)) }
         ensures operators { OnOk result ((text more : List ℕ) → KeepsLast text kept more → AreKeptOperators text self.old → AreKeptOperators more self.new) }
         ensures first { OnOk result ((first : Option (List ℕ)) → IsFirst first (operator_names self.old.named.items) → IsFirst first (operator_names self.new.named.items)) }
         ensures fault { IfErr result (IsHere place) }
@@ -72,6 +78,8 @@ impl<L: Ledger> KeptOperators<L> {
         ensures within { IfOk result (λ at. at < length self.new.named.items) }
         ensures name { IfOk result (λ at. slice_get (operator_names self.new.named.items) at ≡ Some name) }
         ensures kept { OnOk result ((text : List ℕ) → AreKeptOperators text self.old → AreKeptOperators text self.new) }
+        ensures seat { OnOk result (GivesSeat name self.old self.new) }
+        ensures seatless { IfErr result (IsOfSeats self.old name) }
         ensures first { OnOk result ((first : Option (List ℕ)) → IsFirst first (operator_names self.old.named.items) → IsFirst first (operator_names self.new.named.items)) }
         ensures fault { IfErr result (IsHere place) }
     {
@@ -87,6 +95,8 @@ impl<L: Ledger> KeptOperators<L> {
         ensures within { IfOk result (λ at. at < length self.new.named.items) }
         ensures name { IfOk result (λ at. slice_get (operator_names self.new.named.items) at ≡ Some name) }
         ensures kept { OnOk result ((text : List ℕ) → AreKeptOperators text self.old → AreKeptOperators text self.new) }
+        ensures seat { OnOk result (GivesSeat name self.old self.new) }
+        ensures seatless { IfErr result (IsOfSeats self.old name) }
         ensures first { OnOk result ((first : Option (List ℕ)) → IsFirst first (operator_names self.old.named.items) → IsFirst first (operator_names self.new.named.items)) }
         ensures fault { IfErr result (IsHere place) }
     {
@@ -110,6 +120,8 @@ fn with_first<L: Ledger>(
     requires empty { All (λ receipts. receipts ≡ []) seats.items }
     ensures first { IfOk result (λ made. slice_get (operator_names made.named.items) 0 ≡ Some name) }
     ensures kept { IfOk result (AreKeptOperators []) }
+    ensures named { IfOk result (λ made. operator_names made.named.items ≡ name ∷ []) }
+    ensures total { IfOk result (λ made. length made.named.items + length made.spare.items ≡ length seats.items) }
 {
     let mut spare = seats;
     let Some(seat) = spare.pop() else {

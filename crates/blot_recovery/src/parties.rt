@@ -5,6 +5,7 @@ ghost use Rattle.blot_diary.specs.Events.{noted_of};
 ghost use Rattle.blot_diary.specs.Keeping.{IsKept};
 ghost use Rattle.blot_recovery.specs.Faults.{IsHere};
 ghost use Rattle.blot_recovery.specs.Parties.{IsKeptOperator, IsKeptPeer, events_told, operator_record_after, peer_record_after};
+ghost use Rattle.blot_recovery.specs.Refusals.{IsOfDesk};
 ghost use Rattle.blot_recovery.specs.Taking.{IsAskedBy, KeepsLast, TakesUp, stands_for, with_event};
 
 use crate::RecoverFault;
@@ -60,6 +61,7 @@ impl<L: Ledger> KeptPeer<L> {
         ensures opening { OnOk result (TakesUp opening.old opening.new (noted_of kept)) }
         ensures peer { OnOk result ((text more : List ℕ) → KeepsLast text kept more → IsKeptPeer own.now text self.old → IsKeptPeer own.now more self.new) }
         ensures name { self.new.peer ≡ self.old.peer }
+        ensures full { IfErr result (IsOfDesk opening.old (noted_of kept)) }
         ensures fault { IfErr result (IsHere place) }
     {
         self.numbers = self.numbers.after(own, &self.peer, &kept);
@@ -98,6 +100,7 @@ impl<L: Ledger> KeptOperator<L> {
         ensures opening { OnOk result (TakesUp opening.old opening.new (noted_of kept)) }
         ensures operator { OnOk result ((text more : List ℕ) → KeepsLast text kept more → IsKeptOperator text self.old → IsKeptOperator more self.new) }
         ensures name { self.new.name ≡ self.old.name }
+        ensures full { IfErr result (IsOfDesk opening.old (noted_of kept)) }
         ensures fault { IfErr result (IsHere place) }
     {
         self.records = kept.number;
@@ -131,6 +134,7 @@ fn take_up<L: Ledger>(
 ) -> Result<(), RecoverFault>
     ensures opening { OnOk result (TakesUp opening.old opening.new noted) }
     ensures seat { OnOk result (events_told seat.new ≡ with_event (events_told seat.old) noted) }
+    ensures full { IfErr result (IsOfDesk opening.old noted) }
     ensures fault { IfErr result (IsHere place) }
 {
     let Some(Noted { event, .. }) = noted else {

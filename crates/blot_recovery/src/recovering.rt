@@ -1,5 +1,6 @@
 //! The text of a journal, taken up.
 ghost use Rattle.std.specs.List.{All, IsDistinct, list_any};
+ghost use Rattle.std.specs.Option.{option_to_list};
 ghost use Rattle.std.specs.Prelude.{◌≡◌, ◌+◌, false, length, IfErr, IfOk, IfSome, OnOk, Some};
 ghost use Rattle.blot_types.specs.Keys.{same_text};
 ghost use Rattle.blot_tag.specs.Joined.{IsWhole};
@@ -7,9 +8,9 @@ ghost use Rattle.blot_desk.specs.Desk.{IsRun, events_of};
 ghost use Rattle.blot_desk.specs.Keeping.{kept_events};
 ghost use Rattle.blot_diary.specs.Beginnings.{beginning_of};
 ghost use Rattle.blot_diary.specs.Diary.{desk_events};
-ghost use Rattle.blot_recovery.specs.Faults.{BeginsOtherwise, IsFaultOf};
 ghost use Rattle.blot_recovery.specs.Moments.{IsOrWasRead};
 ghost use Rattle.blot_recovery.specs.Parties.{AreKeptOperators, IsFirst, IsKeptPeer, operator_names};
+ghost use Rattle.blot_recovery.specs.Refusals.{IsRecoverFault};
 ghost use Rattle.blot_recovery.specs.Taking.{AreInPlace, begun_on, names_of};
 
 use crate::taking::Taking;
@@ -37,8 +38,9 @@ pub struct Recovered<L: Ledger> {
 /// events, frames of listed peers and to them, and no other. An operator may be named who has the first seat of the operators, whether the text
 /// has anything of that one or not. This project's rule.
 ///
-/// A fault tells the place of the first frame that doesn't stand in such a journal, or that the desk doesn't take. The blank is given up
-/// then: begin again with another.
+/// Damaged tells the place of the first frame that doesn't stand in such a journal, of an event that the desk has no room for, or of one of an
+/// operator whom no seat is left for; or the place where no whole frame begins, which is 0 of an empty text. Unlisted tells the peer of the first
+/// such frame. All before is taken up. The blank is given up then: begin again with another.
 pub fn recover<L: Ledger, P: Pieces>(
     alloc: Global,
     blank: Blank,
@@ -74,8 +76,9 @@ pub fn recover<L: Ledger, P: Pieces>(
     ensures operators { IfOk result (λ recovered. AreKeptOperators (P.text text.old) recovered.operators) }
     ensures first { IfOk result (λ recovered. IsFirst operator (operator_names recovered.operators.named.items)) }
 
-    // Another is told where the text begins so, and all before a place of damage is whole frames.
-    ensures fault { IfErr result (IsFaultOf (BeginsOtherwise own day (P.text text.old)) (P.text text.old)) }
+    // Another is told where the text begins so. At a place of damage no whole frame begins, or one that doesn't stand there, or that no seat or no
+    // room is left for; an unlisted peer is that of a frame. All before is whole frames in their places.
+    ensures fault { IfErr result (IsRecoverFault own day peers.now (option_to_list operator) (P.text text.old)) }
 
     // The text stays as it was.
     ensures same { P.text text.new ≡ P.text text.old }

@@ -9,14 +9,11 @@ use blot_lanes::{Peers, Task};
 use blot_operator::{OpenDay, OperatorSeat, open_lines, seat_lines};
 use blot_sockets::Door;
 use blot_stream::ReplayFault;
-use blot_terminals::{Operators, Terminals, serve_terminals};
-use log::Log;
 use std::alloc::{AllocError as NoMemory, Global};
 use std::io::{Read, Write};
 use std::net::OpenStream;
 use std::sync::Wait;
 use std::sync::ledger::Ledger;
-use std::thread::Threads;
 use std::time::Clock;
 
 /// An operator's lines, with the seat and the streams.
@@ -119,59 +116,30 @@ impl<'a, 'i, 'o, R: Wait + Clock, I: Read, O: Write, L: Ledger, K: FrameKeeper, 
     }
 }
 
-/// The operators of an open day who come over a socket, with the peers and the door.
+/// What a closure does.
 #[derive(Drop)]
-pub(crate) struct OverSocket<'a, R, T, L: Ledger, K: FrameKeeper, H> {
-    pub(crate) rt: &'a R,
-    pub(crate) alloc: Global,
-    pub(crate) terminals: &'a T,
-    pub(crate) operators: &'a Operators<L>,
-    pub(crate) desk: &'a Desk<L, K>,
-    pub(crate) peers: &'a Peers<L>,
-    pub(crate) door: &'a Door<H>,
+pub(crate) struct Call<F> {
+    pub(crate) call: F,
 }
 
-impl<'a, R, T, L, K, H> Task for OverSocket<'a, R, T, L, K, H>
-where
-    R: Threads + Wait + Clock + Log + Sync,
-    T: Terminals + Sync,
-    T::Input: Send,
-    T::Output: Send,
-    L: Ledger + Send + Sync,
-    K: FrameKeeper + Send + Sync,
-    H: OpenStream + Sync,
-{
+impl<F: FnOnce() -> Result<(), NoMemory>> Task for Call<F> {
     type Output = Result<(), NoMemory>;
 
     ghost gives = { λ _ _. Unit {0} };
 
     fn run(self) -> Result<(), NoMemory> {
-        let OverSocket {
-            rt,
-            alloc,
-            terminals,
-            operators,
-            desk,
-            peers,
-            door,
-        } = self;
-        let day = PeersDay {
-            rt,
-            peers,
-            door,
-            has_operators: true,
-        };
-        serve_terminals(rt, alloc, terminals, operators, desk, &day, door)
+        let Call { call } = self;
+        call()
     }
 }
 
-// An open day, as its operators ask of it: the sessions of the listed peers, the door, and whether operators come over a socket.
+/// An open day, as its operators ask of it: the sessions of the listed peers, the door, and whether operators come over a socket.
 #[derive(Drop)]
-struct PeersDay<'a, R, L: Ledger, H> {
-    rt: &'a R,
-    peers: &'a Peers<L>,
-    door: &'a Door<H>,
-    has_operators: bool,
+pub(crate) struct PeersDay<'a, R, L: Ledger, H> {
+    pub(crate) rt: &'a R,
+    pub(crate) peers: &'a Peers<L>,
+    pub(crate) door: &'a Door<H>,
+    pub(crate) has_operators: bool,
 }
 
 impl<'a, R: Wait, L: Ledger, H: OpenStream> OpenDay for PeersDay<'a, R, L, H> {

@@ -12,7 +12,7 @@ ghost use Rattle.blotter.specs.Serving.{AreStaffed, StaffedDayServed};
 
 use crate::KeptFault;
 use crate::kept_day::kept_peers;
-use crate::meanwhile::OverSocket;
+use crate::meanwhile::{Call, PeersDay};
 use crate::open_day::first_peers;
 use crate::serving::both;
 use crate::settling::{ended, report_kept};
@@ -25,7 +25,7 @@ use blot_operator::OperatorSeat;
 use blot_recovery::{KeptOperator, KeptOperators, OPERATOR_SEATS, Recovered, open_day};
 use blot_sockets::{Door, SystemClock};
 use blot_stream::{ReplayFault, ServeFault};
-use blot_terminals::{OPERATORS_MAX, Operators, Terminals};
+use blot_terminals::{OPERATORS_MAX, Operators, Terminals, serve_terminals};
 use blot_time::Day;
 use blot_types::Text64;
 use log::Log;
@@ -273,6 +273,41 @@ where
         seats,
         served,
     })
+}
+
+// Serves the connections of listed peers, and the operators meanwhile: whether there was a thread for an operator. An error is that there was none for
+// a lane.
+fn serve_both<L, R, N, H, T, K>(
+    rt: &R,
+    alloc: Global,
+    listener: &N,
+    door: &Door<H>,
+    lanes: u16,
+    desk: &Desk<L, K>,
+    peers: &Peers<L>,
+    operators: &Operators<L>,
+    terminals: &T,
+) -> Result<Result<(), NoMemory>, NoMemory>
+where
+    L: Ledger + Send + Sync,
+    R: Threads + Wait + Clock + Log + Sync,
+    N: OpenListener + Sync,
+    N::Stream: Read + Write + OpenStream + Send,
+    H: OpenStream + Sync,
+    T: Terminals + Sync,
+    T::Input: Send,
+    T::Output: Send,
+    K: FrameKeeper + Send + Sync,
+{
+    let day = PeersDay {
+        rt,
+        peers,
+        door,
+        has_operators: true,
+    };
+    let day = &day;
+    let call = move || serve_terminals(rt, alloc, terminals, operators, desk, day, door);
+    serve_lanes(rt, alloc, listener, peers, desk, door, lanes, Call { call })
 }
 
 // What is told where there was no thread for an operator.

@@ -4,8 +4,8 @@ use Rattle.blot_stream.proofs.ResultLemmas.{if-err}
 use Rattle.blotter.proofs.KeepingLemmas.{kept-day, some-first}
 use Rattle.blotter.proofs.kept_day.serve_kept_day.Goals as goal
 
-pub serve_recovered-requires-some : goal.serve_recovered-requires-some
-serve_recovered-requires-some g c = some-first _ c.in-Ok.recovered.operators.named.items c.in-Ok.ensures.first
+pub serve_recovered-requires-clause-some : goal.serve_recovered-requires-clause-some
+serve_recovered-requires-clause-some g c = some-first _ c.in-Ok.recovered.operators.named.items c.in-Ok.ensures.first
 
 pub returns-in-Ok-clause-served : goal.returns-in-Ok-clause-served
 returns-in-Ok-clause-served g c =

@@ -16,3 +16,6 @@ returns-in-Ok-ended-clause-served g c =
       served = serves-kept g.O.Write.contents _ _ _ _ _ _ _ _ c.args.day _ _ _ c.new-operator.ensures both.1 all.1 c.in-Ok-serve_desk.ensures.told
           c.report_kept-reported.ensures.reported;
     }
+
+pub returns-in-Ok-ended-clause-durable : goal.returns-in-Ok-ended-clause-durable
+returns-in-Ok-ended-clause-durable g c = ok-says _ c.in-Ok-ended.ensures.ok.1 c.report_kept-reported.ensures.durable

@@ -1,7 +1,7 @@
 use Rattle.std.proofs.Common.{refl, subst, sym}
 use Rattle.std.proofs.lemmas.Result.{on_ok_weaker}
 use Rattle.blot_recovery.specs.Parties.{IsKeptOperator}
-use Rattle.blot_recovery.proofs.OperatorLemmas.{first-set, operators-asked}
+use Rattle.blot_recovery.proofs.OperatorLemmas.{first-set, operators-asked, seat-set}
 use Rattle.blot_recovery.proofs.operators.KeptOperators.take.Goals as goal
 
 pub returns-clause-operators : goal.returns-clause-operators
@@ -19,3 +19,9 @@ returns-clause-first g c =
     on_ok_weaker c.take.result (λ _ first before.
     first-set first c.place_for.new.self.named.items _ c.in_ok-at.at c.take.new.self c.index_mut.result.now c.index_mut.ensures.value c.take.ensures.name refl
     (c.in_ok-at.ensures.first first before)) c.take.ensures.operator
+
+pub returns-clause-seat : goal.returns-clause-seat
+returns-clause-seat g c =
+    on_ok_weaker c.take.result (λ _.
+    seat-set c.args.name c.args.self.now c.place_for.new.self _ c.in_ok-at.at c.take.new.self c.index_mut.result.now c.index_mut.ensures.value c.take.ensures.name refl refl
+    c.in_ok-at.ensures.seat) c.take.ensures.operator

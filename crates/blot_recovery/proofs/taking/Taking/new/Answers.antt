@@ -1,7 +1,8 @@
-use Rattle.std.proofs.Common.{◌≡◌, [], refl, subst, sym}
+use Rattle.std.proofs.Common.{◌≡◌, ◌+◌, [], length, rules, refl, subst, sym}
 use Rattle.std.specs.List.{All}
 use Rattle.std.proofs.lemmas.List.Elements.{All-take}
 use Rattle.blot_recovery.specs.declared.fault.RecoverFault.TheVariants.{NoMemory}
+use Rattle.blot_recovery.specs.declared.operators.TheConstants.{OPERATOR_SEATS}
 use Rattle.blot_recovery.specs.Taking.{AreApart}
 use Rattle.blot_recovery.proofs.TestLemmas.{if-told}
 use Rattle.blot_recovery.proofs.TakingLemmas.{none-taken}
@@ -12,8 +13,9 @@ returns-in_err-peers-clause-memory g c = if-told _ NoMemory c.from_residual-in_e
 
 pub returns-clause-first : goal.returns-clause-first
 returns-clause-first g c =
+    let total : length c.in_ok-operators.operators.named.items + length c.in_ok-operators.operators.spare.items ≡ OPERATOR_SEATS = search rules in
     none-taken _ refl c.in_ok-opening.ensures.desk (subst (AreApart c.args.own) (sym c.in_ok-peers.ensures.listed) c.requires.apart)
-    (c.in_ok-peers.ensures.kept c.args.own) c.in_ok-operators.ensures.kept
+    (c.in_ok-peers.ensures.kept c.args.own) c.in_ok-operators.ensures.kept total
 
 pub returns-in_err-spare-clause-memory : goal.returns-in_err-spare-clause-memory
 returns-in_err-spare-clause-memory g c = if-told _ NoMemory c.from_residual-in_err-spare.result c.from_residual-in_err-spare.ensures.1 refl

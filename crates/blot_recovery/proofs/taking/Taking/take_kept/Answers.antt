@@ -3,7 +3,7 @@ use Rattle.std.proofs.lemmas.Result.{on_ok_weaker}
 use Rattle.blot_recovery.specs.Parties.{IsKeptPeer}
 use Rattle.blot_recovery.specs.Taking.{IsPartyOf}
 use Rattle.blot_recovery.proofs.TestLemmas.{both-ok}
-use Rattle.blot_recovery.proofs.TakingLemmas.{asked-taken, peer-taken, same-names}
+use Rattle.blot_recovery.proofs.TakingLemmas.{asked-taken, peer-taken, same-names, seated-asked, seated-more}
 use Rattle.blot_recovery.proofs.taking.Taking.take_kept.Goals as goal
 
 pub returns-in-Operator-clause-held : goal.returns-in-Operator-clause-held
@@ -41,3 +41,14 @@ pub returns-in-Peer-clause-of : goal.returns-in-Peer-clause-of
 returns-in-Peer-clause-of g c =
     let of = subst (IsPartyOf c.args.self.now c.args.kept) c.in-Peer.is c.in_ok-name.ensures.party in
     on_ok_weaker c.take-in-Peer.result (λ _. inr (record { peer = of.peer; place = c.in-Peer.at; listed = of.found; stands = of.stands })) c.take-in-Peer.ensures.opening
+
+pub returns-in-Operator-clause-seats : goal.returns-in-Operator-clause-seats
+returns-in-Operator-clause-seats g c =
+    let by = subst (IsPartyOf c.args.self.now c.args.kept) c.in-Operator.is c.in_ok-name.ensures.party in
+    on_ok_weaker c.take.result (λ gives named text more last seated.
+    seated-asked named text more c.args.kept last c.in-Operator.name by.asked c.args.self.now.operators c.take.new.self gives seated) c.take.ensures.seat
+
+pub returns-in-Peer-clause-seats : goal.returns-in-Peer-clause-seats
+returns-in-Peer-clause-seats g c =
+    on_ok_weaker c.take-in-Peer.result (λ _ named text more last seated.
+    seated-more named text more c.args.kept last c.args.self.now.operators seated) c.take-in-Peer.ensures.opening

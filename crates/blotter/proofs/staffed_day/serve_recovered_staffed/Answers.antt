@@ -1,0 +1,13 @@
+use Rattle.blot_stream.proofs.ResultLemmas.{ok-says}
+use Rattle.blotter.proofs.KeepingLemmas.{all-listed, serves-staffed}
+use Rattle.blotter.proofs.staffed_day.serve_recovered_staffed.Goals as goal
+
+pub kept_peers-requires : goal.kept_peers-requires
+kept_peers-requires g c = all-listed c.args.own c.args.diary.text c.args.recovered.peers.items c.requires.peers
+
+pub returns-in-Ok-ended-clause-served : goal.returns-in-Ok-ended-clause-served
+returns-in-Ok-ended-clause-served g c =
+    serves-staffed g.O.Write.contents _ _ _ c.args.day _ _ c.in-Ok-serve_staffed.ensures c.in-Ok-ended.ensures.ok.1 c.report_kept-reported.ensures.reported
+
+pub returns-in-Ok-ended-clause-durable : goal.returns-in-Ok-ended-clause-durable
+returns-in-Ok-ended-clause-durable g c = ok-says _ c.in-Ok-ended.ensures.ok.1 c.report_kept-reported.ensures.durable
