@@ -256,16 +256,9 @@ where
     let Ok(peers) = Peers::new(alloc, own, listed) else {
         return Err(ServeFault::NoMemory);
     };
-    let task = OverSocket {
-        rt,
-        alloc,
-        terminals,
-        operators: &operators,
-        desk: &desk,
-        peers: &peers,
-        door,
-    };
-    let served = serve_lanes(rt, alloc, listener, &peers, &desk, door, lanes, task)?;
+    let served = serve_both(
+        rt, alloc, listener, door, lanes, &desk, &peers, &operators, terminals,
+    )?;
     let brokers = peers.into_seats(room)?;
     let seats = operators.into_seats(brokers)?;
     Ok(Staffed {
