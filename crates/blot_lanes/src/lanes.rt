@@ -70,6 +70,42 @@ where
     T: Task<Output = A> + Drop,
     ensures { IfOk result (λ given. T.gives task given) }
 {
+    serve_lanes_beside(
+        rt,
+        alloc,
+        listener,
+        peers,
+        desk,
+        door,
+        lanes,
+        move || -> A
+            ensures { T.gives task result }
+        { task.run() },
+    )
+}
+
+/// The same with what a closure does.
+pub fn serve_lanes_beside<R, N, L, K, H, F, A>(
+    rt: &R,
+    alloc: Global,
+    listener: &N,
+    peers: &Peers<L>,
+    desk: &Desk<L, K>,
+    door: &Door<H>,
+    lanes: u16,
+    beside: F,
+) -> Result<A, NoMemory>
+where
+    R: Threads + Wait + Clock + Log + Sync,
+    N: OpenListener + Sync,
+    N::Stream: Read + Write + OpenStream + Send,
+    L: Ledger + Send + Sync,
+    K: FrameKeeper + Send + Sync,
+    H: OpenStream + Sync,
+    F: FnOnce() -> A + Drop,
+    requires { F.pre beside }
+    ensures { IfOk result (λ given. F.post beside given) }
+{
     let shared = Lanes {
         rt,
         alloc,
@@ -84,7 +120,8 @@ where
         thread::scope_env(),
         rt,
         move |scope| -> Result<A, NoMemory>
-            ensures { IfOk result (λ given. T.gives task given) }
+            requires { F.pre beside }
+            ensures { IfOk result (λ given. F.post beside given) }
         {
             let mut running = 0u16;
             for _ in 0..lanes {
@@ -96,7 +133,7 @@ where
                 return Err(NoMemory);
             }
             info!(rt; "lanes {running}");
-            let given = task.run();
+            let given = beside();
             door.close();
             Ok(given)
         },

@@ -116,23 +116,6 @@ impl<'a, 'i, 'o, R: Wait + Clock, I: Read, O: Write, L: Ledger, K: FrameKeeper, 
     }
 }
 
-/// What a closure does.
-#[derive(Drop)]
-pub(crate) struct Call<F> {
-    pub(crate) call: F,
-}
-
-impl<F: FnOnce() -> Result<(), NoMemory>> Task for Call<F> {
-    type Output = Result<(), NoMemory>;
-
-    ghost gives = { λ _ _. Unit {0} };
-
-    fn run(self) -> Result<(), NoMemory> {
-        let Call { call } = self;
-        call()
-    }
-}
-
 /// An open day, as its operators ask of it: the sessions of the listed peers, the door, and whether operators come over a socket.
 #[derive(Drop)]
 pub(crate) struct PeersDay<'a, R, L: Ledger, H> {

@@ -12,7 +12,7 @@ ghost use Rattle.blotter.specs.Serving.{AreStaffed, StaffedDayServed};
 
 use crate::KeptFault;
 use crate::kept_day::kept_peers;
-use crate::meanwhile::{Call, PeersDay};
+use crate::meanwhile::PeersDay;
 use crate::open_day::first_peers;
 use crate::serving::both;
 use crate::settling::{ended, report_kept};
@@ -20,7 +20,7 @@ use blot_desk::{Desk, Seat};
 use blot_diary::Diary;
 use blot_gateway::{Clock as _, FrameKeeper};
 use blot_journal::Device;
-use blot_lanes::{ListedPeer, Peers, serve_lanes};
+use blot_lanes::{ListedPeer, Peers, serve_lanes_beside};
 use blot_operator::OperatorSeat;
 use blot_recovery::{KeptOperator, KeptOperators, OPERATOR_SEATS, Recovered, open_day};
 use blot_sockets::{Door, SystemClock};
@@ -299,8 +299,16 @@ where
         has_operators: true,
     };
     let day = &day;
-    let call = move || serve_terminals(rt, alloc, terminals, operators, desk, day, door);
-    serve_lanes(rt, alloc, listener, peers, desk, door, lanes, Call { call })
+    serve_lanes_beside(
+        rt,
+        alloc,
+        listener,
+        peers,
+        desk,
+        door,
+        lanes,
+        move || serve_terminals(rt, alloc, terminals, operators, desk, day, door),
+    )
 }
 
 // What is told where there was no thread for an operator.
