@@ -19,3 +19,9 @@ returns-in-Ok-ended-clause-served g c =
 
 pub returns-in-Ok-ended-clause-durable : goal.returns-in-Ok-ended-clause-durable
 returns-in-Ok-ended-clause-durable g c = ok-says _ c.in-Ok-ended.ensures.ok.1 c.report_kept-reported.ensures.durable
+
+pub returns-in-Ok-ended-clause-now : goal.returns-in-Ok-ended-clause-now
+returns-in-Ok-ended-clause-now g c = c.report_kept-reported.ensures.now
+
+pub returns-in-Ok-ended-clause-ever : goal.returns-in-Ok-ended-clause-ever
+returns-in-Ok-ended-clause-ever g c = c.report_kept-reported.ensures.ever

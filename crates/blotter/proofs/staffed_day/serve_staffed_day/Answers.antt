@@ -9,8 +9,8 @@ pub first_peers-requires-clause-empty : goal.first_peers-requires-clause-empty
 first_peers-requires-clause-empty g c =
     subst (All (λ receipts. receipts ≡ [])) (sym c.in_ok-spare.ensures.items) (All-take (λ receipts. receipts ≡ []) _ c.in_ok-desk.seats.items c.in_ok-desk.ensures.empty)
 
-pub returns-clause-served : goal.returns-clause-served
-returns-clause-served g c =
+pub returns : goal.returns
+returns g c =
     on-ok c.ended.result c.ended.ensures.ok (λ all. record {
       seats = c.in_ok-staffed.staffed.seats.items;
       staffed = c.in_ok-staffed.ensures;
