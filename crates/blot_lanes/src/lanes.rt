@@ -70,7 +70,7 @@ where
     T: Task<Output = A> + Drop,
     ensures { IfOk result (λ given. T.gives task given) }
 {
-    serve_lanes_beside(
+    serve_crewed(
         rt,
         alloc,
         listener,
@@ -78,14 +78,27 @@ where
         desk,
         door,
         lanes,
-        move || -> A
-            ensures { T.gives task result }
-        { task.run() },
+        &NoCrew {},
+        0,
+        task,
     )
 }
 
-/// The same with what a closure does.
-pub fn serve_lanes_beside<R, N, L, K, H, F, A>(
+/// What some threads do beside the lanes, each until the door is closed.
+pub trait Crew {
+    /// What one of them does.
+    fn run(&self);
+}
+
+// Nobody does anything beside the lanes.
+struct NoCrew {}
+
+impl Crew for NoCrew {
+    fn run(&self) {}
+}
+
+/// The same, with so many more threads beside the lanes, as far as the system gives them. What they do has to end when the door is closed.
+pub fn serve_crewed<R, N, L, K, H, C, T, A>(
     rt: &R,
     alloc: Global,
     listener: &N,
@@ -93,7 +106,9 @@ pub fn serve_lanes_beside<R, N, L, K, H, F, A>(
     desk: &Desk<L, K>,
     door: &Door<H>,
     lanes: u16,
-    beside: F,
+    crew: &C,
+    threads: u16,
+    task: T,
 ) -> Result<A, NoMemory>
 where
     R: Threads + Wait + Clock + Log + Sync,
@@ -102,9 +117,9 @@ where
     L: Ledger + Send + Sync,
     K: FrameKeeper + Send + Sync,
     H: OpenStream + Sync,
-    F: FnOnce() -> A + Drop,
-    requires { F.pre beside }
-    ensures { IfOk result (λ given. F.post beside given) }
+    C: Crew + Sync,
+    T: Task<Output = A> + Drop,
+    ensures { IfOk result (λ given. T.gives task given) }
 {
     let shared = Lanes {
         rt,
@@ -120,8 +135,7 @@ where
         thread::scope_env(),
         rt,
         move |scope| -> Result<A, NoMemory>
-            requires { F.pre beside }
-            ensures { IfOk result (λ given. F.post beside given) }
+            ensures { IfOk result (λ given. T.gives task given) }
         {
             let mut running = 0u16;
             for _ in 0..lanes {
@@ -133,7 +147,10 @@ where
                 return Err(NoMemory);
             }
             info!(rt; "lanes {running}");
-            let given = beside();
+            for _ in 0..threads {
+                let _ = scope.spawn(move || crew.run());
+            }
+            let given = task.run();
             door.close();
             Ok(given)
         },

@@ -8,4 +8,4 @@ mod patient;
 mod terminals;
 
 pub use operators::{NameFault, OPERATORS_MAX, Operators};
-pub use terminals::{Terminals, serve_terminals};
+pub use terminals::{Room, TERMINALS, Terminals};

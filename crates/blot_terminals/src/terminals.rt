@@ -9,7 +9,7 @@ use blot_sockets::Door;
 use blot_stream::ReplayFault;
 use blot_types::Text64;
 use log::{Log, error, info, warn};
-use std::alloc::{AllocError as NoMemory, Global};
+use std::alloc::Global;
 use std::io::{self, Read, Write};
 use std::net::OpenStream;
 use std::os::unix::net::{UnixListener, UnixStream};
@@ -17,12 +17,11 @@ use std::sync::Wait;
 use std::sync::atomic::AtomicBool;
 use std::sync::atomic::Ordering::SeqCst;
 use std::sync::ledger::Ledger;
-use std::thread::Threads;
 use std::time::{Clock, Duration};
 use std::{str, thread};
 
-// How many terminals are served at once: twice as many as a day has operators, so that those without a name keep nobody out.
-const TERMINALS: u16 = 32;
+/// How many terminals are served at once: twice as many as a day has operators, so that those without a name keep nobody out.
+pub const TERMINALS: u16 = 32;
 
 // How many seconds a read waits for bytes.
 const READ_WAIT: u64 = 1;
@@ -62,9 +61,9 @@ impl Terminals for UnixListener {
     }
 }
 
-// What all terminals of a day share.
+/// Where the operators of an open day come, and what their terminals share.
 #[derive(Drop)]
-struct Room<'a, R, T, L: Ledger, K: FrameKeeper, D, H> {
+pub struct Room<'a, R, T, L: Ledger, K: FrameKeeper, D, H> {
     rt: &'a R,
     alloc: Global,
     terminals: &'a T,
@@ -76,53 +75,6 @@ struct Room<'a, R, T, L: Ledger, K: FrameKeeper, D, H> {
     is_failing: AtomicBool,
 }
 
-/// Serves the operators of an open day, each terminal in a thread of its own, until the door is closed. A terminal names itself, and then its
-/// lines are answered by the seat of that name. Who is on is logged. An error is out of memory: there was no thread for a terminal.
-pub fn serve_terminals<R, T, L, K, D, H>(
-    rt: &R,
-    alloc: Global,
-    terminals: &T,
-    operators: &Operators<L>,
-    desk: &Desk<L, K>,
-    day: &D,
-    door: &Door<H>,
-) -> Result<(), NoMemory>
-where
-    R: Threads + Wait + Clock + Log + Sync,
-    T: Terminals + Sync,
-    T::Input: Send,
-    T::Output: Send,
-    L: Ledger + Send + Sync,
-    K: FrameKeeper + Send + Sync,
-    D: OpenDay + Sync,
-    H: OpenStream + Sync,
-{
-    let room = Room {
-        rt,
-        alloc,
-        terminals,
-        operators,
-        desk,
-        day,
-        door,
-        is_failing: AtomicBool::new(false),
-    };
-    let room = &room;
-    thread::scope(
-        thread::scope_env(),
-        rt,
-        move |scope| -> Result<(), NoMemory> {
-            let mut is_served = false;
-            for _ in 0..TERMINALS {
-                if scope.spawn(move || room.run()).is_ok() {
-                    is_served = true;
-                }
-            }
-            if is_served { Ok(()) } else { Err(NoMemory) }
-        },
-    )
-}
-
 impl<'a, R, T, L, K, D, H> Room<'a, R, T, L, K, D, H>
 where
     R: Wait + Clock + Log,
@@ -132,8 +84,31 @@ where
     D: OpenDay,
     H: OpenStream,
 {
-    // Takes terminals, and serves each, one after the other, until the door is closed.
-    fn run(&self) {
+    /// The room of these operators.
+    pub fn new(
+        rt: &'a R,
+        alloc: Global,
+        terminals: &'a T,
+        operators: &'a Operators<L>,
+        desk: &'a Desk<L, K>,
+        day: &'a D,
+        door: &'a Door<H>,
+    ) -> Room<'a, R, T, L, K, D, H> {
+        Room {
+            rt,
+            alloc,
+            terminals,
+            operators,
+            desk,
+            day,
+            door,
+            is_failing: AtomicBool::new(false),
+        }
+    }
+
+    /// Takes terminals, and serves each, one after the other, until the door is closed. So many threads do this at once as terminals are to be served.
+    /// A terminal names itself, and then its lines are answered by the seat of that name. Who is on is logged.
+    pub fn run(&self) {
         for _ in 0..u64::MAX {
             if self.door.is_closed() {
                 return;

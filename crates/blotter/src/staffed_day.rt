@@ -14,18 +14,17 @@ use crate::KeptFault;
 use crate::kept_day::kept_peers;
 use crate::meanwhile::PeersDay;
 use crate::open_day::first_peers;
-use crate::serving::both;
 use crate::settling::{ended, report_kept};
 use blot_desk::{Desk, Seat};
 use blot_diary::Diary;
 use blot_gateway::{Clock as _, FrameKeeper};
 use blot_journal::Device;
-use blot_lanes::{ListedPeer, Peers, serve_lanes_beside};
-use blot_operator::OperatorSeat;
+use blot_lanes::{Crew, ListedPeer, Peers, Task, serve_crewed};
+use blot_operator::{OpenDay, OperatorSeat};
 use blot_recovery::{KeptOperator, KeptOperators, OPERATOR_SEATS, Recovered, open_day};
 use blot_sockets::{Door, SystemClock};
-use blot_stream::{ReplayFault, ServeFault};
-use blot_terminals::{OPERATORS_MAX, Operators, Terminals, serve_terminals};
+use blot_stream::ServeFault;
+use blot_terminals::{OPERATORS_MAX, Operators, Room, TERMINALS, Terminals};
 use blot_time::Day;
 use blot_types::Text64;
 use log::Log;
@@ -37,19 +36,56 @@ use std::sync::ledger::{Blank, Ledger};
 use std::thread::Threads;
 use std::time::Clock;
 
-/// What a desk leaves that was served in lanes and to operators over a socket: the seats of the brokers, and behind them those of the operators; and
-/// whether there was a thread for an operator.
+/// What a desk leaves that was served in lanes and to operators over a socket: the seats of the brokers, and behind them those of the operators.
 #[derive(Drop)]
 struct Staffed<L: Ledger, K: FrameKeeper> {
     desk: Desk<L, K>,
     seats: Vec<Seat<L>>,
-    served: Result<(), NoMemory>,
+}
+
+// What each thread does that serves operators.
+#[derive(Drop)]
+struct Staff<'a, 'b, R, T, L: Ledger, K: FrameKeeper, D, H> {
+    room: &'b Room<'a, R, T, L, K, D, H>,
+}
+
+impl<'a, 'b, R, T, L, K, D, H> Crew for Staff<'a, 'b, R, T, L, K, D, H>
+where
+    R: Wait + Clock + Log,
+    T: Terminals,
+    L: Ledger,
+    K: FrameKeeper,
+    D: OpenDay,
+    H: OpenStream,
+{
+    fn run(&self) {
+        self.room.run();
+    }
+}
+
+impl<'a, 'b, R, T, L, K, D, H> Task for Staff<'a, 'b, R, T, L, K, D, H>
+where
+    R: Wait + Clock + Log,
+    T: Terminals,
+    L: Ledger,
+    K: FrameKeeper,
+    D: OpenDay,
+    H: OpenStream,
+{
+    type Output = ();
+
+    ghost gives = { λ _ _. Unit {0} };
+
+    fn run(self) {
+        let Staff { room } = self;
+        room.run();
+    }
 }
 
 /// Serves an open day as `serve_open_day` does, but that its operators come over a socket, up to sixteen names in a day, and many at once. The line
 /// `close` of any of them ends the day; the end of an operator's connection ends nothing else.
 ///
-/// NoMemory: memory ran out; before any connection is taken where there is no thread for a lane, and at once where there is none for an operator.
+/// NoMemory: memory ran out; before any connection is taken where there is no thread for a lane.
 /// Lines: the report can't be written. Unsettled: the receipts aren't those of the history.
 pub fn serve_staffed_day<L, R, N, H, T, O>(
     rt: &R,
@@ -94,13 +130,9 @@ where
     let staffed = serve_staffed(
         rt, alloc, desk, listener, door, lanes, own, listed, operators, terminals,
     )?;
-    let Staffed {
-        desk,
-        seats,
-        served,
-    } = staffed;
+    let Staffed { desk, seats } = staffed;
     let (reported, _) = report_kept(rt, alloc, desk, seats, day, output);
-    ended(both(Ok(()), told(served)), reported)
+    ended(Ok(()), reported)
 }
 
 /// Serves such a day, and keeps it in the journal of this file, as `serve_kept_day` does. What is told to an operator is durable before.
@@ -214,13 +246,9 @@ where
         Ok(staffed) => staffed,
         Err(fault) => return Err((KeptFault::Serving(fault), None)),
     };
-    let Staffed {
-        desk,
-        seats,
-        served,
-    } = staffed;
+    let Staffed { desk, seats } = staffed;
     let (reported, diary) = report_kept(rt, alloc, desk, seats, day, output);
-    match ended(both(Ok(()), told(served)), reported) {
+    match ended(Ok(()), reported) {
         Ok(()) => Ok(diary),
         Err(fault) => Err((KeptFault::Serving(fault), Some(diary.into_device()))),
     }
@@ -251,72 +279,33 @@ where
     K: FrameKeeper + Send + Sync,
     ensures { IfOk result (λ staffed. AreStaffed staffed.seats.items) }
 {
-    // Room for all seats, so that the end of the day asks for no memory to gather them.
-    let room = Vec::with_capacity(alloc, listed.len().saturating_add(OPERATOR_SEATS as usize))?;
+    // Enough for all seats, so that the end of the day asks for no memory to gather them.
+    let seats = Vec::with_capacity(alloc, listed.len().saturating_add(OPERATOR_SEATS as usize))?;
     let Ok(peers) = Peers::new(alloc, own, listed) else {
         return Err(ServeFault::NoMemory);
     };
-    let served = serve_both(
-        rt, alloc, listener, door, lanes, &desk, &peers, &operators, terminals,
-    )?;
-    let brokers = peers.into_seats(room)?;
-    let seats = operators.into_seats(brokers)?;
-    Ok(Staffed {
-        desk,
-        seats,
-        served,
-    })
-}
-
-// Serves the connections of listed peers, and the operators meanwhile: whether there was a thread for an operator. An error is that there was none for
-// a lane.
-fn serve_both<L, R, N, H, T, K>(
-    rt: &R,
-    alloc: Global,
-    listener: &N,
-    door: &Door<H>,
-    lanes: u16,
-    desk: &Desk<L, K>,
-    peers: &Peers<L>,
-    operators: &Operators<L>,
-    terminals: &T,
-) -> Result<Result<(), NoMemory>, NoMemory>
-where
-    L: Ledger + Send + Sync,
-    R: Threads + Wait + Clock + Log + Sync,
-    N: OpenListener + Sync,
-    N::Stream: Read + Write + OpenStream + Send,
-    H: OpenStream + Sync,
-    T: Terminals + Sync,
-    T::Input: Send,
-    T::Output: Send,
-    K: FrameKeeper + Send + Sync,
-{
     let day = PeersDay {
         rt,
-        peers,
+        peers: &peers,
         door,
         has_operators: true,
     };
-    let day = &day;
-    serve_lanes_beside(
+    let staff = Room::new(rt, alloc, terminals, &operators, &desk, &day, door);
+    serve_crewed(
         rt,
         alloc,
         listener,
-        peers,
-        desk,
+        &peers,
+        &desk,
         door,
         lanes,
-        move || serve_terminals(rt, alloc, terminals, operators, desk, day, door),
-    )
-}
-
-// What is told where there was no thread for an operator.
-fn told(served: Result<(), NoMemory>) -> Result<(), ReplayFault> {
-    match served {
-        Ok(()) => Ok(()),
-        Err(_) => Err(ReplayFault::NoMemory),
-    }
+        &Staff { room: &staff },
+        TERMINALS - 1,
+        Staff { room: &staff },
+    )?;
+    let brokers = peers.into_seats(seats)?;
+    let seats = operators.into_seats(brokers)?;
+    Ok(Staffed { desk, seats })
 }
 
 // The operators as the text of a journal leaves them.
