@@ -45,11 +45,11 @@ struct Staffed<L: Ledger, K: FrameKeeper> {
 
 // What each thread does that serves operators.
 #[derive(Drop)]
-struct Staff<'a, 'b, R, T, L: Ledger, K: FrameKeeper, D, H> {
-    room: &'b Room<'a, R, T, L, K, D, H>,
+struct Staff<'a, R, T, L: Ledger, K: FrameKeeper, D, H> {
+    room: &'a Room<'a, R, T, L, K, D, H>,
 }
 
-impl<'a, 'b, R, T, L, K, D, H> Crew for Staff<'a, 'b, R, T, L, K, D, H>
+impl<'a, R, T, L, K, D, H> Crew for Staff<'a, R, T, L, K, D, H>
 where
     R: Wait + Clock + Log,
     T: Terminals,
@@ -63,7 +63,7 @@ where
     }
 }
 
-impl<'a, 'b, R, T, L, K, D, H> Task for Staff<'a, 'b, R, T, L, K, D, H>
+impl<'a, R, T, L, K, D, H> Task for Staff<'a, R, T, L, K, D, H>
 where
     R: Wait + Clock + Log,
     T: Terminals,
