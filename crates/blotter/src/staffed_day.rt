@@ -280,7 +280,7 @@ where
     ensures { IfOk result (λ staffed. AreStaffed staffed.seats.items) }
 {
     // Enough for all seats, so that the end of the day asks for no memory to gather them.
-    let seats = Vec::with_capacity(alloc, listed.len().saturating_add(OPERATOR_SEATS as usize))?;
+    let space = Vec::with_capacity(alloc, listed.len().saturating_add(OPERATOR_SEATS as usize))?;
     let Ok(peers) = Peers::new(alloc, own, listed) else {
         return Err(ServeFault::NoMemory);
     };
@@ -290,22 +290,77 @@ where
         door,
         has_operators: true,
     };
-    let staff = Room::new(rt, alloc, terminals, &operators, &desk, &day, door);
+    serve_in(
+        rt, alloc, listener, door, lanes, &desk, &peers, &operators, terminals, &day,
+    )?;
+    let brokers = peers.into_seats(space)?;
+    let seats = operators.into_seats(brokers)?;
+    Ok(Staffed { desk, seats })
+}
+
+// Serves the connections of listed peers, and the operators meanwhile. An error is that there was no thread for a lane.
+fn serve_in<'a, L, R, N, H, T, K>(
+    rt: &'a R,
+    alloc: Global,
+    listener: &N,
+    door: &'a Door<H>,
+    lanes: u16,
+    desk: &'a Desk<L, K>,
+    peers: &'a Peers<L>,
+    operators: &'a Operators<L>,
+    terminals: &'a T,
+    day: &'a PeersDay<'a, R, L, H>,
+) -> Result<(), NoMemory>
+where
+    L: Ledger + Send + Sync,
+    R: Threads + Wait + Clock + Log + Sync,
+    N: OpenListener + Sync,
+    N::Stream: Read + Write + OpenStream + Send,
+    H: OpenStream + Sync,
+    T: Terminals + Sync,
+    T::Input: Send,
+    T::Output: Send,
+    K: FrameKeeper + Send + Sync,
+{
+    let room = Room::new(rt, alloc, terminals, operators, desk, day, door);
+    serve_staff(rt, alloc, listener, door, lanes, desk, peers, &room)
+}
+
+// Serves the operators of a room in so many threads, beside the lanes.
+fn serve_staff<'a, L, R, N, H, T, K, D>(
+    rt: &R,
+    alloc: Global,
+    listener: &N,
+    door: &Door<H>,
+    lanes: u16,
+    desk: &Desk<L, K>,
+    peers: &Peers<L>,
+    room: &Room<'a, R, T, L, K, D, H>,
+) -> Result<(), NoMemory>
+where
+    L: Ledger + Send + Sync,
+    R: Threads + Wait + Clock + Log + Sync,
+    N: OpenListener + Sync,
+    N::Stream: Read + Write + OpenStream + Send,
+    H: OpenStream + Sync,
+    T: Terminals + Sync,
+    T::Input: Send,
+    T::Output: Send,
+    K: FrameKeeper + Send + Sync,
+    D: OpenDay + Sync,
+{
     serve_crewed(
         rt,
         alloc,
         listener,
-        &peers,
-        &desk,
+        peers,
+        desk,
         door,
         lanes,
-        &Staff { room: &staff },
+        &Staff { room },
         TERMINALS - 1,
-        Staff { room: &staff },
-    )?;
-    let brokers = peers.into_seats(seats)?;
-    let seats = operators.into_seats(brokers)?;
-    Ok(Staffed { desk, seats })
+        Staff { room },
+    )
 }
 
 // The operators as the text of a journal leaves them.
