@@ -2,6 +2,7 @@
 
   drawn_day(draw, count, peer)         a broker's day, in short words
   Broker(peer, port, is_in, seed)      its engine: it keeps its numbers from one connection to the next, and minds those that come
+  In(process)                          the brokers whose day is in the book
   commands_of(broker)                  the commands of its day
 """
 import random
@@ -38,6 +39,17 @@ def drawn_day(draw, count, peer):
         else:
             day.append(f'AL{number} cancels {draw.choice(allocs)}')
     return day
+
+
+class In(set):
+    """The brokers whose day is in the book, and whether the program is over."""
+
+    def __init__(self, process):
+        super().__init__()
+        self.process = process
+
+    def is_over(self):
+        return self.process.poll() is not None
 
 
 class Broker(Engine):

@@ -6,6 +6,8 @@
 //   CUT_FILE     the file
 //   CUT_NUMBER   the number of the call at which the power fails, from 1; 0 for none
 //   CUT_SEED     what is drawn goes by this number
+//   CUT_FAILS    an error of the system, by its number: in place of the power the disk fails. The call answers with this error, and so does each later one of
+//                these; a second sync after one that failed ends the program, with the status 97
 //   CUT_COUNT    a file of eight bytes: how many such calls came. It is mapped, and so is there however the program ends
 //
 // It needs no header, so that a compiler alone builds it. The program ends with the status 99.
@@ -27,9 +29,10 @@ extern size strlen(const char *);
 extern int strcmp(const char *, const char *);
 extern void *memcpy(void *, const void *, size);
 extern int snprintf(char *, size, const char *, ...);
+extern int *__errno_location(void);
 extern void _exit(int) __attribute__((noreturn));
 
-enum { READ_WRITE = 2, CAN_READ_WRITE = 3, SHARED = 1, FROM_HERE = 1, FROM_END = 2, PATH = 4096, KEPT = 256, CUT = 99 };
+enum { READ_WRITE = 2, CAN_READ_WRITE = 3, SHARED = 1, FROM_HERE = 1, FROM_END = 2, PATH = 4096, KEPT = 256, CUT = 99, TRIED_AGAIN = 97 };
 
 // A write that isn't synced: where, what stood there, and what stands there now; or a cut, by the bytes that it took.
 struct change {
@@ -40,9 +43,9 @@ struct change {
 
 static const char *path;
 static char path_new[PATH];
-static number cut_at, seed, unmapped, *count = &unmapped;
+static number cut_at, seed, fails, unmapped, *count = &unmapped;
 static struct change changes[KEPT];
-static int changed, is_renamed, lock;
+static int changed, is_renamed, has_failed, lock;
 
 static long (*next_write)(int, const void *, size);
 static long (*next_pwrite)(int, const void *, size, long);
@@ -58,10 +61,11 @@ __attribute__((constructor)) static void begin(void) {
     next_fdatasync = dlsym(next, "fdatasync");
     next_fsync = dlsym(next, "fsync");
     next_rename = dlsym(next, "rename");
-    const char *at = getenv("CUT_NUMBER"), *drawn = getenv("CUT_SEED"), *counts = getenv("CUT_COUNT");
+    const char *at = getenv("CUT_NUMBER"), *drawn = getenv("CUT_SEED"), *counts = getenv("CUT_COUNT"), *error = getenv("CUT_FAILS");
     path = getenv("CUT_FILE");
     snprintf(path_new, sizeof path_new, "%s.new", path ? path : "");
     cut_at = at ? strtoul(at, 0, 10) : 0;
+    fails = error ? strtoul(error, 0, 10) : 0;
     seed = drawn ? strtoul(drawn, 0, 10) : 1;
     int file = counts ? open(counts, READ_WRITE) : -1;
     void *mapped = file < 0 ? (void *)-1 : mmap(0, sizeof unmapped, CAN_READ_WRITE, SHARED, file, 0);
@@ -143,7 +147,15 @@ static void leave_part(int fd, struct change *it) {
     next_pwrite(fd, it->new + from, to - from, it->at + from);
 }
 
-static void cut_power(void) {
+static void forget(void) {
+    for (; changed > 0; changed--) {
+        free(changes[changed - 1].old);
+        free(changes[changed - 1].new);
+    }
+}
+
+// Leaves what wasn't synced in any state, and ends the program, or has its disk fail from here on.
+static long cut_power(void) {
     if (is_renamed && drawn(2))
         next_rename(path, path_new);
     int fd = open(path, READ_WRITE);
@@ -152,19 +164,19 @@ static void cut_power(void) {
         put_back(fd, &changes[it - 1]);
     for (int it = 0; fd >= 0 && it < changed; it++)
         leave_part(fd, &changes[it]);
-    _exit(CUT);
+    if (!fails)
+        _exit(CUT);
+    close(fd);
+    forget();
+    has_failed = 1;
+    is_renamed = 0;
+    *__errno_location() = fails;
+    return -1;
 }
 
 // Counts a call; whether the power fails at it.
 static int is_last(void) {
     return ++*count == cut_at;
-}
-
-static void forget(void) {
-    for (; changed > 0; changed--) {
-        free(changes[changed - 1].old);
-        free(changes[changed - 1].new);
-    }
 }
 
 long write(int fd, const void *bytes, size length) {
@@ -175,8 +187,8 @@ long write(int fd, const void *bytes, size length) {
     take();
     note(fd, 0, lseek(fd, 0, FROM_HERE), bytes, length);
     long done = next_write(fd, bytes, length);
-    if (is_last())
-        cut_power();
+    if (is_last() || has_failed)
+        done = cut_power();
     give();
     return done;
 }
@@ -187,8 +199,8 @@ long pwrite(int fd, const void *bytes, size length, long at) {
     take();
     note(fd, 0, at, bytes, length);
     long done = next_pwrite(fd, bytes, length, at);
-    if (is_last())
-        cut_power();
+    if (is_last() || has_failed)
+        done = cut_power();
     give();
     return done;
 }
@@ -199,17 +211,19 @@ int ftruncate(int fd, long length) {
     take();
     note(fd, 1, length, 0, 0);
     int done = next_ftruncate(fd, length);
-    if (is_last())
-        cut_power();
+    if (is_last() || has_failed)
+        done = cut_power();
     give();
     return done;
 }
 
 static int synced(int fd, int (*next)(int)) {
+    static int is_failed;
     take();
-    if (is_last())
-        cut_power();
-    int done = next(fd);
+    if (is_failed)
+        _exit(TRIED_AGAIN);
+    is_failed = is_last() || has_failed;
+    int done = is_failed ? cut_power() : next(fd);
     if (done == 0)
         forget();
     give();
@@ -226,10 +240,11 @@ int fsync(int fd) {
         return synced(fd, next_fsync);
     if (is_renamed) {
         take();
-        if (is_last())
-            cut_power();
+        int is_failed = is_last() && cut_power();
         is_renamed = 0;
         give();
+        if (is_failed)
+            return -1;
     }
     return next_fsync(fd);
 }
@@ -240,8 +255,8 @@ int rename(const char *from, const char *to) {
     take();
     int done = next_rename(from, to);
     is_renamed = done == 0;
-    if (is_last())
-        cut_power();
+    if (is_last() || has_failed)
+        done = cut_power();
     give();
     return done;
 }

@@ -6,7 +6,7 @@
   Day(own, peers).take(frame)            one message, with what became of it
   journal(file)                          what a day's journal keeps: its events, the desk after them, and each peer's numbers
   received(file)                         the messages in it that were received, as they came
-  journal_fault(file, own, day, peers)   why it isn't taken up, in the words that follow its name, or None
+  journal_fault(file, own, day, peers)   why it isn't taken up, in the words that follow its name, or None; a day and peers of None are as `desk` and `audit` ask
 
 Each rule stands once, in the order and the words of docs/FORMATS.md, docs/SESSION.md and docs/DEFINITIONS.md; where the two
 programs differ, the page says which is wrong. Nothing is kept that can be worked out: each answer is computed anew from the list
@@ -1106,20 +1106,46 @@ def received(file):
     return messages
 
 
+def kept_of(frame):
+    """The head of a journal's frame, and what it keeps: none where it is at fault. One of the journal's own that doesn't say what it has to keeps nothing clear."""
+    head, body = message_of(frame)
+    if not head or isinstance(body, Fault):
+        return None
+    fields, _ = fields_of(frame)
+    says = {'UD': first(fields, 75, day), 'UN': numbers_named(frame), 'UR': values_of(fields, 96), 'UL': event_of(frame)}
+    if isinstance(body, Command):
+        return head, 'command'
+    return head, 'message' if head.kind not in says else head.kind if says[head.kind] else 'unclear'
+
+
+def stands(head, what, own, peers):
+    """What is wrong with the place of a frame behind the first, if anything: that it is damage, or of whom it is who isn't listed."""
+    if what == 'UL':
+        return None if (head.sender, head.target) == (own, own) else 'damage'
+    other = head.target if head.sender == own else head.sender
+    if what in ('UD', 'unclear') or other == own:
+        return 'damage'
+    if other not in peers:
+        return f"has a message of {other}, which isn't listed"
+    ways = {'command': [(other, own)], 'message': [(other, own), (own, other)]}.get(what, [(own, other)])
+    return None if (head.sender, head.target) in ways else 'damage'
+
+
 def journal_fault(file, own, dated, peers):
-    """Why a journal isn't taken up by a blotter of this name, day and peers, in the words behind the file's name: None where it is."""
+    """Why a journal isn't taken up by a blotter of this name, day and peers, in the words behind the file's name: None where it is. Without a day it is read by
+    `desk`, and without peers too by `audit`, to which it is a capture, whoever sent what."""
     try:
         text = text_of(file)
     except NoJournal as why:
         return 'is no journal' if str(why) == 'no journal' else f'is damaged at byte {len(file)}'
     for what, offset, piece in pieces_of(text):
-        head, _ = message_of(piece) if what == 'message' else (None, None)
-        if not head or (head.kind == 'UD') != (offset == 0):
-            return f'is damaged at byte {HEAD + offset}'
-        named = first(fields_of(piece)[0], 75, day) if offset == 0 else dated
-        if offset == 0 and (head.sender, named) != (own, dated):
-            return f'is the journal of {head.sender}, {named}'
-        for party in (head.sender, head.target):
-            if party not in (own, *peers):
-                return f"has a message of {party}, which isn't listed"
+        kept, damage = kept_of(piece) if what == 'message' else None, f'is damaged at byte {HEAD + offset}'
+        if not kept or offset == 0 and kept[1] != 'UD':
+            return damage
+        named = first(fields_of(piece)[0], 75, day)
+        if offset == 0 and (kept[0].sender != own or dated not in (None, named)):
+            return f'is the journal of {kept[0].sender}, {named}'
+        wrong = stands(*kept, own, peers) if offset and peers is not None else None
+        if wrong:
+            return damage if wrong == 'damage' else wrong
     return None

@@ -1,12 +1,13 @@
 """Brokers' engines and an operator for a `serve` that is refused memory: each sends a day over several connections, and loses nothing.
 
-  served(command, port, environment, seconds, errors, is_open)     what the program printed, its status and its standard error, of an
-                                                                   open day or of rounds
+  served(command, port, environment, seconds, errors, is_open, path)     what the program printed, its status and its standard error, of an
+                                                                         open day, with the operator at a socket's path or not, or of rounds
 
 An engine keeps its numbers from one connection to the next, and sends again what it's asked for, with 43=Y; what isn't sent again it
 covers by a gap fill. It knows that the blotter has all when the Heartbeat comes that answers its last TestRequest, and logs out. Where
 its connection is closed before, it comes back, in rounds in the next one. Whatever comes has to be a sound message for it.
 """
+import contextlib
 import re
 import socket
 import subprocess
@@ -29,7 +30,7 @@ LINES = [('order BRKA NONE', 'none'), ('fly', 'bad 1'), ('allocate BRKA OP1 XYZ 
          ('mine', r'accepted \d+|none'), ('redo', 'refused 15 NothingToRedo'), ('position C XYZ', 'none')]
 
 # What a day of rounds logs, and an open day.
-LOGGED = r'wire [01] ended [0-5]$|lanes \d+$|no connection can be accepted$|BRK[AB] on 127\.0\.0\.1:\d+$|(BRK[AB]|127\.0\.0\.1:\d+) ended [0-6] [A-Za-z]+$'
+LOGGED = r'wire [01] ended [0-5]$|lanes \d+$|operator anna o(n|ff)$|no operator can connect|no connection can be accepted$|BRK[AB] on 127\.0\.0\.1:\d+$|(BRK[AB]|127\.0\.0\.1:\d+) ended [0-6] [A-Za-z]+$'
 
 
 class Closed(Exception):
@@ -182,6 +183,50 @@ def operate(process, is_in, is_open):
         pass
 
 
+def asked(lines, line):
+    """The line that answers one at a terminal, or nothing where the connection ends."""
+    with contextlib.suppress(OSError):
+        lines.write(line.replace(' ', '\t').encode() + b'\n')
+        lines.flush()
+        return lines.readline().decode().rstrip('\n')
+    return ''
+
+
+def terminal(path, process):
+    """A terminal of anna's, or none where the program is over. Where it ends before she has her name, another is tried."""
+    while process.poll() is None:
+        with contextlib.suppress(OSError):
+            wire = socket.socket(socket.AF_UNIX)
+            wire.settimeout(WAIT)
+            wire.connect(path)
+            lines = wire.makefile('rwb')
+            wire.close()
+            if asked(lines, 'operator anna'):
+                return lines
+            lines.close()
+        time.sleep(0.01)
+    return None
+
+
+def operate_over(path, process, is_in, told):
+    """An operator's lines over a socket, after those of BRKA, until one has no answer; the answers are put to `told`. After the brokers' days the day is closed."""
+    is_in.events['BRKA'].wait(ASKS)
+    lines = terminal(path, process)
+    for line, _ in LINES:
+        answer = asked(lines, line) if lines else ''
+        if not answer:
+            break
+        told.append(f'{answer}\n'.encode())
+    for event in is_in.events.values():
+        event.wait(WAIT)
+    while lines and asked(lines, 'close') != 'closed':
+        with contextlib.suppress(OSError):
+            lines.close()
+        lines = terminal(path, process)
+    if lines:
+        lines.close()
+
+
 def guarded(task, faults):
     def run():
         try:
@@ -196,15 +241,15 @@ def heard(stream, lines):
         lines.append(line)
 
 
-def served(command, port, environment, seconds, errors, is_open=False):
+def served(command, port, environment, seconds, errors, is_open=False, path=None):
     """Plays a day to its end: what the program printed, its status, its standard error, the acknowledgements, and what went wrong. The lines of
-    standard error are put to `errors` as they come."""
+    standard error are put to `errors` as they come. Where the operator comes over a socket, at this path, the answers stand before what is printed."""
     process = subprocess.Popen(command, stdin=subprocess.PIPE, stdout=subprocess.PIPE, stderr=subprocess.PIPE, env=environment)
     alarm = threading.Timer(seconds, process.kill)
     alarm.start()
-    printed, faults, is_in = [], [], Progress(process)
+    printed, told, faults, is_in = [], [], [], Progress(process)
     engines = [Engine(peer, port, is_in, DAYS[peer]) for peer in DAYS]
-    tasks = [*(it.run for it in engines), lambda: operate(process, is_in, is_open), lambda: printed.append(process.stdout.read()),
+    tasks = [*(it.run for it in engines), lambda: operate_over(path, process, is_in, told) if path else operate(process, is_in, is_open), lambda: printed.append(process.stdout.read()),
              lambda: heard(process.stderr, errors)]
     threads = [threading.Thread(target=guarded(it, faults)) for it in tasks]
     for thread in threads:
@@ -217,7 +262,7 @@ def served(command, port, environment, seconds, errors, is_open=False):
         faults.append('it had not ended')
     for stream in (process.stdout, process.stderr):
         stream.close()
-    return printed[0], status, b''.join(errors), {it.peer: it.acknowledged for it in engines}, faults
+    return b''.join(told) + printed[0], status, b''.join(errors), {it.peer: it.acknowledged for it in engines}, faults
 
 
 def right_answers(printed):
@@ -236,8 +281,8 @@ def is_report_or_none(lines):
     return not lines or lines[0] == REPORT[0].replace(' ', '\t') and lines[-1] == f'end\t{len(lines) - 2}'
 
 
-def fault_of(printed, status, errors, acknowledged, faults, refused):
-    """What is wrong with a served day, or None."""
+def fault_of(printed, status, errors, acknowledged, faults, refused, may_stop=False):
+    """What is wrong with a served day, or None. Where the operator comes over a socket, want of memory may end the connection and not the day."""
     found = right_answers(printed.decode('latin-1'))
     *logged, last = errors.decode('latin-1').split('\n')[:-1] or ['']
     said = f'status {status} with {printed!r} and {errors!r}, acknowledged {acknowledged}'
@@ -251,6 +296,8 @@ def fault_of(printed, status, errors, acknowledged, faults, refused):
         return f'a wrong line on standard error: {said}'
     if status == 3:
         is_right = last == 'blotter: no memory' and is_report_or_none(lines) and refused
+    elif may_stop and refused and answers < len(LINES):
+        is_right = status == 0 and lines != [] and is_report_or_none(lines)
     else:
         is_right = status == 0 and answers == len(LINES) and lines == [it.replace(' ', '\t') for it in REPORT]
     taken = [('AL1', '0', None), ('AL1', '1', '7')]   # the second where it was taken before, and comes again

@@ -1,5 +1,6 @@
 //! A desk whose events are kept beside it.
 
+use crate::keys::text;
 use crate::many::drawn_events;
 use crate::seats::settle;
 use blot_desk::{
@@ -186,10 +187,12 @@ fn submit<L: Ledger>(
 ) -> Result<Count, Fail> {
     let mut count = Count::new();
     let mut place = 0u8;
+    let maker = text(b"ANNA")?;
     for event in events.iter().rev() {
         let seat = usize::from(place % 3);
         let asks = event.is_ask();
-        let answer = desk.submit_with(rt, &mut seats[seat], event.try_copy(alloc)?, &[place]);
+        let event = event.try_copy(alloc)?;
+        let answer = desk.submit_with(rt, &mut seats[seat], &maker, event, &[place]);
         count.take(asks, &answer)?;
         place = place.saturating_add(1);
     }
@@ -234,7 +237,7 @@ fn expect_broken<L: Ledger>(
     event: Event,
 ) -> Result<bool, Fail> {
     let asks = event.is_ask();
-    let answer = desk.submit_with(rt, seat, event, &[0]);
+    let answer = desk.submit_with(rt, seat, &text(b"ANNA")?, event, &[0]);
     if asks != answer.is_ok() || !asks && answer != Err(DeskFault::Broken) {
         return Err(Fail::new(format_args!("{answer:?}")));
     }

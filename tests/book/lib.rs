@@ -1,7 +1,8 @@
 //! Tests of the book side that only a caller of its crates can make: each kind of command by itself, a busted chain taken out, and
 //! generated runs, compared with the plain slow program after every step; entries of every kind withdrawn; steps of commands of
 //! several types, undone and redone; a desk under its lock, with seats in threads, and how their receipts are settled at the end of the
-//! day; a desk whose events are kept beside it; and the texts of answers that no operator's line brings about.
+//! day; a desk whose events are kept beside it, and one that tells who made each command; and the texts of answers that no operator's line
+//! brings about.
 #![tactic(auto)]
 
 mod answers;
@@ -16,6 +17,7 @@ mod keys;
 mod kinds;
 mod lifting;
 mod long;
+mod makers;
 mod many;
 mod model;
 mod pairs;

@@ -2,13 +2,13 @@
 //! then leave are taken up, torn in the middle among them.
 use crate::images::few_images;
 use crate::runs::empty_file;
-use blot_desk::{Event, Seat};
+use blot_desk::{Desk, Event, Found, NoKeeper, Question, Seat, StepRow};
 use blot_diary::{Diary, asked_record, read_kept};
 use blot_journal::MemoryDevice;
 use blot_recovery::{Recovered, open_day};
 use blot_tag::{FrameText, Reader};
 use blot_time::{Day, Moment};
-use blot_types::Text64;
+use blot_types::{Command, Text64};
 use std::alloc::Global;
 use std::marker::Brand;
 use std::sync::Wait;
@@ -158,13 +158,14 @@ fn day_until<L: Ledger>(
     };
     let (mut broker, mut operator, mut durable) = (peer.seat, operator.seat, 0);
     for (line, record) in LINES.iter().zip(records(alloc)?.iter()) {
-        let seat: &mut Seat<L> = if line.is_some() {
-            &mut operator
+        let (seat, maker): (&mut Seat<L>, Text64) = if line.is_some() {
+            (&mut operator, name(b"operator")?)
         } else {
-            &mut broker
+            (&mut broker, name(b"BRKA")?)
         };
         let event = event_of(alloc, record)?;
-        if desk.submit_with(rt, seat, event, record).is_err() || desk.sync(rt).is_err() {
+        let answer = desk.submit_with(rt, seat, &maker, event, record);
+        if answer.is_err() || desk.sync(rt).is_err() {
             break;
         }
         durable += 1;
@@ -173,8 +174,34 @@ fn day_until<L: Ledger>(
     Ok((diary.into_device(), durable))
 }
 
-// Takes an image up: how many events it has, each of them the one at its place.
-fn events_in<L: Ledger>(alloc: Global, blank: Blank, image: &[u8]) -> Result<usize, Fail> {
+// Each execution is made by BRKA, and all else by the operator, as the entry of 3, which a withdrawal may have taken out.
+fn expect_makers<L: Ledger>(rt: &impl Wait, desk: &Desk<L>) -> Result<(), Fail> {
+    let (Found::Steps(rows), makers) = desk.look_by(rt, &Question::Steps(99))? else {
+        return Err(Fail::new("no steps"));
+    };
+    if rows.as_slice().len() != makers.len() {
+        return Err(Fail::new("as many makers as steps"));
+    }
+    for (row, maker) in rows.as_slice().iter().zip(makers.iter()) {
+        let is_brokers = match row {
+            StepRow::Entry(entry) => matches!(entry.command, Command::Trade(_)),
+            StepRow::Withdraw(..) => false,
+            StepRow::Withdrawn(number) => *number != 3,
+        };
+        if *maker != name(if is_brokers { b"BRKA" } else { b"operator" })? {
+            return Err(Fail::new(format_args!("{row:?} by {maker:?}")));
+        }
+    }
+    Ok(())
+}
+
+// Takes an image up: how many events it has, each of them the one at its place, and by its maker.
+fn events_in<L: Ledger>(
+    rt: &impl Wait,
+    alloc: Global,
+    blank: Blank,
+    image: &[u8],
+) -> Result<usize, Fail> {
     let device = MemoryDevice::new(alloc, image, None)?;
     let (own, peers) = (name(b"MO")?, [name(b"BRKA")?]);
     let opened = open_day::<L, MemoryDevice>(
@@ -190,7 +217,9 @@ fn events_in<L: Ledger>(alloc: Global, blank: Blank, image: &[u8]) -> Result<usi
     let Ok((_, recovered)) = opened else {
         return Err(Fail::new("not taken up"));
     };
-    let held = recovered.opening.into_held();
+    let desk = recovered.opening.open(NoKeeper {});
+    expect_makers(rt, &desk)?;
+    let held = desk.close().held;
     for (recorded, record) in held.history().iter().zip(records(alloc)?.iter()) {
         if recorded.event != event_of(alloc, record)? {
             return Err(Fail::new("another event"));
@@ -203,7 +232,7 @@ fn events_in<L: Ledger>(alloc: Global, blank: Blank, image: &[u8]) -> Result<usi
 fn expect_call(rt: &impl Wait, alloc: Global, call: u64) -> Result<bool, Fail> {
     let (device, durable) = day_until::<Brand>(rt, alloc, Blank::new(2), Some(call))?;
     for image in few_images(alloc, &device)?.iter() {
-        let found = events_in::<Brand>(alloc, Blank::new(2), image)?;
+        let found = events_in::<Brand>(rt, alloc, Blank::new(2), image)?;
         if found < durable || found > durable + 1 || found > LINES.len() {
             return Err(Fail::new(format_args!("{found} events of {durable} at call {call}")));
         }

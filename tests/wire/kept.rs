@@ -4,10 +4,8 @@ use crate::expect::text;
 use crate::frames::stream;
 use crate::streams::moments;
 use blot_desk::{Event, KeepFault, Keeper, Opening};
-use blot_gateway::{
-    Ended, FrameKeeper, ListClock, MemoryWire, Reading, RecordHead, StoredWire, Wire, Writing,
-};
-use blot_lanes::{BrokerSeat, ListedPeer, PeerNotes, PeerStore, Peers, serve_connection};
+use blot_gateway::{Ended, FrameKeeper, ListClock, MemoryWire, Reading, RecordHead, Wire, Writing};
+use blot_lanes::{BrokerSeat, ListedPeer, Peers, serve_connection};
 use blot_session::CloseReason;
 use blot_sockets::Door;
 use blot_tag::Frame;
@@ -244,18 +242,14 @@ where
         return Err(Fail::new("no listener"));
     };
     let door = Door::new(TcpStream::from(OwnedFd::from(listener)));
-    let notes = PeerNotes::new(own);
     let wire = Noted {
         rt,
         log: &noted,
         wire: MemoryWire::new(alloc, stream(alloc, STREAM)?),
     };
-    let wire = StoredWire::new(wire, PeerStore::new(rt, alloc, &desk, &notes));
     let clock = ListClock::new(moments(alloc, "20240105-10:00:01.000")?);
     let address = SocketAddr::V4(SocketAddrV4::new(Ipv4Addr::LOCALHOST, 1));
-    let ended = serve_connection(
-        rt, alloc, &peers, &desk, &notes, &door, address, wire, clock,
-    );
+    let ended = serve_connection(rt, alloc, &peers, &desk, &door, address, wire, clock);
     drop(desk);
     Ok((ended, noted.into_inner()))
 }

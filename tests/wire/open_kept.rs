@@ -227,7 +227,7 @@ fn submit_first<L: Ledger, K: Keeper>(
     let id = text(b"E1")?;
     let key = ExecKey { peer, id };
     let event = Event::Submit(Command::Trade(Trade { key, fill }));
-    match desk.submit_with(rt, seat, event, b"trade") {
+    match desk.submit_with(rt, seat, &peer, event, b"trade") {
         Ok(_) => Ok(()),
         Err(fault) => Err(Fail::new(format_args!("{fault:?}"))),
     }

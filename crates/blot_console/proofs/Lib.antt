@@ -3,4 +3,5 @@ pub mod WordLemmas
 pub mod FormLemmas
 pub mod AllocateLemmas
 pub mod TableLemmas
+pub mod MakerLemmas
 mod LineRows

@@ -8,7 +8,10 @@ use Rattle.blot_decimal.specs.Printed.{fraction_digits, printed}
 use Rattle.blot_decimal.specs.Text.{are_parts}
 use Rattle.blot_desk.specs.declared.event.Event.TheVariants.{Submit, Undo, Redo, AskOrder, AskPosition}
 use Rattle.blot_desk.specs.declared.event.Reply.TheVariants as replies
+use Rattle.blot_desk.specs.declared.question.CommandKey.TheVariants as keys
+use Rattle.blot_desk.specs.declared.question.Found.TheVariants as found
 use Rattle.blot_desk.specs.declared.question.Question.TheVariants.{Entry, Execution}
+use Rattle.blot_desk.specs.declared.question.StepRow.TheVariants as rows
 use Rattle.blot_time.specs.Calendar.{day_number}
 use Rattle.blot_time.specs.Day.{day_of, civil_day}
 use Rattle.blot_types.specs.declared.allocation.Line.{Line}
@@ -207,6 +210,19 @@ full : answer_text answers.Full ≡ told_line (codes "full" ∷ [])
 full = refl
 
 -- ---- questions
+
+steps_by : answer_text (answers.FoundBy (found.Steps (rows.Withdraw 4 1 ∷ rows.Withdrawn 2 ∷ [])) (codes "ANNA" ∷ BRKA ∷ []))
+    ≡ told_line (codes "withdraw" ∷ codes "4" ∷ codes "1" ∷ codes "ANNA" ∷ []) ++ told_line (codes "withdrawn" ∷ codes "2" ∷ BRKA ∷ []) ++ told_line (codes "end" ∷ codes "2" ∷ [])
+unfolding digits
+steps_by = refl
+
+refusals_by : answer_text (answers.FoundBy (found.Refusals (record { place = 7; command = keys.Withdraw 9; reason = NotLive 9 } ∷ [])) (codes "ANNA" ∷ []))
+    ≡ told_line (codes "refusal" ∷ codes "7" ∷ codes "withdraw" ∷ codes "9" ∷ codes "11" ∷ codes "NotLive" ∷ codes "9" ∷ codes "ANNA" ∷ []) ++ told_line (codes "end" ∷ codes "1" ∷ [])
+unfolding digits
+refusals_by = refl
+
+free_by : answer_text (answers.FoundBy (found.Needs None) []) ≡ told_line (codes "free" ∷ [])
+free_by = refl
 
 asks_entry : asks (codes "entry" ∷ codes "08" ∷ []) ≡ Ok (Look (Entry 8))
 unfolding parsed ask_of words_line kind_of question_kind_of entry_line counted value_at number_form

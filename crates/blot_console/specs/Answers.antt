@@ -9,7 +9,7 @@ use Rattle.blot_console.specs.declared.answer.Answer.TheVariants as answers
 use Rattle.blot_console.specs.declared.fault.LineFault.{LineFault}
 use Rattle.blot_console.specs.declared.fault.LineFault.TheVariants.{UnknownWord, WrongCount, BadValue, TooLong, NoMemory}
 use Rattle.blot_console.specs.FaultText.{fault_number}
-use Rattle.blot_console.specs.Founds.{found_text, orders_answer, positions_answer}
+use Rattle.blot_console.specs.Founds.{found_by_text, found_text, orders_answer, positions_answer}
 use Rattle.blot_console.specs.OpenDay.{sessions_answer}
 use Rattle.blot_console.specs.Replies.{IsTold, number_text, reply_text, word_line}
 
@@ -45,6 +45,7 @@ answer_text (answers.Bad fault) = bad_text fault
 answer_text answers.Full = word_line (codes "full")
 answer_text answers.Nothing = word_line (codes "none")
 answer_text (answers.Found found) = found_text found
+answer_text (answers.FoundBy found makers) = found_by_text found makers
 answer_text (answers.Orders rows) = orders_answer rows
 answer_text (answers.Positions rows) = positions_answer rows
 answer_text (answers.Sessions lines) = sessions_answer lines

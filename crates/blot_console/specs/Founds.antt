@@ -1,5 +1,5 @@
 -- What is told of what was found to a question. Source: this project's rule.
-use Rattle.std.specs.Prelude.{ℕ, ◌+◌, List, [], ◌∷◌, ◌++◌, length, codes, Option, Some, None}
+use Rattle.std.specs.Prelude.{ℕ, ◌+◌, ◌-◌, List, [], ◌∷◌, ◌++◌, drop, length, slice_get, take, codes, Option, Some, None}
 use Rattle.std.specs.List.{flat_map}
 use Rattle.blot_types.specs.declared.keys.AllocKey.{AllocKey}
 use Rattle.blot_types.specs.declared.keys.ExecKey.{ExecKey}
@@ -102,6 +102,22 @@ found_text (found.Allocation key (Some answer)) = allocation_text key answer
 found_text (found.Needs reason) = needs_text reason
 found_text (found.Steps rows) = steps_text rows
 found_text (found.Refusals rows) = refusals_text rows
+
+-- a line with one word more at its end, its maker; a line without a maker would be told as it is
+abbrev pub line_by : List ℕ → Option (List ℕ) → List ℕ
+line_by line None = line
+line_by line (Some maker) = take (length line - 1) line ++ told maker ++ 10 ∷ []
+
+-- the lines of some rows, each with the maker beside it
+abbrev pub lines_by : {Row : Type 0} → (Row → List ℕ) → List Row → List (List ℕ) → List ℕ
+lines_by text [] makers = []
+lines_by text (row ∷ later) makers = line_by (text row) (slice_get makers 0) ++ lines_by text later (drop 1 makers)
+
+-- what was found, and who made each row
+abbrev pub found_by_text : Found → List (List ℕ) → List ℕ
+found_by_text (found.Steps rows) makers = lines_by step_text rows makers ++ end_text (length rows)
+found_by_text (found.Refusals rows) makers = lines_by refusal_text rows makers ++ end_text (length rows)
+found_by_text other makers = found_text other
 
 -- lines of orders and of positions, and how many they are
 abbrev pub orders_answer : List OrderRow → List ℕ

@@ -8,6 +8,7 @@ pub mod FaultText
 pub mod Forms
 pub mod Founds
 pub mod Lines
+pub mod Naming
 pub mod OpenDay
 pub mod Parsing
 pub mod QuestionLines

@@ -4,7 +4,7 @@ ghost use Rattle.blot_console.specs.Answers.{order_answer, position_answer, bad_
 ghost use Rattle.blot_console.specs.Founds.{orders_answer, positions_answer};
 
 use crate::LineFault;
-use crate::found::{found_text, put_end};
+use crate::found::{found_by_text, found_text, put_end};
 use crate::open_day::{SessionLine, sessions_text};
 use crate::telling::{put_number, reply_text, word_line};
 use blot_command::Rows;
@@ -34,6 +34,8 @@ pub enum Answer {
     Nothing,
     /// What the desk found to a question.
     Found(Found),
+    /// What the desk found to a question, and who made each row of done steps and of refused commands, in their order.
+    FoundBy(Found, Rows<Text64>),
     /// Lines of orders.
     Orders(Rows<OrderRow>),
     /// Lines of positions.
@@ -59,6 +61,7 @@ pub fn answer_text(alloc: Global, answer: &Answer) -> Result<Vec<u8>, NoMemory>
         Answer::Full => word_line(alloc, b"full"),
         Answer::Nothing => word_line(alloc, b"none"),
         Answer::Found(found) => found_text(alloc, found),
+        Answer::FoundBy(found, makers) => found_by_text(alloc, found, makers.as_slice()),
         Answer::Orders(rows) => orders_text(alloc, rows.as_slice()),
         Answer::Positions(rows) => positions_text(alloc, rows.as_slice()),
         Answer::Sessions(lines) => sessions_text(alloc, lines.as_slice()),
@@ -124,8 +127,8 @@ fn positions_text(alloc: Global, rows: &[PositionRow]) -> Result<Vec<u8>, NoMemo
     Ok(text)
 }
 
-// The line of a fault, with the place of a bad word.
-fn bad_text(alloc: Global, fault: LineFault) -> Result<Vec<u8>, NoMemory>
+/// The line of a fault, with the place of a bad word.
+pub(crate) fn bad_text(alloc: Global, fault: LineFault) -> Result<Vec<u8>, NoMemory>
     ensures { IfOk result (λ text. text.items ≡ bad_text fault) }
 {
     let mut text = Vec::new(alloc);

@@ -1,10 +1,10 @@
 //! How what was found to a question is told.
-ghost use Rattle.std.specs.Prelude.{◌≡◌, ◌++◌, IfOk, OnOk};
+ghost use Rattle.std.specs.Prelude.{◌≡◌, ◌++◌, IfOk, OnOk, length, slice_get};
 ghost use Rattle.std.specs.List.{flat_map};
 ghost use Rattle.blot_report.specs.Text.{end_text};
 ghost use Rattle.blot_console.specs.Replies.{exec_text, told};
 ghost use Rattle.blot_console.specs.Entries.{alloc_text, entry_text};
-ghost use Rattle.blot_console.specs.Founds.{allocation_text, execution_lines, execution_text, found_text, key_text, needs_text, optional_line, optional_lines, refusal_text, refusals_text, state_line, step_text, steps_text};
+ghost use Rattle.blot_console.specs.Founds.{allocation_text, execution_lines, execution_text, found_by_text, found_text, key_text, line_by, lines_by, needs_text, optional_line, optional_lines, refusal_text, state_line, step_text};
 
 use crate::entries::{put_alloc, put_entry, put_withdraw};
 use crate::telling::{
@@ -12,12 +12,24 @@ use crate::telling::{
 };
 use blot_command::{AllocationAnswer, ExecutionAnswer};
 use blot_desk::{CommandKey, Found, RefusalRow, StepRow};
-use blot_types::{AllocKey, Entry, ExecKey, Refused};
+use blot_types::{AllocKey, Entry, ExecKey, Refused, Text64};
 use std::alloc::{AllocError as NoMemory, Global};
 
 /// The lines of what was found. An error is out of memory.
+#[tactic(auto, using(crate::proofs::MakerLemmas::by_nobody))]
 pub(crate) fn found_text(alloc: Global, found: &Found) -> Result<Vec<u8>, NoMemory>
     ensures { IfOk result (λ text. text.items ≡ found_text found.now) }
+{
+    found_by_text(alloc, found, &[])
+}
+
+/// The lines of what was found, and who made each row, as the last word of its line. An error is out of memory.
+pub(crate) fn found_by_text(
+    alloc: Global,
+    found: &Found,
+    makers: &[Text64],
+) -> Result<Vec<u8>, NoMemory>
+    ensures { IfOk result (λ text. text.items ≡ found_by_text found.now makers.now) }
 {
     match found {
         Found::Entry(None) | Found::Execution(_, None) | Found::Allocation(_, None) => {
@@ -27,8 +39,8 @@ pub(crate) fn found_text(alloc: Global, found: &Found) -> Result<Vec<u8>, NoMemo
         Found::Execution(key, Some(answer)) => execution_text(alloc, key, answer),
         Found::Allocation(key, Some(answer)) => allocation_text(alloc, key, answer),
         Found::Needs(reason) => needs_text(alloc, reason),
-        Found::Steps(rows) => steps_text(alloc, rows.as_slice()),
-        Found::Refusals(rows) => refusals_text(alloc, rows.as_slice()),
+        Found::Steps(rows) => steps_text(alloc, rows.as_slice(), makers),
+        Found::Refusals(rows) => refusals_text(alloc, rows.as_slice(), makers),
     }
 }
 
@@ -110,16 +122,30 @@ fn needs_text(alloc: Global, reason: &Option<Refused>) -> Result<Vec<u8>, NoMemo
     }
 }
 
-// Done steps, and how many they are.
-fn steps_text(alloc: Global, rows: &[StepRow]) -> Result<Vec<u8>, NoMemory>
-    ensures { IfOk result (λ text. text.items ≡ steps_text rows.now) }
+// Done steps, each with its maker, and how many they are.
+fn steps_text(alloc: Global, rows: &[StepRow], makers: &[Text64]) -> Result<Vec<u8>, NoMemory>
+    ensures { IfOk result (λ text. text.items ≡ lines_by step_text rows.now makers.now ++ end_text (length rows.now)) }
 {
     let mut text = Vec::new(alloc);
-    for row in rows {
-        put_step(alloc, &mut text, row)?;
+    for (place, row) in rows.iter().enumerate() {
+        put_step_by(alloc, &mut text, row, maker_at(makers, place))?;
     }
     put_end(alloc, &mut text, rows.len())?;
     Ok(text)
+}
+
+// The line of a done step, with its maker.
+#[tactic(auto, using(crate::proofs::MakerLemmas::step_by))]
+fn put_step_by(
+    alloc: Global,
+    text: &mut Vec<u8>,
+    row: &StepRow,
+    maker: Option<Text64>,
+) -> Result<(), NoMemory>
+    ensures { OnOk result (text.new.items ≡ text.old.items ++ line_by (step_text row.now) maker) }
+{
+    put_step(alloc, text, row)?;
+    put_maker(text, maker)
 }
 
 // The line of a done step.
@@ -133,16 +159,30 @@ fn put_step(alloc: Global, text: &mut Vec<u8>, row: &StepRow) -> Result<(), NoMe
     }
 }
 
-// Refused commands, and how many they are.
-fn refusals_text(alloc: Global, rows: &[RefusalRow]) -> Result<Vec<u8>, NoMemory>
-    ensures { IfOk result (λ text. text.items ≡ refusals_text rows.now) }
+// Refused commands, each with its maker, and how many they are.
+fn refusals_text(alloc: Global, rows: &[RefusalRow], makers: &[Text64]) -> Result<Vec<u8>, NoMemory>
+    ensures { IfOk result (λ text. text.items ≡ lines_by refusal_text rows.now makers.now ++ end_text (length rows.now)) }
 {
     let mut text = Vec::new(alloc);
-    for row in rows {
-        put_refusal(alloc, &mut text, row)?;
+    for (place, row) in rows.iter().enumerate() {
+        put_refusal_by(alloc, &mut text, row, maker_at(makers, place))?;
     }
     put_end(alloc, &mut text, rows.len())?;
     Ok(text)
+}
+
+// The line of a refused command, with its maker.
+#[tactic(auto, using(crate::proofs::MakerLemmas::refusal_by))]
+fn put_refusal_by(
+    alloc: Global,
+    text: &mut Vec<u8>,
+    row: &RefusalRow,
+    maker: Option<Text64>,
+) -> Result<(), NoMemory>
+    ensures { OnOk result (text.new.items ≡ text.old.items ++ line_by (refusal_text row.now) maker) }
+{
+    put_refusal(alloc, text, row)?;
+    put_maker(text, maker)
 }
 
 // The line of a refused command.
@@ -155,6 +195,26 @@ fn put_refusal(alloc: Global, text: &mut Vec<u8>, row: &RefusalRow) -> Result<()
     put_number(alloc, text, u64::from(row.reason.number()))?;
     put_word(text, row.reason.name())?;
     put_values(alloc, text, row.reason)?;
+    text.push(b'\n')?;
+    Ok(())
+}
+
+// The maker at a place, if there is one.
+fn maker_at(makers: &[Text64], place: usize) -> Option<Text64>
+    ensures { result ≡ slice_get makers.now place }
+{
+    makers.get(place).copied()
+}
+
+// Puts a maker, if there is one, as one word more at the end of the last line of a text.
+fn put_maker(text: &mut Vec<u8>, maker: Option<Text64>) -> Result<(), NoMemory>
+    ensures { OnOk result (text.new.items ≡ line_by text.old.items maker) }
+{
+    let Some(maker) = maker else {
+        return Ok(());
+    };
+    text.pop();
+    put_word(text, maker.bytes())?;
     text.push(b'\n')?;
     Ok(())
 }

@@ -58,11 +58,11 @@ accepted_submit book next command number accepted done own =
 -- ---- one event more
 
 -- a step gives at most one number
-undo_next : (book : DeskBook) (done : List (Done Inverse)) → (undo_in command_meaning book done).next ≡ book.next
+pub undo_next : (book : DeskBook) (done : List (Done Inverse)) → (undo_in command_meaning book done).next ≡ book.next
 undo_next book [] = refl
 undo_next book (step ∷ earlier) = refl
 
-redo_next : (book : DeskBook) (undone : List (Undone Command)) → (redo_in command_meaning book undone).next ≡ book.next
+pub redo_next : (book : DeskBook) (undone : List (Undone Command)) → (redo_in command_meaning book undone).next ≡ book.next
 redo_next book [] = refl
 redo_next book (step ∷ later) = refl
 

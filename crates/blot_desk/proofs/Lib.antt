@@ -2,6 +2,8 @@ pub mod BackLemmas
 pub mod DeskLemmas
 pub mod DeskRows
 pub mod EqualLemmas
+pub mod MakerLemmas
+pub mod MakerRows
 pub mod MarkLemmas
 pub mod QuestionLemmas
 pub mod QuestionRows

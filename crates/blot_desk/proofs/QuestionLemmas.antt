@@ -48,7 +48,7 @@ turned_one : (row : Option RefusalRow) → reverse (one row) ≡ one row
 turned_one None = refl
 turned_one (Some row) = refl
 
-one_later : (place : ℕ) (xs : List Recorded) (x : Recorded) → refusals_from place (xs ++ x ∷ []) ≡ refusals_from place xs ++ one (row_at (place + length xs) x)
+pub one_later : (place : ℕ) (xs : List Recorded) (x : Recorded) → refusals_from place (xs ++ x ∷ []) ≡ refusals_from place xs ++ one (row_at (place + length xs) x)
 one_later place [] x = ap (λ n. one (row_at n x)) (omega arith)
 one_later place (y ∷ xs) x =
     ap (cons_option (row_at place y)) (one_later (place + 1) xs x ∙ ap (λ n. refusals_from (place + 1) xs ++ one (row_at n x)) (omega arith))

@@ -4,6 +4,7 @@ use Rattle.blot_desk.specs.declared.event.Event.{Event}
 use Rattle.blot_desk.specs.declared.event.Event.TheVariants.{AskOrder, AskPosition}
 use Rattle.blot_desk.specs.declared.event.Recorded.{Recorded}
 use Rattle.blot_desk.specs.Desk.{Journal, events_of}
+use Rattle.blot_desk.specs.Makers.{Makers}
 
 -- whether an event only asks
 abbrev pub is_ask : Event → Bool
@@ -37,7 +38,8 @@ pub record SameKept {K : Type 0} (events : K → List Event) (found durable : K 
   pub durable_is : durable new ≡ durable old
   pub broken_is : is_broken new ≡ is_broken old
 
--- what is under the lock of a desk: the book with its history, and what keeps the events
+-- what is under the lock of a desk: the book with its history, who made the commands, and what keeps the events
 pub record Under (K : Type 0) : Type 0 where
   pub journal : Journal
+  pub makers : Makers
   pub keeper : K

@@ -1,5 +1,6 @@
 pub mod Desk
 pub mod Keeping
+pub mod Makers
 pub mod Marks
 pub mod Questions
 pub mod Receipts

@@ -4,14 +4,17 @@ ghost use Rattle.blot_types.specs.Legal.{is_book};
 ghost use Rattle.blot_desk.specs.declared.event.Event.{Event};
 ghost use Rattle.blot_desk.specs.Desk.{IsReply};
 ghost use Rattle.blot_desk.specs.Keeping.{IsBeginning, IsSpelled, kept_events};
+ghost use Rattle.blot_desk.specs.Makers.{IsFoundBy};
 ghost use Rattle.blot_desk.specs.Questions.{IsFound};
 ghost use Rattle.blot_desk.specs.Receipts.{IsOneMore};
 
 use crate::counted::Counted;
+use crate::makers::no_name;
 use crate::{
     Closed, DeskFault, Event, Found, KeepFault, Keeper, NoKeeper, Opening, Question, Reply, Seat,
     Snapshot,
 };
+use blot_types::Text64;
 use std::alloc::{AllocError as NoMemory, Global};
 use std::sync::ledger::{Blank, Ledger};
 use std::sync::{Mutex, Wait};
@@ -39,8 +42,8 @@ impl<L: Ledger> Desk<L> {
         Ok((opening.open(NoKeeper {}), seats))
     }
 
-    /// Takes an event: the reply to it, and a receipt for the seat. Where the desk is full, or memory runs out, nothing is
-    /// recorded and the seat gets no receipt.
+    /// Takes an event of a caller without a name: the reply to it, and a receipt for the seat. Where the desk is full, or memory runs out,
+    /// nothing is recorded and the seat gets no receipt.
     pub fn submit(
         &self,
         rt: &impl Wait,
@@ -53,7 +56,7 @@ impl<L: Ledger> Desk<L> {
         ensures faults { result ≢ Err DeskFault.Unsettled }
         ensures unbroken { result ≢ Err DeskFault.Broken }
     {
-        self.submit_with(rt, seat, event, &[])
+        self.submit_with(rt, seat, &no_name(), event, &[])
     }
 }
 
@@ -66,13 +69,14 @@ impl<L: Ledger, K: Keeper> Desk<L, K> {
         }
     }
 
-    /// Takes an event that a record spells: the reply to it, and a receipt for the seat. The record is kept exactly where there is a
-    /// reply; that of an ask isn't. Where the desk is full, memory runs out, or the keeper is broken, nothing is recorded or kept, and
+    /// Takes an event of this maker that a record spells: the reply to it, and a receipt for the seat. The record is kept exactly where there
+    /// is a reply; that of an ask isn't. Where the desk is full, memory runs out, or the keeper is broken, nothing is recorded or kept, and
     /// the seat gets no receipt.
     pub fn submit_with(
         &self,
         rt: &impl Wait,
         seat: &mut Seat<L>,
+        maker: &Text64,
         event: Event,
         text: &[u8],
     ) -> Result<Reply, DeskFault>
@@ -85,7 +89,7 @@ impl<L: Ledger, K: Keeper> Desk<L, K> {
         // Broken is told of a keeper that is broken.
         ensures broken { result ≡ Err DeskFault.Broken → (keeper : K) × (K.is_broken keeper ≡ true) }
     {
-        seat.take(self.alloc, &mut self.counted.lock(rt), event, text)
+        seat.take(self.alloc, &mut self.counted.lock(rt), maker, event, text)
     }
 
     /// Puts a record that spells no event behind the others.
@@ -120,6 +124,18 @@ impl<L: Ledger, K: Keeper> Desk<L, K> {
         self.counted.lock(rt).held.look(question)
     }
 
+    /// What a question is answered, and who made each row of done steps and of refused commands, in their order: the names that
+    /// `submit_with` was given. Both are of one moment. An error is out of memory.
+    pub fn look_by(
+        &self,
+        rt: &impl Wait,
+        question: &Question,
+    ) -> Result<(Found, Vec<Text64>), NoMemory>
+        ensures { IfOk result (λ found. IsFoundBy question.now found.0 found.1.items) }
+    {
+        self.counted.lock(rt).look_by(self.alloc, question)
+    }
+
     /// What the desk held at last.
     pub fn close(self) -> Closed<L> {
         let (closed, _) = self.close_kept();
@@ -136,7 +152,12 @@ impl<L: Ledger, K: Keeper> Desk<L, K> {
         ensures ever { (events_left : List Event) → K.left result.1 events_left → IsBeginning (K.found result.1) (K.events result.1) events_left }
     {
         let Desk { alloc, counted } = self;
-        let Counted { held, book, keeper } = counted.into_inner();
+        let Counted {
+            held,
+            book,
+            keeper,
+            ..
+        } = counted.into_inner();
         keeper.ever();
         (Closed::of(alloc, held, book), keeper)
     }

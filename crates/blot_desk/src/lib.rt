@@ -2,7 +2,8 @@
 //! done and undone, and the history of the day; its book and its replies are those of the run of the events that
 //! it recorded. `Unrecorded` only counts its events, for a capture of which nobody asks for the record. `Desk` is a
 //! `Held` under its lock: each caller has a seat, which keeps a receipt of every answer, and at the end of the day the
-//! receipts are compared with the history. A `Keeper` keeps the events of a `Desk`, each by a record that spells it.
+//! receipts are compared with the history. A `Desk` tells who made each command, and a `Keeper` keeps its events, each by a record that
+//! spells it.
 #![tactic(auto)]
 
 mod closed;
@@ -13,6 +14,7 @@ mod fault;
 mod held;
 mod keeper;
 mod looking;
+mod makers;
 mod opening;
 mod past;
 mod question;

@@ -6,7 +6,9 @@ ghost use Rattle.blot_desk.specs.Keeping.{kept_events};
 ghost use Rattle.blot_desk.specs.Receipts.{with_receipt};
 
 use crate::counted::Counted;
+use crate::makers::Makers;
 use crate::{Desk, DeskFault, Event, Held, Keeper, NoKeeper, Reply, Seat};
+use blot_types::Text64;
 use std::alloc::{AllocError as NoMemory, Global};
 use std::marker::Model;
 use std::sync::ledger::{Blank, Ledger, Share};
@@ -47,13 +49,20 @@ impl<L: Ledger> Opening<L> {
         let counted = Counted {
             held: Held::new(alloc),
             book,
+            makers: Makers::new(alloc),
             keeper: NoKeeper {},
         };
         Ok((Opening { alloc, counted }, seats))
     }
 
-    /// Takes up an event: the reply to it, and a receipt for the seat. Where the desk is full, or memory runs out, nothing changes.
-    pub fn step(&mut self, seat: &mut Seat<L>, event: Event) -> Result<Reply, DeskFault>
+    /// Takes up an event of this maker: the reply to it, and a receipt for the seat. Where the desk is full, or memory runs out, nothing
+    /// changes.
+    pub fn step(
+        &mut self,
+        seat: &mut Seat<L>,
+        maker: &Text64,
+        event: Event,
+    ) -> Result<Reply, DeskFault>
         ensures reply { IfOk result (λ reply. reply ≡ (step_of self.old.book event).reply) }
         ensures taken { OnOk result (self.new ≡ recorded_of self.old event) }
         ensures receipt { IfOk result (λ reply. seat.new ≡ with_receipt (length self.old.history) event reply seat.old) }
@@ -63,7 +72,7 @@ impl<L: Ledger> Opening<L> {
         ensures unbroken { result ≢ Err DeskFault.Broken }
         ensures err { OnErr result ((self.new ≡ self.old) × (seat.new ≡ seat.old)) }
     {
-        let answer = seat.take(self.alloc, &mut self.counted, event, &[]);
+        let answer = seat.take(self.alloc, &mut self.counted, maker, event, &[]);
         // The history promises that it is that of a run.
         let _ = self.counted.held.history();
         answer
@@ -83,8 +92,19 @@ impl<L: Ledger> Opening<L> {
         requires { K.IsKept → K.events keeper ≡ kept_events self.history }
     {
         let Opening { alloc, counted } = self;
-        let Counted { held, book, .. } = counted;
-        Desk::of(alloc, Counted { held, book, keeper })
+        let Counted {
+            held,
+            book,
+            makers,
+            ..
+        } = counted;
+        let counted = Counted {
+            held,
+            book,
+            makers,
+            keeper,
+        };
+        Desk::of(alloc, counted)
     }
 }
 

@@ -4,11 +4,12 @@ ghost use Rattle.std.specs.List.{list_any};
 ghost use Rattle.blot_types.specs.declared.TheConstants.{EVENTS_MAX};
 ghost use Rattle.blot_desk.specs.Desk.{IsReply, recorded_of, step_of};
 ghost use Rattle.blot_desk.specs.Keeping.{IsSpelled, SameKept, is_ask, with_kept};
+ghost use Rattle.blot_desk.specs.Makers.{with_maker};
 ghost use Rattle.blot_desk.specs.Receipts.{entered, greater, is_gone, is_withdrawal, newest_of, seen_by, seen_in, standing, with_receipt, withdraws};
 
 use crate::counted::Counted;
 use crate::{DeskFault, Event, KeepFault, Keeper, Receipt, Reply};
-use blot_types::{Command, EVENTS_MAX};
+use blot_types::{Command, EVENTS_MAX, Text64};
 use std::alloc::Global;
 use std::marker::Model;
 use std::sync::ledger::{Ledger, Share};
@@ -45,12 +46,14 @@ impl<L: Ledger> Seat<L> {
         }
     }
 
-    /// Takes an event to a desk, which keeps it by its record unless it only asks, and keeps a receipt of the reply. Where the desk is
-    /// full, memory runs out, or the keeper of what doesn't only ask is broken, nothing is recorded or kept, and there is no receipt.
+    /// Takes an event to a desk, which keeps it by its record unless it only asks, and notes who made it; and keeps a receipt of the reply.
+    /// Where the desk is full, memory runs out, or the keeper of what doesn't only ask is broken, nothing is recorded or kept, and there is
+    /// no receipt.
     pub(crate) fn take<K: Keeper>(
         &mut self,
         alloc: Global,
         counted: &mut Counted<L, K>,
+        maker: &Text64,
         event: Event,
         text: &[u8],
     ) -> Result<Reply, DeskFault>
@@ -58,16 +61,23 @@ impl<L: Ledger> Seat<L> {
         ensures reply { IfOk result (λ reply. reply ≡ (step_of counted.old.journal.book event).reply) }
         ensures behind_a_run { IfOk result (λ reply. IsReply event reply) }
         ensures taken { IfOk result (λ reply. counted.new.journal ≡ recorded_of counted.old.journal event) }
+        ensures made { IfOk result (λ reply. counted.new.makers ≡ with_maker maker.now event reply counted.old.makers) }
         ensures receipt { IfOk result (λ reply. self.new ≡ with_receipt (length counted.old.journal.history) event reply self.old) }
         ensures kept { OnOk result (K.IsKept → K.events counted.new.keeper ≡ with_kept event (K.events counted.old.keeper)) }
         ensures full { (result ≡ Err DeskFault.Full) ↔ (length counted.old.journal.history ≡ EVENTS_MAX) }
         ensures broken { (result ≡ Err DeskFault.Broken)
             ↔ ((length counted.old.journal.history ≢ EVENTS_MAX) × (is_ask event ≡ false) × (K.is_broken counted.old.keeper ≡ true)) }
         ensures err { OnErr result ((counted.new.journal ≡ counted.old.journal) × (self.new ≡ self.old)) }
+        ensures unmade { OnErr result (counted.new.makers ≡ counted.old.makers) }
         ensures same { OnErr result (SameKept K.events K.found K.durable K.is_broken counted.old.keeper counted.new.keeper) }
         ensures faults { result ≢ Err DeskFault.Unsettled }
     {
-        let Counted { held, book, keeper } = counted;
+        let Counted {
+            held,
+            book,
+            makers,
+            keeper,
+        } = counted;
         let place = held.history().len() as u64;
         if place == EVENTS_MAX {
             drop(event);
@@ -77,6 +87,10 @@ impl<L: Ledger> Seat<L> {
             drop(event);
             return Err(fault);
         }
+        let Ok(name) = makers.reserve(maker) else {
+            drop(event);
+            return Err(DeskFault::NoMemory);
+        };
         let Ok(()) = self.receipts.reserve(1) else {
             drop(event);
             return Err(DeskFault::NoMemory);
@@ -95,6 +109,7 @@ impl<L: Ledger> Seat<L> {
         if !copy.is_ask() {
             keeper.keep(text, &copy);
         }
+        makers.put(name, &copy, &reply);
         book.add(&mut self.share, 1);
         keep(&mut self.receipts, place, copy, &reply);
         Ok(reply)

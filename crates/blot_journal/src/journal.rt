@@ -276,8 +276,8 @@ impl<D: Device> Journal<D> {
         Ok(())
     }
 
-    /// Appends batches, and makes each durable before the next. A fault tells how many are durable. A crash at any moment leaves the text from before
-    /// the call with the first of the batches behind it, each of them whole, and never fewer than were durable then.
+    /// Appends batches, and makes each durable before the next. A fault tells how many are durable. A crash at any moment of the call leaves the text
+    /// from before it with the first of the batches behind it, each of them whole. A crash after the call leaves no fewer than it tells to be durable.
     pub fn append_each(&mut self, batches: &[&[u8]]) -> Result<(), (usize, JournalFault)>
         requires unbroken { self.old.is_broken ≡ false }
         requires none_waiting { self.old.waiting ≡ [] }

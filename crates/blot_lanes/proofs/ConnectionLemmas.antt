@@ -85,3 +85,8 @@ served-out does ticks failures own known peer answer end wire after last_wire cl
       });
       counted = counted-behind end (failures wire) (failures after) (failures last_wire) kept counted;
     }
+
+-- the wire that it begins with, under another name
+pub served-from : {W C : Type 0} (does : W → Did → W → Type 0) (ticks : C → ℤ → C → Type 0) (failures : W → ℕ) (own : List ℕ) (wire is : W) (clock : C) (end : Ended)
+    → wire ≡ is → ServesConnection does ticks failures own wire clock end → ServesConnection does ticks failures own is clock end
+served-from does ticks failures own wire is clock end same served = subst (λ wire. ServesConnection does ticks failures own wire clock end) same served

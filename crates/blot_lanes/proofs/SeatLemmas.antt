@@ -1,5 +1,5 @@
 -- Seats that stand under their own peers' names.
-use Rattle.std.proofs.Common.{◌≡◌, ℕ, List, [], ◌∷◌, Some, IfSome, inl, inr, sym, subst}
+use Rattle.std.proofs.Common.{◌≡◌, ℕ, List, [], ◌∷◌, Some, None, IfSome, inl, inr, sym, subst, ap, ◌∙◌}
 use Rattle.std.specs.Cmp.Lexicographic.{bytes_decides}
 use Rattle.std.specs.Map.{lookup, set_value}
 use Rattle.std.proofs.lemmas.Bool.{cases_Bool}
@@ -7,7 +7,7 @@ use Rattle.std.proofs.lemmas.List.Elements.{All-cons, All-head, All-nil, All-tai
 use Rattle.indexmap.specs.IndexMap.{insert_entry}
 use Rattle.blot_types.specs.Keys.{same_text}
 use Rattle.blot_lanes.specs.declared.peers.Peer.{Peer}
-use Rattle.blot_lanes.specs.Seating.{AreOwnSeats, IsOwnSeat}
+use Rattle.blot_lanes.specs.Seating.{AreOwnSeats, IsOwnSeat, changed, changed_in}
 
 -- the seat that is found under a name is that peer's
 pub own-found : {L : Type 0} (peers : List (List ℕ × Peer L)) (peer : List ℕ) (found : Peer L)
@@ -52,3 +52,14 @@ own-insert (entry ∷ peers) peer value own its =
 pub own-inserted : {L : Type 0} (before after : List (List ℕ × Peer L)) (peer : List ℕ) (value : Peer L)
     → AreOwnSeats before → after ≡ insert_entry same_text before peer value → IfSome value.seat (λ seat. seat.peer ≡ peer) → AreOwnSeats after
 own-inserted before after peer value own is its = subst AreOwnSeats (sym is) (own-insert before peer value own its)
+
+-- ---- what stands under one name, changed
+
+pub changed-there : {L : Type 0} (change : Peer L → Peer L) (peers new : List (List ℕ × Peer L)) (peer : List ℕ) (listed value : Peer L) → lookup (same_text peer) peers ≡ Some listed
+    → change listed ≡ value → new ≡ set_value (same_text peer) peers value → new ≡ changed change peer peers
+changed-there change peers new peer listed value found is set =
+    set ∙ ap (set_value (same_text peer) peers) (sym is) ∙ sym (ap (λ found. changed_in found change peer peers) found)
+
+pub changed-nowhere : {L : Type 0} (change : Peer L → Peer L) (peers new : List (List ℕ × Peer L)) (peer : List ℕ) → lookup (same_text peer) peers ≡ None → new ≡ peers
+    → new ≡ changed change peer peers
+changed-nowhere change peers new peer none same = same ∙ sym (ap (λ found. changed_in found change peer peers) none)

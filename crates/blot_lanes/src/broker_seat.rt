@@ -149,6 +149,7 @@ impl<L: Ledger> BrokerSeat<L> {
         requires { brought (text_of frame.now) ≡ Some command }
         ensures { TakesAs self.old (record { command = command; answer = result }) self.new }
     {
-        desk.submit_with(rt, &mut self.seat, Event::Submit(command), frame.text())
+        let event = Event::Submit(command);
+        desk.submit_with(rt, &mut self.seat, &self.peer, event, frame.text())
     }
 }

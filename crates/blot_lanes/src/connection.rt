@@ -1,11 +1,14 @@
 //! One connection of an open day, whole.
 ghost use Rattle.std.specs.Prelude.{◌≡◌};
 ghost use Rattle.blot_lanes.specs.Lanes.{ServesConnection};
+ghost use Rattle.blot_lanes.specs.Storing.{KeepsAt, kept_failures, over_store};
 
 use crate::broker_seat::SeatAt;
 use crate::{PeerNotes, PeerStore, Peers};
 use blot_desk::Desk;
-use blot_gateway::{Clock, Ended, FrameKeeper, Parties, Watch, Wire, greet_within, turned_by};
+use blot_gateway::{
+    Clock, Ended, FrameKeeper, Parties, StoredWire, Watch, Wire, greet_within, turned_by,
+};
 use blot_slots::SlotFault;
 use blot_sockets::Door;
 use blot_tag::Reader;
@@ -41,9 +44,36 @@ impl<'a, R: Wait, L: Ledger, H: OpenStream> Watch for AtDoor<'a, R, L, H> {
 }
 
 /// Serves a connection, and drops its wire as soon as its session has ended: how it ended, which is logged. It is greeted; the session and
-/// the seat of the peer that it names are checked out, served at its clock until the door is closed, and checked in again. The
-/// messages that bring no command are kept at the desk; those that are written are for the wire to keep.
+/// the seat of the peer that it names are checked out, served at its clock until the door is closed, and checked in again. Its messages
+/// are kept at the desk, which is synced before each read and each write of the wire.
 pub fn serve_connection<
+    R: Wait + Log + time::Clock,
+    W: Wire + Drop,
+    C: Clock + Drop,
+    L: Ledger,
+    K: FrameKeeper,
+    H: OpenStream,
+>(
+    rt: &R,
+    alloc: Global,
+    peers: &Peers<L>,
+    desk: &Desk<L, K>,
+    door: &Door<H>,
+    address: SocketAddr,
+    wire: W,
+    clock: C,
+) -> Ended
+    ensures { ServesConnection (KeepsAt W.does K.IsKept K.spells_none K.events K.durable) C.ticks (kept_failures W.failures)
+        peers.now (over_store wire) clock result }
+{
+    let notes = PeerNotes::new(peers.own());
+    let store = PeerStore::new(rt, alloc, desk, &notes);
+    let kept = StoredWire::new(wire, store);
+    serve_over(rt, alloc, peers, desk, &notes, door, address, kept, clock)
+}
+
+// Serves a connection over any wire. The messages that bring no command are kept at the desk; those that are written are for the wire to keep.
+fn serve_over<
     R: Wait + Log + time::Clock,
     W: Wire + Drop,
     C: Clock + Drop,

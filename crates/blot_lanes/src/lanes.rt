@@ -2,9 +2,9 @@
 ghost use Rattle.std.specs.Prelude.{◌≡◌, IfOk};
 
 use crate::connection::log_stranger;
-use crate::{PeerNotes, PeerStore, Peers, serve_connection};
+use crate::{Peers, serve_connection};
 use blot_desk::Desk;
-use blot_gateway::{Ended, FrameKeeper, StoredWire};
+use blot_gateway::{Ended, FrameKeeper};
 use blot_sockets::{Door, Socket, SystemClock};
 use log::{Log, error, info, warn};
 use std::alloc::{AllocError as NoMemory, Global};
@@ -70,6 +70,57 @@ where
     T: Task<Output = A> + Drop,
     ensures { IfOk result (λ given. T.gives task given) }
 {
+    serve_crewed(
+        rt,
+        alloc,
+        listener,
+        peers,
+        desk,
+        door,
+        lanes,
+        &NoCrew {},
+        0,
+        task,
+    )
+}
+
+/// What some threads do beside the lanes, each until the door is closed.
+pub trait Crew {
+    /// What one of them does.
+    fn run(&self);
+}
+
+// Nobody does anything beside the lanes.
+struct NoCrew {}
+
+impl Crew for NoCrew {
+    fn run(&self) {}
+}
+
+/// The same, with so many more threads beside the lanes, as far as the system gives them. What they do has to end when the door is closed.
+pub fn serve_crewed<R, N, L, K, H, C, T, A>(
+    rt: &R,
+    alloc: Global,
+    listener: &N,
+    peers: &Peers<L>,
+    desk: &Desk<L, K>,
+    door: &Door<H>,
+    lanes: u16,
+    crew: &C,
+    threads: u16,
+    task: T,
+) -> Result<A, NoMemory>
+where
+    R: Threads + Wait + Clock + Log + Sync,
+    N: OpenListener + Sync,
+    N::Stream: Read + Write + OpenStream + Send,
+    L: Ledger + Send + Sync,
+    K: FrameKeeper + Send + Sync,
+    H: OpenStream + Sync,
+    C: Crew + Sync,
+    T: Task<Output = A> + Drop,
+    ensures { IfOk result (λ given. T.gives task given) }
+{
     let shared = Lanes {
         rt,
         alloc,
@@ -96,6 +147,9 @@ where
                 return Err(NoMemory);
             }
             info!(rt; "lanes {running}");
+            for _ in 0..threads {
+                let _ = scope.spawn(move || crew.run());
+            }
             let given = task.run();
             door.close();
             Ok(given)
@@ -132,12 +186,9 @@ where
             log_stranger(self.rt, address, Ended::ReadFault);
             return;
         };
-        let notes = PeerNotes::new(self.peers.own());
-        let store = PeerStore::new(self.rt, self.alloc, self.desk, &notes);
-        let wire = StoredWire::new(socket, store);
         let clock = SystemClock::new(self.rt);
         serve_connection(
-            self.rt, self.alloc, self.peers, self.desk, &notes, self.door, address, wire, clock,
+            self.rt, self.alloc, self.peers, self.desk, self.door, address, socket, clock,
         );
         if self.desk.sync(self.rt).is_err() && !self.door.is_closed() {
             error!(self.rt; "the journal can't be written, so the day ends");

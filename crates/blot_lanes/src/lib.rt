@@ -11,7 +11,7 @@ mod peers;
 
 pub use broker_seat::BrokerSeat;
 pub use connection::{GREETING_READS, serve_connection};
-pub use lanes::{Task, serve_lanes};
+pub use lanes::{Crew, Task, serve_crewed, serve_lanes};
 pub use listed_peer::ListedPeer;
 pub use peer_store::{PeerNotes, PeerStore};
 pub use peers::Peers;

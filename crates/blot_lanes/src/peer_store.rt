@@ -9,6 +9,7 @@ use blot_sockets::SystemClock;
 use blot_tag::Frame;
 use blot_types::Text64;
 use std::alloc::Global;
+use std::marker::Model;
 use std::sync::ledger::Ledger;
 use std::sync::{Mutex, Wait};
 use std::time;
@@ -84,13 +85,21 @@ impl PeerNotes {
 }
 
 /// Keeps the messages of a connection at the desk, beside the events: those that its session sends, those that brought no event, and
-/// the session's numbers. A desk without a journal keeps none.
+/// the session's numbers. A desk without a journal keeps none. A contract sees nothing of it.
 #[derive(Drop)]
 pub struct PeerStore<'a, R, L: Ledger, K: FrameKeeper> {
     rt: &'a R,
     alloc: Global,
     desk: &'a Desk<L, K>,
     notes: &'a PeerNotes,
+}
+
+impl<'a, R, L: Ledger, K: FrameKeeper> Model for PeerStore<'a, R, L, K> {
+    ghost use Rattle.std.specs.Prelude.{⊤};
+
+    ghost Value = { ⊤ };
+
+    ghost view = { λ store. tt };
 }
 
 impl<'a, R, L: Ledger, K: FrameKeeper> PeerStore<'a, R, L, K> {

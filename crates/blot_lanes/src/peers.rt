@@ -1,11 +1,10 @@
 //! The listed peers of an open day, each with its session and its seat.
 ghost use Rattle.std.specs.List.{All, IsDistinct};
-ghost use Rattle.std.specs.Map.{lookup, set_value};
-ghost use Rattle.std.specs.Prelude.{◌≡◌, ◌↔◌, ◌⊎◌, [], true, is_some, Ok, Err, Some, None, IfOk, IfErr, IfSome, OnOk};
+ghost use Rattle.std.specs.Prelude.{◌≡◌, ◌↔◌, ◌⊎◌, [], true, Err, Some, None, IfOk, IfErr, IfSome, OnOk, OnErr};
 ghost use Rattle.blot_types.specs.Keys.{same_text};
 ghost use Rattle.blot_gateway.specs.AtOnce.{are_submits};
-ghost use Rattle.blot_lanes.specs.Listing.{peers_of};
-ghost use Rattle.blot_lanes.specs.Seating.{AreOwnSeats, seat_of};
+ghost use Rattle.blot_lanes.specs.Listing.{all_resumed, peers_of};
+ghost use Rattle.blot_lanes.specs.Seating.{AreOwnSeats, handed_out, seat_of, with_expected, with_seat, without_seat};
 ghost use Rattle.blot_session.specs.States.{IsIdle, waiting_again};
 ghost use Rattle.blot_slots.specs.Slots.{IsWaiting, checked_out, slot_of, with_slot};
 
@@ -47,11 +46,13 @@ impl<L: Ledger> Model for PeerTable<L> {
 }
 
 impl<L: Ledger> PeerTable<L> {
-    // Hands out the session and the seat of a peer.
+    // Hands out the session and the seat of a peer. All else stays as it is.
+    #[tactic(auto, using(crate::proofs::PeerLemmas::handing))]
     fn check_out(&mut self, peer: &Text64) -> Result<(Session, BrokerSeat<L>), SlotFault>
-        ensures session { IfOk result (λ out. checked_out self.old.sessions peer.now ≡ Ok out.0) }
-        ensures seat { IfOk result (λ out. seat_of peer.now self.old.peers ≡ Some out.1) }
-        ensures left { OnOk result (self.new.sessions ≡ with_slot peer.now None self.old.sessions) }
+        ensures answer { result ≡ handed_out (checked_out self.old.sessions peer.now) (seat_of peer.now self.old.peers) }
+        ensures out { OnOk result (self.new.sessions ≡ with_slot peer.now None self.old.sessions) }
+        ensures unseated { OnOk result (self.new.peers ≡ without_seat peer.now self.old.peers) }
+        ensures same { OnErr result (self.new ≡ self.old) }
         ensures err { IfErr result (λ fault. (fault ≡ SlotFault.UnknownPeer) ⊎ (fault ≡ SlotFault.AlreadyOn)) }
         ensures waiting { IfOk result (λ out. IsWaiting peer.now out.0) }
         ensures idle { IfOk result (λ out. IsIdle out.0) }
@@ -74,15 +75,18 @@ impl<L: Ledger> PeerTable<L> {
     fn check_in(&mut self, session: Session, seat: BrokerSeat<L>)
         ensures session { slot_of self.old.sessions session.peer ≡ Some None
             → self.new.sessions ≡ with_slot session.peer (Some (waiting_again session)) self.old.sessions }
-        ensures seat { is_some (lookup (same_text seat.peer) self.old.peers) ≡ true
-            → self.new.peers ≡ set_value (same_text seat.peer) self.old.peers (record { seat = Some seat; expected = session.expected }) }
+        ensures other { (slot_of self.old.sessions session.peer ≡ Some None → ⊥) → self.new.sessions ≡ self.old.sessions }
+        ensures seat { self.new.peers ≡ with_seat seat session.expected self.old.peers }
     {
         put_seat(&mut self.peers, seat, session.expected());
         self.sessions.take_back(session);
     }
 
     // Notes the number that a peer's session expects.
-    fn note(&mut self, peer: &Text64, expected: u64) {
+    fn note(&mut self, peer: &Text64, expected: u64)
+        ensures sessions { self.new.sessions ≡ self.old.sessions }
+        ensures noted { self.new.peers ≡ with_expected expected peer.now self.old.peers }
+    {
         note_expected(&mut self.peers, peer, expected);
     }
 
@@ -107,6 +111,7 @@ fn take_seat<L: Ledger>(
 ) -> Option<BrokerSeat<L>>
     requires own { AreOwnSeats peers.old.entries }
     ensures seat { result ≡ seat_of peer.now peers.old.entries }
+    ensures left { peers.new.entries ≡ without_seat peer.now peers.old.entries }
     ensures of_peer { IfSome result (λ seat. seat.peer ≡ peer.now) }
     ensures own { AreOwnSeats peers.new.entries }
 {
@@ -119,8 +124,7 @@ fn take_seat<L: Ledger>(
 // Puts a seat in under its peer's name, where the peer is listed, with the number that its session expects.
 fn put_seat<L: Ledger>(peers: &mut IndexMap<Text64, Peer<L>>, seat: BrokerSeat<L>, expected: u64)
     requires own { AreOwnSeats peers.old.entries }
-    ensures put { is_some (lookup (same_text seat.peer) peers.old.entries) ≡ true
-        → peers.new.entries ≡ set_value (same_text seat.peer) peers.old.entries (record { seat = Some seat; expected = expected }) }
+    ensures put { peers.new.entries ≡ with_seat seat expected peers.old.entries }
     ensures own { AreOwnSeats peers.new.entries }
 {
     if let Some(peer) = peers.get_mut(seat.peer()) {
@@ -134,7 +138,8 @@ fn put_seat<L: Ledger>(peers: &mut IndexMap<Text64, Peer<L>>, seat: BrokerSeat<L
 // Notes the number that a peer's session expects, where the peer is listed.
 fn note_expected<L: Ledger>(peers: &mut IndexMap<Text64, Peer<L>>, peer: &Text64, expected: u64)
     requires { AreOwnSeats peers.old.entries }
-    ensures { AreOwnSeats peers.new.entries }
+    ensures noted { peers.new.entries ≡ with_expected expected peer.now peers.old.entries }
+    ensures own { AreOwnSeats peers.new.entries }
 {
     if let Some(noted) = peers.get_mut(peer) {
         noted.expected = expected;
@@ -168,9 +173,7 @@ impl<L: Ledger> Peers<L> {
         ensures repeated { (result ≡ Err SlotFault.RepeatedPeer) ↔ (IsDistinct same_text (peers_of listed.items) → ⊥) }
         ensures err { IfErr result (λ fault. (fault ≡ SlotFault.RepeatedPeer) ⊎ (fault ≡ SlotFault.NoMemory)) }
     {
-        let sessions = resumed_sessions(alloc, own, &listed)?;
-        let peers = seated(alloc, listed)?;
-        let table = Mutex::new(PeerTable { sessions, peers });
+        let table = Mutex::new(seated_table(alloc, own, listed)?);
         Ok(Peers { own, table })
     }
 
@@ -222,6 +225,21 @@ impl<L: Ledger> Peers<L> {
         let PeerTable { sessions: _, peers } = table.into_inner();
         put_seats(room, peers)
     }
+}
+
+// The table of these peers: the session of each waits with its numbers. RepeatedPeer where two of them are the same.
+fn seated_table<L: Ledger>(
+    alloc: Global,
+    own: Text64,
+    listed: Vec<ListedPeer<L>>,
+) -> Result<PeerTable<L>, SlotFault>
+    ensures sessions { IfOk result (λ table. table.sessions ≡ all_resumed own listed.items) }
+    ensures repeated { (result ≡ Err SlotFault.RepeatedPeer) ↔ (IsDistinct same_text (peers_of listed.items) → ⊥) }
+    ensures err { IfErr result (λ fault. (fault ≡ SlotFault.RepeatedPeer) ⊎ (fault ≡ SlotFault.NoMemory)) }
+{
+    let sessions = resumed_sessions(alloc, own, &listed)?;
+    let peers = seated(alloc, listed)?;
+    Ok(PeerTable { sessions, peers })
 }
 
 // The seat of each peer, under its own name.

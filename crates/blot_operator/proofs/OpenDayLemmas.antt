@@ -10,6 +10,7 @@ use Rattle.blot_desk.specs.declared.event.Event.TheVariants.{Submit}
 use Rattle.blot_desk.specs.declared.event.Reply.{Reply}
 use Rattle.blot_desk.specs.declared.event.Reply.TheVariants as replies
 use Rattle.blot_desk.specs.declared.fault.DeskFault.TheVariants.{Full, NoMemory, Broken, Unsettled}
+use Rattle.blot_desk.specs.declared.question.Found.{Found}
 use Rattle.blot_types.specs.declared.command.Command.TheVariants.{Withdraw}
 use Rattle.blot_console.specs.declared.answer.Answer.{Answer}
 use Rattle.blot_console.specs.declared.answer.Answer.TheVariants as answers
@@ -26,7 +27,7 @@ use Rattle.blot_operator.specs.declared.answering.Asked.{Asked}
 use Rattle.blot_operator.specs.declared.answering.Asked.TheVariants as asked
 use Rattle.blot_operator.specs.declared.operated.Declined.{Declined}
 use Rattle.blot_operator.specs.declared.operated.Declined.TheVariants.{Desk, Unkept}
-use Rattle.blot_operator.specs.Dialogue.{Ways, answer_by, AnswersAsk, AnswersBy, AnswersLine, AnswersMine}
+use Rattle.blot_operator.specs.Dialogue.{Ways, answer_by, found_answer, AnswersAsk, AnswersBy, AnswersLine, AnswersMine}
 use Rattle.blot_operator.specs.Lines.{kept, lines_of}
 use Rattle.blot_operator.specs.OpenDay.{is_close, closes, heard, day_ask_by, closes_by, heard_by, is_closed, EndsOf}
 use Rattle.blot_operator.specs.Operating.{asked_by, with_key}
@@ -163,11 +164,15 @@ mine-open : {S : Type 0} (ways : Ways S) (before : S) (newest : Option ℕ) (ans
 mine-open ways before (Some newest) answer after answered = event-open (Submit (Withdraw newest)) answered.given answer answered.answer_is
 mine-open ways before None answer after answered = ap is_closed answered.1
 
+found-open : (found : Found) (makers : Option (List (List ℕ))) → is_closed (found_answer found makers) ≡ false
+found-open found None = refl
+found-open found (Some makers) = refl
+
 ask-open : {S : Type 0} (ways : Ways S) (before : S) (ask : Result Ask LineFault) (answer : Answer) (after : S) → AnswersAsk ways before ask answer after → is_closed answer ≡ false
 ask-open ways before (Ok (asks.Step event)) answer after answered = event-open event answered.given answer answered.answer_is
 ask-open ways before (Ok (asks.Report report)) answer after answered = ap is_closed answered.1.answer_is
 ask-open ways before (Ok asks.Mine) answer after answered = mine-open ways before (ways.newest before) answer after answered
-ask-open ways before (Ok (asks.Look question)) answer after answered = ap is_closed answered.1.answer_is
+ask-open ways before (Ok (asks.Look question)) answer after answered = ap is_closed answered.1.answer_is ∙ found-open answered.1.found answered.1.makers
 ask-open ways before (Ok (asks.Orders peer)) answer after answered = ap is_closed answered.1.answer_is
 ask-open ways before (Ok (asks.Positions account)) answer after answered = ap is_closed answered.1.answer_is
 ask-open ways before (Err fault) answer after answered = ap is_closed answered.1

@@ -60,7 +60,8 @@ own-ask : (old new : Journal) (ask : Result Ask LineFault) (answer : Answer) →
 own-ask old new (Ok (asks.Step event)) answer answered = own-event old new event answer answered.given answered.comes answered.answer_is
 own-ask old new (Ok (asks.Report day)) answer answered = rw (answered.0, answered.1.answer_is, answered.1.shown) refl
 own-ask old new (Ok asks.Mine) answer answered = own-mine old new (newest_entry_of old.book.list) answer answered
-own-ask old new (Ok (asks.Look question)) answer answered = rw (answered.0, answered.1.answer_is, answered.1.finds) refl
+own-ask old new (Ok (asks.Look question)) answer answered =
+    rw (answered.0, answered.1.answer_is, answered.1.finds.0, answered.1.finds.1) refl
 own-ask old new (Ok (asks.Orders peer)) answer answered = rw (answered.0, answered.1.answer_is, answered.1.shown) refl
 own-ask old new (Ok (asks.Positions account)) answer answered = rw (answered.0, answered.1.answer_is, answered.1.shown) refl
 own-ask old new (Err fault) answer answered = rw (answered.0, answered.1) refl

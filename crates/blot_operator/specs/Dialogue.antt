@@ -18,6 +18,7 @@ use Rattle.blot_desk.specs.Keeping.{is_ask}
 use Rattle.blot_desk.specs.Receipts.{IsOneMore, newest_of}
 use Rattle.blot_desk.specs.declared.question.Found.{Found}
 use Rattle.blot_desk.specs.declared.question.Question.{Question}
+use Rattle.blot_desk.specs.Makers.{IsFoundBy}
 use Rattle.blot_desk.specs.Questions.{IsFound, found_of}
 use Rattle.blot_report.specs.Lines.{day_lines_of, order_lines_of, position_lines_of}
 use Rattle.blot_console.specs.declared.answer.Answer.{Answer}
@@ -38,6 +39,7 @@ use Rattle.blot_operator.specs.declared.operated.Declined.TheVariants.{Desk, Unk
 use Rattle.blot_operator.specs.Lines.{split_of, kept, lines_of}
 use Rattle.blot_operator.specs.OpenDay.{closes_by, day_ask_by, heard_by}
 use Rattle.blot_operator.specs.Operating.{asked_by, with_key}
+use Rattle.blot_operator.specs.Seats.{Named}
 
 -- the ways of a desk, as far as an operator sees them
 pub record Ways (S : Type 0) : Type 1 where
@@ -47,8 +49,8 @@ pub record Ways (S : Type 0) : Type 1 where
   pub newest : S → Option ℕ
   -- a list that it may show
   pub shows : S → List Entry → Type 0
-  -- what it may find to a question
-  pub finds : S → Question → Found → Type 0
+  -- what it may find to a question, and who made its rows, where that is told
+  pub finds : S → Question → Found → Option (List (List ℕ)) → Type 0
   -- whether the day is open
   pub is_open : Bool
   -- that it keeps the events, each by its line
@@ -104,11 +106,17 @@ pub record AnswersReport {S : Type 0} (ways : Ways S) (before : S) (day : ℤ) (
   pub shown : ways.shows before list
   pub answer_is : answer ≡ answers.Report (day_lines_of list day)
 
+-- what was found, with who made its rows where that is told
+abbrev pub found_answer : Found → Option (List (List ℕ)) → Answer
+found_answer found None = answers.Found found
+found_answer found (Some makers) = answers.FoundBy found makers
+
 -- a question is answered by what is found
 pub record AnswersQuestion {S : Type 0} (ways : Ways S) (before : S) (question : Question) (answer : Answer) : Type 0 where
   pub found : Found
-  pub finds : ways.finds before question found
-  pub answer_is : answer ≡ answers.Found found
+  pub makers : Option (List (List ℕ))
+  pub finds : ways.finds before question found makers
+  pub answer_is : answer ≡ found_answer found makers
 
 -- the lines of all orders, or of all positions, are made of a list that may be shown
 pub record AnswersOrders {S : Type 0} (ways : Ways S) (before : S) (peer : Option (List ℕ)) (answer : Answer) : Type 0 where
@@ -271,7 +279,7 @@ own_ways = record {
   steps = OwnStep;
   newest = λ journal. newest_entry_of journal.book.list;
   shows = OwnList;
-  finds = λ journal question found. found ≡ found_of journal question;
+  finds = λ journal question found makers. (found ≡ found_of journal question) × (makers ≡ None);
   is_open = false;
   IsKept = ⊥;
 }
@@ -285,10 +293,34 @@ pub record SeatStep (before : List Receipt) (event : Event) (given : Result Repl
 abbrev pub SeatList : List Receipt → List Entry → Type 0
 SeatList receipts list = IsTrue (is_book list)
 
--- the ways of a seat; to a question it may find what a desk held after some events: that of the moment, which others change
-abbrev pub seat_ways : Ways (List Receipt)
-seat_ways = record { steps = SeatStep; newest = newest_of; shows = SeatList; finds = λ receipts. IsFound; is_open = false; IsKept = ⊥ }
+-- to a question it may find what a desk held after some events, that of the moment, which others change; and who made what is told
+abbrev pub FindsBy : Question → Found → Option (List (List ℕ)) → Type 0
+FindsBy question found None = IsFound question found
+FindsBy question found (Some makers) = IsFoundBy question found makers
 
--- the ways of a seat on an open day, by whether its events are kept
-abbrev pub open_ways : Type 0 → Ways (List Receipt)
-open_ways IsKept = record { steps = SeatStep; newest = newest_of; shows = SeatList; finds = λ receipts. IsFound; is_open = true; IsKept = IsKept }
+-- the ways of a seat
+abbrev pub seat_ways : Ways (List Receipt)
+seat_ways = record {
+  steps = SeatStep;
+  newest = newest_of;
+  shows = SeatList;
+  finds = λ receipts question found makers. IsFound question found × (makers ≡ None);
+  is_open = false;
+  IsKept = ⊥;
+}
+
+-- an event of an operator's seat, which stays the same operator's
+pub record NamedStep (before : Named) (event : Event) (given : Result Reply DeskFault) (after : Named) : Type 0 where
+  pub step : SeatStep before.receipts event given after.receipts
+  pub same_name : after.name ≡ before.name
+
+-- the ways of an operator's seat on an open day, by whether its events are kept
+abbrev pub open_ways : Type 0 → Ways Named
+open_ways IsKept = record {
+  steps = NamedStep;
+  newest = λ seat. newest_of seat.receipts;
+  shows = λ seat. SeatList seat.receipts;
+  finds = λ seat. FindsBy;
+  is_open = true;
+  IsKept = IsKept;
+}

@@ -3,3 +3,4 @@ pub mod Dialogue
 pub mod Lines
 pub mod OpenDay
 pub mod Operating
+pub mod Seats

@@ -99,7 +99,7 @@ fn answer_ask<D: Operated>(
         Ask::Step(event) => answer_event(alloc, desk, state, event, line),
         Ask::Report(day) => Ok(report(alloc, desk, state, day)?),
         Ask::Mine => withdraw_newest(alloc, desk, state),
-        Ask::Look(question) => Ok(Answer::Found(desk.look(state, &question)?)),
+        Ask::Look(question) => Ok(desk.look(state, &question)?),
         Ask::Orders(peer) => Ok(orders(alloc, desk, state, &peer)?),
         Ask::Positions(account) => Ok(positions(alloc, desk, state, &account)?),
     }

@@ -5,13 +5,13 @@ ghost use Rattle.blot_desk.specs.declared.fault.DeskFault.TheVariants.{Broken};
 ghost use Rattle.blot_console.specs.Answers.{CanBeTold};
 ghost use Rattle.blot_stream.specs.Texts.{AppendsFront};
 ghost use Rattle.blot_operator.specs.Asking.{AsksFor};
-ghost use Rattle.blot_operator.specs.Dialogue.{Comes, IsByDay, Ways};
+ghost use Rattle.blot_operator.specs.Dialogue.{AnswersQuestion, Comes, IsByDay, Ways};
 ghost use Rattle.blot_operator.specs.OpenDay.{AsksDay, day_ask_by};
 ghost use Rattle.blot_operator.specs.Operating.{asked_by, with_key};
 
 use crate::{OperatorSeat, write_durable};
 use blot_console::{Answer, DayAsk, Rows, SessionLine, parse_day_line};
-use blot_desk::{Desk, DeskFault, Event, Found, Held, Question, Reply, Seat, Snapshot};
+use blot_desk::{Desk, DeskFault, Event, Held, Question, Reply, Seat, Snapshot};
 use blot_gateway::FrameKeeper;
 use blot_stream::{ReplayFault, write_text};
 use std::alloc::{AllocError as NoMemory, Global};
@@ -97,9 +97,10 @@ pub(crate) trait Operated {
     fn snapshot(&self, state: &Self::State) -> Result<Snapshot, NoMemory>
         ensures { IfOk result (λ snapshot. ways.shows state.now snapshot) };
 
-    /// What it finds to a question.
-    fn look(&self, state: &Self::State, question: &Question) -> Result<Found, NoMemory>
-        ensures { IfOk result (λ found. ways.finds state.now question.now found) };
+    /// What it answers to a question.
+    fn look(&self, state: &Self::State, question: &Question) -> Result<Answer, NoMemory>
+        ensures finds { IfOk result (AnswersQuestion ways state.now question.now) }
+        ensures tellable { IfOk result CanBeTold };
 
     /// What its day answers to a line that only an open day knows. An error is out of memory, and comes only where the line
     /// asks something.
@@ -109,10 +110,16 @@ pub(crate) trait Operated {
         ensures err { OnErr result (AsksDay (day_ask_by ways.is_open line.now)) };
 }
 
-/// What an open day tells its operators beside what is at its desk.
+/// What an open day does for its operators beside what is at its desk.
 pub trait OpenDay {
     /// The session of each listed peer, in the order in which they are listed. An error is out of memory.
     fn sessions(&self, alloc: Global) -> Result<Rows<SessionLine>, NoMemory>;
+
+    /// Whether it is told who made each step and each refused command: where several operators are on.
+    fn tells_makers(&self) -> bool;
+
+    /// Closes the day: no connection is taken any more, and each that is on ends.
+    fn close(&self);
 }
 
 /// A desk of one's own.
@@ -152,8 +159,8 @@ impl Operated for Own {
         held.snapshot()
     }
 
-    fn look(&self, held: &Held, question: &Question) -> Result<Found, NoMemory> {
-        held.look(question)
+    fn look(&self, held: &Held, question: &Question) -> Result<Answer, NoMemory> {
+        Ok(Answer::Found(held.look(question)?))
     }
 
     fn day_answer(&self, _alloc: Global, _line: &[u8]) -> Result<Option<Answer>, NoMemory> {
@@ -201,8 +208,8 @@ impl<R: Wait, L: Ledger> Operated for Shared<'_, R, L> {
         self.desk.snapshot(self.rt)
     }
 
-    fn look(&self, _seat: &Seat<L>, question: &Question) -> Result<Found, NoMemory> {
-        self.desk.look(self.rt, question)
+    fn look(&self, _seat: &Seat<L>, question: &Question) -> Result<Answer, NoMemory> {
+        Ok(Answer::Found(self.desk.look(self.rt, question)?))
     }
 
     fn day_answer(&self, _alloc: Global, _line: &[u8]) -> Result<Option<Answer>, NoMemory> {
@@ -253,13 +260,20 @@ impl<R: Wait + time::Clock, L: Ledger, K: FrameKeeper, D: OpenDay> Operated
         self.desk.snapshot(self.rt)
     }
 
-    fn look(&self, _seat: &OperatorSeat<L>, question: &Question) -> Result<Found, NoMemory> {
-        self.desk.look(self.rt, question)
+    fn look(&self, _seat: &OperatorSeat<L>, question: &Question) -> Result<Answer, NoMemory> {
+        if !self.day.tells_makers() {
+            return Ok(Answer::Found(self.desk.look(self.rt, question)?));
+        }
+        let (found, makers) = self.desk.look_by(self.rt, question)?;
+        Ok(Answer::FoundBy(found, Rows::new(makers)))
     }
 
     fn day_answer(&self, alloc: Global, line: &[u8]) -> Result<Option<Answer>, NoMemory> {
         match parse_day_line(line) {
-            Some(Ok(DayAsk::Close)) => Ok(Some(Answer::Closed)),
+            Some(Ok(DayAsk::Close)) => {
+                self.day.close();
+                Ok(Some(Answer::Closed))
+            }
             Some(Ok(DayAsk::Sessions)) => Ok(Some(Answer::Sessions(self.day.sessions(alloc)?))),
             Some(Err(fault)) => Ok(Some(Answer::Bad(fault))),
             None => Ok(None),

@@ -69,8 +69,8 @@ pub fn seat_lines<R: Read, W: Write, L: Ledger>(
 }
 
 /// The same on an open day, whose two lines are known too: `sessions` is answered by what the day tells of its sessions, and `close`
-/// by `closed`. Neither is an event. Behind the first `close` nothing is heard: the call is Ok then, without the rest of the input. The
-/// day is closed by whoever calls, as at the end of the input.
+/// by `closed`, once the day is closed. Neither is an event. Behind the first `close` nothing is heard: the call is Ok then, without the rest of
+/// the input. What the end of the input means for the day is up to whoever calls.
 ///
 /// Where the desk keeps its events, that of a line is kept with the line, `mine` as the withdrawal that it came to, and each answer is written
 /// when all that the desk keeps is durable. A line that can't be kept is answered by `bad>4`, and leaves all as it is. Journal: what keeps the

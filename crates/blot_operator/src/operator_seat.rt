@@ -17,8 +17,7 @@ use std::sync::Wait;
 use std::sync::ledger::Ledger;
 use std::time;
 
-/// The seat of an operator, the names that stand in the records of the operator's events, and how many of these there are. A contract sees it
-/// as the seat's receipts.
+/// The seat of an operator: whose it is, for good, and its receipts, which a contract sees; and how many records there are of the operator's events.
 #[derive(Drop)]
 pub struct OperatorSeat<L: Ledger> {
     seat: Seat<L>,
@@ -26,18 +25,17 @@ pub struct OperatorSeat<L: Ledger> {
 }
 
 impl<L: Ledger> Model for OperatorSeat<L> {
-    ghost use Rattle.std.specs.Prelude.{List};
-    ghost use Rattle.blot_desk.specs.declared.receipt.Receipt.{Receipt};
+    ghost use Rattle.blot_operator.specs.Seats.{Named};
 
-    ghost Value = { List Receipt };
+    ghost Value = { Named };
 
-    ghost view = { λ operated. operated.seat };
+    ghost view = { λ operated. record { name = operated.operator.name; receipts = operated.seat } };
 }
 
 impl<L: Ledger> OperatorSeat<L> {
     /// The seat of an operator of this name, with the blotter's CompID (`own`), and how many records there are of the operator's events.
     pub fn new(seat: Seat<L>, own: Text64, name: Text64, records: u64) -> OperatorSeat<L>
-        ensures { result ≡ seat }
+        ensures { result ≡ record { name = name; receipts = seat } }
     {
         let operator = Operator { own, name, records };
         OperatorSeat { seat, operator }
@@ -45,15 +43,22 @@ impl<L: Ledger> OperatorSeat<L> {
 
     /// The seat.
     pub fn into_seat(self) -> Seat<L>
-        ensures { result ≡ self }
+        ensures { result ≡ self.receipts }
     {
         let OperatorSeat { seat, .. } = self;
         seat
     }
 
+    /// The operator's name.
+    pub fn name(&self) -> &Text64
+        ensures { result.now ≡ self.now.name }
+    {
+        &self.operator.name
+    }
+
     /// The greatest number of an entry that its receipts show as accepted and don't leave undone or withdrawn.
     pub(crate) fn newest(&self) -> Option<u64>
-        ensures { result ≡ newest_of self.now }
+        ensures { result ≡ newest_of self.now.receipts }
     {
         self.seat.newest()
     }
@@ -69,7 +74,8 @@ impl<L: Ledger> OperatorSeat<L> {
         line: &[u8],
     ) -> Result<Reply, Declined>
         ensures reply { IfOk result (λ reply. IsReply event reply) }
-        ensures receipt { IfOk result (λ reply. IsOneMore self.old self.new event reply) }
+        ensures receipt { IfOk result (λ reply. IsOneMore self.old.receipts self.new.receipts event reply) }
+        ensures name { self.new.name ≡ self.old.name }
         ensures err { OnErr result (self.new ≡ self.old) }
         ensures unkept { result ≡ Err Declined.Unkept → K.IsKept × (is_ask event ≡ false) }
         ensures broken { result ≡ Err (Declined.Desk Broken) → (keeper : K) × (K.is_broken keeper ≡ true) }
@@ -77,7 +83,7 @@ impl<L: Ledger> OperatorSeat<L> {
         let OperatorSeat { seat, operator } = self;
         let is_ask = event.is_ask();
         let text = operator.record::<R, K>(rt, alloc, &event, line)?;
-        let reply = desk.submit_with(rt, seat, event, &text)?;
+        let reply = desk.submit_with(rt, seat, &operator.name, event, &text)?;
         operator.count(is_ask);
         Ok(reply)
     }

@@ -65,7 +65,7 @@ module _ (text more : List ℕ) (kept : Kept) (last : KeepsLast text kept more) 
     abbrev pub is_theirs : Noted → Bool
     is_theirs noted = is_one noted.party
 
-    brought-last : brought_by is_one more ≡ brought_by is_one text ++ map event_of (filter is_theirs (cons_option (noted_of kept) []))
+    pub brought-last : brought_by is_one more ≡ brought_by is_one text ++ map event_of (filter is_theirs (cons_option (noted_of kept) []))
     brought-last =
         ap (λ all. map event_of (filter is_theirs all)) events-last
         ∙ ap (map event_of) (filter-append is_theirs (events_of text) (cons_option (noted_of kept) []))

@@ -4,4 +4,6 @@ mod PartyLemmas
 mod TakingLemmas
 mod WalkLemmas
 mod OpeningLemmas
+mod OperatorLemmas
 mod ReceivedLemmas
+mod RefusalLemmas

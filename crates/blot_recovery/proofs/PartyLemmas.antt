@@ -21,7 +21,7 @@ use Rattle.blot_diary.specs.Numbering.{expected_by, first_numbers, next_by, numb
 use Rattle.blot_recovery.specs.declared.parties.KeptOperator.{KeptOperator}
 use Rattle.blot_recovery.specs.declared.parties.KeptPeer.{KeptPeer}
 use Rattle.blot_gateway.specs.AtOnce.{are_submits, is_submit}
-use Rattle.blot_recovery.specs.Parties.{IsKeptOperator, IsKeptPeer, brought_by, events_told, is_operator, is_peer, operator_record_after, operator_record_by, operator_records_of, peer_record_after, peer_record_by, peer_records_of}
+use Rattle.blot_recovery.specs.Parties.{IsKeptOperator, IsKeptPeer, IsUnheard, brought_by, events_told, is_operator, is_peer, operator_record_after, operator_record_by, operator_records_of, peer_record_after, peer_record_by, peer_records_of}
 use Rattle.blot_recovery.specs.Taking.{IsAskedBy, KeepsLast, event_noted, stands_by, stands_for, with_event}
 use Rattle.blot_recovery.proofs.FrameLemmas.{brought-nil, brought-others, brought-theirs, frames_of-nil, numbers_of-last, operator_records_of-last, peer_records_of-last}
 use Rattle.blot_recovery.proofs.TestLemmas.{both-true, is_same, middle-false, not_same, same-itself}
@@ -81,7 +81,7 @@ no-operator name from Unclear received sent is = refl
 no-operator name from Message received sent is = refl
 
 -- what an operator asks is the operator's, and no peer's
-asked : (name from : List ℕ) (content : Content) → IsAskedBy name content → of_operator name (noted_by from content) ≡ cons_option (noted_by from content) []
+pub asked : (name from : List ℕ) (content : Content) → IsAskedBy name content → of_operator name (noted_by from content) ≡ cons_option (noted_by from content) []
 asked name from (Asked operator event) is =
     let noted : Noted = record { party = Operator operator; event = event } in
     ap (λ test. cond test (noted ∷ []) []) (ap (λ operator. same_text operator name) is ∙ same-itself name)
@@ -91,6 +91,18 @@ asked name from (Numbers numbers) is = absurd is
 asked name from Wrapped is = absurd is
 asked name from Unclear is = absurd is
 asked name from Message is = absurd is
+
+-- and no other operator's
+asked-other : (name other from : List ℕ) (content : Content) → IsAskedBy name content → same_text name other ≡ false → of_operator other (noted_by from content) ≡ []
+asked-other name other from (Asked operator event) is differ =
+    let noted : Noted = record { party = Operator operator; event = event } in
+    ap (λ test. cond test (noted ∷ []) []) (ap (λ operator. same_text operator other) is ∙ differ)
+asked-other name other from (Command command) is differ = absurd is
+asked-other name other from (Beginning day) is differ = absurd is
+asked-other name other from (Numbers numbers) is differ = absurd is
+asked-other name other from Wrapped is differ = absurd is
+asked-other name other from Unclear is differ = absurd is
+asked-other name other from Message is differ = absurd is
 
 no-peer : (name peer from : List ℕ) (content : Content) → IsAskedBy name content → of_peer peer (noted_by from content) ≡ []
 no-peer name peer from (Asked operator event) is = refl
@@ -185,6 +197,17 @@ asked-own name last kept Wrapped is = absurd is
 asked-own name last kept Unclear is = absurd is
 asked-own name last kept Message is = absurd is
 
+asked-others : (name other : List ℕ) (last : ℕ) (kept : Kept) (content : Content) → IsAskedBy name content → same_text name other ≡ false
+    → operator_record_by other last kept content ≡ last
+asked-others name other last kept (Asked operator event) is differ =
+    ap (λ test. if test then kept.number else last) (ap (λ operator. same_text operator other) is ∙ differ)
+asked-others name other last kept (Command command) is differ = absurd is
+asked-others name other last kept (Beginning day) is differ = absurd is
+asked-others name other last kept (Numbers numbers) is differ = absurd is
+asked-others name other last kept Wrapped is differ = absurd is
+asked-others name other last kept Unclear is differ = absurd is
+asked-others name other last kept Message is differ = absurd is
+
 not-asked : (name : List ℕ) (last : ℕ) (kept : Kept) (content : Content) (received sent : Bool) → stands_by content received sent ≡ true
     → operator_record_by name last kept content ≡ last
 not-asked name last kept (Asked operator event) received sent is = absurd (false≢true is)
@@ -275,10 +298,17 @@ peer-first own peer none numbers range records = record {
   low = subst (λ n. n ≤ SEQUENCE_MAX) (sym records) (omega arith);
 }
 
-pub operator-first : {L : Type 0} (operator : KeptOperator L) → operator.seat ≡ [] → operator.records ≡ 0 → IsKeptOperator [] operator
-operator-first operator none records = record {
-  events = ap events_told none ∙ sym (brought-nil (is_operator operator.name));
-  records_are = records ∙ ap (λ frames. fold (operator_record_after operator.name) 0 (kept_in frames)) (sym frames_of-nil);
+pub unheard-first : (name : List ℕ) → IsUnheard [] name
+unheard-first name = record {
+  events = brought-nil (is_operator name);
+  records = ap (λ frames. fold (operator_record_after name) 0 (kept_in frames)) frames_of-nil;
+}
+
+-- of whom a text has nothing, that one is as it leaves the operator with a new seat
+pub operator-comes : {L : Type 0} (text : List ℕ) (operator : KeptOperator L) → IsUnheard text operator.name → operator.seat ≡ [] → operator.records ≡ 0 → IsKeptOperator text operator
+operator-comes text operator unheard none records = record {
+  events = ap events_told none ∙ sym unheard.events;
+  records_are = records ∙ sym unheard.records;
   low = subst (λ n. n ≤ SEQUENCE_MAX) (sym records) (omega arith);
 }
 
@@ -357,25 +387,59 @@ module _ (text more : List ℕ) (kept : Kept) (last : KeepsLast text kept more) 
       peer-stays own peer (ap (λ content. of_peer peer.peer (noted_by kept.from content)) is.1) (λ i. record { expected = expected i; next = next i })
       (ap (λ content. peer_record_by peer.peer peer.records kept content) is.1) holds
 
+  -- a frame that says nothing of an operator
+  operator-stays : {L : Type 0} (operator : KeptOperator L) → of_operator operator.name (noted_of kept) ≡ []
+      → operator_record_after operator.name (operator_records_of operator.name text) kept ≡ operator_records_of operator.name text
+      → IsKeptOperator text operator → IsKeptOperator more operator
+  operator-stays operator none same holds = record {
+    events = holds.events ∙ sym (brought-others text more kept last (is_operator operator.name) none);
+    records_are = holds.records_are ∙ sym same ∙ sym (operator_records_of-last text more kept last operator.name);
+    low = holds.low;
+  }
+
+  unheard-stays : (name : List ℕ) → of_operator name (noted_of kept) ≡ []
+      → operator_record_after name (operator_records_of name text) kept ≡ operator_records_of name text → IsUnheard text name → IsUnheard more name
+  unheard-stays name none same holds = record {
+    events = brought-others text more kept last (is_operator name) none ∙ holds.events;
+    records = operator_records_of-last text more kept last name ∙ same ∙ holds.records;
+  }
+
   pub operator-begun : {L : Type 0} (operator : KeptOperator L) (found : Begun) → begun_by kept ≡ Some found → IsKeptOperator text operator → IsKeptOperator more operator
-  operator-begun operator found begun holds =
+  operator-begun operator found begun =
       let is = is-beginning kept.from kept.content found begun in
-      record {
-        events = holds.events ∙ sym (brought-others text more kept last (is_operator operator.name) (ap (λ content. of_operator operator.name (noted_by kept.from content)) is.1));
-        records_are = holds.records_are ∙ sym (ap (λ content. operator_record_by operator.name (operator_records_of operator.name text) kept content) is.1)
-            ∙ sym (operator_records_of-last text more kept last operator.name);
-        low = holds.low;
-      }
+      operator-stays operator (ap (λ content. of_operator operator.name (noted_by kept.from content)) is.1)
+      (ap (λ content. operator_record_by operator.name (operator_records_of operator.name text) kept content) is.1)
+
+  pub unheard-begun : (name : List ℕ) (found : Begun) → begun_by kept ≡ Some found → IsUnheard text name → IsUnheard more name
+  unheard-begun name found begun =
+      let is = is-beginning kept.from kept.content found begun in
+      unheard-stays name (ap (λ content. of_operator name (noted_by kept.from content)) is.1)
+      (ap (λ content. operator_record_by name (operator_records_of name text) kept content) is.1)
 
   -- a peer's frame
   pub operator-other : {L : Type 0} (own name : List ℕ) (operator : KeptOperator L) → stands_for own name kept ≡ true
       → IsKeptOperator text operator → IsKeptOperator more operator
-  operator-other own name operator stands holds =
+  operator-other own name operator stands =
       let received = same_text kept.from name && same_text kept.to own in
       let sent = same_text kept.from own && same_text kept.to name in
-      record {
-        events = holds.events ∙ sym (brought-others text more kept last (is_operator operator.name) (no-operator operator.name kept.from kept.content received sent stands));
-        records_are = holds.records_are ∙ sym (not-asked operator.name (operator_records_of operator.name text) kept kept.content received sent stands)
-            ∙ sym (operator_records_of-last text more kept last operator.name);
-        low = holds.low;
-      }
+      operator-stays operator (no-operator operator.name kept.from kept.content received sent stands)
+      (not-asked operator.name (operator_records_of operator.name text) kept kept.content received sent stands)
+
+  pub unheard-other : (own name other : List ℕ) → stands_for own name kept ≡ true → IsUnheard text other → IsUnheard more other
+  unheard-other own name other stands =
+      let received = same_text kept.from name && same_text kept.to own in
+      let sent = same_text kept.from own && same_text kept.to name in
+      unheard-stays other (no-operator other kept.from kept.content received sent stands)
+      (not-asked other (operator_records_of other text) kept kept.content received sent stands)
+
+  -- another operator's event
+  pub operator-asked : {L : Type 0} (name : List ℕ) (operator : KeptOperator L) → IsAskedBy name kept.content → same_text name operator.name ≡ false
+      → IsKeptOperator text operator → IsKeptOperator more operator
+  operator-asked name operator is differ =
+      operator-stays operator (asked-other name operator.name kept.from kept.content is differ)
+      (asked-others name operator.name (operator_records_of operator.name text) kept kept.content is differ)
+
+  pub unheard-asked : (name other : List ℕ) → IsAskedBy name kept.content → same_text name other ≡ false → IsUnheard text other → IsUnheard more other
+  unheard-asked name other is differ =
+      unheard-stays other (asked-other name other kept.from kept.content is differ)
+      (asked-others name other (operator_records_of other text) kept kept.content is differ)

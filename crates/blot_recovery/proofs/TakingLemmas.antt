@@ -1,5 +1,5 @@
 -- The frames of a journal, taken up one by one.
-use Rattle.std.proofs.Common.{◌≡◌, ◌⊎◌, inl, inr, ℕ, zero, suc, ◌<◌, Bool, true, false, ◌||◌, List, [], ◌∷◌, ◌++◌, drop, length, get_or, Option, Some, None, refl, sym, ap, subst, ◌∙◌, arith}
+use Rattle.std.proofs.Common.{◌≡◌, ◌⊎◌, inl, inr, ℕ, zero, suc, ◌+◌, ◌<◌, Bool, true, false, ◌||◌, List, [], ◌∷◌, ◌++◌, drop, length, get_or, Option, Some, None, refl, sym, ap, subst, ◌∙◌, arith}
 use Rattle.std.specs.Prelude.{ℤ, IfSome, IsSome, option_map}
 use Rattle.std.specs.Bool.{Decides}
 use Rattle.std.specs.List.{All, list_any, slice_get}
@@ -18,19 +18,24 @@ use Rattle.blot_tag.specs.Joined.{FrameComesFirst, HasLastFrame}
 use Rattle.blot_tag.specs.Walking.{Walk, frames_of}
 use Rattle.blot_desk.specs.Desk.{IsRun, Journal, empty_journal, events_of}
 use Rattle.blot_diary.specs.declared.kept.Beginning.{Beginning}
+use Rattle.blot_desk.specs.declared.event.Event.{Event}
+use Rattle.blot_diary.specs.declared.kept.Content.{Content}
+use Rattle.blot_diary.specs.declared.kept.Content.TheVariants as contents
 use Rattle.blot_diary.specs.declared.kept.Kept.{Kept}
+use Rattle.blot_recovery.specs.declared.operators.TheConstants.{OPERATOR_SEATS}
 use Rattle.blot_diary.specs.Beginnings.{beginning_of, begun_by}
 use Rattle.blot_diary.specs.Diary.{desk_events}
 use Rattle.blot_diary.specs.Events.{noted_by, noted_of}
 use Rattle.blot_diary.specs.Keeping.{kept_of}
-use Rattle.blot_recovery.specs.declared.parties.KeptOperator.{KeptOperator}
+use Rattle.blot_recovery.specs.declared.operators.KeptOperators.{KeptOperators}
 use Rattle.blot_recovery.specs.declared.parties.KeptPeer.{KeptPeer}
 use Rattle.blot_recovery.specs.declared.taking.Taking.{Taking}
 use Rattle.blot_recovery.specs.Faults.{BeginsOtherwise, IsWanted}
-use Rattle.blot_recovery.specs.Parties.{IsKeptOperator, IsKeptPeer}
+use Rattle.blot_recovery.specs.Parties.{AreKeptOperators, AreSeated, GivesSeat, HasSeat, IsKeptPeer, brought_by, is_operator, operator_names}
 use Rattle.blot_recovery.specs.Taking.{AreApart, AreInPlace, AsksSame, HasTaken, IsAskedBy, IsInPlace, IsOfParty, KeepsLast, TakesUp, TakesUpAll, begun_on, names_of, stands_for, with_event}
-use Rattle.blot_recovery.proofs.FrameLemmas.{desk_events-last, desk_events-nil, frames_of-nil, keeps_last}
-use Rattle.blot_recovery.proofs.PartyLemmas.{is-beginning, operator-begun, operator-other, peer-asked, peer-begun, peer-other}
+use Rattle.blot_recovery.proofs.FrameLemmas.{brought-last, brought-theirs, desk_events-last, desk_events-nil, frames_of-nil, keeps_last}
+use Rattle.blot_recovery.proofs.OperatorLemmas.{operators-begun, operators-other}
+use Rattle.blot_recovery.proofs.PartyLemmas.{asked as asked-theirs, is-beginning, peer-asked, peer-begun, peer-other}
 use Rattle.blot_recovery.proofs.TestLemmas.{are_other, is_same, same-itself}
 
 -- ---- a list of peers
@@ -145,6 +150,49 @@ events-more : (text more : List ℕ) (kept : Kept) → KeepsLast text kept more 
 events-more text more kept last before after up events =
     up.events ∙ ap (λ events. with_event events (noted_of kept)) events ∙ sym (desk_events-last text more kept last)
 
+-- who has a seat has it still
+brought-more : (text more : List ℕ) (kept : Kept) → KeepsLast text kept more → (name : List ℕ) → brought_by (is_operator name) more ≡ [] → brought_by (is_operator name) text ≡ []
+brought-more text more kept last name none =
+    append-none (brought_by (is_operator name) text) _ (sym (brought-last text more kept last (is_operator name)) ∙ none)
+  where
+    append-none : {X : Type 0} (xs ys : List X) → xs ++ ys ≡ [] → xs ≡ []
+    append-none [] ys is = refl
+    append-none (x ∷ xs) ys is = absurd cc
+
+seat-more : (named : List (List ℕ)) (text more : List ℕ) (kept : Kept) → KeepsLast text kept more → (name : List ℕ) → HasSeat named text name → HasSeat named more name
+seat-more named text more kept last name (inl is) = inl is
+seat-more named text more kept last name (inr some) = inr (λ none. some (brought-more text more kept last name none))
+
+pub seated-more : {L : Type 0} (named : List (List ℕ)) (text more : List ℕ) (kept : Kept) → KeepsLast text kept more → (operators : KeptOperators L)
+    → AreSeated named text operators → AreSeated named more operators
+seated-more named text more kept last operators seated = record {
+  total = seated.total;
+  each = λ k d less. seat-more named text more kept last (get_or (operator_names operators.named.items) k d) (seated.each k d less);
+}
+
+-- an operator's event gives a seat
+brought-some : (text more : List ℕ) (kept : Kept) → KeepsLast text kept more → (name : List ℕ) → IsAskedBy name kept.content → brought_by (is_operator name) more ≡ [] → ⊥
+brought-some text more kept last name asked none =
+    by (brought_by (is_operator name) text) kept.content asked
+    (sym (brought-theirs text more kept last (is_operator name) (asked-theirs name kept.from kept.content asked)) ∙ none)
+  where
+    by : (before : List Event) (content : Content) → IsAskedBy name content → with_event before (noted_by kept.from content) ≡ [] → ⊥
+    by [] (contents.Asked operator event) asked is = absurd cc
+    by (first ∷ before) (contents.Asked operator event) asked is = absurd cc
+    by before (contents.Command command) asked is = absurd asked
+    by before (contents.Beginning day) asked is = absurd asked
+    by before (contents.Numbers numbers) asked is = absurd asked
+    by before contents.Wrapped asked is = absurd asked
+    by before contents.Unclear asked is = absurd asked
+    by before contents.Message asked is = absurd asked
+
+pub seated-asked : {L : Type 0} (named : List (List ℕ)) (text more : List ℕ) (kept : Kept) → KeepsLast text kept more → (name : List ℕ) → IsAskedBy name kept.content
+    → (old new : KeptOperators L) → GivesSeat name old new → AreSeated named text old → AreSeated named more new
+seated-asked named text more kept last name asked old new gives seated = record {
+  total = gives.total ∙ seated.total;
+  each = gives.each named more (seated-more named text more kept last old seated).each (inr (brought-some text more kept last name asked));
+}
+
 -- the first
 pub first-taken : {L : Type 0} (first old : Taking L) (begun : Option ℤ) (text frame : List ℕ) (kept : Kept) → FrameComesFirst frame → HasLastFrame text frame
     → kept_of (fields_of frame) ≡ Some kept → old.begun ≡ None → begun_by kept ≡ option_map (begun_on old.own) begun → IsSome begun
@@ -158,20 +206,21 @@ first-taken first old (Some day) text frame kept comes_first last is none begins
     let has = up.taken.has in
     let empty = up.taken.nothing none in
     record {
-      asks = record { own_is = up.asks.own_is; wanted_is = up.asks.wanted_is; names_are = up.asks.names_are; name_is = up.asks.name_is };
+      seated = seated-more (operator_names first.operators.named.items) text more kept keeps old.operators up.seated;
+      asks = record { own_is = up.asks.own_is; wanted_is = up.asks.wanted_is; names_are = up.asks.names_are; first_is = up.asks.first_is };
       taken = record {
         apart = up.taken.apart;
         begins = ap (λ (text : List ℕ). beginning_of (text ++ frame)) empty ∙ ap beginning_of (sym (append-nil frame)) ∙ begins-first frame [] kept comes_first is ∙ begins;
         nothing = λ is. absurd cc;
         wanted = wanted;
-        in_place = place-first (IsInPlace old.own (names_of old.peers.items) old.operator.name) text frame (frames_of more) empty last.frames;
+        in_place = place-first (IsInPlace old.own (names_of old.peers.items)) text frame (frames_of more) empty last.frames;
         has = record {
           events = has.events ∙ sym (desk_events-last text more kept keeps
               ∙ ap (λ content. with_event (desk_events text) (noted_by kept.from content)) (is-beginning kept.from kept.content found begins).1
               ∙ append-nil (desk_events text));
           run = has.run;
           peers = all-begun old.own text more kept keeps old.peers.items has.peers found begins;
-          operator = operator-begun text more kept keeps old.operator found begins has.operator;
+          operators = operators-begun text more kept keeps old.operators found begins has.operators;
         };
       };
     }
@@ -180,16 +229,19 @@ first-taken first old (Some day) text frame kept comes_first last is none begins
 pub kept-taken : {L : Type 0} (first old new : Taking L) (day : ℤ) (text frame : List ℕ) (kept : Kept) → HasLastFrame text frame
     → kept_of (fields_of frame) ≡ Some kept → old.begun ≡ Some day → AsksSame old new → new.begun ≡ old.begun
     → ((text more : List ℕ) → KeepsLast text kept more → AreApart old.own (names_of old.peers.items) → HasTaken text old → HasTaken more new)
-    → IsOfParty old.own (names_of old.peers.items) old.operator.name kept → TakesUpAll first text old → TakesUpAll first (text ++ frame) new
-kept-taken first old new day text frame kept last is begun asks same holds of up =
+    → IsOfParty old.own (names_of old.peers.items) kept
+    → ((named : List (List ℕ)) (text more : List ℕ) → KeepsLast text kept more → AreSeated named text old.operators → AreSeated named more new.operators)
+    → TakesUpAll first text old → TakesUpAll first (text ++ frame) new
+kept-taken first old new day text frame kept last is begun asks same holds of seats up =
     let keeps = keeps_last text frame kept last.frames is in
     let still : new.begun ≡ Some day = same ∙ begun in
     record {
+      seated = seats (operator_names first.operators.named.items) text (text ++ frame) keeps up.seated;
       asks = record {
         own_is = asks.own_is ∙ up.asks.own_is;
         wanted_is = asks.wanted_is ∙ up.asks.wanted_is;
         names_are = asks.names_are ∙ up.asks.names_are;
-        name_is = asks.name_is ∙ up.asks.name_is;
+        first_is = λ name first. asks.first_is name (up.asks.first_is name first);
       };
       taken = record {
         apart = subst (λ own. AreApart own (names_of new.peers.items)) (sym asks.own_is) (subst (AreApart old.own) (sym asks.names_are) up.taken.apart);
@@ -199,12 +251,11 @@ kept-taken first old new day text frame kept last is begun asks same holds of up
         wanted = subst (λ own. IfSome new.begun (λ day. IsWanted own new.wanted (begun_on own day))) (sym asks.own_is)
             (subst (λ wanted. IfSome new.begun (λ day. IsWanted old.own wanted (begun_on old.own day))) (sym asks.wanted_is)
             (subst (λ begun. IfSome begun (λ day. IsWanted old.own old.wanted (begun_on old.own day))) (sym same) up.taken.wanted));
-        in_place = subst (λ own. AreInPlace own (names_of new.peers.items) new.operator.name (text ++ frame)) (sym asks.own_is)
-            (subst (λ names. AreInPlace old.own names new.operator.name (text ++ frame)) (sym asks.names_are)
-            (subst (λ name. AreInPlace old.own (names_of old.peers.items) name (text ++ frame)) (sym asks.name_is)
-            (subst (λ frames. All (IsInPlace old.own (names_of old.peers.items) old.operator.name) (drop 1 frames)) (sym last.frames)
-            (place-behind (IsInPlace old.own (names_of old.peers.items) old.operator.name) (frames_of text) frame (begun_on old.own day)
-            (up.taken.begins ∙ ap (option_map (begun_on old.own)) begun) up.taken.in_place (record { kept = kept; keeps = is; is_of = of })))));
+        in_place = subst (λ own. AreInPlace own (names_of new.peers.items) (text ++ frame)) (sym asks.own_is)
+            (subst (λ names. AreInPlace old.own names (text ++ frame)) (sym asks.names_are)
+            (subst (λ frames. All (IsInPlace old.own (names_of old.peers.items)) (drop 1 frames)) (sym last.frames)
+            (place-behind (IsInPlace old.own (names_of old.peers.items)) (frames_of text) frame (begun_on old.own day)
+            (up.taken.begins ∙ ap (option_map (begun_on old.own)) begun) up.taken.in_place (record { kept = kept; keeps = is; is_of = of }))));
         has = holds text (text ++ frame) keeps up.taken.apart up.taken.has;
       };
     }
@@ -220,28 +271,43 @@ other-taken first old text frame behind kept found comes_first is none begins un
 }
 
 -- before the first
-beginning_of-nil : beginning_of [] ≡ None
+pub beginning_of-nil : beginning_of [] ≡ None
 beginning_of-nil = ap (λ frames. option_and_then begun_by (option_and_then (λ frame. kept_of (fields_of frame)) (slice_get frames 0))) frames_of-nil
+
+-- each of some names is one of them
+is-one : (names : List (List ℕ)) (k : ℕ) (d : List ℕ) → k < length names → list_any (same_text (get_or names k d)) names ≡ true
+is-one [] k d less = absurd (omega (arith, less))
+is-one (name ∷ names) zero d less = ap (λ test. test || list_any (same_text name) names) (same-itself name)
+is-one (name ∷ names) (suc k) d less = also (same_text (get_or names k d) name) (list_any (same_text (get_or names k d)) names) (is-one names k d (omega (arith, less)))
+  where
+    also : (a b : Bool) → b ≡ true → (a || b) ≡ true
+    also true b is = refl
+    also false b is = is
+
+all-seated : (names : List (List ℕ)) → All (HasSeat names []) names
+all-seated names = λ k d less. inl (is-one names k d less)
 
 empty-run : IsRun empty_journal
 empty-run = refl
 
 pub none-taken : {L : Type 0} (made : Taking L) → made.begun ≡ None → made.opening ≡ empty_journal → AreApart made.own (names_of made.peers.items)
-    → All (IsKeptPeer made.own []) made.peers.items → IsKeptOperator [] made.operator → TakesUpAll made [] made
-none-taken made none empty apart peers operator = record {
-  asks = record { own_is = refl; wanted_is = refl; names_are = refl; name_is = refl };
+    → All (IsKeptPeer made.own []) made.peers.items → AreKeptOperators [] made.operators → length made.operators.named.items + length made.operators.spare.items ≡ OPERATOR_SEATS
+    → TakesUpAll made [] made
+none-taken made none empty apart peers operators total = record {
+  seated = record { total = total; each = all-seated (operator_names made.operators.named.items) };
+  asks = record { own_is = refl; wanted_is = refl; names_are = refl; first_is = λ _ first. first };
   taken = record {
     apart = apart;
     begins = beginning_of-nil ∙ sym (ap (option_map (begun_on made.own)) none);
     nothing = λ _. refl;
     wanted = subst (λ begun. IfSome begun (λ day. IsWanted made.own made.wanted (begun_on made.own day))) (sym none) tt;
-    in_place = subst (λ frames. All (IsInPlace made.own (names_of made.peers.items) made.operator.name) (drop 1 frames)) (sym frames_of-nil)
-        (none-behind (IsInPlace made.own (names_of made.peers.items) made.operator.name));
+    in_place = subst (λ frames. All (IsInPlace made.own (names_of made.peers.items)) (drop 1 frames)) (sym frames_of-nil)
+        (none-behind (IsInPlace made.own (names_of made.peers.items)));
     has = record {
       events = ap (λ (opening : Journal). events_of opening.history) empty ∙ sym desk_events-nil;
       run = subst IsRun (sym empty) empty-run;
       peers = peers;
-      operator = operator;
+      operators = operators;
     };
   };
 }
@@ -252,27 +318,27 @@ pub same-names : {L : Type 0} (peers : List (KeptPeer L)) (at : ℕ) (old new : 
 same-names peers at old new is name = map-set_same (λ peer. peer.peer) peers at new old (name ∙ ap (λ peer. peer.peer) is)
 
 -- an operator's event
-pub asked-taken : {L : Type 0} (old : Taking L) (opening : Journal) (operator : KeptOperator L) (text more : List ℕ) (kept : Kept) → KeepsLast text kept more
-    → IsAskedBy old.operator.name kept.content → TakesUp old.opening opening (noted_of kept)
-    → IsKeptOperator more operator → HasTaken text old → HasTaken more (record old { opening = opening; operator = operator })
-asked-taken old opening operator text more kept last is up holds has = record {
+pub asked-taken : {L : Type 0} (old : Taking L) (opening : Journal) (operators : KeptOperators L) (name text more : List ℕ) (kept : Kept) → KeepsLast text kept more
+    → IsAskedBy name kept.content → TakesUp old.opening opening (noted_of kept)
+    → AreKeptOperators more operators → HasTaken text old → HasTaken more (record old { opening = opening; operators = operators })
+asked-taken old opening operators name text more kept last is up holds has = record {
   events = events-more text more kept last old.opening opening up has.events;
   run = up.run has.run;
-  peers = all-asked old.own text more kept last old.peers.items has.peers old.operator.name is;
-  operator = holds;
+  peers = all-asked old.own text more kept last old.peers.items has.peers name is;
+  operators = holds;
 }
 
 -- a peer's frame
 pub peer-taken : {L : Type 0} (old new : Taking L) (at : ℕ) (name : List ℕ) (peer : KeptPeer L) (text more : List ℕ) (kept : Kept) → KeepsLast text kept more
     → at < length old.peers.items → slice_get (names_of old.peers.items) at ≡ Some name → stands_for old.own name kept ≡ true → TakesUp old.opening new.opening (noted_of kept)
-    → new.own ≡ old.own → new.operator ≡ old.operator → new.peers.items ≡ set old.peers.items at peer
+    → new.own ≡ old.own → new.operators ≡ old.operators → new.peers.items ≡ set old.peers.items at peer
     → IsKeptPeer old.own more peer → AreApart old.own (names_of old.peers.items) → HasTaken text old → HasTaken more new
-peer-taken old new at name peer text more kept last within found stands up own operator peers holds apart has = record {
+peer-taken old new at name peer text more kept last within found stands up own operators peers holds apart has = record {
   events = events-more text more kept last old.opening new.opening up has.events;
   run = up.run has.run;
   peers = subst (λ own. All (IsKeptPeer own more) new.peers.items) (sym own) (subst (All (IsKeptPeer old.own more)) (sym peers)
       (all-more old.own text more kept last old.peers.items has.peers apart name at peer within found stands holds));
-  operator = subst (IsKeptOperator more) (sym operator) (operator-other text more kept last old.own name old.operator stands has.operator);
+  operators = subst (AreKeptOperators more) (sym operators) (operators-other text more kept last old.own name old.operators stands has.operators);
 }
 
 -- ---- seats that are taken from a list one by one

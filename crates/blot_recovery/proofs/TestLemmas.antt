@@ -52,3 +52,7 @@ three-ok (Err fault) first second third so = tt
 pub four-ok : {T E P Q R S U : Type 0} (result : Result T E) → OnOk result P → OnOk result Q → OnOk result R → OnOk result S → (P → Q → R → S → U) → OnOk result U
 four-ok (Ok value) first second third fourth so = so first second third fourth
 four-ok (Err fault) first second third fourth so = tt
+
+pub five-ok : {T E P Q R S U V : Type 0} (result : Result T E) → OnOk result P → OnOk result Q → OnOk result R → OnOk result S → OnOk result U → (P → Q → R → S → U → V) → OnOk result V
+five-ok (Ok value) first second third fourth fifth so = so first second third fourth fifth
+five-ok (Err fault) first second third fourth fifth so = tt

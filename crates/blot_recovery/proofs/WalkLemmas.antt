@@ -1,28 +1,23 @@
 -- The frames of a text, taken one by one.
-use Rattle.std.proofs.Common.{◌≡◌, inl, inr, ℕ, ◌+◌, ◌≤◌, List, [], ◌∷◌, ◌++◌, Option, Some, Result, Ok, Err, length, take, drop, refl, sym, ap, subst, ◌∙◌, arith, append_assoc, length-append}
+use Rattle.std.proofs.Common.{◌≡◌, inl, inr, ℕ, ◌+◌, ◌<◌, ◌≤◌, List, [], ◌∷◌, ◌++◌, Option, Some, None, Result, Ok, Err, length, take, drop, refl, sym, ap, subst, ◌∙◌, arith, append_assoc, length-append}
 use Rattle.std.specs.Prelude.{IfErr, IfOk, IfSome, OnOk}
 use Rattle.std.proofs.Math.Seq.{take-append_seam}
 use Rattle.std.proofs.lemmas.List.{append-nil, drop-drop, take-append-drop}
+use Rattle.blot_tag.specs.Frames.{BeginsWithFrame, IsFrame, IsFramePrefix, IsGarbled}
+use Rattle.blot_tag.specs.Looking.{look_of}
+use Rattle.blot_tag.proofs.FrameLemmas.{look_of-frame, look_of-neither, look_of-not_garbled, look_of-ok, look_of-prefix}
+use Rattle.blot_tag.proofs.PlaceLemmas.{passed-within}
 use Rattle.blot_tag.specs.Joined.{HasLastFrame, IsWhole}
-use Rattle.blot_tag.specs.Reading.{FindsNone, Reading, TakesFirst}
+use Rattle.blot_tag.specs.Reading.{Advances, FindsNone, GarbledBefore, Reading, TakesFirst, counted}
 use Rattle.blot_diary.specs.declared.kept.Beginning.{Beginning}
 use Rattle.blot_recovery.specs.declared.fault.RecoverFault.{RecoverFault}
 use Rattle.blot_recovery.specs.declared.fault.RecoverFault.TheVariants.{NoMemory, Unreadable, Another, Unlisted, Damaged}
-use Rattle.blot_recovery.specs.Faults.{IsFaultOf, IsOfNoText, IsWholeBefore}
+use Rattle.blot_recovery.specs.Faults.{HasRefused, IsFaultOf, IsOfNoText}
 use Rattle.blot_recovery.specs.Moments.{IsOrWasRead}
-use Rattle.blot_recovery.specs.Walking.{IsTakenTo}
+use Rattle.blot_recovery.specs.Walking.{IsFaultIn, IsTakenBy, IsTakenTo, RefusesBehind}
 use Rattle.blot_recovery.proofs.FrameLemmas.{whole-nil}
 
 module _ {T : Type 0} (After : T → List ℕ → T → Type 0) (first : T) where
-  -- all before the place is whole
-  pub whole-before : (text left : List ℕ) (place : ℕ) (now : T) → IsTakenTo After first text left place now → IsWholeBefore text place
-  whole-before text left place now so =
-      let front : take place text ≡ so.before = ap (λ n. take n text) so.place_is ∙ ap (take (length so.before)) so.joined ∙ take-append_seam so.before left in
-      record {
-        within = omega (arith, so.place_is, ap length so.joined, length-append so.before left);
-        whole = subst IsWhole (sym front) so.whole;
-      }
-
   -- one frame more
   pub one-more : (text frame behind : List ℕ) (place : ℕ) (old new : T) → ((before : List ℕ) → IsWhole before → HasLastFrame before frame)
       → ((before : List ℕ) → IsWhole before → After first before old → After first (before ++ frame) new)
@@ -50,22 +45,106 @@ module _ {T : Type 0} (After : T → List ℕ → T → Type 0) (first : T) wher
       let all : so.before ≡ text = sym (so.joined ∙ ap (λ left. so.before ++ left) none ∙ append-nil so.before) in
       (subst IsWhole all so.whole, subst (λ text. After first text now) all so.after)
 
--- a fault of a frame
-pub fault-here : (IsOther : Beginning → Type 0) (text : List ℕ) (place : ℕ) (fault : RecoverFault) → ((found : Beginning) → fault ≡ Another found → IsOther found)
-    → ((at : ℕ) → fault ≡ Damaged at → at ≡ place) → IsWholeBefore text place → IsFaultOf IsOther text fault
-fault-here IsOther text place NoMemory other damaged whole = tt
-fault-here IsOther text place Unreadable other damaged whole = tt
-fault-here IsOther text place (Another found) other damaged whole = other found refl
-fault-here IsOther text place (Unlisted peer) other damaged whole = tt
-fault-here IsOther text place (Damaged at) other damaged whole = subst (IsWholeBefore text) (sym (damaged at refl)) whole
-
 -- a fault that isn't the text's
-pub fault-elsewhere : (IsOther : Beginning → Type 0) (text : List ℕ) (fault : RecoverFault) → IsOfNoText fault → IsFaultOf IsOther text fault
-fault-elsewhere IsOther text NoMemory of = tt
-fault-elsewhere IsOther text Unreadable of = tt
-fault-elsewhere IsOther text (Another found) of = absurd of
-fault-elsewhere IsOther text (Unlisted peer) of = tt
-fault-elsewhere IsOther text (Damaged at) of = absurd of
+pub fault-elsewhere : (IsOther : Beginning → Type 0) (Stands : List ℕ → Type 0) (Refuses : List ℕ → List ℕ → RecoverFault → Type 0) (text : List ℕ) (fault : RecoverFault)
+    → IsOfNoText fault → IsFaultOf IsOther Stands Refuses text fault
+fault-elsewhere IsOther Stands Refuses text NoMemory of = tt
+fault-elsewhere IsOther Stands Refuses text Unreadable of = tt
+fault-elsewhere IsOther Stands Refuses text (Another found) of = absurd of
+fault-elsewhere IsOther Stands Refuses text (Unlisted peer) of = absurd of
+fault-elsewhere IsOther Stands Refuses text (Damaged at) of = absurd of
+
+module _ {T : Type 0} (After : T → List ℕ → T → Type 0) (IsOther : T → List ℕ → Beginning → Type 0) (Refuses : T → List ℕ → RecoverFault → Type 0) (first : T) (text : List ℕ) where
+  refused : (frame behind : List ℕ) (place : ℕ) (now : T) (fault : RecoverFault) → IsFrame frame → Refuses now frame fault → IsTakenTo After first text (frame ++ behind) place now
+      → HasRefused (IsTakenBy After first) (RefusesBehind After Refuses first) text place fault
+  refused frame behind place now fault valid refuses so = record {
+    before = so.before;
+    frame = frame;
+    behind = behind;
+    joined = so.joined;
+    place_is = so.place_is;
+    whole = so.whole;
+    stands = record { now = now; after = so.after };
+    valid = valid;
+    refuses = record { now = now; after = so.after; refuses = refuses };
+  }
+
+  -- a fault of a frame
+  pub fault-here : (frame behind : List ℕ) (place : ℕ) (now : T) (fault : RecoverFault) → IsFrame frame → ((found : Beginning) → fault ≡ Another found → IsOther first text found)
+      → ((at : ℕ) → fault ≡ Damaged at → at ≡ place) → Refuses now frame fault → IsTakenTo After first text (frame ++ behind) place now
+      → IsFaultIn After IsOther Refuses first text fault
+  fault-here frame behind place now NoMemory valid other damaged refuses so = tt
+  fault-here frame behind place now Unreadable valid other damaged refuses so = tt
+  fault-here frame behind place now (Another found) valid other damaged refuses so = other found refl
+  fault-here frame behind place now (Unlisted peer) valid other damaged refuses so = (place, refused frame behind place now (Unlisted peer) valid refuses so)
+  fault-here frame behind place now (Damaged at) valid other damaged refuses so =
+      inr (subst (λ place. HasRefused (IsTakenBy After first) (RefusesBehind After Refuses first) text place (Damaged at)) (sym (damaged at refl))
+      (refused frame behind place now (Damaged at) valid refuses so))
+
+  -- no frame begins there
+  pub no-frame-here : (left : List ℕ) (place : ℕ) (now : T) → (BeginsWithFrame left → ⊥) → (left ≡ [] → ⊥) → IsTakenTo After first text left place now
+      → IsFaultIn After IsOther Refuses first text (Damaged place)
+  no-frame-here left place now none some so = inl (record {
+    before = so.before;
+    left = left;
+    joined = so.joined;
+    place_is = so.place_is;
+    whole = so.whole;
+    stands = record { now = now; after = so.after };
+    none = none;
+    some = λ is. absurd (some is);
+  })
+
+  -- bytes are left behind the last frame
+  pub left-over : (left : List ℕ) (place : ℕ) (now : T) → place < length text → (BeginsWithFrame left → ⊥) → IsTakenTo After first text left place now
+      → IsFaultIn After IsOther Refuses first text (Damaged place)
+  left-over left place now short none so =
+      no-frame-here left place now none (λ is. absurd (omega (arith, short, so.place_is, ap length so.joined, length-append so.before left, ap length is))) so
+
+-- ---- no frame
+
+-- no whole frame begins one that isn't whole yet
+pub no-frame-prefix : (text : List ℕ) → IsFramePrefix text → BeginsWithFrame text → ⊥
+no-frame-prefix text prefix begins =
+    let partial = look_of-prefix text prefix in
+    let whole : look_of text ≡ Ok (length begins.frame) = ap look_of begins.whole ∙ look_of-frame begins.frame begins.more begins.valid in
+    absurd cc
+
+-- nor what no frame begins with, whatever comes behind
+pub no-frame-garbled : (text behind : List ℕ) → IsGarbled text → BeginsWithFrame (text ++ behind) → ⊥
+no-frame-garbled text behind garbled begins =
+    let neither = look_of-neither text behind (look_of-not_garbled text garbled) in
+    let whole : look_of (text ++ behind) ≡ Ok (length begins.frame) = ap look_of begins.whole ∙ look_of-frame begins.frame begins.more begins.valid in
+    absurd cc
+
+pub no-frame-nil : BeginsWithFrame [] → ⊥
+no-frame-nil begins =
+    no-frame-prefix [] (record { more = begins.frame; proper = some begins.frame begins.valid; frame = begins.valid }) begins
+  where
+    some : (frame : List ℕ) → IsFrame frame → 0 < length frame
+    some frame valid = (look_of-ok frame (length frame) (ap look_of (sym (append-nil frame)) ∙ look_of-frame frame [] valid)).some
+
+-- bytes are unread, and no frame begins with them
+pub record IsGarbage (unread : List ℕ) : Type 0 where
+  pub garbled : IsGarbled unread
+  pub some : 0 < length unread
+
+garbage : (unread : List ℕ) (passed old new : ℕ) → GarbledBefore passed unread → old ≡ 0 → new ≡ counted old passed → 0 < new → IsGarbage unread
+garbage unread passed old new early none is some =
+    let passes : 0 < passed = omega (arith, none, is, some) in
+    record { garbled = early 0 passes; some = omega (arith, passes, passed-within passed unread early) }
+
+-- bytes were passed over: none of what is unread began a frame
+pub passed-garbled : (old new : Reading) (frame : Option (List ℕ)) → Advances old frame new → old.skipped ≡ 0 → 0 < new.skipped → IsGarbage old.unread
+passed-garbled old new (Some frame) took none some = garbage old.unread took.passed old.skipped new.skipped took.early none took.skipped some
+passed-garbled old new None found none some = garbage old.unread found.passed old.skipped new.skipped found.early none found.skipped some
+
+pub passed-over : {T : Type 0} (After : T → List ℕ → T → Type 0) (IsOther : T → List ℕ → Beginning → Type 0) (Refuses : T → List ℕ → RecoverFault → Type 0) (unread : List ℕ)
+    (place : ℕ) (now : T) → IsGarbage unread → (first : T) (text behind : List ℕ) → IsTakenTo After first text (unread ++ behind) place now
+    → IsFaultIn After IsOther Refuses first text (Damaged place)
+passed-over After IsOther Refuses unread place now garbled first text behind so =
+    no-frame-here After IsOther Refuses first text (unread ++ behind) place now (no-frame-garbled unread behind garbled.garbled)
+    (λ is. absurd (omega (arith, garbled.some, length-append unread behind, ap length is))) so
 
 -- ---- a reader that passes over nothing
 
@@ -81,22 +160,32 @@ clean-none old new found before after =
 
 -- ---- the next frame, if there is one
 
-module _ {T : Type 0} (After : T → List ℕ → T → Type 0) (IsOther : T → List ℕ → Beginning → Type 0) (unread left : List ℕ) (place : ℕ) (before : T) where
+module _ {T : Type 0} (After : T → List ℕ → T → Type 0) (IsOther : T → List ℕ → Beginning → Type 0) (Refuses : T → List ℕ → RecoverFault → Type 0) (unread left : List ℕ) (place : ℕ) (before : T) where
   -- what is said of a result: the frame is taken
   abbrev pub IsNext : Result (Option ℕ) RecoverFault → T → Type 0
   IsNext result after = IfOk result (λ taken. IfSome taken (λ size. (first : T) (text behind : List ℕ)
       → IsTakenTo After first text (unread ++ behind) place before → IsTakenTo After first text (left ++ behind) (place + size) after))
 
+  -- it is as long as what was read
+  abbrev pub IsSized : Result (Option ℕ) RecoverFault → Type 0
+  IsSized result = IfOk result (λ taken. IfSome taken (λ size. (0 < size) × (size + length left ≡ length unread)))
+
   -- or a fault stands there
   abbrev pub IsNoNext : Result (Option ℕ) RecoverFault → Type 0
   IsNoNext result = IfErr result (λ fault. (first : T) (text behind : List ℕ)
-      → IsTakenTo After first text (unread ++ behind) place before → IsFaultOf (IsOther first text) text fault)
+      → IsTakenTo After first text (unread ++ behind) place before → IsFaultIn After IsOther Refuses first text fault)
 
   module _ (frame : List ℕ) (is : unread ≡ frame ++ left) where
     with-frame : (first : T) (text behind : List ℕ) → IsTakenTo After first text (unread ++ behind) place before
         → IsTakenTo After first text (frame ++ (left ++ behind)) place before
     with-frame first text behind so =
         left-is After first text (unread ++ behind) (frame ++ (left ++ behind)) place before (ap (λ unread. unread ++ behind) is ∙ append_assoc frame left behind) so
+
+    pub size-some : length left < length unread → (result : Result (Option ℕ) RecoverFault) → IfOk result (λ taken. taken ≡ Some (length frame)) → IsSized result
+    size-some shorter (Ok taken) size =
+        subst (λ taken. IsSized (Ok taken)) (sym size)
+        (omega (arith, shorter, ap length is, length-append frame left), omega (arith, ap length is, length-append frame left))
+    size-some shorter (Err fault) size = tt
 
     pub next-some : (result : Result (Option ℕ) RecoverFault) (after : T) → IfOk result (λ taken. taken ≡ Some (length frame))
         → OnOk result ((first : T) (text behind : List ℕ) → IsTakenTo After first text (frame ++ behind) place before
@@ -105,10 +194,15 @@ module _ {T : Type 0} (After : T → List ℕ → T → Type 0) (IsOther : T →
         subst (λ taken. IsNext (Ok taken) after) (sym size) (λ first text behind so. taken_to first text (left ++ behind) (with-frame first text behind so))
     next-some (Err fault) after size taken_to = tt
 
-    pub no-next : (result : Result (Option ℕ) RecoverFault) → IfErr result (λ fault. (first : T) (text behind : List ℕ)
-        → IsTakenTo After first text (frame ++ behind) place before → IsFaultOf (IsOther first text) text fault) → IsNoNext result
-    no-next (Ok taken) holds = tt
-    no-next (Err fault) holds = λ first text behind so. holds first text (left ++ behind) (with-frame first text behind so)
+    pub no-next : IsFrame frame → (result : Result (Option ℕ) RecoverFault) → IfErr result (λ fault. (first : T) (text behind : List ℕ) → IsFrame frame
+        → IsTakenTo After first text (frame ++ behind) place before → IsFaultIn After IsOther Refuses first text fault) → IsNoNext result
+    no-next valid (Ok taken) holds = tt
+    no-next valid (Err fault) holds = λ first text behind so. holds first text (left ++ behind) valid (with-frame first text behind so)
+
+-- a frame that was taken isn't none
+pub some-taken : (n : ℕ) (result : Result (Option ℕ) RecoverFault) → IfOk result (λ taken. taken ≡ Some n) → result ≡ Ok None → ⊥
+some-taken n (Ok taken) size is = absurd cc
+some-taken n (Err fault) size is = absurd cc
 
 -- ---- the pieces of a text
 

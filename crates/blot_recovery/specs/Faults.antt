@@ -1,28 +1,48 @@
 -- What is said of a text that isn't taken up.
-use Rattle.std.specs.Prelude.{◌≡◌, ℕ, ℤ, ◌≤◌, List, length, take, Option, Some, IfSome}
+use Rattle.std.specs.Prelude.{◌≡◌, ◌⊎◌, ℕ, ℤ, List, [], ◌++◌, length, Option, Some, IfSome}
+use Rattle.blot_tag.specs.Frames.{BeginsWithFrame, IsFrame}
 use Rattle.blot_tag.specs.Joined.{IsWhole}
 use Rattle.blot_journal.specs.declared.device.DeviceFault.{DeviceFault}
 use Rattle.blot_journal.specs.declared.device.DeviceFault.TheVariants as device
 use Rattle.blot_diary.specs.Beginnings.{beginning_of}
 use Rattle.blot_diary.specs.declared.kept.Beginning.{Beginning}
 use Rattle.blot_recovery.specs.declared.fault.RecoverFault.{RecoverFault}
-use Rattle.blot_recovery.specs.declared.fault.RecoverFault.TheVariants.{NoMemory, Unreadable, Another, Damaged}
+use Rattle.blot_recovery.specs.declared.fault.RecoverFault.TheVariants.{NoMemory, Unreadable, Another, Unlisted, Damaged}
 
 -- the fault of a device that a text is read from
 abbrev pub told_by_text : DeviceFault → RecoverFault
 told_by_text device.NoMemory = NoMemory
 told_by_text device.Failed = Unreadable
 
--- all before this place is whole frames
-pub record IsWholeBefore (text : List ℕ) (place : ℕ) : Type 0 where
-  pub within : place ≤ length text
-  pub whole : IsWhole (take place text)
+-- no whole frame begins at this place of a text, and all before it is whole frames that stand. Nothing is left there only where the text is empty.
+pub record HasNoFrame (Stands : List ℕ → Type 0) (text : List ℕ) (place : ℕ) : Type 0 where
+  pub before : List ℕ
+  pub left : List ℕ
+  pub joined : text ≡ before ++ left
+  pub place_is : place ≡ length before
+  pub whole : IsWhole before
+  pub stands : Stands before
+  pub none : BeginsWithFrame left → ⊥
+  pub some : left ≡ [] → text ≡ []
 
--- what a fault says of a text: that it begins otherwise than was asked for, or that it is whole frames up to a place
-abbrev pub IsFaultOf : (Beginning → Type 0) → List ℕ → RecoverFault → Type 0
-IsFaultOf IsOther text (Another found) = IsOther found
-IsFaultOf IsOther text (Damaged place) = IsWholeBefore text place
-IsFaultOf IsOther text fault = Unit {0}
+-- the frame at this place is refused for a fault, and all before it is whole frames that stand
+pub record HasRefused (Stands : List ℕ → Type 0) (Refuses : List ℕ → List ℕ → RecoverFault → Type 0) (text : List ℕ) (place : ℕ) (fault : RecoverFault) : Type 0 where
+  pub before : List ℕ
+  pub frame : List ℕ
+  pub behind : List ℕ
+  pub joined : text ≡ before ++ (frame ++ behind)
+  pub place_is : place ≡ length before
+  pub whole : IsWhole before
+  pub stands : Stands before
+  pub valid : IsFrame frame
+  pub refuses : Refuses before frame fault
+
+-- what a fault says of a text: it begins otherwise than was asked for, or it stands as far as a place, and what is there doesn't
+abbrev pub IsFaultOf : (Beginning → Type 0) → (List ℕ → Type 0) → (List ℕ → List ℕ → RecoverFault → Type 0) → List ℕ → RecoverFault → Type 0
+IsFaultOf IsOther Stands Refuses text (Another found) = IsOther found
+IsFaultOf IsOther Stands Refuses text (Damaged place) = HasNoFrame Stands text place ⊎ HasRefused Stands Refuses text place (Damaged place)
+IsFaultOf IsOther Stands Refuses text (Unlisted peer) = (place : ℕ) × HasRefused Stands Refuses text place (Unlisted peer)
+IsFaultOf IsOther Stands Refuses text fault = Unit {0}
 
 -- a fault that says nothing of a text
 abbrev pub IsOfNoText : RecoverFault → Type 0

@@ -1,6 +1,7 @@
 -- A day that is opened over a file.
-use Rattle.std.specs.Prelude.{◌≡◌, ℕ, ℤ, Bool, true, false, List, [], Some}
+use Rattle.std.specs.Prelude.{◌≡◌, ℕ, ℤ, Bool, true, false, List, [], Option, Some}
 use Rattle.std.specs.List.{All}
+use Rattle.std.specs.Option.{option_to_list}
 use Rattle.blot_tag.specs.Fields.{fields_of}
 use Rattle.blot_tag.specs.Frames.{IsFrame}
 use Rattle.blot_desk.specs.Desk.{IsRun, events_of}
@@ -18,8 +19,8 @@ use Rattle.blot_recovery.specs.declared.fault.RecoverFault.{RecoverFault}
 use Rattle.blot_recovery.specs.declared.opening.OpenFault.{OpenFault}
 use Rattle.blot_recovery.specs.declared.opening.OpenFault.TheVariants.{File, Text, Write}
 use Rattle.blot_recovery.specs.declared.recovering.Recovered.{Recovered}
-use Rattle.blot_recovery.specs.Faults.{BeginsOtherwise, IsFaultOf}
-use Rattle.blot_recovery.specs.Parties.{IsKeptOperator, IsKeptPeer}
+use Rattle.blot_recovery.specs.Parties.{AreKeptOperators, IsFirst, IsKeptPeer, operator_names}
+use Rattle.blot_recovery.specs.Refusals.{IsRecoverFault}
 use Rattle.blot_recovery.specs.Taking.{names_of}
 
 -- a text is one frame, the beginning of a journal of this blotter and day
@@ -32,11 +33,13 @@ pub record OpensWith (own : List ℕ) (day : ℤ) (found text : List ℕ) : Type
   pub new : found ≡ [] → IsBeginning own day text
   pub same : (found ≡ [] → ⊥) → text ≡ found
 
--- the text of a day is refused for a fault
+-- the text of a day is refused for a fault, by the peers that are listed and the operator who is named
 pub record IsRefused (own : List ℕ) (day : ℤ) (found : List ℕ) (fault : RecoverFault) : Type 0 where
   pub text : List ℕ
   pub opens : OpensWith own day found text
-  pub fault_is : IsFaultOf (BeginsOtherwise own (Some day) text) text fault
+  pub peers : List (List ℕ)
+  pub operator : Option (List ℕ)
+  pub fault_is : IsRecoverFault own (Some day) peers (option_to_list operator) text fault
 
 -- what a fault of a write says of the text that was found: Full comes only where none was, and Broken never
 abbrev pub IsWriteFault : List ℕ → JournalFault → Type 0
@@ -74,11 +77,11 @@ pub record IsOpened (old new : List ℕ) : Type 0 where
   pub same : (text_of old ≡ [] → ⊥) → new ≡ trimmed old
 
 -- a text is taken up: the desk is the run of its events, and each party is as it leaves it
-pub record IsRecovered {L : Type 0} (own : List ℕ) (names : List (List ℕ)) (operator text : List ℕ) (recovered : Recovered L) : Type 0 where
+pub record IsRecovered {L : Type 0} (own : List ℕ) (names : List (List ℕ)) (operator : Option (List ℕ)) (text : List ℕ) (recovered : Recovered L) : Type 0 where
   pub events : events_of recovered.opening.history ≡ desk_events text
   pub run : IsRun recovered.opening
   pub kept : kept_events recovered.opening.history ≡ desk_events text
   pub listed : names_of recovered.peers.items ≡ names
   pub peers : All (IsKeptPeer own text) recovered.peers.items
-  pub name : recovered.operator.name ≡ operator
-  pub operator_is : IsKeptOperator text recovered.operator
+  pub operators : AreKeptOperators text recovered.operators
+  pub first : IsFirst operator (operator_names recovered.operators.named.items)

@@ -1,5 +1,6 @@
 -- What each party of a journal brought, and where its records of its own kinds stand.
-use Rattle.std.specs.Prelude.{◌≡◌, ℕ, ◌≤◌, Bool, true, false, List, fold, map, filter, if◌then◌else◌}
+use Rattle.std.specs.Prelude.{◌≡◌, ◌⊎◌, ℕ, ◌+◌, ◌<◌, ◌≤◌, Bool, true, false, List, [], Option, None, Some, fold, get_or, length, map, filter, if◌then◌else◌}
+use Rattle.std.specs.List.{All, list_any, slice_get}
 use Rattle.blot_types.specs.Keys.{same_text}
 use Rattle.blot_fields.specs.declared.TheConstants.{SEQUENCE_MAX}
 use Rattle.blot_tag.specs.Walking.{frames_of}
@@ -14,6 +15,8 @@ use Rattle.blot_diary.specs.declared.kept.Party.TheVariants.{Peer, Operator}
 use Rattle.blot_diary.specs.Events.{events_of}
 use Rattle.blot_diary.specs.Keeping.{IsInRange, kept_in}
 use Rattle.blot_diary.specs.Numbering.{numbers_of}
+use Rattle.blot_recovery.specs.declared.operators.KeptOperators.{KeptOperators}
+use Rattle.blot_recovery.specs.declared.operators.TheConstants.{OPERATOR_SEATS}
 use Rattle.blot_recovery.specs.declared.parties.KeptOperator.{KeptOperator}
 use Rattle.blot_recovery.specs.declared.parties.KeptPeer.{KeptPeer}
 
@@ -80,3 +83,45 @@ pub record IsKeptOperator {L : Type 0} (text : List ℕ) (operator : KeptOperato
   pub events : events_told operator.seat ≡ brought_by (is_operator operator.name) text
   pub records_are : operator.records ≡ operator_records_of operator.name text
   pub low : operator.records ≤ SEQUENCE_MAX
+
+-- a text has nothing of an operator's
+pub record IsUnheard (text name : List ℕ) : Type 0 where
+  pub events : brought_by (is_operator name) text ≡ []
+  pub records : operator_records_of name text ≡ 0
+
+-- the names of some operators
+abbrev pub operator_names : {L : Type 0} → List (KeptOperator L) → List (List ℕ)
+operator_names operators = map (λ operator. operator.name) operators
+
+-- no two of some names are one
+abbrev pub AreDifferent : List (List ℕ) → Type 0
+AreDifferent names = (j k : ℕ) (d : List ℕ) → j < k → k < length names → get_or names j d ≡ get_or names k d → ⊥
+
+-- so are all operators: each has its own name, a text has nothing of any other, and no seat that nobody has yet has receipts
+pub record AreKeptOperators {L : Type 0} (text : List ℕ) (operators : KeptOperators L) : Type 0 where
+  pub apart : AreDifferent (operator_names operators.named.items)
+  pub named : All (IsKeptOperator text) operators.named.items
+  pub others : (name : List ℕ) → list_any (same_text name) (operator_names operators.named.items) ≡ false → IsUnheard text name
+  pub spare : All (λ receipts. receipts ≡ []) operators.spare.items
+
+-- an operator who is named from the beginning, if one is, is the first of some names
+abbrev pub IsFirst : Option (List ℕ) → List (List ℕ) → Type 0
+IsFirst None names = Unit {0}
+IsFirst (Some name) names = slice_get names 0 ≡ Some name
+
+-- ---- seats
+
+-- an operator has a seat: named from the beginning, or heard of in the text
+abbrev pub HasSeat : List (List ℕ) → List ℕ → List ℕ → Type 0
+HasSeat named text name = (list_any (same_text name) named ≡ true) ⊎ (brought_by (is_operator name) text ≡ [] → ⊥)
+
+-- an operator has a seat now, and who had one has it still
+pub record GivesSeat {L : Type 0} (name : List ℕ) (old new : KeptOperators L) : Type 0 where
+  pub total : length new.named.items + length new.spare.items ≡ length old.named.items + length old.spare.items
+  pub each : (named : List (List ℕ)) (text : List ℕ) → All (HasSeat named text) (operator_names old.named.items) → HasSeat named text name
+      → All (HasSeat named text) (operator_names new.named.items)
+
+-- all seats are given out, each to an operator who has one, or to nobody yet
+pub record AreSeated {L : Type 0} (named : List (List ℕ)) (text : List ℕ) (operators : KeptOperators L) : Type 0 where
+  pub total : length operators.named.items + length operators.spare.items ≡ OPERATOR_SEATS
+  pub each : All (HasSeat named text) (operator_names operators.named.items)

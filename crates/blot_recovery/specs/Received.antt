@@ -1,5 +1,5 @@
 -- The frames that a journal received.
-use Rattle.std.specs.Prelude.{◌≡◌, ℕ, ℤ, true, false, List, [], Option, Some, None, unwrap_or, if◌then◌else◌}
+use Rattle.std.specs.Prelude.{◌≡◌, ◌⊎◌, ℕ, ℤ, true, false, List, [], Option, Some, None, unwrap_or, if◌then◌else◌}
 use Rattle.std.specs.List.{flat_map}
 use Rattle.blot_types.specs.Keys.{same_text}
 use Rattle.blot_tag.specs.Fields.{Item, fields_of}
@@ -8,9 +8,12 @@ use Rattle.blot_fields.specs.First.{first_value}
 use Rattle.blot_diary.specs.declared.kept.Content.{Content}
 use Rattle.blot_diary.specs.declared.kept.Content.TheVariants as contents
 use Rattle.blot_diary.specs.declared.kept.Kept.{Kept}
-use Rattle.blot_diary.specs.Beginnings.{beginning_of}
+use Rattle.blot_diary.specs.Beginnings.{beginning_of, begun_by}
 use Rattle.blot_diary.specs.Keeping.{kept_of}
 use Rattle.blot_recovery.specs.declared.receiving.Receiving.{Receiving}
+use Rattle.blot_recovery.specs.declared.fault.RecoverFault.{RecoverFault}
+use Rattle.blot_recovery.specs.declared.fault.RecoverFault.TheVariants.{Unlisted, Damaged}
+use Rattle.blot_recovery.specs.Faults.{BeginsOtherwise, IsFaultOf}
 use Rattle.blot_recovery.specs.Taking.{begun_on}
 
 -- what a record of the blotter's own wraps: the field RawData of a 35=UR
@@ -41,3 +44,34 @@ pub record HasReceived (first : Receiving) (text : List ℕ) (now : Receiving) :
   pub received_is : now.received.items ≡ received_of first.own text
   pub begun : now.begun ≡ true → IsJournalOf first.own text
   pub nothing : now.begun ≡ false → text ≡ []
+
+-- ---- a text that isn't a journal
+
+-- a journal isn't begun with this frame, or it keeps nothing
+abbrev pub begins_none : Option Kept → Type 0
+begins_none None = Unit {0}
+begins_none (Some kept) = begun_by kept ≡ None
+
+-- the next frame damages a text: it is no message without a fault, or it is the first and begins no journal
+abbrev pub IsReceiveDamage : List ℕ → List ℕ → Type 0
+IsReceiveDamage before frame = (kept_of (fields_of frame) ≡ None) ⊎ ((before ≡ []) × begins_none (kept_of (fields_of frame)))
+
+-- no frame is of an unlisted peer
+abbrev pub RefusesReceived : List ℕ → List ℕ → RecoverFault → Type 0
+RefusesReceived before frame (Damaged place) = IsReceiveDamage before frame
+RefusesReceived before frame (Unlisted peer) = ⊥
+RefusesReceived before frame fault = Unit {0}
+
+-- a text is empty, or a journal of this blotter
+abbrev pub MayBeReceived : List ℕ → List ℕ → Type 0
+MayBeReceived own text = (text ≡ [] → ⊥) → IsJournalOf own text
+
+-- what a fault says of a text
+abbrev pub IsReceiveFault : List ℕ → List ℕ → RecoverFault → Type 0
+IsReceiveFault own text fault = IsFaultOf (BeginsOtherwise own None text) (MayBeReceived own) RefusesReceived text fault
+
+-- what is received so far refuses a frame
+abbrev pub RefusesReceiving : Receiving → List ℕ → RecoverFault → Type 0
+RefusesReceiving now frame (Damaged place) = (kept_of (fields_of frame) ≡ None) ⊎ ((now.begun ≡ false) × begins_none (kept_of (fields_of frame)))
+RefusesReceiving now frame (Unlisted peer) = ⊥
+RefusesReceiving now frame fault = Unit {0}

@@ -19,7 +19,7 @@ use Rattle.blot_recovery.specs.declared.taking.Party.{Party}
 use Rattle.blot_recovery.specs.declared.taking.Party.TheVariants.{Operator, Peer}
 use Rattle.blot_recovery.specs.declared.taking.Taking.{Taking}
 use Rattle.blot_recovery.specs.Faults.{IsWanted}
-use Rattle.blot_recovery.specs.Parties.{IsKeptOperator, IsKeptPeer}
+use Rattle.blot_recovery.specs.Parties.{AreKeptOperators, AreSeated, IsFirst, IsKeptPeer, operator_names}
 
 -- ---- which frames may stand in a journal
 
@@ -73,25 +73,25 @@ pub record IsOfPeer (own : List ℕ) (peers : List (List ℕ)) (kept : Kept) : T
   pub listed : slice_get peers place ≡ Some peer
   pub stands : stands_for own peer kept ≡ true
 
--- it is an event of the operator's, from the blotter to itself
-pub record IsOfOperator (own operator : List ℕ) (kept : Kept) : Type 0 where
-  pub asked : IsAskedBy operator kept.content
+-- it is an event of this operator's, from the blotter to itself
+pub record IsOfOperator (own name : List ℕ) (kept : Kept) : Type 0 where
+  pub asked : IsAskedBy name kept.content
   pub from_is : kept.from ≡ own
   pub to_is : kept.to ≡ own
 
--- either of the two
-abbrev pub IsOfParty : List ℕ → List (List ℕ) → List ℕ → Kept → Type 0
-IsOfParty own peers operator kept = IsOfOperator own operator kept ⊎ IsOfPeer own peers kept
+-- either of the two, whoever the operator is
+abbrev pub IsOfParty : List ℕ → List (List ℕ) → Kept → Type 0
+IsOfParty own peers kept = ((name : List ℕ) × IsOfOperator own name kept) ⊎ IsOfPeer own peers kept
 
 -- a frame may stand behind the first of a blotter's journal
-pub record IsInPlace (own : List ℕ) (peers : List (List ℕ)) (operator frame : List ℕ) : Type 0 where
+pub record IsInPlace (own : List ℕ) (peers : List (List ℕ)) (frame : List ℕ) : Type 0 where
   pub kept : Kept
   pub keeps : kept_of (fields_of frame) ≡ Some kept
-  pub is_of : IsOfParty own peers operator kept
+  pub is_of : IsOfParty own peers kept
 
 -- so may all behind the first of a text
-abbrev pub AreInPlace : List ℕ → List (List ℕ) → List ℕ → List ℕ → Type 0
-AreInPlace own peers operator text = All (IsInPlace own peers operator) (drop 1 (frames_of text))
+abbrev pub AreInPlace : List ℕ → List (List ℕ) → List ℕ → Type 0
+AreInPlace own peers text = All (IsInPlace own peers) (drop 1 (frames_of text))
 
 -- a frame is one of the peer at this place, or to that peer
 pub record IsOfPeerAt {L : Type 0} (taking : Taking L) (kept : Kept) (at : ℕ) : Type 0 where
@@ -100,9 +100,9 @@ pub record IsOfPeerAt {L : Type 0} (taking : Taking L) (kept : Kept) (at : ℕ) 
   pub found : slice_get (names_of taking.peers.items) at ≡ Some peer
   pub stands : stands_for taking.own peer kept ≡ true
 
--- a frame is of this party: an event of the operator's, or a peer's
+-- a frame is of this party: an event of this operator's, or a peer's
 abbrev pub IsPartyOf : {L : Type 0} → Taking L → Kept → Party → Type 0
-IsPartyOf taking kept Operator = IsOfOperator taking.own taking.operator.name kept
+IsPartyOf taking kept (Operator name) = IsOfOperator taking.own name kept
 IsPartyOf taking kept (Peer at) = IsOfPeerAt taking kept at
 
 -- no two of the peers are one, and none is the blotter itself
@@ -119,14 +119,14 @@ pub record AsksSame {L : Type 0} (first now : Taking L) : Type 0 where
   pub own_is : now.own ≡ first.own
   pub wanted_is : now.wanted ≡ first.wanted
   pub names_are : names_of now.peers.items ≡ names_of first.peers.items
-  pub name_is : now.operator.name ≡ first.operator.name
+  pub first_is : (name : Option (List ℕ)) → IsFirst name (operator_names first.operators.named.items) → IsFirst name (operator_names now.operators.named.items)
 
 -- some events are taken up: the desk is their run, and each party is as the text leaves it
 pub record HasTaken {L : Type 0} (text : List ℕ) (now : Taking L) : Type 0 where
   pub events : events_of now.opening.history ≡ desk_events text
   pub run : IsRun now.opening
   pub peers : All (IsKeptPeer now.own text) now.peers.items
-  pub operator : IsKeptOperator text now.operator
+  pub operators : AreKeptOperators text now.operators
 
 -- a text is taken up: it begins as it was asked for, and its events are taken
 pub record IsTakenUp {L : Type 0} (text : List ℕ) (now : Taking L) : Type 0 where
@@ -134,10 +134,11 @@ pub record IsTakenUp {L : Type 0} (text : List ℕ) (now : Taking L) : Type 0 wh
   pub begins : beginning_of text ≡ option_map (begun_on now.own) now.begun
   pub nothing : now.begun ≡ None → text ≡ []
   pub wanted : IfSome now.begun (λ day. IsWanted now.own now.wanted (begun_on now.own day))
-  pub in_place : AreInPlace now.own (names_of now.peers.items) now.operator.name text
+  pub in_place : AreInPlace now.own (names_of now.peers.items) text
   pub has : HasTaken text now
 
 -- the same, by what was asked for
 pub record TakesUpAll {L : Type 0} (first : Taking L) (text : List ℕ) (now : Taking L) : Type 0 where
   pub asks : AsksSame first now
+  pub seated : AreSeated (operator_names first.operators.named.items) text now.operators
   pub taken : IsTakenUp text now

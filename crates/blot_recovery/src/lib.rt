@@ -5,6 +5,7 @@
 
 mod fault;
 mod opening;
+mod operators;
 mod parties;
 mod pieces;
 mod receiving;
@@ -14,6 +15,7 @@ mod walking;
 
 pub use fault::RecoverFault;
 pub use opening::{OpenFault, open_day};
+pub use operators::{KeptOperators, OPERATOR_SEATS};
 pub use parties::{KeptOperator, KeptPeer};
 pub use pieces::{InMemory, Pieces};
 pub use receiving::received;

@@ -12,10 +12,10 @@ ghost use Rattle.blot_journal.specs.Recovery.{IsLeft};
 ghost use Rattle.blot_diary.specs.Diary.{desk_events};
 ghost use Rattle.blot_recovery.specs.Moments.{IsOpening, IsOrLeaves, IsOrWasRead, SameOrBegun, WasRead};
 ghost use Rattle.blot_recovery.specs.Opening.{IfRefused, IsBeginning, IsOpenFault, IsOpened, IsRecovered, IsTextFault, OpensWith, is_of_disk};
-ghost use Rattle.blot_recovery.specs.Parties.{IsKeptOperator, IsKeptPeer};
+ghost use Rattle.blot_recovery.specs.Parties.{AreKeptOperators, IsFirst, IsKeptPeer, operator_names};
 ghost use Rattle.blot_recovery.specs.Taking.{names_of};
 
-use crate::{InMemory, RecoverFault, Recovered, recover};
+use crate::{InMemory, OPERATOR_SEATS, RecoverFault, Recovered, recover};
 use blot_diary::{Diary, beginning_record};
 use blot_journal::{Device, Journal, JournalFault, RecoveryFault};
 use blot_time::{Day, Moment};
@@ -44,11 +44,11 @@ pub fn open_day<L: Ledger, D: Device>(
     day: Day,
     now: Moment,
     peers: &[Text64],
-    operator: Text64,
+    operator: Option<Text64>,
 ) -> Result<(Diary<D>, Recovered<L>), (OpenFault, D)>
     requires name { blank.name ≡ L.name }
     requires parts { blank.parts ≡ L.parts }
-    requires seats { blank.parts ≡ length peers.now + 1 }
+    requires seats { blank.parts ≡ length peers.now + OPERATOR_SEATS }
     requires distinct { IsDistinct same_text peers.now }
     requires others { list_any (same_text own) peers.now ≡ false }
     requires readable { IsTrue (D.is_readable device) }
@@ -70,8 +70,8 @@ pub fn open_day<L: Ledger, D: Device>(
     // Each party is as the text leaves it.
     ensures listed { IfOk result (λ opened. names_of opened.1.peers.items ≡ peers.now) }
     ensures peers { IfOk result (λ opened. All (IsKeptPeer own opened.0.text) opened.1.peers.items) }
-    ensures name { IfOk result (λ opened. opened.1.operator.name ≡ operator) }
-    ensures operator { IfOk result (λ opened. IsKeptOperator opened.0.text opened.1.operator) }
+    ensures operators { IfOk result (λ opened. AreKeptOperators opened.0.text opened.1.operators) }
+    ensures first { IfOk result (λ opened. IsFirst operator (operator_names opened.1.operators.named.items)) }
 
     // A file that is refused, by itself or by its text, is left as it was, bytes and all.
     ensures fault { IfErr result (λ refused. IsOpenFault own day (D.seen device) refused.0) }
@@ -106,11 +106,11 @@ fn take_up<L: Ledger, D: Device>(
     day: Day,
     now: Moment,
     peers: &[Text64],
-    operator: Text64,
+    operator: Option<Text64>,
 ) -> Result<Recovered<L>, OpenFault>
     requires name { blank.name ≡ L.name }
     requires parts { blank.parts ≡ L.parts }
-    requires seats { blank.parts ≡ length peers.now + 1 }
+    requires seats { blank.parts ≡ length peers.now + OPERATOR_SEATS }
     requires distinct { IsDistinct same_text peers.now }
     requires others { list_any (same_text own) peers.now ≡ false }
     requires unbroken { journal.old.is_broken ≡ false }
@@ -145,11 +145,11 @@ fn begin<L: Ledger, D: Device>(
     day: Day,
     now: Moment,
     peers: &[Text64],
-    operator: Text64,
+    operator: Option<Text64>,
 ) -> Result<Recovered<L>, OpenFault>
     requires name { blank.name ≡ L.name }
     requires parts { blank.parts ≡ L.parts }
-    requires seats { blank.parts ≡ length peers.now + 1 }
+    requires seats { blank.parts ≡ length peers.now + OPERATOR_SEATS }
     requires distinct { IsDistinct same_text peers.now }
     requires others { list_any (same_text own) peers.now ≡ false }
     requires unbroken { journal.old.is_broken ≡ false }
@@ -206,11 +206,11 @@ fn go_on<L: Ledger, D: Device>(
     own: Text64,
     day: Day,
     peers: &[Text64],
-    operator: Text64,
+    operator: Option<Text64>,
 ) -> Result<Recovered<L>, OpenFault>
     requires name { blank.name ≡ L.name }
     requires parts { blank.parts ≡ L.parts }
-    requires seats { blank.parts ≡ length peers.now + 1 }
+    requires seats { blank.parts ≡ length peers.now + OPERATOR_SEATS }
     requires distinct { IsDistinct same_text peers.now }
     requires others { list_any (same_text own) peers.now ≡ false }
     requires unbroken { journal.old.is_broken ≡ false }

@@ -5,6 +5,7 @@ ghost use Rattle.blot_diary.specs.Events.{noted_of};
 ghost use Rattle.blot_diary.specs.Keeping.{IsKept};
 ghost use Rattle.blot_recovery.specs.Faults.{IsHere};
 ghost use Rattle.blot_recovery.specs.Parties.{IsKeptOperator, IsKeptPeer, events_told, operator_record_after, peer_record_after};
+ghost use Rattle.blot_recovery.specs.Refusals.{IsOfDesk};
 ghost use Rattle.blot_recovery.specs.Taking.{IsAskedBy, KeepsLast, TakesUp, stands_for, with_event};
 
 use crate::RecoverFault;
@@ -60,20 +61,25 @@ impl<L: Ledger> KeptPeer<L> {
         ensures opening { OnOk result (TakesUp opening.old opening.new (noted_of kept)) }
         ensures peer { OnOk result ((text more : List ℕ) → KeepsLast text kept more → IsKeptPeer own.now text self.old → IsKeptPeer own.now more self.new) }
         ensures name { self.new.peer ≡ self.old.peer }
+        ensures full { IfErr result (IsOfDesk opening.old (noted_of kept)) }
         ensures fault { IfErr result (IsHere place) }
     {
         self.numbers = self.numbers.after(own, &self.peer, &kept);
         self.records = peer_record_after(&self.peer, self.records, &kept);
-        take_up(opening, &mut self.seat, kept.into_noted(), place)
+        take_up(
+            opening,
+            &mut self.seat,
+            &self.peer,
+            kept.into_noted(),
+            place,
+        )
     }
 }
 
 impl<L: Ledger> KeptOperator<L> {
     /// An operator that was never heard of.
     pub(crate) fn new(name: Text64, seat: Seat<L>) -> KeptOperator<L>
-        requires { seat ≡ [] }
-        ensures name { result.name ≡ name }
-        ensures kept { IsKeptOperator [] result }
+        ensures { result ≡ record { name = name; seat = seat; records = 0 } }
     {
         KeptOperator {
             name,
@@ -94,10 +100,17 @@ impl<L: Ledger> KeptOperator<L> {
         ensures opening { OnOk result (TakesUp opening.old opening.new (noted_of kept)) }
         ensures operator { OnOk result ((text more : List ℕ) → KeepsLast text kept more → IsKeptOperator text self.old → IsKeptOperator more self.new) }
         ensures name { self.new.name ≡ self.old.name }
+        ensures full { IfErr result (IsOfDesk opening.old (noted_of kept)) }
         ensures fault { IfErr result (IsHere place) }
     {
         self.records = kept.number;
-        take_up(opening, &mut self.seat, kept.into_noted(), place)
+        take_up(
+            opening,
+            &mut self.seat,
+            &self.name,
+            kept.into_noted(),
+            place,
+        )
     }
 }
 
@@ -111,21 +124,23 @@ fn peer_record_after(peer: &Text64, last: u64, kept: &Kept) -> u64
     }
 }
 
-// Takes an event to a desk, if there is one, by a seat.
+// Takes an event of this maker to a desk, if there is one, by a seat.
 fn take_up<L: Ledger>(
     opening: &mut Opening<L>,
     seat: &mut Seat<L>,
+    maker: &Text64,
     noted: Option<Noted>,
     place: usize,
 ) -> Result<(), RecoverFault>
     ensures opening { OnOk result (TakesUp opening.old opening.new noted) }
     ensures seat { OnOk result (events_told seat.new ≡ with_event (events_told seat.old) noted) }
+    ensures full { IfErr result (IsOfDesk opening.old noted) }
     ensures fault { IfErr result (IsHere place) }
 {
     let Some(Noted { event, .. }) = noted else {
         return Ok(());
     };
-    match opening.step(seat, event) {
+    match opening.step(seat, maker, event) {
         Ok(_) => Ok(()),
         Err(DeskFault::NoMemory) => Err(RecoverFault::NoMemory),
         Err(DeskFault::Full | DeskFault::Broken | DeskFault::Unsettled) => {

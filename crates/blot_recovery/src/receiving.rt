@@ -1,11 +1,11 @@
 //! What a journal received.
-ghost use Rattle.std.specs.Prelude.{◌≡◌, ◌++◌, ℕ, ℤ, false, true, Err, IfErr, IfOk, None, OnOk, Some};
+ghost use Rattle.std.specs.Prelude.{◌≡◌, ◌++◌, ℕ, ℤ, List, false, true, Err, IfErr, IfOk, None, OnOk, Some};
 ghost use Rattle.blot_tag.specs.Joined.{IsWhole};
 ghost use Rattle.blot_tag.specs.Views.{text_of};
 ghost use Rattle.blot_diary.specs.declared.kept.Beginning.{Beginning};
 ghost use Rattle.blot_diary.specs.Beginnings.{begun_by};
-ghost use Rattle.blot_recovery.specs.Faults.{BeginsOtherwise, IsFaultOf, IsWanted};
-ghost use Rattle.blot_recovery.specs.Received.{HasReceived, IsJournalOf, received_by, received_of};
+ghost use Rattle.blot_recovery.specs.Faults.{BeginsOtherwise, IsWanted};
+ghost use Rattle.blot_recovery.specs.Received.{HasReceived, IsJournalOf, IsReceiveFault, RefusesReceiving, received_by, received_of};
 ghost use Rattle.blot_recovery.specs.Taking.{begun_on};
 
 use crate::taking::is_wanted;
@@ -29,7 +29,7 @@ pub fn received<P: Pieces>(
     ensures received { IfOk result (λ received. received.items ≡ received_of own (P.text text.old)) }
     ensures whole { OnOk result (IsWhole (P.text text.old)) }
     ensures begins { OnOk result (IsJournalOf own (P.text text.old)) }
-    ensures fault { IfErr result (IsFaultOf (BeginsOtherwise own None (P.text text.old)) (P.text text.old)) }
+    ensures fault { IfErr result (IsReceiveFault own (P.text text.old)) }
     ensures same { P.text text.new ≡ P.text text.old }
     ensures readable { P.IsReadable text.new }
 {
@@ -94,6 +94,8 @@ fn begin(own: &Text64, kept: &Kept, place: usize) -> Result<(), RecoverFault>
     ensures begins { OnOk result ((day : ℤ) × (begun_by kept.now ≡ Some (begun_on own.now day))) }
     ensures other { (found : Beginning) → result ≡ Err (RecoverFault.Another found) → (begun_by kept.now ≡ Some found) × (IsWanted own.now None found → ⊥) }
     ensures damaged { (at : ℕ) → result ≡ Err (RecoverFault.Damaged at) → at ≡ place }
+    ensures refused { IfErr result (λ fault. (at : ℕ) → fault ≡ RecoverFault.Damaged at → begun_by kept.now ≡ None) }
+    ensures listed { IfErr result (λ fault. (peer : List ℕ) → fault ≡ RecoverFault.Unlisted peer → ⊥) }
 {
     let Some(found) = kept.beginning() else {
         return Err(RecoverFault::Damaged(place));
@@ -107,6 +109,8 @@ fn begin(own: &Text64, kept: &Kept, place: usize) -> Result<(), RecoverFault>
 
 impl Takes for Receiving {
     ghost After = { λ first text now. HasReceived first text now };
+
+    ghost Refuses = { λ now frame fault. RefusesReceiving now frame fault };
 
     ghost IsOther = { λ first text found. BeginsOtherwise first.own None text found };
 

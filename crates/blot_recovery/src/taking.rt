@@ -1,14 +1,18 @@
 //! What a text is taken up into, frame by frame.
-ghost use Rattle.std.specs.List.{All};
-ghost use Rattle.std.specs.Prelude.{◌≡◌, ◌↔◌, ◌+◌, ◌<◌, ℕ, List, [], length, option_map, slice_get, vec_len, Err, IfErr, IfOk, IfSome, IsSome, IsTrue, None, OnOk, Some};
+ghost use Rattle.std.specs.List.{All, list_any};
+ghost use Rattle.std.specs.Prelude.{◌≡◌, ◌↔◌, ◌+◌, ◌<◌, ℕ, List, [], false, if◌then◌else◌, length, option_map, slice_get, vec_len, Err, IfErr, IfOk, IfSome, IsSome, IsTrue, None, OnOk, Some};
 ghost use Rattle.blot_diary.specs.declared.kept.Beginning.{Beginning};
 ghost use Rattle.blot_diary.specs.Beginnings.{begun_by};
 ghost use Rattle.blot_diary.specs.Keeping.{IsKept};
 ghost use Rattle.blot_recovery.specs.Faults.{BeginsOtherwise, IsHere, IsWanted};
-ghost use Rattle.blot_recovery.specs.Parties.{IsKeptPeer};
-ghost use Rattle.blot_recovery.specs.Taking.{AreApart, AsksSame, HasTaken, IsOfParty, IsPartyOf, KeepsLast, TakesUpAll, begun_on, names_of, stands_for};
+ghost use Rattle.blot_recovery.specs.Parties.{AreSeated, IsFirst, IsKeptPeer, operator_names};
+ghost use Rattle.blot_recovery.specs.Refusals.{IsOfNoParty, RefusesKept, RefusesNext, other_of};
+ghost use Rattle.blot_types.specs.Keys.{same_text};
+ghost use Rattle.std.specs.Option.{option_to_list};
+ghost use Rattle.blot_recovery.specs.Taking.{AreApart, AsksSame, HasTaken, IsAskedBy, IsOfParty, IsPartyOf, KeepsLast, TakesUpAll, begun_on, names_of, stands_for};
 
-use crate::parties::{KeptOperator, KeptPeer};
+use crate::operators::{KeptOperators, OPERATOR_SEATS};
+use crate::parties::KeptPeer;
 use crate::walking::Takes;
 use crate::{RecoverFault, Recovered};
 use blot_desk::{Opening, Seat};
@@ -30,46 +34,49 @@ pub(crate) struct Taking<L: Ledger> {
     begun: Option<Day>,
     opening: Opening<L>,
     peers: Vec<KeptPeer<L>>,
-    operator: KeptOperator<L>,
+    operators: KeptOperators<L>,
 }
 
 // Who a frame is of.
 enum Party {
-    Operator,
+    // The operator of this name.
+    Operator(Text64),
     // The peer at this place.
     Peer(usize),
 }
 
 impl<L: Ledger> Taking<L> {
-    /// Before the first frame: each party has a seat, the operator the last.
+    /// Before the first frame: each peer has a seat, and so have the operators.
     pub(crate) fn new(
         alloc: Global,
         blank: Blank,
         own: Text64,
         wanted: Option<Day>,
         peers: &[Text64],
-        operator: Text64,
+        operator: Option<Text64>,
     ) -> Result<Taking<L>, RecoverFault>
         requires name { blank.name ≡ L.name }
         requires parts { blank.parts ≡ L.parts }
-        requires seats { blank.parts ≡ length peers.now + 1 }
+        requires seats { blank.parts ≡ length peers.now + OPERATOR_SEATS }
         requires apart { AreApart own peers.now }
         ensures own { IfOk result (λ made. made.own ≡ own) }
         ensures wanted { IfOk result (λ made. made.wanted ≡ wanted) }
         ensures listed { IfOk result (λ made. names_of made.peers.items ≡ peers.now) }
-        ensures name { IfOk result (λ made. made.operator.name ≡ operator) }
+        ensures operator { IfOk result (λ made. IsFirst operator (operator_names made.operators.named.items)) }
+        ensures named { IfOk result (λ made. operator_names made.operators.named.items ≡ option_to_list operator) }
         ensures first { IfOk result (λ made. TakesUpAll made [] made) }
         ensures memory { IfErr result (λ fault. fault ≡ RecoverFault.NoMemory) }
     {
         let Ok(brokers) = u32::try_from(peers.len()) else {
             return Err(RecoverFault::NoMemory);
         };
-        if brokers == u32::MAX {
+        if brokers > u32::MAX - OPERATOR_SEATS {
             return Err(RecoverFault::NoMemory);
         }
-        let (opening, seats) = Opening::<L>::new(alloc, blank, brokers + 1)?;
+        let (opening, seats) = Opening::<L>::new(alloc, blank, brokers + OPERATOR_SEATS)?;
         let mut seats = seats;
-        let seat = seats.pop().unwrap();
+        let spare = seats.split_off(peers.len())?;
+        let operators = KeptOperators::new(alloc, operator, spare)?;
         let peers = seated(alloc, peers, seats)?;
         Ok(Taking {
             alloc,
@@ -78,7 +85,7 @@ impl<L: Ledger> Taking<L> {
             begun: None,
             opening,
             peers,
-            operator: KeptOperator::new(operator, seat),
+            operators,
         })
     }
 
@@ -87,14 +94,14 @@ impl<L: Ledger> Taking<L> {
         ensures begun { IfOk result (λ recovered. self.begun ≡ Some recovered.day) }
         ensures opening { IfOk result (λ recovered. recovered.opening ≡ self.opening) }
         ensures peers { IfOk result (λ recovered. recovered.peers.items ≡ self.peers.items) }
-        ensures operator { IfOk result (λ recovered. recovered.operator ≡ self.operator) }
+        ensures operators { IfOk result (λ recovered. recovered.operators ≡ self.operators) }
         ensures none { IfErr result (λ fault. (fault ≡ RecoverFault.Damaged 0) × (self.begun ≡ None)) }
     {
         let Taking {
             begun,
             opening,
             peers,
-            operator,
+            operators,
             ..
         } = self;
         match begun {
@@ -102,7 +109,7 @@ impl<L: Ledger> Taking<L> {
                 day,
                 opening,
                 peers,
-                operator,
+                operators,
             }),
             None => Err(RecoverFault::Damaged(0)),
         }
@@ -117,6 +124,9 @@ impl<L: Ledger> Taking<L> {
         ensures other { (found : Beginning) → result ≡ Err (RecoverFault.Another found)
             → (begun_by kept.now ≡ Some found) × (IsWanted self.old.own self.old.wanted found → ⊥) }
         ensures damaged { (at : ℕ) → result ≡ Err (RecoverFault.Damaged at) → at ≡ place }
+        ensures refused { IfErr result (λ fault. (at : ℕ) → fault ≡ RecoverFault.Damaged at → (found : Beginning) → begun_by kept.now ≡ Some found
+            → IsWanted self.old.own self.old.wanted found → kept.now.to ≡ self.old.own → ⊥) }
+        ensures listed { IfErr result (λ fault. (peer : List ℕ) → fault ≡ RecoverFault.Unlisted peer → ⊥) }
     {
         let Some(found) = kept.beginning() else {
             return Err(RecoverFault::Damaged(place));
@@ -136,13 +146,16 @@ impl<L: Ledger> Taking<L> {
         requires { IsKept kept }
         ensures held { OnOk result ((text more : List ℕ) → KeepsLast text kept more → AreApart self.old.own (names_of self.old.peers.items)
             → HasTaken text self.old → HasTaken more self.new) }
-        ensures of { OnOk result (IsOfParty self.old.own (names_of self.old.peers.items) self.old.operator.name kept) }
+        ensures of { OnOk result (IsOfParty self.old.own (names_of self.old.peers.items) kept) }
         ensures asks { OnOk result (AsksSame self.old self.new) }
         ensures begun { OnOk result (self.new.begun ≡ self.old.begun) }
+        ensures seats { OnOk result ((named : List (List ℕ)) (text more : List ℕ) → KeepsLast text kept more
+            → AreSeated named text self.old.operators → AreSeated named more self.new.operators) }
+        ensures refused { IfErr result (RefusesKept self.old kept) }
         ensures fault { IfErr result (IsHere place) }
     {
         match self.party_of(&kept, place)? {
-            Party::Operator => self.operator.take(&mut self.opening, kept, place),
+            Party::Operator(name) => { self.operators.take(&mut self.opening, name, kept, place) }
             Party::Peer(at) => self.peers[at].take(&self.own, &mut self.opening, kept, place),
         }
     }
@@ -150,6 +163,7 @@ impl<L: Ledger> Taking<L> {
     // Who a frame behind the first is of.
     fn party_of(&self, kept: &Kept, place: usize) -> Result<Party, RecoverFault>
         ensures party { IfOk result (IsPartyOf self.now kept.now) }
+        ensures refused { IfErr result (IsOfNoParty self.now kept.now) }
         ensures fault { IfErr result (IsHere place) }
     {
         match &kept.content {
@@ -161,45 +175,44 @@ impl<L: Ledger> Taking<L> {
         }
     }
 
-    // That a frame is an event of the operator's.
+    // That a frame is an event of this operator's.
     fn asked_by(&self, operator: &Text64, kept: &Kept, place: usize) -> Result<Party, RecoverFault>
-        ensures party { IfOk result (λ party. party ≡ Party.Operator) }
+        ensures party { IfOk result (λ party. party ≡ Party.Operator operator.now) }
         ensures own { OnOk result ((kept.now.from ≡ self.now.own) × (kept.now.to ≡ self.now.own)) }
-        ensures name { OnOk result (operator.now ≡ self.now.operator.name) }
+        ensures refused { IfErr result (λ fault. (fault ≡ RecoverFault.Damaged place) × ((kept.now.from ≡ self.now.own) × (kept.now.to ≡ self.now.own) → ⊥)) }
         ensures fault { IfErr result (IsHere place) }
     {
         if kept.from != self.own || kept.to != self.own {
             return Err(RecoverFault::Damaged(place));
         }
-        if *operator != self.operator.name {
-            return Err(RecoverFault::Unlisted(*operator));
-        }
-        Ok(Party::Operator)
+        Ok(Party::Operator(*operator))
     }
 
     // The peer that a frame is of or to.
     fn peer_of(&self, kept: &Kept, place: usize) -> Result<Party, RecoverFault>
+        requires unasked { (name : List ℕ) → IsAskedBy name kept.now.content → ⊥ }
         ensures party { IfOk result (IsPartyOf self.now kept.now) }
+        ensures refused { IfErr result (IsOfNoParty self.now kept.now) }
         ensures fault { IfErr result (IsHere place) }
     {
-        let other = if kept.from == self.own {
-            kept.to
-        } else {
-            kept.from
-        };
-        let Some(at) = place_of(&self.peers, &other) else {
-            return Err(unlisted(&self.own, &other, place));
-        };
-        if stands_for(&self.own, &other, kept) {
-            Ok(Party::Peer(at))
-        } else {
-            Err(RecoverFault::Damaged(place))
+        let other = other_of(&self.own, kept);
+        match place_of(&self.peers, &other) {
+            None => Err(unlisted(&self.own, &other, place)),
+            Some(at) => {
+                if stands_for(&self.own, &other, kept) {
+                    Ok(Party::Peer(at))
+                } else {
+                    Err(RecoverFault::Damaged(place))
+                }
+            }
         }
     }
 }
 
 impl<L: Ledger> Takes for Taking<L> {
     ghost After = { λ first text now. TakesUpAll first text now };
+
+    ghost Refuses = { λ now frame fault. RefusesNext now frame fault };
 
     ghost IsOther = { λ first text found. BeginsOtherwise first.own first.wanted text found };
 
@@ -226,9 +239,21 @@ pub(crate) fn is_wanted(own: &Text64, wanted: Option<Day>, found: &Beginning) ->
     }
 }
 
+// The other party of a frame: who the blotter sent it to, and who sent any other.
+fn other_of(own: &Text64, kept: &Kept) -> Text64
+    ensures { result ≡ other_of own.now kept.now }
+{
+    if kept.from == *own {
+        kept.to
+    } else {
+        kept.from
+    }
+}
+
 // The fault of a frame whose other party isn't listed.
 fn unlisted(own: &Text64, other: &Text64, place: usize) -> RecoverFault
-    ensures { IsHere place result }
+    ensures here { IsHere place result }
+    ensures fault { result ≡ (if same_text other.now own.now then RecoverFault.Damaged place else RecoverFault.Unlisted other.now) }
 {
     if *other == *own {
         RecoverFault::Damaged(place)
@@ -241,6 +266,7 @@ fn unlisted(own: &Text64, other: &Text64, place: usize) -> RecoverFault
 fn place_of<L: Ledger>(peers: &[KeptPeer<L>], name: &Text64) -> Option<usize>
     ensures within { IfSome result (λ at. at < length peers.now) }
     ensures name { IfSome result (λ at. slice_get (names_of peers.now) at ≡ Some name.now) }
+    ensures none { result ≡ None → list_any (same_text name.now) (names_of peers.now) ≡ false }
 {
     for (at, kept) in peers.iter().enumerate() {
         if kept.peer == *name {

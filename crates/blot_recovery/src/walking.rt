@@ -1,11 +1,13 @@
 //! The frames of a text, one by one.
 ghost use Rattle.std.specs.Prelude.{◌≡◌, ◌+◌, ◌<◌, ◌≤◌, ◌^◌, ◌++◌, ℕ, List, [], drop, length, vec_len, Err, IfErr, IfOk, IfSome, None, Ok, OnOk, Some};
+ghost use Rattle.blot_tag.specs.Frames.{BeginsWithFrame, IsFrame};
 ghost use Rattle.blot_tag.specs.Joined.{IsWhole};
 ghost use Rattle.blot_tag.specs.Views.{text_of};
 ghost use Rattle.blot_diary.specs.declared.kept.Beginning.{Beginning};
-ghost use Rattle.blot_recovery.specs.Faults.{IsFaultOf, IsOfNoText};
+ghost use Rattle.blot_recovery.specs.declared.fault.RecoverFault.{RecoverFault as Fault};
+ghost use Rattle.blot_recovery.specs.Faults.{IsOfNoText};
 ghost use Rattle.blot_recovery.specs.Moments.{IsOrWasRead};
-ghost use Rattle.blot_recovery.specs.Walking.{IsTakenTo};
+ghost use Rattle.blot_recovery.specs.Walking.{IsFaultIn, IsTakenTo};
 
 use crate::{Pieces, RecoverFault};
 use blot_tag::{Frame, Reader};
@@ -22,12 +24,16 @@ pub(crate) trait Takes {
     /// A text begins so, and otherwise than it was asked for.
     ghost IsOther: { Self → List ℕ → Beginning → Type 0 };
 
+    /// It refuses a frame for this fault.
+    ghost Refuses: { Self → List ℕ → Fault → Type 0 };
+
     /// Takes a frame, which stands at this place of its text.
     fn take(&mut self, frame: &Frame, place: usize) -> Result<(), RecoverFault>
         ensures taken { OnOk result ((first : Self) (text : List ℕ) → IsWhole text → After first text self.old → After first (text ++ text_of frame.now) self.new) }
         ensures other { (found : Beginning) → result ≡ Err (RecoverFault.Another found)
             → (first : Self) (text behind : List ℕ) → IsWhole text → After first text self.old → IsOther first (text ++ text_of frame.now ++ behind) found }
-        ensures damaged { (at : ℕ) → result ≡ Err (RecoverFault.Damaged at) → at ≡ place };
+        ensures damaged { (at : ℕ) → result ≡ Err (RecoverFault.Damaged at) → at ≡ place }
+        ensures refused { IfErr result (Refuses self.old (text_of frame.now)) };
 }
 
 /// Takes all frames of a text, which has to be whole frames.
@@ -40,7 +46,7 @@ pub(crate) fn take_all<P: Pieces, T: Takes>(
     requires first { T.After taker.old [] taker.old }
     ensures whole { OnOk result (IsWhole (P.text text.old)) }
     ensures taken { OnOk result (T.After taker.old (P.text text.old) taker.new) }
-    ensures fault { IfErr result (IsFaultOf (T.IsOther taker.old (P.text text.old)) (P.text text.old)) }
+    ensures fault { IfErr result (IsFaultIn T.After T.IsOther T.Refuses taker.old (P.text text.old)) }
     ensures same { P.text text.new ≡ P.text text.old }
     ensures readable { P.IsReadable text.new }
     ensures read { IsOrWasRead P.Reads text.old text.new }
@@ -88,11 +94,12 @@ fn take_frames<T: Takes>(
     requires clean { reader.old.skipped ≡ 0 }
     requires few { place + length reader.old.unread < 2 ^ 64 }
     ensures clean { OnOk result (reader.new.skipped ≡ 0) }
+    ensures ends { OnOk result (BeginsWithFrame reader.new.unread → ⊥) }
     ensures taken { IfOk result (λ after. (first : T) (text behind : List ℕ)
         → IsTakenTo T.After first text (reader.old.unread ++ behind) place taker.old
         → IsTakenTo T.After first text (reader.new.unread ++ behind) after taker.new) }
     ensures fault { IfErr result (λ fault. (first : T) (text behind : List ℕ)
-        → IsTakenTo T.After first text (reader.old.unread ++ behind) place taker.old → IsFaultOf (T.IsOther first text) text fault) }
+        → IsTakenTo T.After first text (reader.old.unread ++ behind) place taker.old → IsFaultIn T.After T.IsOther T.Refuses first text fault) }
 {
     let mut place = place;
     while let Some(size) = take_next(reader, taker, place)? {
@@ -110,12 +117,13 @@ fn take_next<T: Takes>(
     requires clean { reader.old.skipped ≡ 0 }
     ensures clean { OnOk result (reader.new.skipped ≡ 0) }
     ensures none { result ≡ Ok None → (reader.new.unread ≡ reader.old.unread) × (taker.new ≡ taker.old) }
+    ensures ends { result ≡ Ok None → BeginsWithFrame reader.new.unread → ⊥ }
     ensures size { IfOk result (λ taken. IfSome taken (λ size. (0 < size) × (size + length reader.new.unread ≡ length reader.old.unread))) }
     ensures taken { IfOk result (λ taken. IfSome taken (λ size. (first : T) (text behind : List ℕ)
         → IsTakenTo T.After first text (reader.old.unread ++ behind) place taker.old
         → IsTakenTo T.After first text (reader.new.unread ++ behind) (place + size) taker.new)) }
     ensures fault { IfErr result (λ fault. (first : T) (text behind : List ℕ)
-        → IsTakenTo T.After first text (reader.old.unread ++ behind) place taker.old → IsFaultOf (T.IsOther first text) text fault) }
+        → IsTakenTo T.After first text (reader.old.unread ++ behind) place taker.old → IsFaultIn T.After T.IsOther T.Refuses first text fault) }
 {
     let taken = match reader.next()? {
         Some(frame) => taken_by(taker, &frame, place),
@@ -137,8 +145,8 @@ fn taken_by<T: Takes>(
     ensures size { IfOk result (λ taken. taken ≡ Some (length (text_of frame.now))) }
     ensures taken { OnOk result ((first : T) (text behind : List ℕ) → IsTakenTo T.After first text (text_of frame.now ++ behind) place taker.old
         → IsTakenTo T.After first text behind (place + length (text_of frame.now)) taker.new) }
-    ensures fault { IfErr result (λ fault. (first : T) (text behind : List ℕ)
-        → IsTakenTo T.After first text (text_of frame.now ++ behind) place taker.old → IsFaultOf (T.IsOther first text) text fault) }
+    ensures fault { IfErr result (λ fault. (first : T) (text behind : List ℕ) → IsFrame (text_of frame.now)
+        → IsTakenTo T.After first text (text_of frame.now ++ behind) place taker.old → IsFaultIn T.After T.IsOther T.Refuses first text fault) }
 {
     let size = frame.text().len();
     match taker.take(frame, place) {

@@ -13,7 +13,7 @@ use Rattle.blot_words.specs.declared.refusal.Refusal.TheVariants.{NoMemory}
 use Rattle.blot_words.specs.declared.words.DeskSource.{DeskSource}
 use Rattle.blot_words.specs.declared.words.DeskSource.TheVariants.{Capture, Journal}
 use Rattle.blot_words.specs.declared.words.Words.{Words}
-use Rattle.blot_words.specs.declared.words.Words.TheVariants.{Replay, Desk, Audit, Open, Serve}
+use Rattle.blot_words.specs.declared.words.Words.TheVariants.{Replay, Desk, Audit, Open, Serve, Ask}
 
 -- the peers of a replay: one or more texts, and no two the same
 pub record IsPeerList (peers : List (List ℕ)) : Type 0 where
@@ -26,7 +26,7 @@ abbrev pub IsApart : List ℕ → List (List ℕ) → Type 0
 IsApart own peers = list_any (same_text own) peers ≡ false
 
 -- the words that clap found, by the option that they come after: one's own CompID, the day, the file with the capture, the file with the
--- journal, and all that name a peer
+-- journal, the socket that operators come by, and all that name a peer; of a client, its socket and its operator's name
 abbrev pub own_word : ArgMatches → Option (List ℕ)
 own_word matches = first_value (found_of matches) (codes "own")
 
@@ -38,6 +38,15 @@ capture_word matches = first_value (found_of matches) (codes "capture")
 
 abbrev pub journal_word : ArgMatches → Option (List ℕ)
 journal_word matches = first_value (found_of matches) (codes "journal")
+
+abbrev pub operators_word : ArgMatches → Option (List ℕ)
+operators_word matches = first_value (found_of matches) (codes "operators")
+
+abbrev pub path_word : ArgMatches → Option (List ℕ)
+path_word matches = first_value (found_of matches) (codes "path")
+
+abbrev pub name_word : ArgMatches → Option (List ℕ)
+name_word matches = first_value (found_of matches) (codes "name")
 
 abbrev pub peer_words : ArgMatches → Option (List (List ℕ))
 peer_words matches = option_map raw_values (matched_of (found_of matches) (codes "peer"))
@@ -102,10 +111,12 @@ pub record IsCount (most : ℕ) (word : List ℕ) : Type 0 where
   pub some : 1 ≤ count_of word
   pub few : count_of word ≤ most
 
--- the words of a server: as of a replay, and the port and the numbers of connections and rounds are counts; a day of rounds keeps no journal
+-- the words of a server: as of a replay, and the port and the numbers of connections and rounds are counts; a day of rounds keeps no journal,
+-- and no operator comes to it by a socket
 pub record IsServe (matches : ArgMatches) : Type 0 where
   pub as_replay : IsReplay matches
   pub no_journal : journal_word matches ≡ None
+  pub no_operators : operators_word matches ≡ None
   pub port_count : IsSomeAnd (count_word matches (codes "port")) (IsCount PORT_MAX)
   pub sessions_count : IsSomeAnd (count_word matches (codes "sessions")) (IsCount SESSIONS_MAX)
   pub rounds_count : IsSomeAnd (count_word matches (codes "rounds")) (IsCount ROUNDS_MAX)
@@ -122,6 +133,11 @@ pub record IsOpen (matches : ArgMatches) : Type 0 where
   pub lanes_count : IsCountOrNone LANES_MAX (count_word matches (codes "lanes"))
   pub apart : AreApart matches
 
+-- the words of a client: a socket, and an operator's name, where there is one, is a text
+pub record IsAsk (matches : ArgMatches) : Type 0 where
+  pub path : IsTrue (is_some (path_word matches))
+  pub name_text : IfSome (name_word matches) (λ name. IsTrue (is_text name))
+
 -- how many lanes so many peers have by default: twice as many and two more, but no more than there may be
 abbrev pub default_lanes : ℕ → ℕ
 default_lanes peers = min (2 * peers + 2) LANES_MAX
@@ -135,41 +151,65 @@ lanes_by (Some word) peers = count_of word
 abbrev pub RulesOut : Type 0 → Refusal → Type 0
 RulesOut fact refusal = refusal ≢ NoMemory → fact → ⊥
 
--- one's own CompID, the day, the file with the capture, the file with the journal, and the peers that the words name
+-- one's own CompID, the day, the file with the capture, the file with the journal, the socket of the operators, and the peers that the words
+-- name; those of a client name none of them
 abbrev pub own_of : Words → List ℕ
 own_of (Replay own day peers) = own
 own_of (Desk own from peers) = own
 own_of (Audit own journal peers) = own
-own_of (Open own day port lanes journal peers) = own
+own_of (Open own day port lanes journal operators peers) = own
 own_of (Serve own day port sessions rounds peers) = own
+own_of (Ask path name) = []
 
 abbrev pub day_named : Words → Option ℤ
 day_named (Replay own day peers) = Some day
 day_named (Desk own from peers) = None
 day_named (Audit own journal peers) = None
-day_named (Open own day port lanes journal peers) = Some day
+day_named (Open own day port lanes journal operators peers) = Some day
 day_named (Serve own day port sessions rounds peers) = Some day
+day_named (Ask path name) = None
 
 abbrev pub capture_named : Words → Option (List ℕ)
 capture_named (Replay own day peers) = None
 capture_named (Desk own from peers) = capture_in from
 capture_named (Audit own journal peers) = None
-capture_named (Open own day port lanes journal peers) = None
+capture_named (Open own day port lanes journal operators peers) = None
 capture_named (Serve own day port sessions rounds peers) = None
+capture_named (Ask path name) = None
 
 abbrev pub journal_named : Words → Option (List ℕ)
 journal_named (Replay own day peers) = None
 journal_named (Desk own from peers) = journal_in from
 journal_named (Audit own journal peers) = option_map (λ file. file.bytes.items) journal
-journal_named (Open own day port lanes journal peers) = option_map (λ file. file.bytes.items) journal
+journal_named (Open own day port lanes journal operators peers) = option_map (λ file. file.bytes.items) journal
 journal_named (Serve own day port sessions rounds peers) = None
+journal_named (Ask path name) = None
+
+abbrev pub operators_named : Words → Option (List ℕ)
+operators_named (Open own day port lanes journal operators peers) = option_map (λ file. file.bytes.items) operators
+operators_named words = None
 
 abbrev pub peers_of : Words → List (List ℕ)
 peers_of (Replay own day peers) = peers.items
 peers_of (Desk own from peers) = peers.items
 peers_of (Audit own journal peers) = peers.items
-peers_of (Open own day port lanes journal peers) = peers.items
+peers_of (Open own day port lanes journal operators peers) = peers.items
 peers_of (Serve own day port sessions rounds peers) = peers.items
+peers_of (Ask path name) = []
+
+-- what the words name as peers are peers as above; a client has none
+abbrev pub HasPeers : Words → Type 0
+HasPeers (Ask path name) = ⊤
+HasPeers words = IsPeerList (peers_of words)
+
+-- the socket that a client connects to, and the name of its operator
+abbrev pub path_named : Words → Option (List ℕ)
+path_named (Ask path name) = Some path.bytes.items
+path_named words = None
+
+abbrev pub name_named : Words → Option (List ℕ)
+name_named (Ask path name) = name
+name_named words = None
 
 -- the port, and how many connections and rounds, of a day of rounds
 abbrev pub counts_named : Words → List (Option ℕ)
@@ -178,16 +218,16 @@ counts_named words = []
 
 -- the port and the lanes of an open day
 abbrev pub port_named : Words → Option ℕ
-port_named (Open own day port lanes journal peers) = Some port
+port_named (Open own day port lanes journal operators peers) = Some port
 port_named words = None
 
 abbrev pub lanes_named : Words → Option ℕ
-lanes_named (Open own day port lanes journal peers) = Some lanes
+lanes_named (Open own day port lanes journal operators peers) = Some lanes
 lanes_named words = None
 
 -- whether they ask for an open day
 abbrev pub is_open : Words → Bool
-is_open (Open own day port lanes journal peers) = true
+is_open (Open own day port lanes journal operators peers) = true
 is_open words = false
 
 -- whether what the words ask for is written in one piece, at the end of the input

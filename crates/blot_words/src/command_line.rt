@@ -1,15 +1,16 @@
 //! The command line as `clap` reads and explains it.
 
 use crate::help::{
-    ABOUT_AUDIT, ABOUT_DESK, ABOUT_REPLAY, ABOUT_SERVE, AFTER_AUDIT, AFTER_DESK, AFTER_REPLAY,
-    AFTER_SERVE, AUDIT_EXAMPLE, DESK_EXAMPLE, EXAMPLE, SERVE_EXAMPLE,
+    ABOUT_ASK, ABOUT_AUDIT, ABOUT_DESK, ABOUT_REPLAY, ABOUT_SERVE, AFTER_ASK, AFTER_AUDIT,
+    AFTER_DESK, AFTER_REPLAY, AFTER_SERVE, ASK_EXAMPLE, AUDIT_EXAMPLE, DESK_EXAMPLE, EXAMPLE,
+    SERVE_EXAMPLE,
 };
 use clap::builder::ValueParser;
 use clap::{Arg, Command};
 use std::alloc::{AllocError, Global};
 
 /// The version of the program, which `blotter --version` tells.
-pub const VERSION: &str = "1.2.0";
+pub const VERSION: &str = "1.3.0";
 /// The subcommand that replays a capture.
 pub const REPLAY: &str = "replay";
 /// The subcommand that keeps a desk for its operator.
@@ -18,6 +19,8 @@ pub const DESK: &str = "desk";
 pub const AUDIT: &str = "audit";
 /// The subcommand that serves brokers as they connect.
 pub const SERVE: &str = "serve";
+/// The subcommand that asks a served day.
+pub const ASK: &str = "ask";
 /// The option with one's own CompID.
 pub const OWN: &str = "own";
 /// The option with the trading day.
@@ -26,6 +29,10 @@ pub const DAY: &str = "day";
 pub const CAPTURE: &str = "capture";
 /// The option with the file that keeps a day.
 pub const JOURNAL: &str = "journal";
+/// The option with the socket that operators come by.
+pub const OPERATORS: &str = "operators";
+/// The option with an operator's name.
+pub const NAME: &str = "name";
 /// The option with the TCP port.
 pub const PORT: &str = "port";
 /// The largest TCP port.
@@ -44,6 +51,8 @@ pub const ROUNDS: &str = "rounds";
 pub const ROUNDS_MAX: u16 = 1_000;
 /// The peers, after the options.
 pub const PEER: &str = "peer";
+/// The socket that a client connects to.
+pub const PATH: &str = "path";
 
 /// The whole command line. Help that nobody asked for is the answer to no words at all.
 pub fn command<'a>(alloc: Global) -> Result<Command<'a>, AllocError> {
@@ -58,7 +67,8 @@ pub fn command<'a>(alloc: Global) -> Result<Command<'a>, AllocError> {
     let blotter = with_subcommand(blotter, replay_command(alloc))?;
     let blotter = with_subcommand(blotter, desk_command(alloc))?;
     let blotter = with_subcommand(blotter, audit_command(alloc))?;
-    with_subcommand(blotter, serve_command(alloc))
+    let blotter = with_subcommand(blotter, serve_command(alloc))?;
+    with_subcommand(blotter, ask_command(alloc))
 }
 
 // A command with a further subcommand, or out of memory.
@@ -138,7 +148,20 @@ fn serve_command<'a>(alloc: Global) -> Result<Command<'a>, AllocError> {
         .arg(sessions_option(alloc))?
         .arg(rounds_option(alloc)?)?
         .arg(kept_option(alloc)?)?
+        .arg(operators_option(alloc)?)?
         .arg(peer_words(alloc))
+}
+
+// The subcommand that asks a served day, with its option and its help.
+fn ask_command<'a>(alloc: Global) -> Result<Command<'a>, AllocError> {
+    Command::new(alloc, ASK)
+        .about("Asks a day that is served, over the socket that its operators come by")
+        .long_about(ABOUT_ASK)
+        .after_help(ASK_EXAMPLE)
+        .after_long_help(AFTER_ASK)
+        .arg_required_else_help(true)
+        .arg(path_word(alloc))?
+        .arg(name_option(alloc))
 }
 
 // The option with the TCP port.
@@ -209,6 +232,32 @@ fn kept_option<'a>(alloc: Global) -> Result<Arg<'a>, AllocError> {
         )
         .conflicts_with(SESSIONS)?
         .conflicts_with(ROUNDS)
+}
+
+// The option with the socket that operators come by. A day of rounds has none.
+fn operators_option<'a>(alloc: Global) -> Result<Arg<'a>, AllocError> {
+    Arg::new(alloc, OPERATORS)
+        .long(OPERATORS)
+        .value_name("PATH")
+        .help(
+            "The socket that operators come by, each with `blotter ask PATH`, in place of standard input",
+        )
+        .conflicts_with(SESSIONS)?
+        .conflicts_with(ROUNDS)
+}
+
+// The socket that a client connects to.
+fn path_word<'a>(alloc: Global) -> Arg<'a> {
+    Arg::new(alloc, PATH).value_name("PATH").required(true).help(
+        "The socket that the operators of the day come by, as its server was told",
+    )
+}
+
+// The option with an operator's name.
+fn name_option<'a>(alloc: Global) -> Arg<'a> {
+    Arg::new(alloc, NAME).long(NAME).value_name("NAME").help(
+        "Your name, 1 to 64 printable ASCII characters [default: the environment's USER]",
+    )
 }
 
 // The option with one's own CompID.

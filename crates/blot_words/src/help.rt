@@ -194,10 +194,13 @@ Standard error tells who comes and goes:
   BRKA ended 0 LoggedOut   its connection has ended: a number, and its word
   127.0.0.1:50113 ended 6 NoGreeting
                            so has one that named no broker of yours
+  operator alice on        an operator has come over the socket; off when the connection has ended
   no connection can be accepted: WHY
-                           the system gives none; it is tried again until it does
+                           the system gives none; it is tried again until it does; so it is with
+                           no operator can connect: WHY
   the journal can't be written, so the day ends
-                           your next line ends the program, which then tells why; there is no report
+                           there is no report, and the program tells why when it ends: at your next line, where
+                           your lines come by standard input
 The numbers:
   0  the session was closed, for the reason that the word names: a logout, a number below the expected one ..
   1  the broker ended the connection
@@ -210,6 +213,11 @@ With --journal the day is kept in a file, as it goes. Killed at any moment and b
 goes on where it was: what a broker or an operator was told is in the book, and what is missing is asked of the broker
 again by its number. A file that isn't there is made; it holds one day. `blotter desk` and `blotter audit` read it.
 
+With --operators the operators come by a socket at PATH, up to sixteen at once, in place of standard input, which is
+then not read. Each says its name first; `blotter ask PATH` does that for you. The file's permissions say who may
+come: it is made for its owner alone, and removed at the end. The day ends by close. Each line of steps and refusals
+ends with who made the command: a broker, or an operator's name.
+
 With --sessions the day has rounds instead. A round waits for as many connections as --sessions says, serves them
 at once, answers none before the last has come, and is over when each has ended. After the last round and the end
 of standard input the report is printed. There is no close and no sessions then, and after a round a line of standard
@@ -219,11 +227,44 @@ error tells how each connection ended, in the order in which they came:
 Examples:
   blotter serve --own MO --day 20240105 --port 9878 BRKA BRKB
   blotter serve --own MO --day 20240105 --port 9878 --journal 20240105.journal BRKA BRKB
+  blotter serve --own MO --day 20240105 --port 9878 --operators desk.socket BRKA BRKB
   blotter serve --own MO --day 20240105 --port 9878 --sessions 2 --rounds 3 BRKA BRKB
 
 Exit status:
   0  done
-  1  the port or the journal can't be used, no connection can be accepted for a round, or the input or the output is at
-     fault
+  1  the port, the journal or the socket can't be used, no connection can be accepted for a round, or the input or the
+     output is at fault
+  2  the words of the command line are refused, or help was asked for
+  3  no memory is left";
+
+/// What `ask --help` begins with.
+pub const ABOUT_ASK: &str = "\
+Connects to a served day whose operators come by a socket, says your name, and sends it the lines that you
+type, or that come from standard input. Each answer is printed before the next line is sent. Where a terminal
+gives the lines and shows the answers, a prompt says when a line is wanted. It ends at the end of the input;
+the day goes on, unless a line was close.";
+
+/// What `ask -h` ends with.
+pub const ASK_EXAMPLE: &str = "\
+Example:
+  blotter ask desk.socket --name alice";
+
+/// What `ask --help` ends with.
+pub const AFTER_ASK: &str = "\
+The lines and their answers are those of `blotter desk` and `blotter serve` (see their help). You may divide
+the words of a line by spaces:
+  order BRKA O1             as order, BRKA and O1 with a tab between two
+  position \"HOUSE A\" XYZ    what stands between two quotes is one word, or part of one, with its spaces
+A line with a tab in it is sent as it is. A line without a word is passed over.
+
+mine withdraws the newest command that was entered under your name, and the last word of each line of steps
+and refusals tells who made the command. A name is on once at a time, and sixteen names may come in a day.
+
+Example:
+  echo order BRKA O1 | blotter ask desk.socket --name alice
+
+Exit status:
+  0  done
+  1  nobody serves at PATH, your name isn't let in, the server goes away, or the input or the output is at fault
   2  the words of the command line are refused, or help was asked for
   3  no memory is left";

@@ -17,6 +17,9 @@ pub enum Refusal {
     /// Own or a peer is no text.
     #[error("'{0}' is no CompID: 1 to 64 printable ASCII characters")]
     NoCompId(String),
+    /// An operator's name is no text.
+    #[error("'{0}' is no name: 1 to 64 printable ASCII characters")]
+    NoName(String),
     /// The day isn't one of the calendar.
     #[error("'{0}' is no day")]
     NoDay(String),

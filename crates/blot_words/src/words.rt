@@ -1,12 +1,14 @@
 //! The words of the command line: what they ask for.
-ghost use Rattle.std.specs.Prelude.{◌≡◌, ◌↔◌, ◌≢◌, Ok, None, Some, IfErr, IfOk, IfSome, IsOk, IsSomeAnd, true, false, codes, is_none, is_some, length, map, option_map};
+ghost use Rattle.std.specs.Prelude.{◌≡◌, ◌↔◌, ◌≢◌, Ok, None, Some, IfErr, IfOk, IfSome, IsOk, IsSome, IsSomeAnd, IsTrue, true, false, codes, is_none, is_some, length, map, option_map};
+ghost use Rattle.clap.specs.Matches.{first_value, found_of};
 ghost use Rattle.blot_time.specs.Day.{day_of};
+ghost use Rattle.blot_types.specs.Text.{is_text};
 ghost use Rattle.blot_words.specs.declared.command_line.TheConstants.{LANES_MAX};
-ghost use Rattle.blot_words.specs.Words.{AreApartIn, IsApart, IsAudit, IsCount, IsCountOrNone, IsDayWord, IsOpen, IsOwnWord, IsPeerList, IsReplay, IsDesk, IsServe, RulesOut, is_audit, is_open, own_of, own_word, count_of, count_word, count_words, counts_named, day_named, day_word, capture_in, capture_named, capture_word, default_lanes, journal_in, journal_named, journal_word, lanes_by, lanes_named, peer_words, peers_of, port_named, sessions_word};
+ghost use Rattle.blot_words.specs.Words.{AreApartIn, HasPeers, IsApart, IsAsk, IsAudit, IsCount, IsCountOrNone, IsDayWord, IsOpen, IsOwnWord, IsPeerList, IsReplay, IsDesk, IsServe, RulesOut, is_audit, is_open, own_of, own_word, count_of, count_word, count_words, counts_named, day_named, day_word, capture_in, capture_named, capture_word, default_lanes, journal_in, journal_named, journal_word, lanes_by, lanes_named, name_named, name_word, operators_named, operators_word, path_named, path_word, peer_words, peers_of, port_named, sessions_word};
 
 use crate::command_line::{
-    AUDIT, CAPTURE, DAY, DESK, JOURNAL, LANES, LANES_MAX, OWN, PEER, PORT, PORT_MAX, REPLAY,
-    ROUNDS, ROUNDS_MAX, SERVE, SESSIONS, SESSIONS_MAX, command,
+    ASK, AUDIT, CAPTURE, DAY, DESK, JOURNAL, LANES, LANES_MAX, NAME, OPERATORS, OWN, PATH, PEER,
+    PORT, PORT_MAX, REPLAY, ROUNDS, ROUNDS_MAX, SERVE, SESSIONS, SESSIONS_MAX, command,
 };
 use crate::peers::{is_among, read_comp_id, read_peers};
 use crate::refusal::{Refusal, refusal_of};
@@ -39,14 +41,15 @@ pub enum Words {
         journal: Option<String>,
         peers: Vec<Text64>,
     },
-    /// The brokers that connect, each whenever it likes, the answers to the lines on standard input, and the report of a day, which is
-    /// kept in this file, if one is named.
+    /// The brokers that connect, each whenever it likes, the answers to the lines on standard input, or of the operators that come by
+    /// this socket, if one is named, and the report of a day, which is kept in this file, if one is named.
     Open {
         own: Text64,
         day: Day,
         port: u16,
         lanes: u16,
         journal: Option<String>,
+        operators: Option<String>,
         peers: Vec<Text64>,
     },
     /// The same with brokers that connect in rounds.
@@ -57,6 +60,12 @@ pub enum Words {
         sessions: u16,
         rounds: u16,
         peers: Vec<Text64>,
+    },
+    /// The answers of a served day to the lines on standard input, over this socket, to an operator of this name, or else of the
+    /// name that the environment has.
+    Ask {
+        path: String,
+        name: Option<Text64>,
     },
 }
 
@@ -80,7 +89,7 @@ pub fn given<S: Env + AllocGlobal>(system: &S) -> Result<Vec<String>, Refusal> {
 
 /// What these words ask for, the first of which is the program's name.
 pub fn parse<S: AsStr>(alloc: Global, words: &[S]) -> Result<Words, Refusal>
-    ensures peers { IfOk result (λ words. IsPeerList (peers_of words)) }
+    ensures peers { IfOk result HasPeers }
     ensures apart { IfOk result AreApartIn }
 {
     let matches = match command(alloc)?.try_get_matches_from(words) {
@@ -94,7 +103,7 @@ pub fn parse<S: AsStr>(alloc: Global, words: &[S]) -> Result<Words, Refusal>
 
 // The words of the command line, as `clap` found them.
 fn read_words(alloc: Global, matches: &ArgMatches<'_>) -> Result<Words, Refusal>
-    ensures peers { IfOk result (λ words. IsPeerList (peers_of words)) }
+    ensures peers { IfOk result HasPeers }
     ensures apart { IfOk result AreApartIn }
 {
     if let Some(matches) = matches.subcommand_matches(REPLAY) {
@@ -106,8 +115,11 @@ fn read_words(alloc: Global, matches: &ArgMatches<'_>) -> Result<Words, Refusal>
     if let Some(matches) = matches.subcommand_matches(AUDIT) {
         return read_audit(alloc, matches);
     }
-    match matches.subcommand_matches(SERVE) {
-        Some(matches) => read_server(alloc, matches),
+    if let Some(matches) = matches.subcommand_matches(SERVE) {
+        return read_server(alloc, matches);
+    }
+    match matches.subcommand_matches(ASK) {
+        Some(matches) => read_ask(alloc, matches),
         None => Err(Refusal::Missing("command")),
     }
 }
@@ -181,12 +193,16 @@ fn check_apart(
     Err(Refusal::OwnIsPeer(String::from_str(alloc, word)?))
 }
 
-// The file of a journal, if one is named, as `clap` found it.
-fn read_journal(alloc: Global, matches: &ArgMatches<'_>) -> Result<Option<String>, Refusal>
-    ensures value { IfOk result (λ journal. journal_word matches.now ≡ option_map (λ file. file.bytes.items) journal) }
+// The file that an option names, if it is there, as `clap` found it.
+fn read_file(
+    alloc: Global,
+    matches: &ArgMatches<'_>,
+    id: &'static str,
+) -> Result<Option<String>, Refusal>
+    ensures value { IfOk result (λ named. first_value (found_of matches.now) id.now ≡ option_map (λ file. file.bytes.items) named) }
     ensures refused { IfErr result (λ refusal. refusal ≡ Refusal.NoMemory) }
 {
-    match matches.get_str(JOURNAL) {
+    match matches.get_str(id) {
         Some(file) => Ok(Some(String::from_str(alloc, file)?)),
         None => Ok(None),
     }
@@ -208,7 +224,7 @@ fn read_audit(alloc: Global, matches: &ArgMatches<'_>) -> Result<Words, Refusal>
     };
     let peers = read_peers(alloc, named)?;
     check_apart(alloc, matches, &own, &peers)?;
-    let journal = read_journal(alloc, matches)?;
+    let journal = read_file(alloc, matches, JOURNAL)?;
     Ok(Words::Audit {
         own,
         journal,
@@ -236,6 +252,7 @@ fn read_open(alloc: Global, matches: &ArgMatches<'_>) -> Result<Words, Refusal>
     ensures port { IfOk result (λ words. port_named words ≡ option_map count_of (count_word matches.now (codes "port"))) }
     ensures lanes { IfOk result (λ words. lanes_named words ≡ Some (lanes_by (count_word matches.now (codes "lanes")) (length (peers_of words)))) }
     ensures journal { IfOk result (λ words. journal_word matches.now ≡ journal_named words) }
+    ensures operators { IfOk result (λ words. operators_word matches.now ≡ operators_named words) }
     ensures named { IfOk result (λ words. peer_words matches.now ≡ Some (peers_of words)) }
     ensures peers { IfOk result (λ words. IsPeerList (peers_of words)) }
     ensures apart { IfOk result AreApartIn }
@@ -250,13 +267,15 @@ fn read_open(alloc: Global, matches: &ArgMatches<'_>) -> Result<Words, Refusal>
     let lanes = read_lanes(matches, named.len())?;
     let peers = read_peers(alloc, named)?;
     check_apart(alloc, matches, &own, &peers)?;
-    let journal = read_journal(alloc, matches)?;
+    let journal = read_file(alloc, matches, JOURNAL)?;
+    let operators = read_file(alloc, matches, OPERATORS)?;
     Ok(Words::Open {
         own,
         day,
         port,
         lanes,
         journal,
+        operators,
         peers,
     })
 }
@@ -268,6 +287,7 @@ fn read_serve(alloc: Global, matches: &ArgMatches<'_>) -> Result<Words, Refusal>
     ensures day { IfOk result (λ words. IfSome (day_word matches.now) (λ word. option_map Ok (day_named words) ≡ Some (day_of word))) }
     ensures counts { IfOk result (λ words. counts_named words ≡ map (option_map count_of) (count_words matches.now)) }
     ensures journal { IfOk result (λ words. journal_word matches.now ≡ journal_named words) }
+    ensures operators { IfOk result (λ words. operators_word matches.now ≡ operators_named words) }
     ensures named { IfOk result (λ words. peer_words matches.now ≡ Some (peers_of words)) }
     ensures peers { IfOk result (λ words. IsPeerList (peers_of words)) }
     ensures apart { IfOk result AreApartIn }
@@ -281,6 +301,9 @@ fn read_serve(alloc: Global, matches: &ArgMatches<'_>) -> Result<Words, Refusal>
     if matches.get_str(JOURNAL).is_some() {
         return Err(Refusal::Together(JOURNAL, SESSIONS));
     }
+    if matches.get_str(OPERATORS).is_some() {
+        return Err(Refusal::Together(OPERATORS, SESSIONS));
+    }
     let Some(named) = matches.get_strs(PEER) else {
         return Err(Refusal::Missing(PEER));
     };
@@ -293,6 +316,35 @@ fn read_serve(alloc: Global, matches: &ArgMatches<'_>) -> Result<Words, Refusal>
         rounds,
         peers,
     })
+}
+
+// The words of a client, as `clap` found them.
+fn read_ask(alloc: Global, matches: &ArgMatches<'_>) -> Result<Words, Refusal>
+    ensures ask { IfOk result (λ words. IsSome (path_named words)) }
+    ensures path { IfOk result (λ words. path_word matches.now ≡ path_named words) }
+    ensures name { IfOk result (λ words. name_word matches.now ≡ name_named words) }
+    ensures refused { IfErr result (RulesOut (IsAsk matches.now)) }
+{
+    let Some(path) = matches.get_str(PATH) else {
+        return Err(Refusal::Missing(PATH));
+    };
+    let name = read_name(alloc, matches)?;
+    let path = String::from_str(alloc, path)?;
+    Ok(Words::Ask { path, name })
+}
+
+// An operator's name, if one is given.
+fn read_name(alloc: Global, matches: &ArgMatches<'_>) -> Result<Option<Text64>, Refusal>
+    ensures value { IfOk result (λ name. name_word matches.now ≡ name) }
+    ensures refused { IfErr result (RulesOut (IfSome (name_word matches.now) (λ name. IsTrue (is_text name)))) }
+{
+    let Some(word) = matches.get_str(NAME) else {
+        return Ok(None);
+    };
+    match Text64::read(word.as_bytes()) {
+        Some(name) => Ok(Some(name)),
+        None => Err(Refusal::NoName(String::from_str(alloc, word)?)),
+    }
 }
 
 // One's own CompID.

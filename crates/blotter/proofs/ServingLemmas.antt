@@ -1,6 +1,6 @@
 -- What a day that is served comes to.
 use Rattle.std.proofs.Common.{◌≡◌, ℕ, List, [], ◌∷◌, ◌++◌, length, replicate, refl, sym, ap, subst, ◌∙◌, arith, zero, suc}
-use Rattle.std.specs.Prelude.{ℤ, true, false, ◌&&◌, Option, IsOk, OnOk, OnErr, Result, Ok, Err, is_err}
+use Rattle.std.specs.Prelude.{ℤ, codes, true, false, ◌&&◌, Option, IsOk, OnOk, OnErr, Result, Ok, Err, is_err}
 use Rattle.std.specs.Io.KnownBytes.{IsAtEnd}
 use Rattle.std.specs.List.{All, list_all}
 use Rattle.blot_desk.specs.declared.event.Event.{Event}
@@ -12,10 +12,11 @@ use Rattle.blot_gateway.proofs.AtOnceLemmas.{adds-none, adds-on, each-adds}
 use Rattle.blot_stream.proofs.ResultLemmas.{ok-says, on-ok}
 use Rattle.blot_operator.specs.OpenDay.{EndsOf}
 use Rattle.blot_operator.specs.Dialogue.{HeardOf, TellsOf, open_ways, seat_ways}
+use Rattle.blot_operator.specs.Seats.{Named}
 use Rattle.blot_rounds.proofs.RoundLemmas.{as-many}
 use Rattle.blot_rounds.specs.Rounds.{RoundsLead, ServesRound}
 use Rattle.blot_sockets.specs.Sockets.{ClockTicks, SocketDoes}
-use Rattle.blotter.specs.Serving.{DayServed, KeptReported, OpenDayServed, Reported, ReportedOf}
+use Rattle.blotter.specs.Serving.{DayServed, KeptReported, OpenDayServed, Reported, ReportedOf, ServedBy}
 
 -- ---- what rounds add
 
@@ -128,17 +129,31 @@ pub of-some : {T E : Type 0} (reported : Result T E) (IsKept : Type 0) (events :
 of-some (Ok x) IsKept events day seats before after kept = (kept.history, kept.reported)
 of-some (Err fault) IsKept events day seats before after kept = tt
 
+-- the same of the same seats
+pub of-seats : {T E : Type 0} (reported : Result T E) (day : ℤ) (all seats : List (List Receipt)) (before after : Option (List ℕ)) → all ≡ seats
+    → OnOk reported (Reported day all before after) → OnOk reported (Reported day seats before after)
+of-seats reported day all seats before after same holds = subst (λ seats. OnOk reported (Reported day seats before after)) same holds
+
+-- an operator is told the answers, and these are the seats then
+pub served-by : {T E : Type 0} (answered : Result T E) (IsKept : Type 0) (seat operator : Named) (others brokers seats : List (List Receipt)) (input before after : Option (List ℕ))
+    → OnOk answered (HeardOf (open_ways IsKept) seat input operator before after) → All (λ receipts. are_submits receipts ≡ true) brokers
+    → seats ≡ (brokers ++ (operator.receipts ∷ [])) ++ others → OnOk answered (ServedBy IsKept seat others input before after seats)
+served-by answered IsKept seat operator others brokers seats input before after heard submits are =
+    on-ok answered heard (λ told. record { brokers = brokers; operator = operator; submits = submits; told = told; seats_are = are })
+
 -- an open day that is served, of its lines and its report, which leave the output so
-pub is-open-day : {W T E : Type 0} (contents : W → Option (List ℕ)) (answered : Result T E) (input : Option (List ℕ)) (brokers : List (List Receipt)) (first operator : List Receipt) (day : ℤ)
-    (before : Option (List ℕ)) (between new last : W) → first ≡ [] → IsOk answered → OnOk answered (HeardOf (open_ways ⊥) first input operator before (contents between))
-    → All (λ receipts. are_submits receipts ≡ true) brokers → Reported day (brokers ++ (operator ∷ [])) (contents between) (contents new) → new ≡ last
-    → OpenDayServed input day before (contents last)
-is-open-day contents answered input brokers first operator day before between new last empty is heard submits reported same =
+pub is-open-day : {W T E : Type 0} (contents : W → Option (List ℕ)) (answered : Result T E) (input : Option (List ℕ)) (seats others : List (List Receipt)) (first : Named)
+    (name : List ℕ) (receipts : List Receipt) (day : ℤ) (before : Option (List ℕ)) (between new last : W) → first ≡ record { name = name; receipts = receipts }
+    → name ≡ codes "operator" → receipts ≡ [] → others ≡ [] → IsOk answered → OnOk answered (ServedBy ⊥ first others input before (contents between) seats)
+    → Reported day seats (contents between) (contents new) → new ≡ last → OpenDayServed input day before (contents last)
+is-open-day contents answered input seats others first name receipts day before between new last is named empty none done served reported same =
     record {
-      brokers = brokers;
-      operator = operator;
       between = contents between;
-      submits = submits;
-      told = subst (λ found. HeardOf (open_ways ⊥) found input operator before (contents between)) empty (ok-says answered is heard);
-      reported = subst (λ found. Reported day (brokers ++ (operator ∷ [])) (contents between) (contents found)) same reported;
+      seats = seats;
+      served =
+          subst (λ others. ServedBy ⊥ (record { name = codes "operator"; receipts = [] }) others input before (contents between) seats) none
+          (subst (λ receipts. ServedBy ⊥ (record { name = codes "operator"; receipts = receipts }) others input before (contents between) seats) empty
+          (subst (λ name. ServedBy ⊥ (record { name = name; receipts = receipts }) others input before (contents between) seats) named
+          (subst (λ seat. ServedBy ⊥ seat others input before (contents between) seats) is (ok-says answered done served))));
+      reported = subst (λ found. Reported day seats (contents between) (contents found)) same reported;
     }

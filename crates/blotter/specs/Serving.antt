@@ -1,5 +1,5 @@
 -- What a day that is served comes to.
-use Rattle.std.specs.Prelude.{◌≡◌, ◌<◌, ℕ, ℤ, true, List, [], ◌∷◌, ◌++◌, length, replicate, Option}
+use Rattle.std.specs.Prelude.{◌≡◌, ◌<◌, ℕ, ℤ, true, List, [], ◌∷◌, ◌++◌, codes, length, replicate, Option}
 use Rattle.std.specs.List.{All, list_all}
 use Rattle.std.specs.Io.KnownBytes.{Appends}
 use Rattle.blot_desk.specs.declared.event.Event.{Event}
@@ -11,7 +11,9 @@ use Rattle.blot_desk.specs.Desk.{events_of, replies_of, run_of}
 use Rattle.blot_desk.specs.Keeping.{kept_events}
 use Rattle.blot_desk.specs.Receipts.{IsSettled}
 use Rattle.blot_gateway.specs.AtOnce.{are_submits}
+use Rattle.blot_lanes.specs.Listing.{Listed}
 use Rattle.blot_operator.specs.Dialogue.{HeardOf, TellsOf, open_ways, seat_ways}
+use Rattle.blot_operator.specs.Seats.{Named}
 use Rattle.blot_report.specs.Text.{report_of}
 use Rattle.blot_rounds.specs.Rounds.{RoundsLead}
 use Rattle.blot_stream.specs.declared.outcome.ServeFault.{ServeFault}
@@ -54,16 +56,31 @@ abbrev pub DayCutShort : (List (List Receipt) → List (List Receipt) → Type 0
 DayCutShort round rounds input sessions day before after =
     (count : ℕ) × (count < rounds) × DayServed round count input sessions day before after
 
--- an open day is served: the operator, with a seat that was empty, is told the answers to the lines of the input, to its end or to the first
--- that closes the day; and then the report is written of the history of all receipts, which are the operator's and those of the brokers'
--- seats, and these are of submits alone
-pub record OpenDayServed (input : Option (List ℕ)) (day : ℤ) (before after : Option (List ℕ)) : Type 0 where
+-- a listed peer of a day that begins: its seat has no receipts, and its session is at number 1 both ways
+abbrev pub begins_as : List ℕ → Listed
+begins_as peer = record { peer = peer; receipts = []; expected = 1; next = 1 }
+
+-- the operator of this seat is told the answers to the lines of an input, to its end or to the first that closes the day, while brokers are
+-- served; and these are the seats then: those of the brokers, whose receipts are of submits alone, the operator's, and the others as they were
+pub record ServedBy (IsKept : Type 0) (seat : Named) (others : List (List Receipt)) (input : Option (List ℕ)) (before after : Option (List ℕ))
+    (seats : List (List Receipt)) : Type 0 where
   pub brokers : List (List Receipt)
-  pub operator : List Receipt
-  pub between : Option (List ℕ)
+  pub operator : Named
   pub submits : All (λ receipts. are_submits receipts ≡ true) brokers
-  pub told : HeardOf (open_ways ⊥) [] input operator before between
-  pub reported : Reported day (brokers ++ (operator ∷ [])) between after
+  pub told : HeardOf (open_ways IsKept) seat input operator before after
+  pub seats_are : seats ≡ (brokers ++ (operator.receipts ∷ [])) ++ others
+
+-- an open day is served: the operator, with a seat that was empty, is told the answers to the lines of the input, and then the report is written of
+-- the history of all receipts
+pub record OpenDayServed (input : Option (List ℕ)) (day : ℤ) (before after : Option (List ℕ)) : Type 0 where
+  pub between : Option (List ℕ)
+  pub seats : List (List Receipt)
+  pub served : ServedBy ⊥ (record { name = codes "operator"; receipts = [] }) [] input before between seats
+  pub reported : Reported day seats between after
+
+-- a day is served whose operators come over a socket: the report is written of the history of all receipts
+abbrev pub StaffedDayServed : ℤ → Option (List ℕ) → Option (List ℕ) → Type 0
+StaffedDayServed day before after = (seats : List (List Receipt)) × Reported day seats before after
 
 -- what is told of a desk that isn't settled: receipts that disagree are told as that, and never as want of memory
 abbrev pub settling_fault : DeskFault → ServeFault

@@ -1,6 +1,6 @@
 //! `serve_kept_day`: an open day that is kept in a journal, so that it outlives a crash; and the desk that a journal leads to.
-ghost use Rattle.std.specs.Prelude.{◌≡◌, ◌+◌, ℕ, List, [], false, true, length, map, IfErr, IfOk, IsTrue};
-ghost use Rattle.std.specs.List.{All, IsDistinct, list_any};
+ghost use Rattle.std.specs.Prelude.{◌≡◌, ◌+◌, ◌<◌, ℕ, List, [], false, true, length, map, vec_len, IfErr, IfOk, IsTrue, Some};
+ghost use Rattle.std.specs.List.{All, IsDistinct, list_any, slice_get};
 ghost use Rattle.blot_types.specs.Keys.{same_text};
 ghost use Rattle.blot_desk.specs.declared.event.Event.{Event};
 ghost use Rattle.blot_desk.specs.Desk.{IsRun, events_of};
@@ -10,18 +10,21 @@ ghost use Rattle.blot_operator.specs.OpenDay.{EndsOf};
 ghost use Rattle.blot_diary.specs.Diary.{Leaves, desk_events};
 ghost use Rattle.blot_recovery.specs.Opening.{IsOpenFault};
 ghost use Rattle.blot_recovery.specs.Parties.{IsKeptPeer};
-ghost use Rattle.blotter.specs.Keeping.{IsListed, IsUnkept, KeptDayServed, ServesKept, listed_as};
+ghost use Rattle.blotter.specs.Keeping.{IsListed, IsUnkept, KeptDayServed, ServesFirst, listed_as};
 
 use crate::open_day::{OPERATOR, Served, serve_desk};
 use crate::serving::both;
 use crate::settling::{ended, report_kept};
-use blot_desk::Held;
+use blot_desk::{Held, Seat};
 use blot_diary::Diary;
 use blot_gateway::Clock as _;
 use blot_journal::Device;
 use blot_lanes::{BrokerSeat, ListedPeer};
 use blot_operator::OperatorSeat;
-use blot_recovery::{InMemory, KeptPeer, OpenFault, RecoverFault, Recovered, open_day, recover};
+use blot_recovery::{
+    InMemory, KeptOperator, KeptOperators, KeptPeer, OPERATOR_SEATS, OpenFault, RecoverFault,
+    Recovered, open_day, recover,
+};
 use blot_sockets::{Door, SystemClock};
 use blot_stream::ServeFault;
 use blot_time::Day;
@@ -73,7 +76,7 @@ where
     D: Device + Drop + Send + Sync,
     requires name { blank.name ≡ L.name }
     requires parts { blank.parts ≡ L.parts }
-    requires seats { blank.parts ≡ length peers.now + 1 }
+    requires seats { blank.parts ≡ length peers.now + OPERATOR_SEATS }
     requires distinct { IsDistinct same_text peers.now }
     requires others { list_any (same_text own) peers.now ≡ false }
     requires readable { IsTrue (D.is_readable device) }
@@ -96,7 +99,7 @@ where
 {
     let now = SystemClock::new(rt).now();
     let operator = Text64::of(OPERATOR);
-    match open_day::<L, D>(alloc, blank, device, own, day, now, peers, operator) {
+    match open_day::<L, D>(alloc, blank, device, own, day, now, peers, Some(operator)) {
         Ok((diary, recovered)) => serve_recovered(
             rt, alloc, recovered, diary, listener, door, lanes, own, day, input, output,
         ),
@@ -129,7 +132,8 @@ where
     D: Device + Drop + Send + Sync,
     requires kept { kept_events recovered.opening.history ≡ desk_events diary.text }
     requires peers { All (IsKeptPeer own diary.text) recovered.peers.items }
-    ensures served { IfOk result (λ last. ServesKept (desk_events last.text) recovered.operator.seat (I.remaining input.old) day
+    requires some { 0 < vec_len recovered.operators.named }
+    ensures served { IfOk result (λ last. ServesFirst (desk_events last.text) recovered.operators.named.items (I.remaining input.old) day
         (O.contents output.old) (O.contents output.new)) }
     ensures read_to_the_end { IfOk result (λ last. EndsOf true (I.remaining input.old) (I.remaining input.new)) }
     ensures durable { IfOk result (λ last. length (desk_events last.durable) ≡ length (desk_events last.text)) }
@@ -142,35 +146,55 @@ where
     let Recovered {
         opening,
         peers: kept,
-        operator,
+        operators,
         ..
     } = recovered;
     let Ok(listed) = kept_peers(alloc, kept) else {
         return Err((KeptFault::Serving(ServeFault::NoMemory), None));
     };
+    let Ok((operator, others)) = first_of(operators) else {
+        return Err((KeptFault::Serving(ServeFault::NoMemory), None));
+    };
     let desk = opening.open(diary);
     let operator = OperatorSeat::new(operator.seat, own, operator.name, operator.records);
     let served = match serve_desk(
-        rt, alloc, desk, listener, door, lanes, own, listed, operator, input, output,
+        rt, alloc, desk, listener, door, lanes, own, listed, operator, others, input, output,
     ) {
         Ok(served) => served,
         Err(fault) => return Err((KeptFault::Serving(fault), None)),
     };
     let Served {
         desk,
-        brokers,
-        operator,
+        seats,
         answered,
     } = served;
-    let (reported, diary) = report_kept(rt, alloc, desk, brokers, operator, day, output);
+    let (reported, diary) = report_kept(rt, alloc, desk, seats, day, output);
     match ended(both(Ok(()), answered), reported) {
         Ok(()) => Ok(diary),
         Err(fault) => Err((KeptFault::Serving(fault), Some(diary.into_device()))),
     }
 }
 
-// The listed peers as the text of a journal leaves them.
-fn kept_peers<L: Ledger>(
+// The first of some operators, and the seats of the others and those that nobody has.
+fn first_of<L: Ledger>(
+    operators: KeptOperators<L>,
+) -> Result<(KeptOperator<L>, Vec<Seat<L>>), NoMemory>
+    requires { 0 < vec_len operators.named }
+    ensures { IfOk result (λ given. slice_get operators.named.items 0 ≡ Some given.0) }
+{
+    let KeptOperators { named, spare } = operators;
+    let mut named = named.into_iter();
+    let first = named.next().unwrap();
+    let mut others = spare;
+    for it in named {
+        let KeptOperator { seat, .. } = it;
+        others.push(seat)?;
+    }
+    Ok((first, others))
+}
+
+/// The listed peers as the text of a journal leaves them.
+pub(crate) fn kept_peers<L: Ledger>(
     alloc: Global,
     kept: Vec<KeptPeer<L>>,
 ) -> Result<Vec<ListedPeer<L>>, NoMemory>
@@ -202,7 +226,7 @@ pub fn journal_desk<L: Ledger>(
 ) -> Result<Held, RecoverFault>
     requires name { blank.name ≡ L.name }
     requires parts { blank.parts ≡ L.parts }
-    requires seats { blank.parts ≡ length peers.now + 1 }
+    requires seats { blank.parts ≡ length peers.now + OPERATOR_SEATS }
     requires distinct { IsDistinct same_text peers.now }
     requires others { list_any (same_text own) peers.now ≡ false }
     ensures events { IfOk result (λ held. events_of held.history ≡ desk_events text.now) }
@@ -212,8 +236,7 @@ pub fn journal_desk<L: Ledger>(
         return Ok(empty_desk(alloc));
     }
     let mut text = InMemory { text };
-    let operator = Text64::of(OPERATOR);
-    match recover::<L, _>(alloc, blank, &mut text, own, None, peers, operator) {
+    match recover::<L, _>(alloc, blank, &mut text, own, None, peers, None) {
         Ok(recovered) => Ok(held_of(recovered)),
         Err(fault) => Err(fault),
     }

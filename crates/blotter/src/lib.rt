@@ -8,6 +8,7 @@ mod meanwhile;
 mod open_day;
 mod serving;
 mod settling;
+mod staffed_day;
 
 pub use blot_capture::{capture, replay, replay_within};
 pub use blot_operator::{desk_lines, seat_lines};
@@ -17,3 +18,4 @@ pub use blot_stream::{Outcome, ReplayFault, ServeFault};
 pub use kept_day::{KeptFault, journal_desk, serve_kept_day};
 pub use open_day::serve_open_day;
 pub use serving::serve_day;
+pub use staffed_day::{serve_kept_staffed_day, serve_staffed_day};

@@ -7,9 +7,11 @@ use blot_desk::{Desk, Seat};
 use blot_gateway::FrameKeeper;
 use blot_lanes::{Peers, Task};
 use blot_operator::{OpenDay, OperatorSeat, open_lines, seat_lines};
+use blot_sockets::Door;
 use blot_stream::ReplayFault;
 use std::alloc::{AllocError as NoMemory, Global};
 use std::io::{Read, Write};
+use std::net::OpenStream;
 use std::sync::Wait;
 use std::sync::ledger::Ledger;
 use std::time::Clock;
@@ -53,9 +55,9 @@ impl<'a, 'i, 'o, R: Wait, I: Read, O: Write, L: Ledger> Task for Lines<'a, 'i, '
     }
 }
 
-/// An operator's lines on an open day, with the seat, the streams and the peers.
+/// An operator's lines on an open day, with the seat, the streams, the peers and the door.
 #[derive(Drop)]
-pub(crate) struct OpenLines<'a, 'i, 'o, R, I, O, L: Ledger, K: FrameKeeper> {
+pub(crate) struct OpenLines<'a, 'i, 'o, R, I, O, L: Ledger, K: FrameKeeper, H> {
     pub(crate) rt: &'a R,
     pub(crate) alloc: Global,
     pub(crate) input: &'i mut I,
@@ -63,10 +65,11 @@ pub(crate) struct OpenLines<'a, 'i, 'o, R, I, O, L: Ledger, K: FrameKeeper> {
     pub(crate) desk: &'a Desk<L, K>,
     pub(crate) seat: OperatorSeat<L>,
     pub(crate) peers: &'a Peers<L>,
+    pub(crate) door: &'a Door<H>,
 }
 
-impl<'a, 'i, 'o, R: Wait + Clock, I: Read, O: Write, L: Ledger, K: FrameKeeper> Task
-    for OpenLines<'a, 'i, 'o, R, I, O, L, K> {
+impl<'a, 'i, 'o, R: Wait + Clock, I: Read, O: Write, L: Ledger, K: FrameKeeper, H: OpenStream> Task
+    for OpenLines<'a, 'i, 'o, R, I, O, L, K, H> {
     ghost use Rattle.std.specs.Prelude.{◌≡◌, true, OnOk};
     ghost use Rattle.blot_operator.specs.Dialogue.{HeardOf, open_ways};
     ghost use Rattle.blot_operator.specs.OpenDay.{EndsOf};
@@ -99,24 +102,40 @@ impl<'a, 'i, 'o, R: Wait + Clock, I: Read, O: Write, L: Ledger, K: FrameKeeper> 
             desk,
             seat,
             peers,
+            door,
         } = self;
         let mut seat = seat;
-        let day = ListedPeers { rt, peers };
+        let day = PeersDay {
+            rt,
+            peers,
+            door,
+            has_operators: false,
+        };
         let answered = open_lines(rt, alloc, input, output, desk, &mut seat, &day);
         (answered, seat, input, output)
     }
 }
 
-// The listed peers, of whose sessions an operator may ask.
+/// An open day, as its operators ask of it: the sessions of the listed peers, the door, and whether operators come over a socket.
 #[derive(Drop)]
-struct ListedPeers<'a, R, L: Ledger> {
-    rt: &'a R,
-    peers: &'a Peers<L>,
+pub(crate) struct PeersDay<'a, R, L: Ledger, H> {
+    pub(crate) rt: &'a R,
+    pub(crate) peers: &'a Peers<L>,
+    pub(crate) door: &'a Door<H>,
+    pub(crate) has_operators: bool,
 }
 
-impl<'a, R: Wait, L: Ledger> OpenDay for ListedPeers<'a, R, L> {
+impl<'a, R: Wait, L: Ledger, H: OpenStream> OpenDay for PeersDay<'a, R, L, H> {
     fn sessions(&self, alloc: Global) -> Result<Rows<SessionLine>, NoMemory> {
         Ok(Rows::new(self.peers.sessions(self.rt, alloc)?))
+    }
+
+    fn tells_makers(&self) -> bool {
+        self.has_operators
+    }
+
+    fn close(&self) {
+        self.door.close();
     }
 }
 

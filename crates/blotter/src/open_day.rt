@@ -1,15 +1,13 @@
 //! `serve_open_day`: connections served in lanes while an operator's lines are answered, and the report of the day.
-ghost use Rattle.std.specs.Prelude.{◌≡◌, ◌+◌, [], true, length, vec_len, IfOk, OnOk};
+ghost use Rattle.std.specs.Prelude.{◌≡◌, ◌+◌, ◌++◌, [], length, map, true, vec_len, IfOk, OnOk};
 ghost use Rattle.std.specs.List.{All, IsDistinct};
 ghost use Rattle.blot_types.specs.Keys.{same_text};
-ghost use Rattle.blot_gateway.specs.AtOnce.{are_submits};
-ghost use Rattle.blot_operator.specs.Dialogue.{HeardOf, open_ways};
 ghost use Rattle.blot_operator.specs.OpenDay.{EndsOf};
-ghost use Rattle.blotter.specs.Serving.{OpenDayServed};
+ghost use Rattle.blotter.specs.Serving.{OpenDayServed, ServedBy, begins_as};
 
 use crate::meanwhile::{OpenLines, take_back};
 use crate::serving::{both, open_desk};
-use crate::settling::{ended, report};
+use crate::settling::{all_seats, ended, report_kept};
 use blot_desk::{Desk, Seat};
 use blot_gateway::FrameKeeper;
 use blot_lanes::{BrokerSeat, ListedPeer, Peers, serve_lanes};
@@ -30,12 +28,12 @@ use std::time::Clock;
 /// The name of the operator whose lines come by standard input.
 pub(crate) const OPERATOR: &[u8] = b"operator";
 
-/// What a desk that was served in lanes leaves: the seats of the brokers and of the operator, and how the operator's lines ended.
+/// What a desk that was served in lanes leaves: the seats of the brokers, and behind them those of the operators; and how the lines of the
+/// operator at standard input ended.
 #[derive(Drop)]
 pub(crate) struct Served<L: Ledger, K: FrameKeeper> {
     pub(crate) desk: Desk<L, K>,
-    pub(crate) brokers: Vec<Seat<L>>,
-    pub(crate) operator: Seat<L>,
+    pub(crate) seats: Vec<Seat<L>>,
     pub(crate) answered: Result<(), ReplayFault>,
 }
 
@@ -84,20 +82,20 @@ where
     let (desk, seats, operator) = open_desk::<L>(alloc, blank, brokers)?;
     let listed = first_peers(alloc, peers, seats)?;
     let operator = OperatorSeat::new(operator, own, Text64::of(OPERATOR), 0);
+    let others = Vec::new(alloc);
     let served = serve_desk(
-        rt, alloc, desk, listener, door, lanes, own, listed, operator, input, output,
+        rt, alloc, desk, listener, door, lanes, own, listed, operator, others, input, output,
     )?;
     let Served {
         desk,
-        brokers,
-        operator,
+        seats,
         answered,
     } = served;
-    let reported = report(rt, alloc, desk, brokers, operator, day, output);
+    let (reported, _) = report_kept(rt, alloc, desk, seats, day, output);
     ended(both(Ok(()), answered), reported)
 }
 
-/// Serves the connections of listed peers at a desk, and answers an operator's lines meanwhile.
+/// Serves the connections of listed peers at a desk, and answers an operator's lines meanwhile. Others have seats too, and nobody is at them.
 pub(crate) fn serve_desk<L, R, N, H, I, O, K>(
     rt: &R,
     alloc: Global,
@@ -108,6 +106,7 @@ pub(crate) fn serve_desk<L, R, N, H, I, O, K>(
     own: Text64,
     listed: Vec<ListedPeer<L>>,
     operator: OperatorSeat<L>,
+    others: Vec<Seat<L>>,
     input: &mut I,
     output: &mut O,
 ) -> Result<Served<L, K>, ServeFault>
@@ -120,13 +119,15 @@ where
     I: Read,
     O: Write,
     K: FrameKeeper + Send + Sync,
-    ensures submits { IfOk result (λ served. All (λ receipts. are_submits receipts ≡ true) served.brokers.items) }
-    ensures told { IfOk result (λ served. OnOk served.answered (HeardOf (open_ways K.IsKept) operator (I.remaining input.old) served.operator
-        (O.contents output.old) (O.contents output.new))) }
+    ensures told { IfOk result (λ served. OnOk served.answered (ServedBy K.IsKept operator others.items (I.remaining input.old)
+        (O.contents output.old) (O.contents output.new) served.seats.items)) }
     ensures read_to_the_end { IfOk result (λ served. OnOk served.answered (EndsOf true (I.remaining input.old) (I.remaining input.new))) }
 {
     // Room for all seats, so that the end of the day asks for no memory to gather them.
-    let room = Vec::with_capacity(alloc, listed.len().saturating_add(1))?;
+    let room = Vec::with_capacity(
+        alloc,
+        listed.len().saturating_add(1).saturating_add(others.len()),
+    )?;
     let Ok(peers) = Peers::new(alloc, own, listed) else {
         return Err(ServeFault::NoMemory);
     };
@@ -138,6 +139,7 @@ where
         desk: &desk,
         seat: operator,
         peers: &peers,
+        door,
     };
     let (answered, operator, input, output) = serve_lanes(
         rt, alloc, listener, &peers, &desk, door, lanes, lines,
@@ -145,22 +147,38 @@ where
     take_back(input);
     take_back(output);
     let brokers = peers.into_seats(room)?;
+    let seats = put_behind(all_seats(brokers, operator.into_seat())?, others)?;
     Ok(Served {
         desk,
-        brokers,
-        operator: operator.into_seat(),
+        seats,
         answered,
     })
 }
 
-// The listed peers of a day that begins, each with one of the seats. Its session expects number 1, and sends number 1 next.
-fn first_peers<L: Ledger>(
+// Some seats, and others behind them.
+fn put_behind<L: Ledger>(
+    seats: Vec<Seat<L>>,
+    others: Vec<Seat<L>>,
+) -> Result<Vec<Seat<L>>, NoMemory>
+    ensures { IfOk result (λ all. all.items ≡ seats.items ++ others.items) }
+{
+    let mut all = seats;
+    let mut others = others;
+    match all.append(&mut others) {
+        Ok(()) => Ok(all),
+        Err(_) => Err(NoMemory),
+    }
+}
+
+/// The listed peers of a day that begins, each with a seat that has no receipts. Its session expects number 1, and sends number 1 next.
+pub(crate) fn first_peers<L: Ledger>(
     alloc: Global,
     peers: &[Text64],
     seats: Vec<Seat<L>>,
 ) -> Result<Vec<ListedPeer<L>>, NoMemory>
     requires count { vec_len seats ≡ length peers.now }
     requires empty { All (λ receipts. receipts ≡ []) seats.items }
+    ensures { IfOk result (λ listed. listed.items ≡ map begins_as peers.now) }
 {
     let mut listed = Vec::with_capacity(alloc, peers.len())?;
     let mut seats = seats.into_iter();

@@ -17,7 +17,7 @@ use std::io::Write;
 use std::sync::ledger::Ledger;
 use std::thread::Threads;
 
-/// Settles the seats with a desk that keeps no events, and writes the report of the day.
+/// Settles the seats of brokers and of an operator with a desk that keeps no events, and writes the report of the day.
 pub(crate) fn report<L: Ledger, R: Threads + Sync, O: Write>(
     rt: &R,
     alloc: Global,
@@ -30,7 +30,8 @@ pub(crate) fn report<L: Ledger, R: Threads + Sync, O: Write>(
     ensures reported { OnOk result (Reported day (brokers.items ++ (operator ∷ [])) (O.contents output.old) (O.contents output.new)) }
     ensures connected { result ≢ Err ServeFault.Connection }
 {
-    let (reported, _) = report_kept(rt, alloc, desk, brokers, operator, day, output);
+    let seats = all_seats(brokers, operator)?;
+    let (reported, _) = report_kept(rt, alloc, desk, seats, day, output);
     reported
 }
 
@@ -39,13 +40,11 @@ pub(crate) fn report_kept<L: Ledger, K: Keeper, R: Threads + Sync, O: Write>(
     rt: &R,
     alloc: Global,
     desk: Desk<L, K>,
-    brokers: Vec<Seat<L>>,
-    operator: Seat<L>,
+    seats: Vec<Seat<L>>,
     day: Day,
     output: &mut O,
 ) -> (Result<(), ServeFault>, K)
-    ensures reported { OnOk result.0 (KeptReported K.IsKept (K.events result.1) day (brokers.items ++ (operator ∷ []))
-        (O.contents output.old) (O.contents output.new)) }
+    ensures reported { OnOk result.0 (KeptReported K.IsKept (K.events result.1) day seats.items (O.contents output.old) (O.contents output.new)) }
     ensures connected { result.0 ≢ Err ServeFault.Connection }
 
     // All of it is durable, whatever was written of the report.
@@ -63,7 +62,7 @@ pub(crate) fn report_kept<L: Ledger, K: Keeper, R: Threads + Sync, O: Write>(
     if synced.is_err() {
         return (Err(ServeFault::Lines(ReplayFault::Journal)), keeper);
     }
-    let reported = report_closed(rt, alloc, closed, brokers, operator, day, output);
+    let reported = report_closed(rt, alloc, closed, seats, day, output);
     (reported, keeper)
 }
 
@@ -72,40 +71,37 @@ fn report_closed<L: Ledger, R: Threads + Sync, O: Write>(
     rt: &R,
     alloc: Global,
     closed: Closed<L>,
-    brokers: Vec<Seat<L>>,
-    operator: Seat<L>,
+    seats: Vec<Seat<L>>,
     day: Day,
     output: &mut O,
 ) -> Result<(), ServeFault>
-    ensures reported { OnOk result (ReportedOf closed.held.history day (brokers.items ++ (operator ∷ [])) (O.contents output.old) (O.contents output.new)) }
+    ensures reported { OnOk result (ReportedOf closed.held.history day seats.items (O.contents output.old) (O.contents output.new)) }
     ensures connected { result ≢ Err ServeFault.Connection }
 {
-    match settled(closed, brokers, operator) {
+    match settled(closed, seats) {
         Ok(held) => write_report(rt, alloc, held, day, output),
         Err(fault) => Err(fault),
     }
 }
 
 // What the desk held, once the receipts of all seats agree with its history.
-fn settled<L: Ledger>(
-    closed: Closed<L>,
-    brokers: Vec<Seat<L>>,
-    operator: Seat<L>,
-) -> Result<Held, ServeFault>
-    ensures settled { IfOk result (λ held. IsSettled held.history (brokers.items ++ (operator ∷ []))) }
+fn settled<L: Ledger>(closed: Closed<L>, seats: Vec<Seat<L>>) -> Result<Held, ServeFault>
+    ensures settled { IfOk result (λ held. IsSettled held.history seats.items) }
     ensures same { IfOk result (λ held. held ≡ closed.held) }
     ensures run { IfOk result IsRun }
     ensures connected { result ≢ Err ServeFault.Connection }
 {
-    let seats = all_seats(brokers, operator)?;
     match closed.settle(seats) {
         Ok(settled) => Ok(held_of(settled)),
         Err(refused) => Err(unsettled(refused)),
     }
 }
 
-// The seats of the brokers, and after them the operator's.
-fn all_seats<L: Ledger>(brokers: Vec<Seat<L>>, operator: Seat<L>) -> Result<Vec<Seat<L>>, NoMemory>
+/// The seats of the brokers, and after them the operator's.
+pub(crate) fn all_seats<L: Ledger>(
+    brokers: Vec<Seat<L>>,
+    operator: Seat<L>,
+) -> Result<Vec<Seat<L>>, NoMemory>
     ensures { IfOk result (λ seats. seats.items ≡ brokers.items ++ (operator ∷ [])) }
 {
     let mut seats = brokers;

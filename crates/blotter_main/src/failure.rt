@@ -41,6 +41,27 @@ pub enum Failure {
     /// The journal can't be written: its path, and why, in the system's words.
     #[error("{0} can't be written: {1}")]
     Unwritable(String, String),
+    /// What stands where the operators' socket was to be is no socket: its path.
+    #[error("{0} is no socket")]
+    NoSocket(String),
+    /// Nobody serves at the socket: its path.
+    #[error("{0}: nobody listens there")]
+    NoServer(String),
+    /// Whoever serves at the socket is no blotter: its path.
+    #[error("{0}: no blotter answers there")]
+    NoBlotter(String),
+    /// The server went away while it was asked.
+    #[error("the server is gone")]
+    ServerGone,
+    /// An operator of this name is on.
+    #[error("{0} is on already")]
+    NameTaken(String),
+    /// As many operators came as a day has: the name.
+    #[error("sixteen operators came today, so {0} has no seat")]
+    NoSeat(String),
+    /// No operator's name is given, and the environment has none that is a text.
+    #[error("no name: give --name NAME")]
+    NoName,
     /// Another program has the port.
     #[error("port {0} is taken")]
     PortTaken(u16),

@@ -17,21 +17,21 @@ ghost use Rattle.blotter_main.specs.Running.{AnswersJournal, AuditsJournal, Serv
 
 use crate::failure::{Failure, system_words};
 use crate::journals::Journals;
-use crate::running::{answer, listen};
+use crate::running::{answer, bind};
 use blot_desk::Held;
 use blot_diary::Beginning;
 use blot_journal::{FileDevice, FileFault, HEAD, JournalFault, RecoveryFault, text_in};
-use blot_recovery::{InMemory, OpenFault, RecoverFault, received};
+use blot_recovery::{InMemory, OPERATOR_SEATS, OpenFault, RecoverFault, received};
 use blot_time::Day;
 use blot_trail::audit;
 use blot_types::Text64;
-use blotter::{KeptFault, ReplayFault, ServeFault, journal_desk, serve_kept_day};
+use blotter::{Door, KeptFault, ReplayFault, ServeFault, journal_desk, serve_kept_day};
 use log::Log;
 use std::alloc::{AllocError as NoMemory, Global};
 use std::fs::{File, Files};
 use std::io::{self, ErrorKind, Read, Write};
 use std::marker::Brand;
-use std::net::{Net, TcpStream};
+use std::net::Net;
 use std::os::fd::OwnedFd;
 use std::str;
 use std::sync::Wait;
@@ -68,11 +68,12 @@ where
         Ok(device) => device,
         Err(fault) => return Err(unopened(alloc, fault, path)),
     };
-    let (listener, door) = match listen(rt, port) {
+    let (listener, handle) = match bind(rt, port) {
         Ok(opened) => opened,
         Err(failure) => return Err(failure),
     };
-    let blank = Blank::new(peers.len() as u64 + 1);
+    let door = Door::new(handle);
+    let blank = Blank::new(peers.len() as u64 + u64::from(OPERATOR_SEATS));
     let kept = serve_kept_day::<Brand, _, _, _, _, _, _>(
         rt, alloc, blank, device, &listener, &door, lanes, own, peers, day, input, output,
     );
@@ -82,8 +83,8 @@ where
     }
 }
 
-// Why the file of a journal isn't opened.
-fn unopened(alloc: Global, fault: FileFault, path: String) -> Failure
+/// Why the file of a journal isn't opened.
+pub(crate) fn unopened(alloc: Global, fault: FileFault, path: String) -> Failure
     ensures words { outcome_of result ≢ BadWords }
 {
     match fault {
@@ -98,8 +99,13 @@ fn unopened(alloc: Global, fault: FileFault, path: String) -> Failure
     }
 }
 
-// Why a day isn't kept, or what it met. Where the file couldn't be written, that is the reason of all else.
-fn unkept(alloc: Global, fault: KeptFault, device: Option<FileDevice>, path: String) -> Failure
+/// Why a day isn't kept, or what it met. Where the file couldn't be written, that is the reason of all else.
+pub(crate) fn unkept(
+    alloc: Global,
+    fault: KeptFault,
+    device: Option<FileDevice>,
+    path: String,
+) -> Failure
     ensures words { outcome_of result ≢ BadWords }
 {
     if let Some(error) = failure_of(&device) {
@@ -226,7 +232,7 @@ fn desk_in(
         Ok(text) => text,
         Err(fault) => return Err(unrecovered(fault, path)),
     };
-    let blank = Blank::new(peers.len() as u64 + 1);
+    let blank = Blank::new(peers.len() as u64 + u64::from(OPERATOR_SEATS));
     match journal_desk::<Brand>(alloc, blank, text, own, peers) {
         Ok(held) => Ok(held),
         Err(fault) => Err(untaken(alloc, &fault, path)),

@@ -3,12 +3,16 @@
 //! what is told on standard error, the file, the port, and `main`.
 #![tactic(auto)]
 
+mod asking;
 mod failure;
 mod journals;
 mod keeping;
 mod running;
+mod sockets;
+mod staffing;
 
 use running::run;
+use std::io::IsTerminal;
 use std::process::ExitCode;
 
 // Runs the program over the streams of its process.
@@ -16,6 +20,16 @@ fn main(rt: HostRuntime) -> ExitCode {
     let mut input = rt.stdin();
     let mut output = rt.stdout();
     let mut errors = rt.stderr();
-    let outcome = run(&rt, &rt, &rt, &rt, &mut input, &mut output, &mut errors);
+    let prompts = input.is_terminal() && output.is_terminal();
+    let outcome = run(
+        &rt,
+        &rt,
+        &rt,
+        &rt,
+        prompts,
+        &mut input,
+        &mut output,
+        &mut errors,
+    );
     ExitCode::from(outcome.status())
 }

@@ -11,13 +11,16 @@ ghost use Rattle.blot_capture.specs.Replay.{captured_by};
 ghost use Rattle.blot_rounds.specs.Rounds.{ServesRound};
 ghost use Rattle.blotter.specs.Serving.{DayServed, OpenDayServed};
 ghost use Rattle.blot_stream.specs.declared.outcome.Outcome.TheVariants.{BadWords, Done, NoMemory};
-ghost use Rattle.blot_words.specs.Words.{AreApartIn, IsPeerList, is_written_last, peers_of};
+ghost use Rattle.blot_words.specs.Words.{AreApartIn, HasPeers, is_written_last};
 ghost use Rattle.blotter_main.specs.Failure.{outcome_of};
 ghost use Rattle.blotter_main.specs.Running.{Did};
 
+use crate::asking::ask_server;
 use crate::failure::{Failure, system_words};
 use crate::journals::Journals;
 use crate::keeping::{audit_journal, keep_day, open_journal};
+use crate::sockets::Sockets;
+use crate::staffing::{keep_staffed, staff_port};
 use blot_desk::Held;
 use blot_slots::Slots;
 use blot_time::Day;
@@ -40,12 +43,14 @@ use std::sync::ledger::Blank;
 use std::thread::Threads;
 use std::time::Clock;
 
-/// Does what the command line asks for, and says how it ended. What the user has to know goes to `errors`.
-pub fn run<S: Env + AllocGlobal, F: Files, J: Journals, T, R: Read, W: Write, E: Write>(
+/// Does what the command line asks for, and says how it ended. What the user has to know goes to `errors`. With `prompts` a client
+/// says when a line is wanted.
+pub fn run<S: Env + AllocGlobal, F: Files, J: Journals + Sockets, T, R: Read, W: Write, E: Write>(
     system: &S,
     files: &F,
     journals: &J,
     rt: &T,
+    prompts: bool,
     input: &mut R,
     output: &mut W,
     errors: &mut E,
@@ -55,14 +60,14 @@ where
     T::Listener: Sync,
     T::Stream: Send,
     OwnedFd: From<T::Listener>,
-    ensures did { result ≡ Done → (words : Words) × IsPeerList (peers_of words)
-        × Did (ServesRound T T.Stream.remaining T.Stream.contents) words (R.remaining input.old) (R.remaining input.new) (W.contents output.old) (W.contents output.new) }
+    ensures did { result ≡ Done → (words : Words) × HasPeers words
+        × Did prompts (ServesRound T T.Stream.remaining T.Stream.contents) words (R.remaining input.old) (R.remaining input.new) (W.contents output.old) (W.contents output.new) }
     ensures unread { result ≡ BadWords → input.new ≡ input.old }
     ensures unwritten { result ≡ BadWords → output.new ≡ output.old }
 {
     match words_of(system) {
         Ok(words) => {
-            match perform(system.alloc(), files, journals, rt, words, input, output) {
+            match perform(system, files, journals, rt, words, prompts, input, output) {
                 Ok(()) => Outcome::Done,
                 Err(failure) => tell(errors, failure),
             }
@@ -73,7 +78,7 @@ where
 
 // What the command line asks for.
 fn words_of<S: Env + AllocGlobal>(system: &S) -> Result<Words, Refusal>
-    ensures peers { IfOk result (λ words. IsPeerList (peers_of words)) }
+    ensures peers { IfOk result HasPeers }
     ensures apart { IfOk result AreApartIn }
 {
     let words = given(system)?;
@@ -81,12 +86,13 @@ fn words_of<S: Env + AllocGlobal>(system: &S) -> Result<Words, Refusal>
 }
 
 // Does what the words ask for. Out of memory, a replay and an audit have written nothing.
-fn perform<F: Files, J: Journals, T, R: Read, W: Write>(
-    alloc: Global,
+fn perform<S: Env + AllocGlobal, F: Files, J: Journals + Sockets, T, R: Read, W: Write>(
+    system: &S,
     files: &F,
     journals: &J,
     rt: &T,
     words: Words,
+    prompts: bool,
     input: &mut R,
     output: &mut W,
 ) -> Result<(), Failure>
@@ -95,14 +101,15 @@ where
     T::Listener: Sync,
     T::Stream: Send,
     OwnedFd: From<T::Listener>,
-    requires peers { IsPeerList (peers_of words) }
+    requires peers { HasPeers words }
     requires apart { AreApartIn words }
     ensures did { OnOk result
-        (Did (ServesRound T T.Stream.remaining T.Stream.contents) words (R.remaining input.old) (R.remaining input.new) (W.contents output.old) (W.contents output.new)) }
+        (Did prompts (ServesRound T T.Stream.remaining T.Stream.contents) words (R.remaining input.old) (R.remaining input.new) (W.contents output.old) (W.contents output.new)) }
     ensures no_memory { IfErr result (λ failure. outcome_of failure ≡ NoMemory
         → (is_written_last words ≡ false) ⊎ Keeps (W.contents output.old) (W.contents output.new)) }
     ensures words { IfErr result (λ failure. outcome_of failure ≢ BadWords) }
 {
+    let alloc = system.alloc();
     match words {
         Words::Replay { own, day, peers } => {
             replay(alloc, input, output, own, peers.as_slice(), day).map_err(Failure::Stopped)
@@ -129,9 +136,21 @@ where
             port,
             lanes,
             journal,
+            operators,
             peers,
-        } => match journal {
-            Some(file) => keep_day(
+        } => match (operators, journal) {
+            (None, None) => open_port(
+                rt,
+                alloc,
+                own,
+                peers.as_slice(),
+                day,
+                port,
+                lanes,
+                input,
+                output,
+            ),
+            (None, Some(file)) => keep_day(
                 journals,
                 rt,
                 alloc,
@@ -144,15 +163,29 @@ where
                 input,
                 output,
             ),
-            None => open_port(
+            (Some(path), None) => staff_port(
+                journals,
                 rt,
                 alloc,
+                path,
                 own,
                 peers.as_slice(),
                 day,
                 port,
                 lanes,
-                input,
+                output,
+            ),
+            (Some(path), Some(file)) => keep_staffed(
+                journals,
+                rt,
+                alloc,
+                file,
+                path,
+                own,
+                peers.as_slice(),
+                day,
+                port,
+                lanes,
                 output,
             ),
         },
@@ -170,6 +203,7 @@ where
             }
             Err(_) => Err(Failure::NoMemory),
         },
+        Words::Ask { path, name } => ask_server(system, rt, path, name, prompts, input, output),
     }
 }
 
@@ -195,7 +229,8 @@ where
     ensures read_to_the_end { OnOk result (EndsOf true (R.remaining input.old) (R.remaining input.new)) }
     ensures words { IfErr result (λ failure. outcome_of failure ≢ BadWords) }
 {
-    let (listener, door) = listen(rt, port)?;
+    let (listener, handle) = bind(rt, port)?;
+    let door = Door::new(handle);
     let blank = Blank::new(peers.len() as u64 + 1);
     serve_open_day::<Brand, _, _, _, _, _>(
         rt, alloc, blank, &listener, &door, lanes, own, peers, day, input, output,
@@ -224,7 +259,8 @@ where
     ensures read_to_the_end { OnOk result (IsAtEnd (R.remaining input.new)) }
     ensures words { IfErr result (λ failure. outcome_of failure ≢ BadWords) }
 {
-    let (listener, door) = listen(rt, port)?;
+    let (listener, handle) = bind(rt, port)?;
+    let door = Door::new(handle);
     let blank = Blank::new(u64::from(rounds.sessions) + 1);
     serve_day::<Brand, _, _, _, _, _>(
         rt, alloc, blank, &listener, &door, rounds, slots, day, input, output,
@@ -232,8 +268,8 @@ where
     .map_err(Failure::Served)
 }
 
-/// A listener on a port of 127.0.0.1, with its door.
-pub(crate) fn listen<T>(rt: &T, port: u16) -> Result<(T::Listener, Door<TcpStream>), Failure>
+/// A listener on a port of 127.0.0.1, and another handle of it, taken as a stream, by which it is closed.
+pub(crate) fn bind<T>(rt: &T, port: u16) -> Result<(T::Listener, TcpStream), Failure>
 where
     T: Net,
     OwnedFd: From<T::Listener>,
@@ -245,7 +281,7 @@ where
         Err(error) => return Err(port_failure(port, error.kind())),
     };
     match listener.try_clone() {
-        Ok(handle) => Ok((listener, Door::new(TcpStream::from(OwnedFd::from(handle))))),
+        Ok(handle) => Ok((listener, TcpStream::from(OwnedFd::from(handle)))),
         Err(error) => Err(port_failure(port, error.kind())),
     }
 }

@@ -1,4 +1,4 @@
-use Rattle.std.proofs.Common.{◌≡◌, ◌++◌, sym, ap, subst, ◌∙◌}
+use Rattle.std.proofs.Common.{◌≡◌, ◌++◌, refl, sym, ap, subst, ◌∙◌}
 use Rattle.blot_journal.specs.Journal.{text_in_journal}
 use Rattle.blot_recovery.specs.Opening.{IsBeginning, IsRecovered}
 use Rattle.blot_recovery.proofs.OpeningLemmas.{begun-moments, beginning-quiet}
@@ -15,8 +15,8 @@ returns-in-Ok-write-clause-recovered g c =
       kept = does.kept;
       listed = does.listed;
       peers = does.peers;
-      name = does.name;
-      operator_is = does.operator;
+      operators = does.operators;
+      first = does.first;
     })
 
 pub returns-in-Ok-write-clause-events : goal.returns-in-Ok-write-clause-events
@@ -36,3 +36,14 @@ returns-clause-any_moment g c =
     let begins = subst (IsBeginning c.args.own c.args.day) (sym c.deref-2.ensures.value) (record { valid = c.in-Ok.ensures.valid; kept = c.in-Ok.ensures.kept }) in
     begun-moments g.D.Device.moment g.D.Device.left_since c.args.own c.args.day (g.D.Device.seen c.args.journal.now.device) c.deref-2.result.now
     c.args.journal.now.device c.write.new.journal.device c.requires.none begins c.write.ensures.any_moment
+
+pub returns-in-Err-recover-clause-fault : goal.returns-in-Err-recover-clause-fault
+returns-in-Err-recover-clause-fault g c =
+    let begins = subst (IsBeginning c.args.own c.args.day) (sym c.deref.ensures.value) (record { valid = c.in-Ok.ensures.valid; kept = c.in-Ok.ensures.kept }) in
+    record {
+      text = c.deref.result.now;
+      opens = record { new = λ _. begins; same = λ some. absurd (some refl) };
+      peers = c.args.peers.now;
+      operator = c.args.operator;
+      fault_is = c.in-Err-recover.ensures.fault;
+    }

@@ -13,8 +13,8 @@ returns-in-Ok-clause-recovered g c =
       kept = does.kept;
       listed = does.listed;
       peers = does.peers;
-      name = does.name;
-      operator_is = does.operator;
+      operators = does.operators;
+      first = does.first;
     })
 
 pub returns-in-Err-clause-fault : goal.returns-in-Err-clause-fault
@@ -22,5 +22,7 @@ returns-in-Err-clause-fault g c =
     let found = text_in_journal g.D.Device.seen c.args.journal.now in record {
       text = found;
       opens = opens-same c.args.own c.args.day found found c.requires.some refl;
+      peers = c.args.peers.now;
+      operator = c.args.operator;
       fault_is = c.in-Err.ensures.fault;
     }

@@ -1,12 +1,15 @@
 use Rattle.std.proofs.Common.{subst, sym, ap, ◌∙◌, not}
 use Rattle.std.specs.List.{All, filter}
-use Rattle.std.proofs.lemmas.Result.{IfOk-weaker}
+use Rattle.std.specs.Option.{option_to_list}
+use Rattle.std.proofs.lemmas.Result.{IfErr-weaker, IfOk-weaker}
 use Rattle.blot_desk.specs.Desk.{Journal}
 use Rattle.blot_desk.specs.Keeping.{is_ask, kept_events}
 use Rattle.blot_diary.proofs.AskLemmas.{all-kept}
-use Rattle.blot_recovery.specs.Faults.{BeginsOtherwise, IsFaultOf}
-use Rattle.blot_recovery.specs.Parties.{IsKeptOperator, IsKeptPeer}
+use Rattle.blot_recovery.specs.Refusals.{IsRecoverFault}
+use Rattle.blot_recovery.specs.Parties.{AreKeptOperators, IsFirst, IsKeptPeer, operator_names}
 use Rattle.blot_recovery.specs.Taking.{AreInPlace, names_of}
+use Rattle.blot_recovery.specs.declared.operators.KeptOperators.{KeptOperators}
+use Rattle.blot_recovery.proofs.RefusalLemmas.{empty-fault, recover-fault}
 use Rattle.blot_recovery.proofs.TestLemmas.{if-told}
 use Rattle.blot_recovery.proofs.recovering.recover.Goals as goal
 
@@ -14,9 +17,11 @@ pub returns-in_err-take_all-clause-fault : goal.returns-in_err-take_all-clause-f
 returns-in_err-take_all-clause-fault g c =
     let text = g.P.Pieces.text c.args.text.now in
     let fault = c.in_err-take_all.field-0.0 in
-    if-told (IsFaultOf (BeginsOtherwise c.args.own c.args.day text) text) fault c.from_residual-in_err-take_all.result c.from_residual-in_err-take_all.ensures.1
-    (subst (λ day. IsFaultOf (BeginsOtherwise c.args.own day text) text fault) c.in_ok-taking.ensures.wanted
-    (subst (λ own. IsFaultOf (BeginsOtherwise own c.in_ok-taking.taking.wanted text) text fault) c.in_ok-taking.ensures.own c.in_err-take_all.ensures.fault))
+    let made = c.in_ok-taking.ensures in
+    if-told (IsRecoverFault c.args.own c.args.day c.args.peers.now (option_to_list c.args.operator) text) fault c.from_residual-in_err-take_all.result
+    c.from_residual-in_err-take_all.ensures.1
+    (recover-fault c.args.own c.args.day c.args.peers.now (option_to_list c.args.operator) c.in_ok-taking.taking made.own made.wanted made.listed made.named text fault
+    c.in_err-take_all.ensures.fault)
 
 pub returns-clause-kept : goal.returns-clause-kept
 returns-clause-kept g c =
@@ -31,19 +36,32 @@ returns-clause-peers g c =
     IfOk-weaker c.into_recovered.result _ _ (λ recovered is. subst (λ own. All (IsKeptPeer own text) recovered.peers.items)
     (taken.asks.own_is ∙ c.in_ok-taking.ensures.own) (subst (All (IsKeptPeer c.take_all.new.taker.own text)) (sym is) taken.taken.has.peers)) c.into_recovered.ensures.peers
 
-pub returns-clause-operator : goal.returns-clause-operator
-returns-clause-operator g c =
+pub returns-clause-operators : goal.returns-clause-operators
+returns-clause-operators g c =
     let text = g.P.Pieces.text c.args.text.now in
-    IfOk-weaker c.into_recovered.result _ _ (λ recovered is. subst (IsKeptOperator text) (sym is) c.in_ok-take_all.ensures.taken.taken.has.operator)
-    c.into_recovered.ensures.operator
+    IfOk-weaker c.into_recovered.result _ _ (λ recovered is. subst (AreKeptOperators text) (sym is) c.in_ok-take_all.ensures.taken.taken.has.operators)
+    c.into_recovered.ensures.operators
+
+pub returns-clause-first : goal.returns-clause-first
+returns-clause-first g c =
+    let first = c.in_ok-take_all.ensures.taken.asks.first_is c.args.operator c.in_ok-taking.ensures.operator in
+    IfOk-weaker c.into_recovered.result _ _ (λ recovered is. subst (λ (operators : KeptOperators g.row.L.Denot). IsFirst c.args.operator (operator_names operators.named.items)) (sym is) first)
+    c.into_recovered.ensures.operators
 
 pub returns-clause-in_place : goal.returns-clause-in_place
 returns-clause-in_place g c =
     let text = g.P.Pieces.text c.args.text.now in
     let taken = c.in_ok-take_all.ensures.taken in
     let made = c.in_ok-taking.ensures in
-    let all = subst (λ own. AreInPlace own (names_of c.take_all.new.taker.peers.items) c.take_all.new.taker.operator.name text) (taken.asks.own_is ∙ made.own)
+    let all = subst (λ own. AreInPlace own (names_of c.take_all.new.taker.peers.items) text) (taken.asks.own_is ∙ made.own)
     taken.taken.in_place in
-    let all_listed = subst (λ names. AreInPlace c.args.own names c.take_all.new.taker.operator.name text) (taken.asks.names_are ∙ made.listed) all in
-    let all_named = subst (λ name. AreInPlace c.args.own c.args.peers.now name text) (taken.asks.name_is ∙ made.name) all_listed in
-    IfOk-weaker c.into_recovered.result _ _ (λ _ _. all_named) c.into_recovered.ensures.opening
+    let all_listed = subst (λ names. AreInPlace c.args.own names text) (taken.asks.names_are ∙ made.listed) all in
+    IfOk-weaker c.into_recovered.result _ _ (λ _ _. all_listed) c.into_recovered.ensures.opening
+
+pub returns-clause-fault : goal.returns-clause-fault
+returns-clause-fault g c =
+    let text = g.P.Pieces.text c.args.text.now in
+    let taken = c.in_ok-take_all.ensures.taken in
+    IfErr-weaker c.into_recovered.result _ _ (λ fault is.
+    subst (IsRecoverFault c.args.own c.args.day c.args.peers.now (option_to_list c.args.operator) text) (sym is.0)
+    (empty-fault c.args.own c.args.day c.args.peers.now (option_to_list c.args.operator) text (taken.taken.nothing is.1))) c.into_recovered.ensures.none

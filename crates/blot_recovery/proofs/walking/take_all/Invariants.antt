@@ -1,4 +1,5 @@
 use Rattle.std.proofs.Common.{◌≡◌, ◌-◌, ◌≤◌, ◌++◌, length, drop}
+use Rattle.blot_tag.specs.Frames.{BeginsWithFrame}
 use Rattle.blot_recovery.specs.Moments.{IsOrWasRead}
 use Rattle.blot_recovery.specs.Walking.{IsTakenTo}
 use Rattle.blot_recovery.proofs.walking.take_all.Given as goal
@@ -10,6 +11,7 @@ invariant-loop-at g l = record {
   text_is : g.P.Pieces.text l.text ≡ g.P.Pieces.text l.fn.text;
   read : IsOrWasRead g.P.Pieces.Reads l.fn.text l.text;
   readable : g.P.Pieces.IsReadable l.text;
+  ends : BeginsWithFrame l.reader.unread → ⊥;
   taken : IsTakenTo g.T.Takes.After l.fn.taker (g.P.Pieces.text l.fn.text) (l.reader.unread ++ drop l.at (g.P.Pieces.text l.fn.text)) l.place l.taker;
 }
 

@@ -1,19 +1,28 @@
-use Rattle.std.proofs.Common.{◌≡◌, [], refl, subst, sym}
+use Rattle.std.proofs.Common.{◌≡◌, ◌+◌, [], length, rules, refl, subst, sym}
+use Rattle.std.specs.List.{All}
+use Rattle.std.proofs.lemmas.List.Elements.{All-take}
 use Rattle.blot_recovery.specs.declared.fault.RecoverFault.TheVariants.{NoMemory}
+use Rattle.blot_recovery.specs.declared.operators.TheConstants.{OPERATOR_SEATS}
 use Rattle.blot_recovery.specs.Taking.{AreApart}
 use Rattle.blot_recovery.proofs.TestLemmas.{if-told}
-use Rattle.blot_recovery.proofs.TakingLemmas.{last-holds, none-taken}
+use Rattle.blot_recovery.proofs.TakingLemmas.{none-taken}
 use Rattle.blot_recovery.proofs.taking.Taking.new.Goals as goal
 
 pub returns-in_err-peers-clause-memory : goal.returns-in_err-peers-clause-memory
 returns-in_err-peers-clause-memory g c = if-told _ NoMemory c.from_residual-in_err-peers.result c.from_residual-in_err-peers.ensures.1 refl
 
-pub new-requires-2 : goal.new-requires-2
-new-requires-2 g c =
-    last-holds (λ receipts. receipts ≡ []) c.in_ok-opening.seats.items c.pop.new.self.items c.pop.result c.unwrap-seat.result c.unwrap-seat.ensures
-    c.pop.ensures.items c.in_ok-opening.ensures.empty
-
 pub returns-clause-first : goal.returns-clause-first
 returns-clause-first g c =
+    let total : length c.in_ok-operators.operators.named.items + length c.in_ok-operators.operators.spare.items ≡ OPERATOR_SEATS = search rules in
     none-taken _ refl c.in_ok-opening.ensures.desk (subst (AreApart c.args.own) (sym c.in_ok-peers.ensures.listed) c.requires.apart)
-    (c.in_ok-peers.ensures.kept c.args.own) c.new-2.ensures.kept
+    (c.in_ok-peers.ensures.kept c.args.own) c.in_ok-operators.ensures.kept total
+
+pub returns-in_err-spare-clause-memory : goal.returns-in_err-spare-clause-memory
+returns-in_err-spare-clause-memory g c = if-told _ NoMemory c.from_residual-in_err-spare.result c.from_residual-in_err-spare.ensures.1 refl
+
+pub returns-in_err-operators-clause-memory : goal.returns-in_err-operators-clause-memory
+returns-in_err-operators-clause-memory g c = if-told _ NoMemory c.from_residual-in_err-operators.result c.from_residual-in_err-operators.ensures.1 refl
+
+pub seated-requires-clause-empty : goal.seated-requires-clause-empty
+seated-requires-clause-empty g c =
+    subst (All (λ receipts. receipts ≡ [])) (sym c.in_ok-spare.ensures.items) (All-take (λ receipts. receipts ≡ []) _ c.in_ok-opening.seats.items c.in_ok-opening.ensures.empty)

@@ -3,7 +3,7 @@ use Rattle.blot_tag.specs.Fields.{fields_of}
 use Rattle.blot_tag.specs.Views.{text_of}
 use Rattle.blot_diary.specs.Keeping.{kept_of}
 use Rattle.blot_recovery.specs.Taking.{TakesUpAll}
-use Rattle.blot_recovery.proofs.TestLemmas.{four-ok}
+use Rattle.blot_recovery.proofs.TestLemmas.{five-ok, four-ok}
 use Rattle.blot_recovery.proofs.TakingLemmas.{first-taken, kept-taken, other-taken}
 use Rattle.blot_recovery.proofs.taking.TakingTakes.take.Goals as goal
 
@@ -29,6 +29,6 @@ returns-in-Some-begun-clause-taken g c =
     let frame = text_of c.args.frame.now in
     let is : kept_of (fields_of frame) ≡ Some c.in-Some.kept = sym c.in_ok-kept.ensures.value ∙ c.in-Some.is in
     let does = c.take_kept.ensures in
-    four-ok c.take_kept.result does.held does.asks does.begun does.of (λ held asks begun of first text whole up.
+    five-ok c.take_kept.result does.held does.asks does.begun does.of does.seats (λ held asks begun of seats first text whole up.
     kept-taken first c.args.self.now c.take_kept.new.self c.in-Some-begun.field-0 text frame c.in-Some.kept (c.text.ensures.last text whole) is
-    c.in-Some-begun.is asks begun held of up)
+    c.in-Some-begun.is asks begun held of seats up)

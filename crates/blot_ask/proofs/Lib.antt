@@ -1,0 +1,4 @@
+mod AheadLemmas
+mod AskingLemmas
+mod Rows
+mod TypingLemmas

@@ -1,0 +1,2 @@
+mod NamingLemmas
+mod StaffLemmas

@@ -1,0 +1,121 @@
+//! The sockets by which operators come.
+
+use std::alloc::{AllocError as NoMemory, Global};
+use std::fs::{self, DirBuilder, Files, Permissions};
+use std::io::{self, ErrorKind};
+use std::net::{Net, OpenStream, Shutdown};
+use std::os::unix::fs::{DirBuilderExt, FileTypeExt, PermissionsExt};
+use std::os::unix::net::{UnixListener, UnixStream};
+
+/// Why there is no socket for operators.
+#[derive(Debug, Drop)]
+pub enum SocketFault {
+    /// Somebody listens there.
+    InUse,
+    /// What stands there is no socket.
+    NoSocket,
+    NoMemory,
+    /// What the system said.
+    Io(io::Error),
+}
+
+impl From<io::Error> for SocketFault {
+    fn from(error: io::Error) -> SocketFault {
+        SocketFault::Io(error)
+    }
+}
+
+impl From<NoMemory> for SocketFault {
+    fn from(_fault: NoMemory) -> SocketFault {
+        SocketFault::NoMemory
+    }
+}
+
+/// What makes the sockets by which operators come.
+pub trait Sockets {
+    /// A socket at a path, which its owner alone may use. One at which nobody listens any more is removed first; anything else that stands
+    /// there is left.
+    fn open(&self, alloc: Global, path: &str) -> Result<UnixListener, SocketFault>;
+
+    /// Removes the socket at a path, at which nobody listens any more. Where somebody does, it is the next day's, and is left.
+    fn remove(&self, path: &str);
+}
+
+impl Sockets for HostRuntime {
+    fn open(&self, alloc: Global, path: &str) -> Result<UnixListener, SocketFault> {
+        clear(self, path)?;
+        open_private(self, alloc, path)
+    }
+
+    fn remove(&self, path: &str) {
+        if UnixStream::connect(self, path).is_err() {
+            let _ = fs::remove_file(self, path);
+        }
+    }
+}
+
+// Removes the socket at a path where nobody listens.
+fn clear<R: Files + Net>(rt: &R, path: &str) -> Result<(), SocketFault> {
+    match UnixStream::connect(rt, path) {
+        Ok(_) => Err(SocketFault::InUse),
+        Err(error) => match error.kind() {
+            ErrorKind::NotFound => Ok(()),
+            ErrorKind::ConnectionRefused => remove_stale(rt, path),
+            _ => Err(SocketFault::Io(error)),
+        },
+    }
+}
+
+// Removes what stands at a path where that is a socket.
+fn remove_stale<R: Files>(rt: &R, path: &str) -> Result<(), SocketFault> {
+    if !fs::symlink_metadata(rt, path)?.file_type().is_socket() {
+        return Err(SocketFault::NoSocket);
+    }
+    fs::remove_file(rt, path)?;
+    Ok(())
+}
+
+// A socket at a path where nothing stands. It is made in a folder that its owner alone may enter, so that at the path it is private from its
+// first moment there.
+fn open_private<R: Files + Net>(
+    rt: &R,
+    alloc: Global,
+    path: &str,
+) -> Result<UnixListener, SocketFault> {
+    let folder = format!(in alloc; "{path}.new")?;
+    let made = format!(in alloc; "{folder}/s")?;
+    // What a crash left.
+    let _ = fs::remove_file(rt, made.as_str());
+    let _ = fs::remove_dir(rt, folder.as_str());
+    DirBuilder::new().mode(0o700).create(rt, folder.as_str())?;
+    let opened = bind_there(rt, made.as_str(), path);
+    if opened.is_err() {
+        let _ = fs::remove_file(rt, made.as_str());
+    }
+    let _ = fs::remove_dir(rt, folder.as_str());
+    Ok(opened?)
+}
+
+// A socket that is made at one path and put at another.
+fn bind_there<R: Files + Net>(rt: &R, made: &str, path: &str) -> io::Result<UnixListener> {
+    let listener = UnixListener::bind(rt, made)?;
+    fs::set_permissions(rt, made, Permissions::from_mode(0o600))?;
+    fs::rename(rt, made, path)?;
+    Ok(listener)
+}
+
+/// The port of a day and the socket of its operators, which are closed together.
+#[derive(Drop)]
+pub(crate) struct PortAndSocket<S> {
+    pub(crate) port: S,
+    pub(crate) socket: S,
+}
+
+impl<S: OpenStream> OpenStream for PortAndSocket<S> {
+    fn shutdown(&self, how: Shutdown) -> io::Result<()> {
+        let port = self.port.shutdown(how);
+        let socket = self.socket.shutdown(how);
+        port?;
+        socket
+    }
+}
