@@ -45,6 +45,12 @@ impl OpenDay for Day {
         }
         Ok(Rows::new(lines))
     }
+
+    fn tells_makers(&self) -> bool {
+        false
+    }
+
+    fn close(&self) {}
 }
 
 // BRKA's session is on, and BRKB's is off.

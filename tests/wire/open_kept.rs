@@ -202,6 +202,12 @@ impl OpenDay for Day {
     fn sessions(&self, alloc: Global) -> Result<Rows<SessionLine>, NoMemory> {
         Ok(Rows::new(Vec::new(alloc)))
     }
+
+    fn tells_makers(&self) -> bool {
+        false
+    }
+
+    fn close(&self) {}
 }
 
 // A trade of the seat, kept before any line.
