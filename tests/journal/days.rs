@@ -5,7 +5,7 @@ use crate::runs::empty_file;
 use blot_desk::{Desk, Event, Found, NoKeeper, Question, Seat, StepRow};
 use blot_diary::{Diary, asked_record, read_kept};
 use blot_journal::MemoryDevice;
-use blot_recovery::{Recovered, open_day};
+use blot_recovery::{OPERATOR_SEATS, Recovered, open_day};
 use blot_tag::{FrameText, Reader};
 use blot_time::{Day, Moment};
 use blot_types::{Command, Text64};
@@ -140,7 +140,7 @@ fn day_until<L: Ledger>(
         day()?,
         ten()?,
         &peers,
-        name(b"operator")?,
+        Some(name(b"operator")?),
     );
     let (diary, recovered) = match opened {
         Ok(opened) => opened,
@@ -149,12 +149,15 @@ fn day_until<L: Ledger>(
     let Recovered {
         opening,
         peers: mut kept,
-        operator,
+        mut operators,
         ..
     } = recovered;
     let desk = opening.open(diary);
     let Some(peer) = kept.pop() else {
         return Err(Fail::new("no peer"));
+    };
+    let Some(operator) = operators.named.pop() else {
+        return Err(Fail::new("no operator"));
     };
     let (mut broker, mut operator, mut durable) = (peer.seat, operator.seat, 0);
     for (line, record) in LINES.iter().zip(records(alloc)?.iter()) {
@@ -212,7 +215,7 @@ fn events_in<L: Ledger>(
         day()?,
         ten()?,
         &peers,
-        name(b"operator")?,
+        Some(name(b"operator")?),
     );
     let Ok((_, recovered)) = opened else {
         return Err(Fail::new("not taken up"));
@@ -228,11 +231,16 @@ fn events_in<L: Ledger>(
     Ok(held.history().len())
 }
 
+// Seats for BRKA and for the operators.
+fn seats() -> Blank {
+    Blank::new(1 + u64::from(OPERATOR_SEATS))
+}
+
 // A day whose call of this number fails, and each image of what that leaves: whether there was such a call.
 fn expect_call(rt: &impl Wait, alloc: Global, call: u64) -> Result<bool, Fail> {
-    let (device, durable) = day_until::<Brand>(rt, alloc, Blank::new(2), Some(call))?;
+    let (device, durable) = day_until::<Brand>(rt, alloc, seats(), Some(call))?;
     for image in few_images(alloc, &device)?.iter() {
-        let found = events_in::<Brand>(rt, alloc, Blank::new(2), image)?;
+        let found = events_in::<Brand>(rt, alloc, seats(), image)?;
         if found < durable || found > durable + 1 || found > LINES.len() {
             return Err(Fail::new(format_args!("{found} events of {durable} at call {call}")));
         }
