@@ -1,7 +1,7 @@
 #!/usr/bin/env python3
 """Whether the plain reader of a day's journal, `journal` in plain.py, reads what docs/FORMATS.md says ("A day's journal"). Some rows are written by
-hand. In others a plain day of a capture that is drawn writes its journal as it goes, and what is read in it has to be what the day came to. No program
-is called, and none writes a journal yet.
+hand. In others a plain day of a capture that is drawn writes its journal as it goes, and what is read in it has to be what the day came to. The
+blotter isn't called.
 
   tests/journals.py     the last line is `N passed, M failed`, and the status is 1 where one failed"""
 import sys
