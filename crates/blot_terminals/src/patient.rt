@@ -3,8 +3,8 @@ use blot_sockets::Door;
 use std::io::{self, ErrorKind, Read};
 use std::net::OpenStream;
 
-/// An input whose reads wait until bytes come, as long as the day is open. When it is closed they fail, so that half a line isn't taken for a whole
-/// one. The input is at its end too when so many reads, one behind the other, have brought nothing.
+/// An input whose reads wait until bytes come, as long as the day is open. When the day is closed a read fails, so that half a line isn't taken for a
+/// whole one. The input is at its end when `patience` reads in a row have brought nothing.
 #[derive(Drop)]
 pub(crate) struct Patient<'a, I, H> {
     input: I,
@@ -13,7 +13,7 @@ pub(crate) struct Patient<'a, I, H> {
 }
 
 impl<'a, I, H> Patient<'a, I, H> {
-    /// The input, which is at its end after so many reads that bring nothing.
+    /// The input, which is at its end after `patience` reads in a row that bring nothing.
     pub(crate) fn new(input: I, door: &'a Door<H>, patience: u64) -> Patient<'a, I, H> {
         Patient {
             input,

@@ -213,10 +213,10 @@ With --journal the day is kept in a file, as it goes. Killed at any moment and b
 goes on where it was: what a broker or an operator was told is in the book, and what is missing is asked of the broker
 again by its number. A file that isn't there is made; it holds one day. `blotter desk` and `blotter audit` read it.
 
-With --operators the operators come by a socket at PATH, up to sixteen at once, in place of standard input, which is
-then not read. Each says its name first; `blotter ask PATH` does that for you. The file's permissions say who may
-come: it is made for its owner alone, and removed at the end. The day ends by close. Each line of steps and refusals
-ends with who made the command: a broker, or an operator's name.
+With --operators the operators come by a socket at PATH, up to sixteen names in a day, in place of standard input,
+which is then not read. Each says its name first; `blotter ask PATH` does that for you. The file's permissions say who
+may come: it is made for its owner alone, and removed at the end. The day ends by close. Each line of steps and
+refusals ends with who made the command: a broker, or an operator's name.
 
 With --sessions the day has rounds instead. A round waits for as many connections as --sessions says, serves them
 at once, answers none before the last has come, and is over when each has ended. After the last round and the end
