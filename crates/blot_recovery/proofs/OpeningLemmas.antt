@@ -1,5 +1,5 @@
 -- A day that is opened over a file.
-use Rattle.std.proofs.Common.{◌≡◌, ◌⊎◌, ◌<◌, inl, inr, ⊎_elim, ◌+◌, true, ap, sym, ℕ, ℤ, List, [], ◌∷◌, length, take, refl, subst, ◌∙◌, arith}
+use Rattle.std.proofs.Common.{◌≡◌, ◌⊎◌, ◌<◌, inl, inr, ⊎_elim, ◌+◌, true, ap, sym, ℕ, ℤ, Option, List, [], ◌∷◌, length, take, refl, subst, ◌∙◌, arith}
 use Rattle.std.proofs.lemmas.List.{append-nil, take-take}
 use Rattle.blot_tag.proofs.JoinedLemmas.{has_last}
 use Rattle.blot_journal.specs.Device.{LeavesOnly}
@@ -41,10 +41,11 @@ pub opens-new : (own : List ℕ) (day : ℤ) (found text : List ℕ) → found �
 opens-new own day found text none begins = record { new = λ _. begins; same = λ some. absurd (some none) }
 
 -- what a fault says of the text says it of the file
-pub open-fault : (own : List ℕ) (day : ℤ) (file found : List ℕ) (fault : OpenFault) → found ≡ text_of file → IsTextFault own day found fault → IsOpenFault own day file fault
-open-fault own day file found (File fault) is of = absurd of
-open-fault own day file found (Text fault) is of = subst (λ found. IsTextFault own day found (Text fault)) is of
-open-fault own day file found (Write fault) is of = subst (λ found. IsTextFault own day found (Write fault)) is of
+pub open-fault : (own : List ℕ) (day : ℤ) (peers : List (List ℕ)) (operator : Option (List ℕ)) (file found : List ℕ) (fault : OpenFault) → found ≡ text_of file
+    → IsTextFault own day peers operator found fault → IsOpenFault own day peers operator file fault
+open-fault own day peers operator file found (File fault) is of = absurd of
+open-fault own day peers operator file found (Text fault) is of = subst (λ found. IsTextFault own day peers operator found (Text fault)) is of
+open-fault own day peers operator file found (Write fault) is of = subst (λ found. IsTextFault own day peers operator found (Write fault)) is of
 
 -- what a fault of a write says of the text
 pub write-fault : (found : List ℕ) (fault : JournalFault) → (fault ≡ writing.Full → found ≡ []) → (fault ≡ writing.Broken → ⊥) → IsWriteFault found fault
@@ -67,11 +68,11 @@ write-cause writing.Failed before mid now none failed is = omega (arith, none, f
 write-cause writing.Full before mid now none failed is = cc
 write-cause writing.Broken before mid now none failed is = cc
 
-pub text-cause : (own : List ℕ) (day : ℤ) (found : List ℕ) (fault : OpenFault) (before mid now : ℕ) → before ≡ 0 → IsTextFault own day found fault
-    → (fault ≡ Write writing.Failed → mid < now) → is_of_disk fault ≡ true → before < now
-text-cause own day found (File fault) before mid now none of failed is = absurd of
-text-cause own day found (Text fault) before mid now none of failed is = cc
-text-cause own day found (Write fault) before mid now none of failed is =
+pub text-cause : (own : List ℕ) (day : ℤ) (peers : List (List ℕ)) (operator : Option (List ℕ)) (found : List ℕ) (fault : OpenFault) (before mid now : ℕ) → before ≡ 0
+    → IsTextFault own day peers operator found fault → (fault ≡ Write writing.Failed → mid < now) → is_of_disk fault ≡ true → before < now
+text-cause own day peers operator found (File fault) before mid now none of failed is = absurd of
+text-cause own day peers operator found (Text fault) before mid now none of failed is = cc
+text-cause own day peers operator found (Write fault) before mid now none of failed is =
     write-cause fault before mid now none (λ same. failed (ap (λ (fault : JournalFault). Write fault) same)) is
 
 -- ---- the file

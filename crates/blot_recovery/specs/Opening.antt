@@ -33,12 +33,10 @@ pub record OpensWith (own : List ℕ) (day : ℤ) (found text : List ℕ) : Type
   pub new : found ≡ [] → IsBeginning own day text
   pub same : (found ≡ [] → ⊥) → text ≡ found
 
--- the text of a day is refused for a fault, by the peers that are listed and the operator who is named
-pub record IsRefused (own : List ℕ) (day : ℤ) (found : List ℕ) (fault : RecoverFault) : Type 0 where
+-- the text of a day is refused for a fault, with these peers listed, and this operator, if one is named
+pub record IsRefused (own : List ℕ) (day : ℤ) (peers : List (List ℕ)) (operator : Option (List ℕ)) (found : List ℕ) (fault : RecoverFault) : Type 0 where
   pub text : List ℕ
   pub opens : OpensWith own day found text
-  pub peers : List (List ℕ)
-  pub operator : Option (List ℕ)
   pub fault_is : IsRecoverFault own (Some day) peers (option_to_list operator) text fault
 
 -- what a fault of a write says of the text that was found: Full comes only where none was, and Broken never
@@ -48,16 +46,16 @@ IsWriteFault found writing.Broken = ⊥
 IsWriteFault found fault = Unit {0}
 
 -- what a fault says of the text that was found
-abbrev pub IsTextFault : List ℕ → ℤ → List ℕ → OpenFault → Type 0
-IsTextFault own day found (File fault) = ⊥
-IsTextFault own day found (Text fault) = IsRefused own day found fault
-IsTextFault own day found (Write fault) = IsWriteFault found fault
+abbrev pub IsTextFault : List ℕ → ℤ → List (List ℕ) → Option (List ℕ) → List ℕ → OpenFault → Type 0
+IsTextFault own day peers operator found (File fault) = ⊥
+IsTextFault own day peers operator found (Text fault) = IsRefused own day peers operator found fault
+IsTextFault own day peers operator found (Write fault) = IsWriteFault found fault
 
 -- what a fault says of a file
-abbrev pub IsOpenFault : List ℕ → ℤ → List ℕ → OpenFault → Type 0
-IsOpenFault own day file (File fault) = IsFaultOfFile file fault
-IsOpenFault own day file (Text fault) = IsTextFault own day (text_of file) (Text fault)
-IsOpenFault own day file (Write fault) = IsTextFault own day (text_of file) (Write fault)
+abbrev pub IsOpenFault : List ℕ → ℤ → List (List ℕ) → Option (List ℕ) → List ℕ → OpenFault → Type 0
+IsOpenFault own day peers operator file (File fault) = IsFaultOfFile file fault
+IsOpenFault own day peers operator file (Text fault) = IsTextFault own day peers operator (text_of file) (Text fault)
+IsOpenFault own day peers operator file (Write fault) = IsTextFault own day peers operator (text_of file) (Write fault)
 
 -- what holds of a file that is refused, by itself or by its text
 abbrev pub IfRefused : OpenFault → Type 0 → Type 0

@@ -74,7 +74,7 @@ pub fn open_day<L: Ledger, D: Device>(
     ensures first { IfOk result (λ opened. IsFirst operator (operator_names opened.1.operators.named.items)) }
 
     // A file that is refused, by itself or by its text, is left as it was, bytes and all.
-    ensures fault { IfErr result (λ refused. IsOpenFault own day (D.seen device) refused.0) }
+    ensures fault { IfErr result (λ refused. IsOpenFault own day peers.now operator (D.seen device) refused.0) }
     ensures untouched { IfErr result (λ refused. IfRefused refused.0 (IsLeft D.seen D.may_leave D.moment D.left_since device refused.1)) }
     ensures cause { IfErr result (λ refused. is_of_disk refused.0 ≡ true → D.failures device < D.failures refused.1) }
 
@@ -127,7 +127,7 @@ fn take_up<L: Ledger, D: Device>(
     ensures any_moment { IsOrLeaves D.moment D.left_since journal.old.device journal.new.device (SameOrBegun own day (D.seen journal.old.device)) }
     ensures untouched { IfErr result (λ fault. IfRefused fault (IsOrWasRead (WasRead D.seen D.moment D.left_since) journal.old journal.new)) }
     ensures failed { IsErrOf result (OpenFault.Write JournalFault.Failed) → D.failures journal.old.device < D.failures journal.new.device }
-    ensures fault { IfErr result (IsTextFault own day (text_in_journal D.seen journal.old)) }
+    ensures fault { IfErr result (IsTextFault own day peers.now operator (text_in_journal D.seen journal.old)) }
 {
     if journal.len() == 0 {
         begin(alloc, blank, journal, own, day, now, peers, operator)
@@ -165,7 +165,7 @@ fn begin<L: Ledger, D: Device>(
     ensures any_moment { IsOrLeaves D.moment D.left_since journal.old.device journal.new.device (SameOrBegun own day (D.seen journal.old.device)) }
     ensures untouched { IfErr result (λ fault. IfRefused fault (IsOrWasRead (WasRead D.seen D.moment D.left_since) journal.old journal.new)) }
     ensures failed { IsErrOf result (OpenFault.Write JournalFault.Failed) → D.failures journal.old.device < D.failures journal.new.device }
-    ensures fault { IfErr result (IsTextFault own day []) }
+    ensures fault { IfErr result (IsTextFault own day peers.now operator []) }
 {
     let record = match beginning_record(alloc, &own, day, now) {
         Ok(record) => record,
@@ -225,7 +225,7 @@ fn go_on<L: Ledger, D: Device>(
     ensures none_waiting { journal.new.waiting ≡ [] }
     ensures read { IsOrWasRead (WasRead D.seen D.moment D.left_since) journal.old journal.new }
     ensures unwritten { IsErrOf result (OpenFault.Write JournalFault.Failed) → ⊥ }
-    ensures fault { IfErr result (IsTextFault own day (text_in_journal D.seen journal.old)) }
+    ensures fault { IfErr result (IsTextFault own day peers.now operator (text_in_journal D.seen journal.old)) }
 {
     match recover(alloc, blank, journal, own, Some(day), peers, operator) {
         Ok(recovered) => Ok(recovered),

@@ -55,7 +55,7 @@ pub record IsListed {L : Type 0} (peer : KeptPeer L) : Type 0 where
 abbrev pub listed_as : {L : Type 0} → KeptPeer L → Listed
 listed_as peer = record { peer = peer.peer; receipts = peer.seat; expected = peer.numbers.expected; next = peer.numbers.next }
 
--- what a fault says of the file of a journal
-abbrev pub IsUnkept : List ℕ → ℤ → List ℕ → KeptFault → Type 0
-IsUnkept own day file (Opening fault) = IsOpenFault own day file fault
-IsUnkept own day file (Serving fault) = Unit {0}
+-- what a fault says of the file of a journal, with these peers listed and some operator named
+abbrev pub IsUnkept : List ℕ → ℤ → List (List ℕ) → List ℕ → KeptFault → Type 0
+IsUnkept own day peers file (Opening fault) = (operator : Option (List ℕ)) × IsOpenFault own day peers operator file fault
+IsUnkept own day peers file (Serving fault) = Unit {0}

@@ -8,7 +8,6 @@ ghost use Rattle.blot_desk.specs.Keeping.{IsBeginning, kept_events};
 ghost use Rattle.blot_journal.specs.File.{text_of};
 ghost use Rattle.blot_operator.specs.OpenDay.{EndsOf};
 ghost use Rattle.blot_diary.specs.Diary.{Leaves, desk_events};
-ghost use Rattle.blot_recovery.specs.Opening.{IsOpenFault};
 ghost use Rattle.blot_recovery.specs.Parties.{IsKeptPeer};
 ghost use Rattle.blotter.specs.Keeping.{IsListed, IsUnkept, KeptDayServed, ServesFirst, listed_as};
 
@@ -95,7 +94,7 @@ where
         → IsBeginning (length (desk_events last.durable)) (desk_events last.text) left) }
     ensures ever { IfOk result (λ last. (left : List Event) → Leaves (D.left_since last.device last.since) left
         → IsBeginning (length (desk_events last.found)) (desk_events last.text) left) }
-    ensures fault { IfErr result (λ refused. IsUnkept own day (D.seen device) refused.0) }
+    ensures fault { IfErr result (λ refused. IsUnkept own day peers.now (D.seen device) refused.0) }
 {
     let now = SystemClock::new(rt).now();
     let operator = Text64::of(OPERATOR);
@@ -141,7 +140,7 @@ where
         → IsBeginning (length (desk_events last.durable)) (desk_events last.text) left) }
     ensures ever { IfOk result (λ last. (left : List Event) → Leaves (D.left_since last.device last.since) left
         → IsBeginning (length (desk_events last.found)) (desk_events last.text) left) }
-    ensures fault { IfErr result (λ refused. (file : List ℕ) → IsUnkept own day file refused.0) }
+    ensures fault { IfErr result (λ refused. (peers : List (List ℕ)) (file : List ℕ) → IsUnkept own day peers file refused.0) }
 {
     let Recovered {
         opening,

@@ -180,7 +180,7 @@ where
         → IsBeginning (length (desk_events last.durable)) (desk_events last.text) left) }
     ensures ever { IfOk result (λ last. (left : List Event) → Leaves (D.left_since last.device last.since) left
         → IsBeginning (length (desk_events last.found)) (desk_events last.text) left) }
-    ensures fault { IfErr result (λ refused. IsUnkept own day (D.seen device) refused.0) }
+    ensures fault { IfErr result (λ refused. IsUnkept own day peers.now (D.seen device) refused.0) }
 {
     let now = SystemClock::new(rt).now();
     match open_day::<L, D>(alloc, blank, device, own, day, now, peers, None) {
@@ -225,7 +225,7 @@ where
         → IsBeginning (length (desk_events last.durable)) (desk_events last.text) left) }
     ensures ever { IfOk result (λ last. (left : List Event) → Leaves (D.left_since last.device last.since) left
         → IsBeginning (length (desk_events last.found)) (desk_events last.text) left) }
-    ensures fault { IfErr result (λ refused. (file : List ℕ) → IsUnkept own day file refused.0) }
+    ensures fault { IfErr result (λ refused. (peers : List (List ℕ)) (file : List ℕ) → IsUnkept own day peers file refused.0) }
 {
     let Recovered {
         opening,

@@ -43,7 +43,5 @@ returns-in-Err-recover-clause-fault g c =
     record {
       text = c.deref.result.now;
       opens = record { new = λ _. begins; same = λ some. absurd (some refl) };
-      peers = c.args.peers.now;
-      operator = c.args.operator;
       fault_is = c.in-Err-recover.ensures.fault;
     }

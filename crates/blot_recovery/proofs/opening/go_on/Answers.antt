@@ -22,7 +22,5 @@ returns-in-Err-clause-fault g c =
     let found = text_in_journal g.D.Device.seen c.args.journal.now in record {
       text = found;
       opens = opens-same c.args.own c.args.day found found c.requires.some refl;
-      peers = c.args.peers.now;
-      operator = c.args.operator;
       fault_is = c.in-Err.ensures.fault;
     }

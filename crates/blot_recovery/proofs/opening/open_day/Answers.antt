@@ -61,7 +61,7 @@ returns-in-Err-trim-clause-cause g c =
 
 pub returns-in-Err-take_up-clause-fault : goal.returns-in-Err-take_up-clause-fault
 returns-in-Err-take_up-clause-fault g c =
-    open-fault c.args.own c.args.day (g.D.Device.seen c.args.device) (text_in_journal g.D.Device.seen c.in-Ok.journal) c.in-Err-take_up.fault c.in-Ok.ensures.text
+    open-fault c.args.own c.args.day c.args.peers.now c.args.operator (g.D.Device.seen c.args.device) (text_in_journal g.D.Device.seen c.in-Ok.journal) c.in-Err-take_up.fault c.in-Ok.ensures.text
     c.in-Err-take_up.ensures.fault
 
 pub returns-in-Err-take_up-clause-any_moment_err : goal.returns-in-Err-take_up-clause-any_moment_err
@@ -86,6 +86,6 @@ pub returns-in-Err-take_up-clause-cause : goal.returns-in-Err-take_up-clause-cau
 returns-in-Err-take_up-clause-cause g c =
     let D = g.D.Device in
     subst (λ new. is_of_disk c.in-Err-take_up.fault ≡ true → D.failures c.args.device < D.failures new) (sym c.into_device.ensures)
-    (text-cause c.args.own c.args.day (text_in_journal D.seen c.in-Ok.journal) c.in-Err-take_up.fault (D.failures c.args.device) (D.failures c.in-Ok.journal.device)
+    (text-cause c.args.own c.args.day c.args.peers.now c.args.operator (text_in_journal D.seen c.in-Ok.journal) c.in-Err-take_up.fault (D.failures c.args.device) (D.failures c.in-Ok.journal.device)
     (D.failures c.take_up.new.journal.device) c.in-Ok.ensures.unfailed c.in-Err-take_up.ensures.fault
     (λ failed. c.in-Err-take_up.ensures.failed (ap (λ fault. Err fault) failed)))

@@ -24,4 +24,4 @@ pub returns-then-len-eq0-clause-fault : goal.returns-then-len-eq0-clause-fault
 returns-then-len-eq0-clause-fault g c =
     let found = text_in_journal g.D.Device.seen c.args.journal.now in
     let none = no-text found (sym (c.len.ensures.len c.requires.unbroken) ∙ c.if-len-eq0.true) in
-    subst (λ found. IfErr c.begin.result (IsTextFault c.args.own c.args.day found)) (sym none) c.begin.ensures.fault
+    subst (λ found. IfErr c.begin.result (IsTextFault c.args.own c.args.day c.args.peers.now c.args.operator found)) (sym none) c.begin.ensures.fault

@@ -16,7 +16,10 @@ returns-in-Ok-clause-served g c =
 
 pub returns-in-Ok-clause-fault : goal.returns-in-Ok-clause-fault
 returns-in-Ok-clause-fault g c =
-    if-err _ _ c.serve_recovered.result c.serve_recovered.ensures.fault (λ refused says. says (g.D.Device.seen c.args.device))
+    if-err _ _ c.serve_recovered.result c.serve_recovered.ensures.fault (λ refused says. says c.args.peers.now (g.D.Device.seen c.args.device))
+
+pub returns-in-Err-clause-fault : goal.returns-in-Err-clause-fault
+returns-in-Err-clause-fault g c = (_, c.in-Err.ensures.fault)
 
 pub returns-in-Ok-clause-durable : goal.returns-in-Ok-clause-durable
 returns-in-Ok-clause-durable g c = c.serve_recovered.ensures.durable

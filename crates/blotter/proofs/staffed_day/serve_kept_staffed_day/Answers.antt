@@ -6,7 +6,7 @@ serve_recovered_staffed-requires-clause-spare g c = λ _ _. c.in-Ok.ensures.oper
 
 pub returns-in-Ok-clause-fault : goal.returns-in-Ok-clause-fault
 returns-in-Ok-clause-fault g c =
-    if-err _ _ c.serve_recovered_staffed.result c.serve_recovered_staffed.ensures.fault (λ refused says. says (g.D.Device.seen c.args.device))
+    if-err _ _ c.serve_recovered_staffed.result c.serve_recovered_staffed.ensures.fault (λ refused says. says c.args.peers.now (g.D.Device.seen c.args.device))
 
 pub returns-in-Ok-clause-durable : goal.returns-in-Ok-clause-durable
 returns-in-Ok-clause-durable g c = c.serve_recovered_staffed.ensures.durable
