@@ -1,5 +1,5 @@
 -- Withdrawals, computed on worked days.
-use Rattle.std.specs.Prelude.{◌≡◌, ℕ, ◌*◌, ◌^◌, true, pos, List, [], ◌∷◌, Some, None, refl}
+use Rattle.std.specs.Prelude.{◌≡◌, ℕ, ◌*◌, ◌^◌, true, false, pos, List, [], ◌∷◌, map, Some, None, refl}
 use Rattle.blot_types.specs.declared.allocation.Terms.{Terms}
 use Rattle.blot_types.specs.declared.command.Command.TheVariants.{Trade, Correct, Bust, AllocNew, AllocReplace, AllocCancel, Withdraw}
 use Rattle.blot_types.specs.declared.command.Entry.{Entry}
@@ -12,8 +12,11 @@ use Rattle.blot_types.specs.declared.lines.OrderLine.{OrderLine}
 use Rattle.blot_types.specs.declared.refused.Refused.TheVariants.{Needed, NotLive}
 use Rattle.blot_types.specs.Legal.{is_book, refusal_of}
 use Rattle.blot_types.specs.Order.{order_of}
-use Rattle.blot_command.specs.declared.inverse.Inverse.TheVariants.{Taken}
-use Rattle.blot_command.specs.Book.{after, before, inverse_of}
+use Rattle.blot_command.specs.declared.fault.ApplyFault.TheVariants.{Refused}
+use Rattle.blot_command.specs.declared.inverse.Inverse.TheVariants.{Number, Taken}
+use Rattle.blot_command.specs.Book.{entry_number, has_number, numbers_of, entered, after, taken_of, inverse_of, before, command_at, command_of}
+use Rattle.blot_command.specs.Meanings.{command_meaning}
+use Rattle.blot_command.specs.Undoable.{numbers_in}
 
 abbrev exec : ℕ → ExecKey
 exec n = record { peer = 66 ∷ []; id = 69 ∷ n ∷ [] }
@@ -156,3 +159,33 @@ stands_again = refl
 
 busted_again : before (first ∷ after_it) (inverse_of (first ∷ bust 2 4 1 ∷ after_it) (Withdraw 2) 7) ≡ first ∷ bust 2 4 1 ∷ after_it
 busted_again = refl
+
+-- ---- word by word, on the first of those days
+
+entry_numbers : map entry_number corrected ≡ 1 ∷ 2 ∷ 3 ∷ []
+entry_numbers = refl
+
+its_number : map (has_number 3) corrected ≡ false ∷ false ∷ true ∷ []
+its_number = refl
+
+numbers : numbers_of corrected ≡ 1 ∷ 2 ∷ 3 ∷ []
+numbers = refl
+
+at_the_end : entered corrected (bust 4 4 3).command 4 ≡ busted
+at_the_end = refl
+
+taken_out : map (taken_of busted) (4 ∷ 9 ∷ []) ≡ Taken (bust 4 4 3) ∷ Number 9 ∷ []
+taken_out = refl
+
+under_number : map (command_at busted) (4 ∷ 9 ∷ []) ≡ Some (bust 4 4 3).command ∷ None ∷ []
+under_number = refl
+
+taken_back : map (command_of busted) (Number 4 ∷ Taken (bust 5 5 2) ∷ []) ≡ Some (bust 4 4 3).command ∷ Some (Withdraw 5) ∷ []
+taken_back = refl
+
+-- the bust's slot is kept
+with_kept : numbers_in command_meaning (record { list = corrected; kept = bust 4 4 3 ∷ [] }) ≡ 4 ∷ 1 ∷ 2 ∷ 3 ∷ []
+with_kept = refl
+
+refused_by_list : command_meaning.refused corrected (Withdraw 1) ≡ Some (Refused (Needed 3))
+refused_by_list = refl

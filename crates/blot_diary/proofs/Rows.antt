@@ -40,6 +40,7 @@ use Rattle.blot_diary.specs.declared.kept.Noted.{Noted}
 use Rattle.blot_diary.specs.declared.kept.Party.TheVariants.{Peer, Operator}
 use Rattle.blot_diary.specs.declared.numbers.Numbers.{Numbers}
 use Rattle.blot_diary.specs.Beginnings.{beginning_of, begun_by}
+use Rattle.blot_diary.specs.Diary.{desk_events}
 use Rattle.blot_diary.specs.Events.{events_in, events_of, noted_of}
 use Rattle.blot_diary.specs.Keeping.{kept_in, kept_of}
 use Rattle.blot_diary.specs.Kinds.{kind_of}
@@ -97,6 +98,7 @@ MO = codes "MO"
 abbrev keeps : List ℕ → List ℕ → ℕ → Content → Kept
 keeps from to number content = record { from = from; to = to; number = number; dup = false; content = content }
 
+-- an execution of BRKA
 abbrev exec : List ℕ → ExecKey
 exec id = record { peer = BRKA; id = id }
 
@@ -207,6 +209,10 @@ logons_numbers = numbers_by BRKA logons kept_logons are_frames.0 are_kept.0
 
 traded_events : events_of (concat traded) ≡ by_broker E1 ∷ []
 traded_events = events_by traded kept_traded are_frames.1 are_kept.1
+
+without_party : desk_events (concat traded) ≡ Submit E1 ∷ []
+unfolding walk_behind looking.look_of looking.length_look looking.body_look looking.trailer_look looking.size_of looking.open_size looking.whole_size looking.longer_size looking.behind kept_of kind_of next_form decoded head_of needed only optional there has field_wrong text_form number_form moment_form flag_form zero_form any_form qty_form positive_form price_form side_form day_form fields.kind_of exec_type_of logon_of report_of trade_of execution_of order_size_of size_part moment_of clock_of fraction_of day_of civil_day qty_of price_of size_of are_parts items_behind first_items first_field tag_number data_value
+without_party = refl
 
 traded_numbers : numbers_of MO BRKA (concat traded) ≡ record { expected = 3; next = 2 }
 traded_numbers = numbers_by BRKA traded kept_traded are_frames.1 are_kept.1

@@ -1,5 +1,6 @@
 mod BatchLemmas
 mod BatchesLemmas
+mod CallRows
 mod HeadLemmas
 mod JournalLemmas
 mod MomentLemmas

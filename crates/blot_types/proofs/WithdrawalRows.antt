@@ -1,14 +1,16 @@
--- Both definitions, computed on worked days.
-use Rattle.std.specs.Prelude.{◌≡◌, ℕ, ◌*◌, ◌^◌, pos, List, [], ◌∷◌, map, Option, Some, None, true, refl}
+-- Which entry is the first that needs another, by both definitions, and what a list is without an entry, computed on worked days.
+use Rattle.std.specs.Prelude.{◌≡◌, ℕ, ◌*◌, ◌^◌, pos, List, [], ◌∷◌, reverse, map, Option, Some, None, true, false, refl}
 use Rattle.blot_types.specs.declared.allocation.Terms.{Terms}
+use Rattle.blot_types.specs.declared.command.Command.{Command}
 use Rattle.blot_types.specs.declared.command.Command.TheVariants.{Trade, Correct, Bust, AllocNew, AllocReplace, AllocCancel}
 use Rattle.blot_types.specs.declared.command.Entry.{Entry}
 use Rattle.blot_types.specs.declared.fill.Fill.{Fill}
 use Rattle.blot_types.specs.declared.fill.Sign.TheVariants.{Buy}
 use Rattle.blot_types.specs.declared.keys.AllocKey.{AllocKey}
 use Rattle.blot_types.specs.declared.keys.ExecKey.{ExecKey}
-use Rattle.blot_types.specs.Legal.{is_legal, least_needing}
-use Rattle.blot_types.specs.Withdrawal.{first_needing}
+use Rattle.blot_types.specs.declared.refused.Refused.TheVariants.{Needed, NotLive, UnknownExec}
+use Rattle.blot_types.specs.Legal.{is_above_entries, rises_in, numbers_rise, refusal_in, entry_refusal, legal_in, is_legal, without, up_to, fails_at, least_needing, withdrawal_refusal, is_numbered, is_book}
+use Rattle.blot_types.specs.Withdrawal.{first_needing, put_back_in, put_back}
 
 abbrev exec : ℕ → ExecKey
 exec n = record { peer = 66 ∷ []; id = 69 ∷ n ∷ [] }
@@ -106,3 +108,58 @@ cancel_after_bust_legality = refl
 
 cancel_after_bust_use : by_use cancel_after_bust ≡ Some 2 ∷ Some 3 ∷ None ∷ None ∷ []
 cancel_after_bust_use = refl
+
+-- ---- word by word, on the correction whose quantity an allocation took
+
+-- a bust of what isn't there
+abbrev unknown_bust : Command
+unknown_bust = Bust (record { key = exec 4; reference = exec 9 })
+
+-- the day without the correction
+abbrev without_it : List Entry
+without_it = trade 1 1 100 ∷ allocated 3 1 (block 80 (exec 1 ∷ [])) ∷ []
+
+above_entries : map (λ number. is_above_entries number by_quantity) (3 ∷ 4 ∷ []) ≡ false ∷ true ∷ []
+above_entries = refl
+
+newest_first : map rises_in (by_quantity ∷ reverse by_quantity ∷ []) ≡ false ∷ true ∷ []
+newest_first = refl
+
+oldest_first : map numbers_rise (by_quantity ∷ reverse by_quantity ∷ []) ≡ true ∷ false ∷ []
+oldest_first = refl
+
+rising : map is_numbered (by_quantity ∷ reverse by_quantity ∷ []) ≡ true ∷ false ∷ []
+rising = refl
+
+unknown_refused : refusal_in (reverse by_quantity) unknown_bust ≡ Some (UnknownExec (exec 9))
+unknown_refused = refl
+
+unknown_entry : entry_refusal by_quantity unknown_bust ≡ Some (UnknownExec (exec 9))
+unknown_entry = refl
+
+legal_newest_first : map legal_in (by_quantity ∷ reverse by_quantity ∷ []) ≡ false ∷ true ∷ []
+legal_newest_first = refl
+
+left_out : without 2 by_quantity ≡ without_it
+left_out = refl
+
+cut_off : up_to 2 by_quantity ≡ trade 1 1 100 ∷ correct 2 3 1 80 ∷ []
+cut_off = refl
+
+fails_without_first : map (fails_at by_quantity 1) (1 ∷ 2 ∷ 3 ∷ []) ≡ false ∷ true ∷ true ∷ []
+fails_without_first = refl
+
+first_failing : map (least_needing by_quantity) (1 ∷ 2 ∷ 3 ∷ []) ≡ Some 2 ∷ Some 3 ∷ None ∷ []
+first_failing = refl
+
+withdrawn : map (withdrawal_refusal by_quantity) (2 ∷ 3 ∷ 4 ∷ []) ≡ Some (Needed 3) ∷ None ∷ Some (NotLive 4) ∷ []
+withdrawn = refl
+
+book_with_it : map is_book (by_quantity ∷ without_it ∷ []) ≡ true ∷ false ∷ []
+book_with_it = refl
+
+put_back_reversed : put_back_in (correct 2 3 1 80) (reverse without_it) ≡ reverse by_quantity
+put_back_reversed = refl
+
+put_back_between : put_back (correct 2 3 1 80) without_it ≡ by_quantity
+put_back_between = refl

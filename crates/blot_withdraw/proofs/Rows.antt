@@ -1,6 +1,6 @@
 -- The definitions, computed on worked days. Executions E1, E2, .. and orders O1, O2, .. are of one peer, allocations
 -- L1, L2, .. too; quantities are in units of 10^-6, prices in units of 10^-8.
-use Rattle.std.specs.Prelude.{◌≡◌, ℕ, ◌*◌, ◌^◌, pos, List, [], ◌∷◌, map, Option, Some, None, true, refl}
+use Rattle.std.specs.Prelude.{◌≡◌, ℕ, ◌*◌, ◌^◌, pos, List, [], ◌∷◌, map, Option, Some, None, true, false, refl}
 use Rattle.blot_types.specs.declared.allocation.Terms.{Terms}
 use Rattle.blot_types.specs.declared.command.Command.TheVariants.{Trade, Correct, Bust, AllocNew, AllocReplace, AllocCancel}
 use Rattle.blot_types.specs.declared.command.Entry.{Entry}
@@ -14,7 +14,7 @@ use Rattle.blot_types.specs.Legal.{is_book}
 use Rattle.blot_types.specs.Order.{order_of}
 use Rattle.blot_types.specs.Position.{position_of}
 use Rattle.blot_withdraw.specs.declared.fault.EraseFault.TheVariants.{UnknownExec, NotBusted, Named}
-use Rattle.blot_withdraw.specs.Erasure.{without_chain_of, erase_fault}
+use Rattle.blot_withdraw.specs.Erasure.{chained_by, is_of_chain, without_chain, without_chain_of, lists_chain, first_listing, chain_fault, fault_by, erase_fault}
 
 abbrev exec : ℕ → ExecKey
 exec n = record { peer = 66 ∷ []; id = 69 ∷ n ∷ [] }
@@ -91,17 +91,14 @@ day_book = refl
 day_rest : without_chain_of day (exec 1) ≡ trade 3 2 50 11 ∷ []
 day_rest = refl
 
-day_allowed : erase_fault day (exec 1) ≡ None
-day_allowed = refl
-
 day_line : order_of (without_chain_of day (exec 1)) (bought 50 11).order ≡ shows 50 250 550
 day_line = refl
 
 day_position : position_of (without_chain_of day (exec 1)) (65 ∷ 1 ∷ []) (88 ∷ []) ≡ holds 50 550
 day_position = refl
 
-day_not_busted : erase_fault day (exec 2) ≡ Some NotBusted
-day_not_busted = refl
+day_faults : map (erase_fault day) (exec 1 ∷ exec 2 ∷ []) ≡ None ∷ Some NotBusted ∷ []
+day_faults = refl
 
 -- a Bust's own key has no root
 day_unknown : map (erase_fault day) (exec 4 ∷ exec 9 ∷ []) ≡ Some UnknownExec ∷ Some UnknownExec ∷ []
@@ -139,3 +136,26 @@ replaced_fault = refl
 
 replaced_book : is_book replaced_by_another ≡ true
 replaced_book = refl
+
+-- ---- word by word
+
+chained : map (λ entry. chained_by entry.command) (trade 1 1 50 11 ∷ bust 2 4 1 ∷ allocated 3 1 1 50 ∷ []) ≡ Some (exec 1) ∷ Some (exec 1) ∷ None ∷ []
+chained = refl
+
+of_chain : map (is_of_chain day (exec 1)) day ≡ true ∷ true ∷ false ∷ []
+of_chain = refl
+
+rest_of_day : without_chain day (exec 1) ≡ trade 3 2 50 11 ∷ []
+rest_of_day = refl
+
+listed : map (lists_chain named (exec 1)) named ≡ false ∷ false ∷ true ∷ false ∷ []
+listed = refl
+
+first_listed : map (first_listing named) (exec 1 ∷ exec 2 ∷ []) ≡ Some 3 ∷ None ∷ []
+first_listed = refl
+
+faults_of_chains : map (chain_fault day) (exec 1 ∷ exec 2 ∷ []) ≡ None ∷ Some NotBusted ∷ []
+faults_of_chains = refl
+
+faults_of_roots : map (fault_by day) (None ∷ Some (exec 1) ∷ Some (exec 2) ∷ []) ≡ Some UnknownExec ∷ None ∷ Some NotBusted ∷ []
+faults_of_roots = refl
