@@ -74,7 +74,7 @@ answer_by event (Err (Desk Broken)) = None
 answer_by event (Err (Desk Unsettled)) = None
 answer_by event (Err Unkept) = Some (answers.Bad TooLong)
 
--- why the lines stop at an event, by what comes of it: memory ran out, or the journal can't be written
+-- why the lines stop at an event, by what comes of it: memory ran out, or the journal can't be written. No event is answered Unsettled
 abbrev pub stop_by : Result Reply Declined → Option ReplayFault
 stop_by (Ok reply) = None
 stop_by (Err (Desk Full)) = None

@@ -90,20 +90,23 @@ past m list done zero = list
 past m list [] (suc count) = list
 past m list (step ∷ earlier) (suc count) = past m (m.before list step.inverse) earlier count
 
--- the same of a stack: its book with a command done, with its newest step undone, with the step that was undone last done again, and
--- with a count of steps undone; and the list that stood a count of done steps before its own
+-- the book of a stack with a command done
 abbrev pub book_with : {S L C I R : Type 0} → Meaning S L C I R → Stack S C I → C → Book L C I
 book_with m stack command = apply_of m (book_of m stack) command
 
+-- with its newest step undone
 abbrev pub book_undone : {S L C I R : Type 0} → Meaning S L C I R → Stack S C I → Book L C I
 book_undone m stack = undo_of m (book_of m stack)
 
+-- with the step that was undone last done again
 abbrev pub book_redone : {S L C I R : Type 0} → Meaning S L C I R → Stack S C I → Book L C I
 book_redone m stack = redo_of m (book_of m stack)
 
+-- with a count of steps undone
 abbrev pub book_rewound : {S L C I R : Type 0} → Meaning S L C I R → ℕ → Stack S C I → Book L C I
 book_rewound m count stack = rewound m count (book_of m stack)
 
+-- the list that stood a count of done steps before that of a stack
 abbrev pub list_before : {S L C I R : Type 0} → Meaning S L C I R → ℕ → Stack S C I → L
 list_before m count stack = past m (list_in m stack) stack.done count
 
