@@ -136,7 +136,7 @@ and a contract sees a list of numbers. Of a trait, and of a struct that only a c
 the file `crates/blot_types/specs/Chains.antt`, and `blot_types/keys.rt` is `crates/blot_types/src/keys.rt`.
 
 **Rows.** A line `-- row of` is no part of a definition. It is a theorem of that file of `crates/`, on a worked day, that the prover found true by computing
-both sides; "The worked days" has the days. Of the {functions} definitions that compute a value, {bare} have no row.
+both sides; "The worked days" has the days. {functions} definitions compute a value; {bare} of them have no row.
 
 **Closed.** Of these definitions only the first line stands here, since no sentence depends on what they say:
 
