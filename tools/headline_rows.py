@@ -55,8 +55,8 @@ it stood.
      'and nothing is told before it is durable.', '''
 The events of a desk's history, asks aside, are those of its diary (`close_kept`), and a diary keeps them as the text of a file. `FileDevice` says what a
 crash may leave of that file; that the disk does so is a premise, and not proved. Between calls it leaves a beginning of the events with all durable
-ones (`Keeper::ever`). Within a sync it leaves the text from before with all that waits, or with none of it (`Journal::sync`). `serve_kept_day` ends with
-every event durable, and at no moment of it would a crash have left anything but a beginning. `open_day` runs the events of the file that it finds. Before
+ones (`Keeper::ever`). Within a sync it leaves the text from before with all that waits, or with none of it (`Journal::sync`). Where `serve_kept_day`
+ends well every event is durable, and a crash at any moment of it would have left a beginning. `open_day` runs the events of the file that it finds. Before
 each read and write of a broker's wire (`StoredWire`, `PeerStore`) and each write to an operator (`write_durable`), a sync has answered that every event is
 durable, or nothing is read or written.
 ''', '''
@@ -136,7 +136,7 @@ and a contract sees a list of numbers. Of a trait, and of a struct that only a c
 the file `crates/blot_types/specs/Chains.antt`, and `blot_types/keys.rt` is `crates/blot_types/src/keys.rt`.
 
 **Rows.** A line `-- row of` is no part of a definition. It is a theorem of that file of `crates/`, on a worked day, that the prover found true by computing
-both sides; "The worked days" has the days. {functions} definitions compute a value; {bare} of them have no row.
+both sides; "The worked days" has the days. {functions} definitions compute a value; {bare} of them have no row. A few others have one too.
 
 **Closed.** Of these definitions only the first line stands here, since no sentence depends on what they say:
 
