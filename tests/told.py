@@ -1,10 +1,15 @@
 """What operators were told, beside what a day's journal has.
 
-  moments_of(events, before)                            the plain desk after each beginning of a journal's events, and of each operator what counts for `mine`
-  unmatched(told, events, moments, name, spans, who)    the first answer to an operator that the journal doesn't bear out, with what is wrong, or None
-  is_event(line, answer)                                whether a line that was answered so is an event
-  answer_by(desk, line)                                 the plain answer to a question
+  moments_of(events, before)                the plain desk after each beginning of a journal's events, and of each operator what counts for `mine`
+  unmatched(told, events, moments, ..)      the first answer to an operator that the journal doesn't bear out, with what is wrong, or None
+  when_of(told, events, moments, ..)        when each event of an operator was sent and told
+  Clock(times)                              which events are in at a moment of the clock
+  is_event(line, answer)                    whether a line that was answered so is an event
+  answer_by(desk, line)                     the plain answer to a question
 """
+import bisect
+import itertools
+import math
 import re
 
 import plain
@@ -109,18 +114,46 @@ def is_event(line, answer):
     return (plain.event_asked(line) is not None) or line == 'mine' and answer not in ('none\n',)
 
 
-def unmatched(told, events, moments, name='operator', spans=None, who=False):
+def brings(line, event, moment, name):
+    """Whether a line of an operator is this event, at a moment."""
+    return event == (plain.Withdraw(moment.newest_of(name)) if line == 'mine' else plain.event_asked(line))
+
+
+def when_of(told, events, moments, name, spans):
+    """Of each event of an operator its place, when its line was sent and when it was told; if several lines may have brought it, the first and the last of
+    these moments."""
+    for place, (party, event) in enumerate(events):
+        if party == ('operator', name):
+            times = [(sent, came) for line, answer, life, sent, came in told if spans[life][0] <= place < spans[life][1]
+                     and answer in (None, moments[place + 1].answer) and brings(line, event, moments[place], name)]
+            yield place, (min((sent for sent, _ in times), default=-math.inf), max((came for _, came in times), default=math.inf))
+
+
+class Clock:
+    """Which events of a journal are in at a moment, by the clock of those who send and are told. Of each event it has when it was sent, and when somebody was
+    told of it, or infinity. If an event is in, all before it are."""
+
+    def __init__(self, times):
+        self.sent = list(itertools.accumulate((sent for sent, _ in times), max))
+        self.told = [*itertools.accumulate((told for _, told in reversed(times)), min)][::-1]
+        early = [place for place, (sent, _) in enumerate(times) if sent > self.told[place]]
+        self.wrong = f'event {early[0]} was told, or one behind it, before it was sent' if early else None
+
+    def least(self, moment):
+        """How many events were told before a moment: what is asked then has all of them."""
+        return bisect.bisect_left(self.told, moment)
+
+    def most(self, moment):
+        """How many events were sent by a moment: what is told then has no others."""
+        return bisect.bisect_right(self.sent, moment)
+
+
+def unmatched(told, events, moments, name='operator', spans=None, who=False, clock=None):
     """The first line whose answer the journal doesn't bear out, with what is wrong, or None: the best of all ways to take what wasn't answered. `told`
-    has the lines in order, each with its answer, or None where none came. Where the day had several lives, each line has a third thing, which
-    life it was typed in, and `spans` has the events of each: from one place to another."""
+    has the lines in order, each with its answer, or None where none came. Where the day had several lives, each line has three things more, in which
+    life it was typed, when it was sent and when it was answered; `spans` has the events of each life, from one place to another, and `clock` the times."""
     own = [place for place, (party, _) in enumerate(events) if party == ('operator', name)]
     farthest, failed = [0, 'nothing'], set()
-
-    def brings(line, place):
-        event = events[place][1]
-        if line == 'mine':
-            return event == plain.Withdraw(moments[place].newest_of(name))
-        return event == plain.event_asked(line)
 
     def matched(at, place, used):
         """Whether the lines from this one on are borne out, from this moment on, where so many of the operator's events are used."""
@@ -129,15 +162,15 @@ def unmatched(told, events, moments, name='operator', spans=None, who=False):
             return False
         failed.add(begin)
         while at < len(told):
-            line, answer, *life = told[at]
-            first, last = spans[life[0]] if spans else (0, len(events))
+            line, answer, *when = told[at]
+            first, last = spans[when[0]] if spans else (0, len(events))
             place = max(place, first)
             following = own[used] if used < len(own) else len(events)
             if following < first:
                 fail(at, f'nobody typed event {following}, {events[following]}, in the life before that of {line!r}')
                 return False
             if is_event(line, answer):
-                is_there = following < last and brings(line, following)
+                is_there = following < last and brings(line, events[following][1], moments[following], name)
                 if answer is None:
                     if is_there and matched(at + 1, following + 1, used + 1):
                         return True
@@ -148,10 +181,10 @@ def unmatched(told, events, moments, name='operator', spans=None, who=False):
                 else:
                     place, used = following + 1, used + 1
             elif answer is not None:
-                end = min(following, last)
-                found = next((it for it in range(place, end + 1) if moments[it].answer_to(line, name, who) == placeless(answer)), None)
+                low, high = max(place, clock.least(when[1]) if clock else 0), min(following, last, clock.most(when[2]) if clock else last)
+                found = next((it for it in range(low, high + 1) if moments[it].answer_to(line, name, who) == placeless(answer)), None)
                 if found is None:
-                    fail(at, f'{line!r} was told {answer!r}, at no moment from {place} to {end}')
+                    fail(at, f'{line!r} was told {answer!r}, at no moment from {low} to {high}')
                     return False
                 place = found
             at += 1
