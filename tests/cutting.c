@@ -8,7 +8,8 @@
 //   CUT_SEED     what is drawn goes by this number
 //   CUT_FAILS    an error of the system, by its number: in place of the power the disk fails. The call answers with this error, and so does each later one of
 //                these; a second sync after one that failed ends the program, with the status 97
-//   CUT_COUNT    a file of eight bytes: how many such calls came. It is mapped, and so is there however the program ends
+//   CUT_COUNTS   a file of sixteen bytes: how many such calls came, and whether one failed or was the last. It is mapped, and so is there however the
+//                program ends
 //
 // It needs no header, so that a compiler alone builds it. The program ends with the status 99.
 typedef __SIZE_TYPE__ size;
@@ -43,7 +44,7 @@ struct change {
 
 static const char *path;
 static char path_new[PATH];
-static number cut_at, seed, fails, unmapped, *count = &unmapped;
+static number cut_at, seed, fails, unmapped[2], *counts = unmapped;
 static struct change changes[KEPT];
 static int changed, is_renamed, has_failed, lock;
 
@@ -61,16 +62,16 @@ __attribute__((constructor)) static void begin(void) {
     next_fdatasync = dlsym(next, "fdatasync");
     next_fsync = dlsym(next, "fsync");
     next_rename = dlsym(next, "rename");
-    const char *at = getenv("CUT_NUMBER"), *drawn = getenv("CUT_SEED"), *counts = getenv("CUT_COUNT"), *error = getenv("CUT_FAILS");
+    const char *at = getenv("CUT_NUMBER"), *drawn = getenv("CUT_SEED"), *file_of_counts = getenv("CUT_COUNTS"), *error = getenv("CUT_FAILS");
     path = getenv("CUT_FILE");
     snprintf(path_new, sizeof path_new, "%s.new", path ? path : "");
     cut_at = at ? strtoul(at, 0, 10) : 0;
     fails = error ? strtoul(error, 0, 10) : 0;
     seed = drawn ? strtoul(drawn, 0, 10) : 1;
-    int file = counts ? open(counts, READ_WRITE) : -1;
+    int file = file_of_counts ? open(file_of_counts, READ_WRITE) : -1;
     void *mapped = file < 0 ? (void *)-1 : mmap(0, sizeof unmapped, CAN_READ_WRITE, SHARED, file, 0);
     if (mapped != (void *)-1)
-        count = mapped;
+        counts = mapped;
 }
 
 // A number below a bound (splitmix64).
@@ -156,6 +157,7 @@ static void forget(void) {
 
 // Leaves what wasn't synced in any state, and ends the program, or has its disk fail from here on.
 static long cut_power(void) {
+    counts[1] = 1;
     if (is_renamed && drawn(2))
         next_rename(path, path_new);
     int fd = open(path, READ_WRITE);
@@ -176,7 +178,17 @@ static long cut_power(void) {
 
 // Counts a call; whether the power fails at it.
 static int is_last(void) {
-    return ++*count == cut_at;
+    return ++counts[0] == cut_at;
+}
+
+// What a call that was made answers: the power or the disk may fail at it.
+static long answered(long done) {
+    if (is_last() || has_failed)
+        done = cut_power();
+    if (done < 0)
+        counts[1] = 1;
+    give();
+    return done;
 }
 
 long write(int fd, const void *bytes, size length) {
@@ -186,11 +198,7 @@ long write(int fd, const void *bytes, size length) {
         return next_write(fd, bytes, length);
     take();
     note(fd, 0, lseek(fd, 0, FROM_HERE), bytes, length);
-    long done = next_write(fd, bytes, length);
-    if (is_last() || has_failed)
-        done = cut_power();
-    give();
-    return done;
+    return answered(next_write(fd, bytes, length));
 }
 
 long pwrite(int fd, const void *bytes, size length, long at) {
@@ -198,11 +206,7 @@ long pwrite(int fd, const void *bytes, size length, long at) {
         return next_pwrite(fd, bytes, length, at);
     take();
     note(fd, 0, at, bytes, length);
-    long done = next_pwrite(fd, bytes, length, at);
-    if (is_last() || has_failed)
-        done = cut_power();
-    give();
-    return done;
+    return answered(next_pwrite(fd, bytes, length, at));
 }
 
 int ftruncate(int fd, long length) {
@@ -210,11 +214,7 @@ int ftruncate(int fd, long length) {
         return next_ftruncate(fd, length);
     take();
     note(fd, 1, length, 0, 0);
-    int done = next_ftruncate(fd, length);
-    if (is_last() || has_failed)
-        done = cut_power();
-    give();
-    return done;
+    return answered(next_ftruncate(fd, length));
 }
 
 static int synced(int fd, int (*next)(int)) {
@@ -255,10 +255,7 @@ int rename(const char *from, const char *to) {
     take();
     int done = next_rename(from, to);
     is_renamed = done == 0;
-    if (is_last() || has_failed)
-        done = cut_power();
-    give();
-    return done;
+    return answered(done);
 }
 
 long pwrite64(int fd, const void *bytes, size length, long at) {
