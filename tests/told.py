@@ -4,6 +4,7 @@
   unmatched(told, events, moments, ..)      the first answer to an operator that the journal doesn't bear out, with what is wrong, or None
   when_of(told, events, moments, ..)        when each event of an operator was sent and told
   Clock(times)                              which events are in at a moment of the clock
+  seen_in(told, moments, ..)                which events an operator saw in the answers to questions, and when
   is_event(line, answer)                    whether a line that was answered so is an event
   answer_by(desk, line)                     the plain answer to a question
 """
@@ -146,6 +147,16 @@ class Clock:
     def most(self, moment):
         """How many events were sent by a moment: what is told then has no others."""
         return bisect.bisect_right(self.sent, moment)
+
+
+def seen_in(told, moments, name, spans, who, clock):
+    """Of each answer to a question the last event without which it can't be right, by its place, and when the answer came."""
+    for line, answer, life, sent, came in told:
+        if answer is not None and not is_event(line, answer):
+            places = range(max(spans[life][0], clock.least(sent)), spans[life][1] + 1)
+            least = next((it for it in places if moments[it].answer_to(line, name, who) == placeless(answer)), 0)
+            if least:
+                yield least - 1, came
 
 
 def unmatched(told, events, moments, name='operator', spans=None, who=False, clock=None):
