@@ -1,4 +1,6 @@
 //! The sockets by which operators come.
+ghost use Rattle.std.specs.Prelude.{◌≡◌};
+ghost use Rattle.blotter_main.specs.declared.sockets.SocketFault.TheVariants.{NoMemory as OutOfMemory, Io};
 
 use std::alloc::{AllocError as NoMemory, Global};
 use std::fs::{self, DirBuilder, Files, Permissions};
@@ -20,12 +22,16 @@ pub enum SocketFault {
 }
 
 impl From<io::Error> for SocketFault {
+    ghost from_gives = { λ error fault. fault ≡ Io error };
+
     fn from(error: io::Error) -> SocketFault {
         SocketFault::Io(error)
     }
 }
 
 impl From<NoMemory> for SocketFault {
+    ghost from_gives = { λ _ fault. fault ≡ OutOfMemory };
+
     fn from(_fault: NoMemory) -> SocketFault {
         SocketFault::NoMemory
     }
