@@ -90,9 +90,7 @@ fn open_private<R: Files + Net>(
 ) -> Result<UnixListener, SocketFault> {
     let folder = format!(in alloc; "{path}.new")?;
     let made = format!(in alloc; "{folder}/s")?;
-    // What a crash left.
-    let _ = fs::remove_file(rt, made.as_str());
-    let _ = fs::remove_dir(rt, folder.as_str());
+    remove_left(rt, folder.as_str(), made.as_str());
     DirBuilder::new().mode(0o700).create(rt, folder.as_str())?;
     let opened = bind_there(rt, made.as_str(), path);
     if opened.is_err() {
@@ -100,6 +98,17 @@ fn open_private<R: Files + Net>(
     }
     let _ = fs::remove_dir(rt, folder.as_str());
     Ok(opened?)
+}
+
+// Removes what a crash left: the folder, and the socket in it. Anything else stays.
+fn remove_left<R: Files>(rt: &R, folder: &str, made: &str) {
+    let is_folder = fs::symlink_metadata(rt, folder).is_ok_and(|found| found.is_dir());
+    let is_socket =
+        fs::symlink_metadata(rt, made).is_ok_and(|found| found.file_type().is_socket());
+    if is_folder && is_socket {
+        let _ = fs::remove_file(rt, made);
+    }
+    let _ = fs::remove_dir(rt, folder);
 }
 
 // A socket that is made at one path and put at another.
