@@ -103,8 +103,7 @@ fn open_private<R: Files + Net>(
 // Removes what a crash left: the folder, and the socket in it. Anything else stays.
 fn remove_left<R: Files>(rt: &R, folder: &str, made: &str) {
     let is_folder = fs::symlink_metadata(rt, folder).is_ok_and(|found| found.is_dir());
-    let is_socket =
-        fs::symlink_metadata(rt, made).is_ok_and(|found| found.file_type().is_socket());
+    let is_socket = fs::symlink_metadata(rt, made).is_ok_and(|found| found.file_type().is_socket());
     if is_folder && is_socket {
         let _ = fs::remove_file(rt, made);
     }
