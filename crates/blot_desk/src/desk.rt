@@ -17,17 +17,15 @@ use crate::{
 use blot_types::Text64;
 use std::alloc::{AllocError as NoMemory, Global};
 use std::sync::ledger::{Blank, Ledger};
-use std::sync::{Mutex, RwLock, Wait};
+use std::sync::{Mutex, Wait};
 
-/// A desk for many callers at once, of which each has a seat. One event is one step under its lock. The keeper is synced under it too, and
-/// nothing else is waited for there. A sync lets all go first who want to add something when it comes, so that it serves all of them. `L`
-/// ties the seats to their desk: a call at `Brand` of a function that holds the whole run picks it. `K` keeps the events.
+/// A desk for many callers at once, of which each has a seat. One event is one step under its lock. The keeper is synced under it too, so one
+/// sync serves all who wait for the lock meanwhile; nothing else is waited for there. `L` ties the seats to their desk: a call at `Brand` of a
+/// function that holds the whole run picks it. `K` keeps the events.
 #[derive(Drop)]
 pub struct Desk<L: Ledger, K: Keeper = NoKeeper> {
     alloc: Global,
     counted: Mutex<Counted<L, K>>,
-    // Read by all who add something, and written by a sync.
-    turns: RwLock<()>,
 }
 
 impl<L: Ledger> Desk<L> {
@@ -68,7 +66,6 @@ impl<L: Ledger, K: Keeper> Desk<L, K> {
         Desk {
             alloc,
             counted: Mutex::new(counted),
-            turns: RwLock::new(()),
         }
     }
 
@@ -92,7 +89,6 @@ impl<L: Ledger, K: Keeper> Desk<L, K> {
         // Broken is told of a keeper that is broken.
         ensures broken { result ≡ Err DeskFault.Broken → (keeper : K) × (K.is_broken keeper ≡ true) }
     {
-        let _turn = self.turns.read(rt);
         seat.take(self.alloc, &mut self.counted.lock(rt), maker, event, text)
     }
 
@@ -101,7 +97,6 @@ impl<L: Ledger, K: Keeper> Desk<L, K> {
         requires { K.spells_none text.now }
         ensures broken { result ≡ Err KeepFault.Broken → (keeper : K) × (K.is_broken keeper ≡ true) }
     {
-        let _turn = self.turns.read(rt);
         self.counted.lock(rt).note(text)
     }
 
@@ -111,7 +106,6 @@ impl<L: Ledger, K: Keeper> Desk<L, K> {
         ensures durable { OnOk result ((keeper : K) × (K.durable keeper ≡ length (K.events keeper))) }
         ensures broken { OnErr result ((keeper : K) × (K.is_broken keeper ≡ true)) }
     {
-        let _turn = self.turns.write(rt);
         self.counted.lock(rt).sync()
     }
 
@@ -157,7 +151,7 @@ impl<L: Ledger, K: Keeper> Desk<L, K> {
         ensures now { (events_left : List Event) → K.leaves result.1 events_left → IsBeginning (K.durable result.1) (K.events result.1) events_left }
         ensures ever { (events_left : List Event) → K.left result.1 events_left → IsBeginning (K.found result.1) (K.events result.1) events_left }
     {
-        let Desk { alloc, counted, .. } = self;
+        let Desk { alloc, counted } = self;
         let Counted {
             held,
             book,
