@@ -10,6 +10,7 @@
 //                these; a second sync after one that failed ends the program, with the status 97
 //   CUT_COUNTS   a file of sixteen bytes: how many such calls came, and whether one failed or was the last. It is mapped, and so is there however the
 //                program ends
+//   CUT_PAUSE    how many microseconds a sync takes besides
 //
 // It needs no header, so that a compiler alone builds it. The program ends with the status 99.
 typedef __SIZE_TYPE__ size;
@@ -31,6 +32,7 @@ extern int strcmp(const char *, const char *);
 extern void *memcpy(void *, const void *, size);
 extern int snprintf(char *, size, const char *, ...);
 extern int *__errno_location(void);
+extern int usleep(unsigned);
 extern void _exit(int) __attribute__((noreturn));
 
 enum { READ_WRITE = 2, CAN_READ_WRITE = 3, SHARED = 1, FROM_HERE = 1, FROM_END = 2, PATH = 4096, KEPT = 256, CUT = 99, TRIED_AGAIN = 97 };
@@ -44,7 +46,7 @@ struct change {
 
 static const char *path;
 static char path_new[PATH];
-static number cut_at, seed, fails, unmapped[2], *counts = unmapped;
+static number cut_at, seed, fails, pause, unmapped[2], *counts = unmapped;
 static struct change changes[KEPT];
 static int changed, is_renamed, has_failed, lock;
 
@@ -62,12 +64,14 @@ __attribute__((constructor)) static void begin(void) {
     next_fdatasync = dlsym(next, "fdatasync");
     next_fsync = dlsym(next, "fsync");
     next_rename = dlsym(next, "rename");
-    const char *at = getenv("CUT_NUMBER"), *drawn = getenv("CUT_SEED"), *file_of_counts = getenv("CUT_COUNTS"), *error = getenv("CUT_FAILS");
+    const char *at = getenv("CUT_NUMBER"), *drawn = getenv("CUT_SEED"), *file_of_counts = getenv("CUT_COUNTS"), *error = getenv("CUT_FAILS"),
+               *slow = getenv("CUT_PAUSE");
     path = getenv("CUT_FILE");
     snprintf(path_new, sizeof path_new, "%s.new", path ? path : "");
     cut_at = at ? strtoul(at, 0, 10) : 0;
     fails = error ? strtoul(error, 0, 10) : 0;
     seed = drawn ? strtoul(drawn, 0, 10) : 1;
+    pause = slow ? strtoul(slow, 0, 10) : 0;
     int file = file_of_counts ? open(file_of_counts, READ_WRITE) : -1;
     void *mapped = file < 0 ? (void *)-1 : mmap(0, sizeof unmapped, CAN_READ_WRITE, SHARED, file, 0);
     if (mapped != (void *)-1)
@@ -231,6 +235,8 @@ static int synced(int fd, int (*next)(int)) {
 }
 
 int fdatasync(int fd) {
+    if (pause)
+        usleep(pause);
     return is_of_file(fd) ? synced(fd, next_fdatasync) : next_fdatasync(fd);
 }
 

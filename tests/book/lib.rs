@@ -28,6 +28,7 @@ mod shown;
 mod single;
 mod stepping;
 mod steps;
+mod syncs;
 mod tally;
 mod withdrawal_rows;
 mod withdrawal_runs;

@@ -31,6 +31,14 @@ pub record IsBeginning (least : ℕ) (events left : List Event) : Type 0 where
   pub most : count ≤ length events
   pub left_is : left ≡ take count events
 
+-- a sync that was told of a keeper of which every event is durable
+abbrev pub IsSynced : {K : Type 0} → (K → List Event) → (K → ℕ) → Type 0
+IsSynced {K = K} events durable = (keeper : K) × (durable keeper ≡ length (events keeper))
+
+-- a fault that was told of a keeper that couldn't be written
+abbrev pub IsUnwritten : {K : Type 0} → (K → Bool) → Type 0
+IsUnwritten {K = K} is_broken = (keeper : K) × (is_broken keeper ≡ true)
+
 -- what is kept is as it was
 pub record SameKept {K : Type 0} (events : K → List Event) (found durable : K → ℕ) (is_broken : K → Bool) (old new : K) : Type 0 where
   pub events_are : events new ≡ events old

@@ -4,3 +4,4 @@ pub mod Makers
 pub mod Marks
 pub mod Questions
 pub mod Receipts
+pub mod Syncs

@@ -1,15 +1,16 @@
 //! A desk under its lock, for many callers at once.
-ghost use Rattle.std.specs.Prelude.{◌≡◌, ◌≢◌, ◌<◌, [], All, Err, IfOk, IsTrue, List, OnErr, OnOk, length, true};
+ghost use Rattle.std.specs.Prelude.{◌≡◌, ◌≢◌, ◌<◌, [], All, Err, IfOk, IsTrue, List, OnErr, OnOk, length};
 ghost use Rattle.blot_types.specs.Legal.{is_book};
 ghost use Rattle.blot_desk.specs.declared.event.Event.{Event};
 ghost use Rattle.blot_desk.specs.Desk.{IsReply};
-ghost use Rattle.blot_desk.specs.Keeping.{IsBeginning, IsSpelled, kept_events};
+ghost use Rattle.blot_desk.specs.Keeping.{IsBeginning, IsSpelled, IsSynced, IsUnwritten, kept_events};
 ghost use Rattle.blot_desk.specs.Makers.{IsFoundBy};
 ghost use Rattle.blot_desk.specs.Questions.{IsFound};
 ghost use Rattle.blot_desk.specs.Receipts.{IsOneMore};
 
 use crate::counted::Counted;
 use crate::makers::no_name;
+use crate::syncs::Syncs;
 use crate::{
     Closed, DeskFault, Event, Found, KeepFault, Keeper, NoKeeper, Opening, Question, Reply, Seat,
     Snapshot,
@@ -19,13 +20,14 @@ use std::alloc::{AllocError as NoMemory, Global};
 use std::sync::ledger::{Blank, Ledger};
 use std::sync::{Mutex, Wait};
 
-/// A desk for many callers at once, of which each has a seat. One event is one step under its lock. The keeper is synced under it too, so one
-/// sync serves all who wait for the lock meanwhile; nothing else is waited for there. `L` ties the seats to their desk: a call at `Brand` of a
-/// function that holds the whole run picks it. `K` keeps the events.
+/// A desk for many callers at once, of which each has a seat. One event is one step under its lock. The keeper is synced under it too; nothing
+/// else is waited for there. One sync serves all who wait for one. `L` ties the seats to their desk: a call at `Brand` of a function that
+/// holds the whole run picks it. `K` keeps the events.
 #[derive(Drop)]
 pub struct Desk<L: Ledger, K: Keeper = NoKeeper> {
     alloc: Global,
     counted: Mutex<Counted<L, K>>,
+    syncs: Syncs<K>,
 }
 
 impl<L: Ledger> Desk<L> {
@@ -66,6 +68,7 @@ impl<L: Ledger, K: Keeper> Desk<L, K> {
         Desk {
             alloc,
             counted: Mutex::new(counted),
+            syncs: Syncs::new(),
         }
     }
 
@@ -87,7 +90,7 @@ impl<L: Ledger, K: Keeper> Desk<L, K> {
         ensures faults { result ≢ Err DeskFault.Unsettled }
 
         // Broken is told of a keeper that is broken.
-        ensures broken { result ≡ Err DeskFault.Broken → (keeper : K) × (K.is_broken keeper ≡ true) }
+        ensures broken { result ≡ Err DeskFault.Broken → IsUnwritten K.is_broken }
     {
         seat.take(self.alloc, &mut self.counted.lock(rt), maker, event, text)
     }
@@ -95,18 +98,26 @@ impl<L: Ledger, K: Keeper> Desk<L, K> {
     /// Puts a record that spells no event behind the others.
     pub fn note(&self, rt: &impl Wait, text: &[u8]) -> Result<(), KeepFault>
         requires { K.spells_none text.now }
-        ensures broken { result ≡ Err KeepFault.Broken → (keeper : K) × (K.is_broken keeper ≡ true) }
+        ensures broken { result ≡ Err KeepFault.Broken → IsUnwritten K.is_broken }
     {
         self.counted.lock(rt).note(text)
     }
 
-    /// Makes all events durable that are kept. An error is told of a keeper that is broken, and no more events are taken then.
+    /// Makes all events durable that are kept, by the next sync that begins, which one of those who wait for it makes for all. An error is told of
+    /// a keeper that is broken, and no more events are taken then.
     pub fn sync(&self, rt: &impl Wait) -> Result<(), KeepFault>
         // Ok is told of a keeper of which every event is durable.
-        ensures durable { OnOk result ((keeper : K) × (K.durable keeper ≡ length (K.events keeper))) }
-        ensures broken { OnErr result ((keeper : K) × (K.is_broken keeper ≡ true)) }
+        ensures durable { OnOk result (IsSynced K.events K.durable) }
+        ensures broken { OnErr result (IsUnwritten K.is_broken) }
     {
-        self.counted.lock(rt).sync()
+        match self.syncs.wait(rt) {
+            Some(outcome) => outcome,
+            None => {
+                let outcome = self.counted.lock(rt).sync();
+                self.syncs.end(rt, outcome);
+                outcome
+            }
+        }
     }
 
     /// The live list as it is now, which is legal.
@@ -151,7 +162,7 @@ impl<L: Ledger, K: Keeper> Desk<L, K> {
         ensures now { (events_left : List Event) → K.leaves result.1 events_left → IsBeginning (K.durable result.1) (K.events result.1) events_left }
         ensures ever { (events_left : List Event) → K.left result.1 events_left → IsBeginning (K.found result.1) (K.events result.1) events_left }
     {
-        let Desk { alloc, counted } = self;
+        let Desk { alloc, counted, .. } = self;
         let Counted {
             held,
             book,

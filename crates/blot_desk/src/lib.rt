@@ -22,6 +22,7 @@ mod receipt;
 mod seat;
 mod settling;
 mod submitted;
+mod syncs;
 mod takes_commands;
 mod taking;
 mod unrecorded;

@@ -1,6 +1,7 @@
 //! A real file. What a read returned when it was opened is kept until the first write, so that what a contract says of its bytes is
 //! true of them; what a disk does with the calls is a premise, and not proved.
 ghost use Rattle.std.specs.Prelude.{◌≡◌, ◌↔◌, ◌+◌, ◌<◌, ◌^◌, length, IfOk, IsNone, IsTrue, OnOk};
+ghost use Rattle.blot_journal.specs.declared.file.FileFault.TheVariants.{NoMemory as OutOfMemory, Io};
 ghost use Rattle.blot_journal.specs.Device.{Only};
 ghost use Rattle.blot_journal.specs.Calls.{counts_now, failures_in, is_readable_after, leaves_after, left_after, only_now, seen_after};
 
@@ -28,12 +29,16 @@ pub enum FileFault {
 }
 
 impl From<NoMemory> for FileFault {
+    ghost from_gives = { λ _ fault. fault ≡ OutOfMemory };
+
     fn from(_fault: NoMemory) -> FileFault {
         FileFault::NoMemory
     }
 }
 
 impl From<io::Error> for FileFault {
+    ghost from_gives = { λ error fault. fault ≡ Io error };
+
     fn from(error: io::Error) -> FileFault {
         FileFault::Io(error)
     }

@@ -19,6 +19,9 @@ pub fn open_file(rt: &HostRuntime, path: &str) -> Result<FileDevice, FileFault>
 {
     let file = match open(rt, path) {
         Err(error) if error.kind() == io::ErrorKind::NotFound => {
+            if is_link(rt, path) {
+                return Err(FileFault::Io(error));
+            }
             make(rt, path)?;
             open(rt, path)?
         }
@@ -36,6 +39,11 @@ pub fn open_file(rt: &HostRuntime, path: &str) -> Result<FileDevice, FileFault>
 
 fn open(rt: &HostRuntime, path: &str) -> io::Result<File> {
     OpenOptions::new().read(true).write(true).open(rt, path)
+}
+
+// Whether a link stands at a path: one at which no file is found leads nowhere.
+fn is_link(rt: &HostRuntime, path: &str) -> bool {
+    fs::symlink_metadata(rt, path).is_ok_and(|found| found.is_symlink())
 }
 
 // Makes a file with its whole head from its first moment: under another name first.

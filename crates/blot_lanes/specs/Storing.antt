@@ -1,13 +1,10 @@
 -- What a store at a desk does, and a wire over one.
-use Rattle.std.specs.Prelude.{◌≡◌, ◌+◌, ◌-◌, ◌^◌, ⊤, ℕ, List, length, min}
+use Rattle.std.specs.Prelude.{◌+◌, ◌-◌, ◌^◌, ⊤, ℕ, List, min}
 use Rattle.blot_desk.specs.declared.event.Event.{Event}
+use Rattle.blot_desk.specs.Keeping.{IsSynced}
 use Rattle.blot_gateway.specs.Storing.{Stored, Storing, StoringDoes}
 use Rattle.blot_gateway.specs.Storing.Stored.{Put, Synced}
 use Rattle.blot_gateway.specs.Wires.{Did}
-
--- a sync that was told of a keeper of which every event is durable
-abbrev pub IsSynced : {K : Type 0} → (K → List Event) → (K → ℕ) → Type 0
-IsSynced {K = K} events durable = (keeper : K) × (durable keeper ≡ length (events keeper))
 
 -- where events are kept, a message that is put spells none, and a sync leaves nothing that isn't durable
 abbrev pub StoresAt : {K : Type 0} → Type 0 → (List ℕ → Type 0) → (K → List Event) → (K → ℕ) → Stored → Type 0

@@ -1,6 +1,6 @@
 //! Where the messages of a connection are kept.
-ghost use Rattle.std.specs.Prelude.{◌≡◌, IsOk, OnOk, length, true};
-ghost use Rattle.blot_lanes.specs.Storing.{IsSynced};
+ghost use Rattle.std.specs.Prelude.{◌≡◌, IsOk, OnOk, true};
+ghost use Rattle.blot_desk.specs.Keeping.{IsSynced};
 
 use blot_desk::{Desk, KeepFault};
 use blot_gateway::{Clock, FrameKeeper, Heard, MessageStore, RecordHead, StoreFault};

@@ -1,6 +1,7 @@
 //! Texts that are written once all is durable on which they may depend.
-ghost use Rattle.std.specs.Prelude.{◌≡◌, ◌≢◌, ◌⊎◌, Err, OnErr, OnOk, length, true};
+ghost use Rattle.std.specs.Prelude.{◌≡◌, ◌≢◌, ◌⊎◌, Err, OnErr, OnOk};
 ghost use Rattle.std.specs.Io.KnownBytes.{Appends, Keeps};
+ghost use Rattle.blot_desk.specs.Keeping.{IsSynced, IsUnwritten};
 ghost use Rattle.blot_stream.specs.Texts.{AppendsFront};
 
 use blot_desk::{Desk, Keeper};
@@ -21,9 +22,9 @@ pub fn write_durable<L: Ledger, K: Keeper, W: Write>(
     ensures err { OnErr result (AppendsFront (W.contents output.old) (W.contents output.new) text.now) }
 
     // Journal comes of a sync that failed, with nothing written. All else comes behind a sync that answered Ok.
-    ensures durable { result ≢ Err ReplayFault.Journal → (keeper : K) × (K.durable keeper ≡ length (K.events keeper)) }
+    ensures durable { result ≢ Err ReplayFault.Journal → IsSynced K.events K.durable }
     ensures untouched { result ≡ Err ReplayFault.Journal → Keeps (W.contents output.old) (W.contents output.new) }
-    ensures broken { result ≡ Err ReplayFault.Journal → (keeper : K) × (K.is_broken keeper ≡ true) }
+    ensures broken { result ≡ Err ReplayFault.Journal → IsUnwritten K.is_broken }
     ensures faults { OnErr result ((result ≡ Err ReplayFault.Journal) ⊎ (result ≡ Err ReplayFault.Write)) }
 {
     match desk.sync(rt) {

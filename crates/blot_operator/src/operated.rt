@@ -227,16 +227,16 @@ pub(crate) struct Open<'a, R, L: Ledger, K: FrameKeeper, D> {
 
 impl<R: Wait + time::Clock, L: Ledger, K: FrameKeeper, D: OpenDay> Operated
     for Open<'_, R, L, K, D> {
-    ghost use Rattle.std.specs.Prelude.{◌≡◌, length, true};
+    ghost use Rattle.blot_desk.specs.Keeping.{IsSynced, IsUnwritten};
     ghost use Rattle.blot_operator.specs.Dialogue.{open_ways};
 
     type State = OperatorSeat<L>;
 
     ghost ways = { open_ways K.IsKept };
 
-    ghost IsBroken = { (keeper : K) × (K.is_broken keeper ≡ true) };
+    ghost IsBroken = { IsUnwritten K.is_broken };
 
-    ghost IsDurable = { (keeper : K) × (K.durable keeper ≡ length (K.events keeper)) };
+    ghost IsDurable = { IsSynced K.events K.durable };
 
     fn step(
         &self,

@@ -1,7 +1,8 @@
 //! `desk_lines`, `seat_lines` and `open_lines`: the lines of an input answered, at a desk of one's own, from a seat, or from a seat on
 //! an open day.
-ghost use Rattle.std.specs.Prelude.{◌≡◌, ◌≢◌, ◌⊎◌, Err, IfSome, OnOk, OnErr, true};
+ghost use Rattle.std.specs.Prelude.{◌≡◌, ◌≢◌, ◌⊎◌, Err, IfSome, OnOk, OnErr};
 ghost use Rattle.std.specs.Io.KnownBytes.{IsAtEnd};
+ghost use Rattle.blot_desk.specs.Keeping.{IsUnwritten};
 ghost use Rattle.blot_stream.specs.Texts.{AppendsOf};
 ghost use Rattle.blot_operator.specs.Dialogue.{open_ways, seat_ways, HeardOf, StopsOf, TellsOf};
 ghost use Rattle.blot_operator.specs.Lines.{lines_of};
@@ -94,7 +95,7 @@ pub fn open_lines<R: Wait + time::Clock, I: Read, O: Write, L: Ledger, K: FrameK
     ensures never_full { result ≢ Err ReplayFault.Full }
 
     // Journal is told of a keeper that is broken.
-    ensures broken { result ≡ Err ReplayFault.Journal → (keeper : K) × (K.is_broken keeper ≡ true) }
+    ensures broken { result ≡ Err ReplayFault.Journal → IsUnwritten K.is_broken }
 {
     answer_lines(alloc, input, output, &Open { rt, desk, day }, seat)
 }

@@ -1,8 +1,8 @@
 //! The seat of an operator at a desk that may keep its events.
-ghost use Rattle.std.specs.Prelude.{◌≡◌, ◌≢◌, ◌+◌, ◌-◌, ◌^◌, Err, IfOk, OnErr, false, if◌then◌else◌, min, true};
+ghost use Rattle.std.specs.Prelude.{◌≡◌, ◌≢◌, ◌+◌, ◌-◌, ◌^◌, Err, IfOk, OnErr, false, if◌then◌else◌, min};
 ghost use Rattle.blot_desk.specs.declared.fault.DeskFault.TheVariants.{Broken};
 ghost use Rattle.blot_desk.specs.Desk.{IsReply};
-ghost use Rattle.blot_desk.specs.Keeping.{IsSpelled, is_ask};
+ghost use Rattle.blot_desk.specs.Keeping.{IsSpelled, IsUnwritten, is_ask};
 ghost use Rattle.blot_desk.specs.Receipts.{IsOneMore, newest_of};
 
 use crate::operated::Declined;
@@ -78,7 +78,7 @@ impl<L: Ledger> OperatorSeat<L> {
         ensures name { self.new.name ≡ self.old.name }
         ensures err { OnErr result (self.new ≡ self.old) }
         ensures unkept { result ≡ Err Declined.Unkept → K.IsKept × (is_ask event ≡ false) }
-        ensures broken { result ≡ Err (Declined.Desk Broken) → (keeper : K) × (K.is_broken keeper ≡ true) }
+        ensures broken { result ≡ Err (Declined.Desk Broken) → IsUnwritten K.is_broken }
     {
         let OperatorSeat { seat, operator } = self;
         let is_ask = event.is_ask();

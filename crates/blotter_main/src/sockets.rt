@@ -1,4 +1,6 @@
 //! The sockets by which operators come.
+ghost use Rattle.std.specs.Prelude.{◌≡◌};
+ghost use Rattle.blotter_main.specs.declared.sockets.SocketFault.TheVariants.{NoMemory as OutOfMemory, Io};
 
 use std::alloc::{AllocError as NoMemory, Global};
 use std::fs::{self, DirBuilder, Files, Permissions};
@@ -20,12 +22,16 @@ pub enum SocketFault {
 }
 
 impl From<io::Error> for SocketFault {
+    ghost from_gives = { λ error fault. fault ≡ Io error };
+
     fn from(error: io::Error) -> SocketFault {
         SocketFault::Io(error)
     }
 }
 
 impl From<NoMemory> for SocketFault {
+    ghost from_gives = { λ _ fault. fault ≡ OutOfMemory };
+
     fn from(_fault: NoMemory) -> SocketFault {
         SocketFault::NoMemory
     }
@@ -49,7 +55,7 @@ impl Sockets for HostRuntime {
 
     fn remove(&self, path: &str) {
         if UnixStream::connect(self, path).is_err() {
-            let _ = fs::remove_file(self, path);
+            let _ = remove_stale(self, path);
         }
     }
 }
@@ -59,11 +65,17 @@ fn clear<R: Files + Net>(rt: &R, path: &str) -> Result<(), SocketFault> {
     match UnixStream::connect(rt, path) {
         Ok(_) => Err(SocketFault::InUse),
         Err(error) => match error.kind() {
+            ErrorKind::NotFound if is_there(rt, path) => Err(SocketFault::NoSocket),
             ErrorKind::NotFound => Ok(()),
             ErrorKind::ConnectionRefused => remove_stale(rt, path),
             _ => Err(SocketFault::Io(error)),
         },
     }
+}
+
+// Whether anything stands at a path: a link that leads nowhere, too.
+fn is_there<R: Files>(rt: &R, path: &str) -> bool {
+    fs::symlink_metadata(rt, path).is_ok()
 }
 
 // Removes what stands at a path where that is a socket.
@@ -84,9 +96,7 @@ fn open_private<R: Files + Net>(
 ) -> Result<UnixListener, SocketFault> {
     let folder = format!(in alloc; "{path}.new")?;
     let made = format!(in alloc; "{folder}/s")?;
-    // What a crash left.
-    let _ = fs::remove_file(rt, made.as_str());
-    let _ = fs::remove_dir(rt, folder.as_str());
+    remove_left(rt, folder.as_str(), made.as_str());
     DirBuilder::new().mode(0o700).create(rt, folder.as_str())?;
     let opened = bind_there(rt, made.as_str(), path);
     if opened.is_err() {
@@ -94,6 +104,16 @@ fn open_private<R: Files + Net>(
     }
     let _ = fs::remove_dir(rt, folder.as_str());
     Ok(opened?)
+}
+
+// Removes what a crash left: the folder, and the socket in it. Anything else stays.
+fn remove_left<R: Files>(rt: &R, folder: &str, made: &str) {
+    let is_folder = fs::symlink_metadata(rt, folder).is_ok_and(|found| found.is_dir());
+    let is_socket = fs::symlink_metadata(rt, made).is_ok_and(|found| found.file_type().is_socket());
+    if is_folder && is_socket {
+        let _ = fs::remove_file(rt, made);
+    }
+    let _ = fs::remove_dir(rt, folder);
 }
 
 // A socket that is made at one path and put at another.
