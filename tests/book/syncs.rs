@@ -1,4 +1,4 @@
-//! Two who ask a desk for a sync: the second while the first goes on, which may have begun before all was kept that he asks for.
+//! Two who ask a desk for a sync, the second while the first goes on. One that only asks is served by it; one that keeps something needs another.
 
 use blot_desk::{Desk, Event, KeepFault, Keeper, Opening};
 use std::alloc::Global;
@@ -86,10 +86,11 @@ fn wait_for<R: Wait + Clock>(rt: &R, stage: &AtomicU64, wanted: u64) {
     }
 }
 
-// One who asks, and whether the sync was Ok.
+// One who asks, whether the second, and whether something is kept first; and whether the sync was Ok.
 #[derive(Drop)]
 struct Asking {
     is_second: bool,
+    keeps: bool,
     is_done: bool,
 }
 
@@ -104,15 +105,17 @@ impl Asking {
             wait_for(rt, stage, SYNCING);
             stage.store(ASKED, SeqCst);
         }
-        self.is_done = desk.sync(rt).is_ok();
+        let kept = !self.keeps || desk.note(rt, b"text").is_ok();
+        self.is_done = kept && desk.sync(rt).is_ok();
     }
 }
 
-// How many syncs the keeper made for the two.
+// How many syncs the keeper made for the two, of whom the second keeps something, or only asks.
 fn syncs_of_two<R: Threads + Wait + Clock + Sync, L: Ledger + Sync + Send>(
     rt: &R,
     alloc: Global,
     blank: Blank,
+    keeps: bool,
 ) -> Result<u32, Fail> {
     let stage = AtomicU64::new(QUIET);
     let (opening, _seats) = Opening::<L>::new(alloc, blank, 1)?;
@@ -125,6 +128,7 @@ fn syncs_of_two<R: Threads + Wait + Clock + Sync, L: Ledger + Sync + Send>(
     for is_second in [false, true] {
         two.push(Asking {
             is_second,
+            keeps: is_second && keeps,
             is_done: false,
         })?;
     }
@@ -143,10 +147,12 @@ fn syncs_of_two<R: Threads + Wait + Clock + Sync, L: Ledger + Sync + Send>(
 }
 
 #[test]
-fn a_sync_that_goes_on_serves_nobody_who_comes(rt: HostRuntime) -> Result<(), Fail> {
-    let syncs = syncs_of_two::<_, Brand>(&rt, rt.alloc(), Blank::new(1))?;
-    if syncs != 2 {
-        return Err(Fail::new(format_args!("{syncs} syncs")));
+fn a_sync_serves_who_asks_meanwhile_and_nobody_who_keeps_more(rt: HostRuntime) -> Result<(), Fail> {
+    for (keeps, wanted) in [(true, 2), (false, 1)] {
+        let syncs = syncs_of_two::<_, Brand>(&rt, rt.alloc(), Blank::new(1), keeps)?;
+        if syncs != wanted {
+            return Err(Fail::new(format_args!("{syncs} syncs, keeps: {keeps}")));
+        }
     }
     Ok(())
 }

@@ -1,4 +1,5 @@
-//! A connection of an open day whose messages are kept: what is kept, in which order, and that nothing is written before a sync.
+//! A connection of an open day whose messages are kept: what is kept, in which order, and that nothing is written or read before all is
+//! durable that was taken.
 
 use crate::expect::text;
 use crate::frames::stream;
@@ -27,9 +28,16 @@ const STREAM: &str = "\
 35=J|49=BRKA|56=MO|34=4|52=20240105-10:00:00|70=AL1|71=0|54=1|55=XYZ|53=50|6=11|75=20240105|124=1|17=E2|78=2|79=A|80=30|366=11|79=B|80=20|366=11|";
 
 // What is done, one after the other: `put`, a message that is kept as it is; `numbers`, those that are expected next and sent next; `event`,
-// that of a message; `wrapped`, a message within a record; each record of one's own with its number.
+// that of a message; `wrapped`, a message within a record; each record of one's own with its number. A sync comes only where something was taken.
 const DONE: &str =
-    "sync read put A numbers 1 2 2 put A sync write put 0 numbers 2 3 2 event 8 wrapped 3 0 event J put P sync write sync read numbers 4 5 3 ";
+    "sync read put A numbers 1 2 2 put A sync write put 0 numbers 2 3 2 event 8 wrapped 3 0 event J put P sync write read numbers 4 5 3 ";
+
+// What is done of the first three messages alone, and of the first two: what was taken is durable before the next read.
+const TRADED: &str =
+    "sync read put A numbers 1 2 2 put A sync write put 0 numbers 2 3 2 event 8 sync read numbers 3 4 2 ";
+
+const HEARD: &str =
+    "sync read put A numbers 1 2 2 put A sync write put 0 numbers 2 3 2 sync read numbers 3 3 2 ";
 
 // The same where the second sync fails: the Logon isn't answered.
 const BROKEN: &str = "sync read put A numbers 1 2 2 put A broken numbers 2 2 2 ";
@@ -209,11 +217,26 @@ impl<R: Wait> Wire for Noted<'_, R> {
     }
 }
 
-// Serves the stream over a desk where this goes wrong: how the connection ended, and what was done.
+// The first so many messages of the stream.
+fn first(count: usize) -> &'static str {
+    let mut left = count;
+    for (place, byte) in STREAM.bytes().enumerate() {
+        if byte == b'\n' {
+            left -= 1;
+        }
+        if left == 0 {
+            return &STREAM[..place];
+        }
+    }
+    STREAM
+}
+
+// Serves what is sent over a desk where this goes wrong: how the connection ended, and what was done.
 fn served<L: Ledger, T>(
     rt: &T,
     alloc: Global,
     blank: Blank,
+    sent: &str,
     wrong: Wrong,
 ) -> Result<(Ended, Vec<u8>), Fail>
 where
@@ -245,7 +268,7 @@ where
     let wire = Noted {
         rt,
         log: &noted,
-        wire: MemoryWire::new(alloc, stream(alloc, STREAM)?),
+        wire: MemoryWire::new(alloc, stream(alloc, sent)?),
     };
     let clock = ListClock::new(moments(alloc, "20240105-10:00:01.000")?);
     let address = SocketAddr::V4(SocketAddrV4::new(Ipv4Addr::LOCALHOST, 1));
@@ -256,17 +279,26 @@ where
 
 #[test]
 fn nothing_is_written_before_a_sync(rt: HostRuntime) -> Result<(), Fail> {
-    for (wrong, ending, done) in [
-        (Wrong::Nothing, Ended::End, DONE),
-        (Wrong::Broken(1), Ended::WriteFault, BROKEN),
-        (Wrong::NoNumbers, Ended::WriteFault, LOST),
+    for (count, wrong, ending, done) in [
+        (5, Wrong::Nothing, Ended::End, DONE),
+        (3, Wrong::Nothing, Ended::End, TRADED),
+        (2, Wrong::Nothing, Ended::End, HEARD),
+        (5, Wrong::Broken(1), Ended::WriteFault, BROKEN),
+        (5, Wrong::NoNumbers, Ended::WriteFault, LOST),
         (
+            5,
             Wrong::NoEvents,
             Ended::Closed(CloseReason::NotTaken),
             DECLINED,
         ),
     ] {
-        let (ended, was_done) = served::<Brand, _>(&rt, rt.alloc(), Blank::new(1), wrong)?;
+        let (ended, was_done) = served::<Brand, _>(
+            &rt,
+            rt.alloc(),
+            Blank::new(1),
+            first(count),
+            wrong,
+        )?;
         if ended != ending || was_done.as_slice() != done.as_bytes() {
             return Err(Fail::new(format_args!("{ended:?}: {:?}", str::from_utf8(&was_done))));
         }

@@ -25,7 +25,7 @@ const ANSWERS: &[u8] =
 
 // What is done behind the trade that the seat submits first: the records, each with its number; the syncs; the writes.
 const DONE: &[u8] =
-    b"trade 1 redo sync write sync write 2 withdraw\t1 sync write sync write 3 redo sync write ";
+    b"trade 1 redo sync write sync write 2 withdraw\t1 sync write write 3 redo sync write ";
 
 // What is typed at a keeper that breaks after so many syncs and has no room at first, so many times: what comes of it, what is answered, and
 // what is done.

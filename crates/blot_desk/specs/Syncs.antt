@@ -1,15 +1,11 @@
--- The syncs of a desk, one at a time, each with a number from 1 on.
-use Rattle.std.specs.Prelude.{ℕ, ◌+◌, ◌-◌, ◌^◌, ◌&&◌, nat_lt, Bool, min}
+-- The syncs of a desk, one at a time. What is kept is counted, and a sync makes durable what was kept before it.
+use Rattle.std.specs.Prelude.{ℕ, ◌&&◌, nat_lt, Bool}
 
--- how many were begun, and how many ended: one less while one goes on
+-- how much was kept before the last sync that ended, and whether one goes on
 pub record Syncing : Type 0 where
-  pub begun : ℕ
-  pub ended : ℕ
+  pub durable : ℕ
+  pub goes_on : Bool
 
--- the number of the next one that begins
-abbrev pub next_number : Syncing → ℕ
-next_number syncs = min (syncs.begun + 1) (2 ^ 64 - 1)
-
--- whether one goes on, and none of this number has ended
+-- whether so much isn't durable yet, and a sync goes on
 abbrev pub waits : ℕ → Syncing → Bool
-waits number syncs = nat_lt syncs.ended syncs.begun && nat_lt syncs.ended number
+waits count syncs = nat_lt syncs.durable count && syncs.goes_on

@@ -92,7 +92,10 @@ impl<L: Ledger, K: Keeper> Desk<L, K> {
         // Broken is told of a keeper that is broken.
         ensures broken { result ≡ Err DeskFault.Broken → IsUnwritten K.is_broken }
     {
-        seat.take(self.alloc, &mut self.counted.lock(rt), maker, event, text)
+        let mut counted = self.counted.lock(rt);
+        let answer = seat.take(self.alloc, &mut counted, maker, event, text);
+        self.syncs.count();
+        answer
     }
 
     /// Puts a record that spells no event behind the others.
@@ -100,11 +103,14 @@ impl<L: Ledger, K: Keeper> Desk<L, K> {
         requires { K.spells_none text.now }
         ensures broken { result ≡ Err KeepFault.Broken → IsUnwritten K.is_broken }
     {
-        self.counted.lock(rt).note(text)
+        let mut counted = self.counted.lock(rt);
+        let noted = counted.note(text);
+        self.syncs.count();
+        noted
     }
 
-    /// Makes all events durable that are kept, by the next sync that begins, which one of those who wait for it makes for all. An error is told of
-    /// a keeper that is broken, and no more events are taken then.
+    /// Makes all events durable that are kept, by a sync of its own or by that of another who asked for one. An error is told of a keeper that is
+    /// broken, and no more events are taken then.
     pub fn sync(&self, rt: &impl Wait) -> Result<(), KeepFault>
         // Ok is told of a keeper of which every event is durable.
         ensures durable { OnOk result (IsSynced K.events K.durable) }
@@ -112,12 +118,21 @@ impl<L: Ledger, K: Keeper> Desk<L, K> {
     {
         match self.syncs.wait(rt) {
             Some(outcome) => outcome,
-            None => {
-                let outcome = self.counted.lock(rt).sync();
-                self.syncs.end(rt, outcome);
-                outcome
-            }
+            None => self.sync_for_all(rt),
         }
+    }
+
+    // Makes all events durable that are kept, for all who wait.
+    fn sync_for_all(&self, rt: &impl Wait) -> Result<(), KeepFault>
+        ensures durable { OnOk result (IsSynced K.events K.durable) }
+        ensures broken { OnErr result (IsUnwritten K.is_broken) }
+    {
+        let mut counted = self.counted.lock(rt);
+        let count = self.syncs.kept();
+        let outcome = counted.sync();
+        drop(counted);
+        self.syncs.end(rt, count, outcome);
+        outcome
     }
 
     /// The live list as it is now, which is legal.

@@ -1,117 +1,126 @@
 //! The syncs of a desk.
-ghost use Rattle.std.specs.Prelude.{◌≡◌, ◌≤◌, ◌<◌, None, Err, IfSome, OnErr, OnOk, Ok, Some};
+ghost use Rattle.std.specs.Prelude.{◌≡◌, ◌≤◌, ◌<◌, None, Err, IfSome, OnErr, OnOk, Ok, Some, false, true};
 ghost use Rattle.blot_desk.specs.Keeping.{IsSynced, IsUnwritten};
-ghost use Rattle.blot_desk.specs.Syncs.{next_number, waits};
+ghost use Rattle.blot_desk.specs.Syncs.{waits};
 
 use crate::{KeepFault, Keeper};
 use std::marker::{Model, PhantomData};
+use std::sync::atomic::AtomicU64;
+use std::sync::atomic::Ordering::SeqCst;
 use std::sync::{Condvar, Mutex, Wait};
 
-/// The syncs of a desk, one at a time. Who asks for one while another goes on waits for the next: that one may have begun before all was kept
-/// that he asks for. One of those who wait makes it, for all.
+/// The syncs of a desk, one at a time. What is kept is counted, so that who asks for a sync waits only for one that began after all was kept
+/// that is there when he asks. One of those who wait makes it, for all.
 #[derive(Drop)]
 pub(crate) struct Syncs<K: Keeper> {
-    counts: Mutex<Counts<K>>,
+    kept: AtomicU64,
+    last: Mutex<Last<K>>,
     ended: Condvar,
 }
 
-// How many syncs were begun, and how many ended; and what the last came to.
+// How much was kept before the last sync that ended, and what that came to; and whether one goes on.
 #[derive(Drop)]
-struct Counts<K: Keeper> {
-    begun: u64,
-    ended: u64,
+struct Last<K: Keeper> {
+    durable: u64,
     outcome: Result<(), KeepFault>,
+    goes_on: bool,
     keeper: PhantomData<K>,
 }
 
-impl<K: Keeper> Model for Counts<K> {
+impl<K: Keeper> Model for Last<K> {
     ghost use Rattle.std.specs.Prelude.{◌<◌, OnErr, OnOk};
     ghost use Rattle.blot_desk.specs.Keeping.{IsSynced, IsUnwritten};
     ghost use Rattle.blot_desk.specs.Syncs.{Syncing};
 
     ghost Value = { Syncing };
 
-    ghost view = { λ counts. record { begun = counts.begun; ended = counts.ended } };
+    ghost view = { λ last. record { durable = last.durable; goes_on = last.goes_on } };
 
-    ghost invariant = { λ counts. (0 < counts.ended → OnOk counts.outcome (IsSynced K.events K.durable))
-        × OnErr counts.outcome (IsUnwritten K.is_broken) };
+    ghost invariant = { λ last. (0 < last.durable → OnOk last.outcome (IsSynced K.events K.durable))
+        × OnErr last.outcome (IsUnwritten K.is_broken) };
 }
 
 impl<K: Keeper> Syncs<K> {
     /// Those of a desk at which none was asked for yet.
     pub(crate) fn new() -> Syncs<K> {
         Syncs {
-            counts: Mutex::new(Counts {
-                begun: 0,
-                ended: 0,
+            kept: AtomicU64::new(0),
+            last: Mutex::new(Last {
+                durable: 0,
                 outcome: Ok(()),
+                goes_on: false,
                 keeper: PhantomData,
             }),
             ended: Condvar::new(),
         }
     }
 
-    /// What the next sync comes to that begins after this call. None where the caller has to make it, and then to say what it came to (`end`).
+    /// Counts what is kept: once it is, and before the desk's lock is let go.
+    pub(crate) fn count(&self) {
+        self.kept.fetch_add(1, SeqCst);
+    }
+
+    /// How much is kept, counted from 1 on.
+    pub(crate) fn kept(&self) -> u64
+        ensures { 0 < result }
+    {
+        self.kept.load(SeqCst).saturating_add(1)
+    }
+
+    /// What a sync came to that began after all was kept that is kept now. None where the caller has to make it, and then to say what it came
+    /// to (`end`).
     pub(crate) fn wait(&self, rt: &impl Wait) -> Option<Result<(), KeepFault>>
         ensures synced { result ≡ Some (Ok tt) → IsSynced K.events K.durable }
         ensures broken { (fault : KeepFault) → result ≡ Some (Err fault) → IsUnwritten K.is_broken }
     {
-        let counts = self.counts.lock(rt);
-        let number = counts.next();
-        let mut counts = self
-            .ended
-            .wait_while(rt, counts, |counts| counts.waits(number));
-        counts.ended_or_begin(number)
+        let count = self.kept();
+        let last = self.last.lock(rt);
+        let mut last = self.ended.wait_while(rt, last, |last| last.waits(count));
+        last.told_or_begins(count)
     }
 
-    /// Ends the sync that goes on, and tells all who wait.
-    pub(crate) fn end(&self, rt: &impl Wait, outcome: Result<(), KeepFault>)
+    /// Ends the sync that goes on, before which so much was kept, and tells all who wait.
+    pub(crate) fn end(&self, rt: &impl Wait, count: u64, outcome: Result<(), KeepFault>)
         requires synced { OnOk outcome (IsSynced K.events K.durable) }
         requires broken { OnErr outcome (IsUnwritten K.is_broken) }
     {
-        self.counts.lock(rt).end(outcome);
+        self.last.lock(rt).end(count, outcome);
         self.ended.notify_all();
     }
 }
 
-impl<K: Keeper> Counts<K> {
-    // The number of the next sync that begins.
-    fn next(&self) -> u64
-        ensures { result ≡ next_number self.now }
+impl<K: Keeper> Last<K> {
+    // Whether so much isn't durable yet, and a sync goes on.
+    fn waits(&self, count: u64) -> bool
+        ensures { result ≡ waits count self.now }
     {
-        self.begun.saturating_add(1)
+        self.durable < count && self.goes_on
     }
 
-    // Whether a sync goes on, and none of this number has ended.
-    fn waits(&self, number: u64) -> bool
-        ensures { result ≡ waits number self.now }
-    {
-        self.ended < self.begun && self.ended < number
-    }
-
-    // What the sync of this number came to, or a later one. None where none of them has ended: then this one begins.
-    fn ended_or_begin(&mut self, number: u64) -> Option<Result<(), KeepFault>>
-        requires { 0 < number }
-        ensures ended { IfSome result (λ _. number ≤ self.old.ended) }
+    // What the last sync came to, if so much was kept before it. None if not: then the next one begins.
+    fn told_or_begins(&mut self, count: u64) -> Option<Result<(), KeepFault>>
+        requires { 0 < count }
+        ensures told { IfSome result (λ _. count ≤ self.old.durable) }
         ensures same { IfSome result (λ _. self.new ≡ self.old) }
-        ensures begins { result ≡ None → (self.old.ended < number) × (self.new ≡ record self.old { begun = number }) }
+        ensures begins { result ≡ None → (self.old.durable < count) × (self.new ≡ record self.old { goes_on = true }) }
         ensures synced { result ≡ Some (Ok tt) → IsSynced K.events K.durable }
         ensures broken { (fault : KeepFault) → result ≡ Some (Err fault) → IsUnwritten K.is_broken }
     {
-        if number <= self.ended {
+        if count <= self.durable {
             return Some(self.outcome);
         }
-        self.begun = number;
+        self.goes_on = true;
         None
     }
 
-    // Ends the sync that goes on.
-    fn end(&mut self, outcome: Result<(), KeepFault>)
+    // Ends the sync that goes on, before which so much was kept.
+    fn end(&mut self, count: u64, outcome: Result<(), KeepFault>)
         requires synced { OnOk outcome (IsSynced K.events K.durable) }
         requires broken { OnErr outcome (IsUnwritten K.is_broken) }
-        ensures { self.new ≡ record self.old { ended = self.old.begun } }
+        ensures { self.new ≡ record { durable = count; goes_on = false } }
     {
-        self.ended = self.begun;
+        self.durable = count;
         self.outcome = outcome;
+        self.goes_on = false;
     }
 }
