@@ -5,7 +5,8 @@
   answers_of(program, *words, lines)              the status of a call, and both of its outputs
   readings(program, file, names)                  what both readers say of a file, which may be in use
   check_readings(*readings, names)                whether that is what the plain program says, of some moment meanwhile
-  check_readers(program, file, names)             the same of a file that nobody changes: it stays as it is
+  check_counts(text)                              whether what only a journal has is counted for each party, as FORMATS.md says
+  check_readers(program, file, names)             both of a file that nobody changes: it stays as it is
 """
 import subprocess
 
@@ -54,11 +55,23 @@ def check_readings(told, trail, before, after, names):
     expect(any(trail == (0, plain.trail(plain.received(it), OWN, names), '') for it in fronts), f'audit --journal: {trail}')
 
 
+def check_counts(text):
+    """The frames that only a journal has are counted from 1, for each peer and each operator, whatever ended between them."""
+    counts = {}
+    for what, _, piece in plain.pieces_of(text):
+        head, _ = plain.message_of(piece) if what == 'message' else (None, None)
+        if head and head.kind in plain.KEPT_KINDS:
+            party = head.target, plain.first(plain.fields_of(piece)[0], 50, plain.text)
+            counts[party] = counts.get(party, 0) + 1
+            expect(head.number == counts[party], f'{head.kind} {counts[party]} of {party} has number {head.number}')
+
+
 def check_readers(program, file, names):
     """Both, of a file that nobody changes: it stays as it is."""
     whole = file.read_bytes()
     told, trail, before, after = readings(program, file, names)
     check_readings(told, trail, before, after, names)
+    check_counts(after)
     expect(file.read_bytes() == whole, 'a reader changed the file')
     capture = plain.received(whole.decode('latin-1'))
     expect(trail == answers_of(program, 'audit', '--own', OWN, *names, lines=capture), 'audit of the capture says something else')

@@ -3,7 +3,7 @@ use crate::images::images;
 use crate::runs::{
     BATCH_CALLS, BATCHES, OPENING_CALLS, RECOVERY_CALLS, append, empty_file, read, run, text_of,
 };
-use blot_journal::{Change, Device, HEAD, Journal, JournalFault, MemoryDevice};
+use blot_journal::{Change, Device, DeviceFault, HEAD, Journal, JournalFault, MemoryDevice};
 use std::alloc::Global;
 use std::test::Fail;
 
@@ -143,6 +143,20 @@ fn what_was_done_since_a_sync(rt: HostRuntime) -> Result<(), Fail> {
         || device.durable() != b"fourfi".as_slice()
     {
         return Err(Fail::new("not synced"));
+    }
+    Ok(())
+}
+
+// A read that the disk fails is told as that.
+#[test]
+fn a_read_that_fails(rt: HostRuntime) -> Result<(), Fail> {
+    let alloc = rt.alloc();
+    let device = MemoryDevice::new(alloc, &empty_file(alloc)?, Some(RECOVERY_CALLS))?;
+    let Ok(mut journal) = Journal::recover(alloc, device) else {
+        return Err(Fail::new(format_args!("not taken up")));
+    };
+    if journal.read(0, &mut []) != Err(DeviceFault::Failed) {
+        return Err(Fail::new(format_args!("read, or another fault")));
     }
     Ok(())
 }

@@ -186,7 +186,11 @@ impl<R: Wait> FrameKeeper for Noting<'_, R> {
         Ok(None)
     }
 
+    ghost numbers_after = { λ own peer text numbers. numbers };
+
     ghost spells_frames = { λ text command valid brings. tt };
+
+    ghost counts_frames = { λ kept. absurd kept };
 }
 
 // A wire whose reads and writes are noted.

@@ -171,7 +171,11 @@ impl<R: Wait> FrameKeeper for Noting<'_, R> {
         Ok(Some(record))
     }
 
+    ghost numbers_after = { λ own peer text numbers. numbers };
+
     ghost spells_frames = { λ text command valid brings. tt };
+
+    ghost counts_frames = { λ kept. absurd kept };
 }
 
 // A screen whose writes are noted.

@@ -2,7 +2,7 @@
 use Rattle.std.proofs.Common.{◌≡◌, ℕ, ◌+◌, List, [], ◌∷◌, ◌++◌, length, drop, map, fold, Option, Some, None, refl, sym, ap, ◌∙◌}
 use Rattle.std.specs.List.{All, flat_map}
 use Rattle.std.specs.Option.{option_map_or}
-use Rattle.std.proofs.lemmas.List.{append-nil, append_assoc}
+use Rattle.std.proofs.lemmas.List.{append-nil, append_assoc, map_push}
 use Rattle.std.proofs.lemmas.List.Elements.{All-head, All-tail}
 use Rattle.blot_tag.specs.Places.{place_in, placed_in}
 use Rattle.blot_tag.specs.Walking.{frames_of}
@@ -16,8 +16,9 @@ use Rattle.blot_session.specs.Met.{met_of}
 use Rattle.blot_session.specs.Runs.{said_by}
 use Rattle.blot_session.proofs.OneLemmas.{AtMostOne}
 use Rattle.blot_desk.specs.declared.event.Event.TheVariants.{Submit}
+use Rattle.blot_desk.specs.declared.event.Recorded.{Recorded}
 use Rattle.blot_desk.specs.declared.event.Reply.{Reply}
-use Rattle.blot_desk.specs.Desk.{DeskBook, Journal, Run, empty_book, recorded_of, run_on, step_of, submit_by}
+use Rattle.blot_desk.specs.Desk.{DeskBook, Journal, recorded_of, submit_by, replies_of}
 use Rattle.blot_capture.specs.Capture.{commands_in, commands_over, moment_at, sessions_behind, taken_by}
 use Rattle.blot_capture.specs.Replay.{Taking, submitted}
 use Rattle.blot_capture.specs.declared.became.Became.TheVariants as became
@@ -50,14 +51,16 @@ replies-append journal (command ∷ commands) more =
     ap (λ replies. reply_to journal command ∷ replies) (replies-append (recorded_of journal (Submit command)) commands more)
 
 -- they are those of the run
-run-replies : (run : Run) (journal : Journal) (commands : List Command) → run.book ≡ journal.book
-    → (fold run_on run (map Submit commands)).replies ≡ run.replies ++ replies_to journal commands
+run-replies : (journal : Journal) (commands : List Command)
+    → replies_of (fold recorded_of journal (map Submit commands)).history ≡ replies_of journal.history ++ replies_to journal commands
 unfolding replies_to
-run-replies run journal [] same = sym (append-nil run.replies)
-run-replies run journal (command ∷ commands) same =
-    run-replies (run_on run (Submit command)) (recorded_of journal (Submit command)) commands (ap (λ book. (step_of book (Submit command)).book) same)
-    ∙ append_assoc run.replies ((step_of run.book (Submit command)).reply ∷ []) (replies_to (recorded_of journal (Submit command)) commands)
-    ∙ ap (λ book. run.replies ++ ((step_of book (Submit command)).reply ∷ replies_to (recorded_of journal (Submit command)) commands)) same
+run-replies journal [] = sym (append-nil (replies_of journal.history))
+run-replies journal (command ∷ commands) =
+    let next = recorded_of journal (Submit command) in
+    let reply = reply_to journal command in
+    run-replies next commands
+    ∙ ap (λ replies. replies ++ replies_to next commands) (map_push (λ (r : Recorded). r.reply) journal.history (record { event = Submit command; reply = reply }))
+    ∙ append_assoc (replies_of journal.history) (reply ∷ []) (replies_to next commands)
 
 -- a message is told to have got the reply to its command
 told-one : (met : Met) (journal : Journal) (commands : List Command) → AtMostOne commands → reply_told (became_of met journal commands) ≡ replies_to journal commands
@@ -109,16 +112,15 @@ submit-list : (book : DeskBook) (command : Command) (refused : Option Reason) �
 submit-list book command None is = ap (λ withdrawn. option_map_or (λ taken. without taken book.list) withdrawn (book.list ++ (record { number = book.next; command = command } ∷ []))) is
 submit-list book command (Some reason) is = sym (append-nil book.list)
 
-run-list : (run : Run) (journal : Journal) (commands : List Command) → run.book ≡ journal.book → All IsEntry commands
-    → (fold run_on run (map Submit commands)).book.list ≡ run.book.list ++ entries_to journal commands
+run-list : (journal : Journal) (commands : List Command) → All IsEntry commands
+    → (fold recorded_of journal (map Submit commands)).book.list ≡ journal.book.list ++ entries_to journal commands
 unfolding entries_to
-run-list run journal [] same are = sym (append-nil run.book.list)
-run-list run journal (command ∷ commands) same are =
+run-list journal [] are = sym (append-nil journal.book.list)
+run-list journal (command ∷ commands) are =
     let next = recorded_of journal (Submit command) in
-    run-list (run_on run (Submit command)) next commands (ap (λ book. (step_of book (Submit command)).book) same) (All-tail IsEntry command commands are)
-    ∙ ap (λ list. list ++ entries_to next commands) (submit-list run.book command (refusal_of run.book.list command) (All-head IsEntry command commands are))
-    ∙ append_assoc run.book.list (accepted_by command (became.Replied (step_of run.book (Submit command)).reply)) (entries_to next commands)
-    ∙ ap (λ book. run.book.list ++ (accepted_by command (became.Replied (step_of book (Submit command)).reply) ++ entries_to next commands)) same
+    run-list next commands (All-tail IsEntry command commands are)
+    ∙ ap (λ list. list ++ entries_to next commands) (submit-list journal.book command (refusal_of journal.book.list command) (All-head IsEntry command commands are))
+    ∙ append_assoc journal.book.list (accepted_by command (became.Replied (reply_to journal command))) (entries_to next commands)
 
 -- a message is told to have put into the book what its command put there
 told-made : (met : Met) (journal : Journal) (commands : List Command) → AtMostOne commands
@@ -158,8 +160,8 @@ is_replayed own peers bytes =
     record {
       commands = trace-commands (frames_of bytes) bytes first;
       replies = trace-replies (frames_of bytes) bytes first
-          ∙ sym (run-replies (record { book = empty_book; replies = [] }) first.journal (commands_over first.sessions (frames_of bytes)) refl);
+          ∙ sym (run-replies first.journal (commands_over first.sessions (frames_of bytes)));
       accepted = trace-list (frames_of bytes) bytes first
-          ∙ sym (run-list (record { book = empty_book; replies = [] }) first.journal (commands_over first.sessions (frames_of bytes)) refl
+          ∙ sym (run-list first.journal (commands_over first.sessions (frames_of bytes))
           (over-entries first.sessions (frames_of bytes)));
     }

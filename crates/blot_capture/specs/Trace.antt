@@ -17,7 +17,7 @@ use Rattle.blot_session.specs.Runs.{outcome, said_by}
 use Rattle.blot_desk.specs.declared.event.Event.TheVariants.{Submit}
 use Rattle.blot_desk.specs.declared.event.Reply.{Reply}
 use Rattle.blot_desk.specs.declared.event.Reply.TheVariants.{Accepted}
-use Rattle.blot_desk.specs.Desk.{Journal, empty_journal, run_of, step_of}
+use Rattle.blot_desk.specs.Desk.{Journal, empty_journal, run_of, step_of, replies_of}
 use Rattle.blot_gateway.specs.Serving.{seen_by}
 use Rattle.blot_capture.specs.declared.became.Became.{Became}
 use Rattle.blot_capture.specs.declared.became.Became.TheVariants as became
@@ -120,5 +120,5 @@ accepted_in turn = flat_map (λ command. accepted_by command turn.became) turn.c
 -- the messages are told to have put into the book is, one by one, the live list from which the report of a day is made
 pub record IsReplayed (own : List ℕ) (peers : List (List ℕ)) (bytes : List ℕ) : Type 0 where
   pub commands : flat_map (λ turn. turn.commands) (trace_of own peers bytes) ≡ commands_of own peers bytes
-  pub replies : flat_map (λ turn. reply_told turn.became) (trace_of own peers bytes) ≡ (run_of (map Submit (commands_of own peers bytes))).replies
+  pub replies : flat_map (λ turn. reply_told turn.became) (trace_of own peers bytes) ≡ replies_of (run_of (map Submit (commands_of own peers bytes))).history
   pub accepted : flat_map accepted_in (trace_of own peers bytes) ≡ list_of own peers bytes

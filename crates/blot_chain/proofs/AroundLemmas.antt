@@ -30,7 +30,8 @@ use Rattle.blot_chain.specs.declared.rooted.Rooted.{Rooted}
 use Rattle.blot_chain.specs.Cells.{busts_in, versions_in}
 use Rattle.blot_chain.specs.Holds.{HoldsChains}
 use Rattle.blot_chain.specs.Index.{BelowFirst, IsPlaced, UpToFirst, newest_below, number_if_referring, oldest_above, places_after, referring_at}
-use Rattle.blot_chain.specs.Rooted.{AreRooted, chain_root, has_key, is_bust, is_bust_of, is_version, is_version_of, kept_root, link_number, links_in, refers}
+use Rattle.blot_types.specs.Standing.{chain_under}
+use Rattle.blot_chain.specs.Rooted.{AreRooted, has_key, is_bust, is_bust_of, is_version, is_version_of, kept_root, link_number, links_in, refers}
 use Rattle.blot_chain.specs.Steps.{number_of}
 use Rattle.blot_chain.proofs.ChainLemmas.{chained-parts, find-current, kept_root-own, version-is_root}
 use Rattle.blot_chain.proofs.HoldsLemmas.{rooted-live, vacant}
@@ -157,7 +158,7 @@ referring-found slots key (place ∷ places) =
 
 -- a link that refers to the key of another is of the other's chain
 
-root-referred : (links : List Link) (own key root : ExecKey) (role : Role) → chain_root links own role ≡ Some root → refers_to key role ≡ true → root_in links key ≡ Some root
+root-referred : (links : List Link) (own key root : ExecKey) (role : Role) → chain_under links own role ≡ Some root → refers_to key role ≡ true → root_in links key ≡ Some root
 root-referred links own key root Begins is referring = cc
 root-referred links own key root (Corrects reference) is referring = ap (root_in links) (sym (same_exec-true reference key referring)) ∙ is
 root-referred links own key root (Busts reference) is referring = ap (root_in links) (sym (same_exec-true reference key referring)) ∙ is

@@ -14,26 +14,27 @@ use Rattle.blot_types.specs.Laws.{IsOneTrade}
 use Rattle.blot_types.proofs.ChainLemmas.{accepted_key, none_is}
 use Rattle.blot_types.proofs.KeyLemmas.{same_exec-true, same_exec-refl}
 use Rattle.blot_chain.specs.declared.rooted.Rooted.{Rooted}
-use Rattle.blot_chain.specs.Rooted.{is_version, is_bust, has_key, is_version_of, is_bust_of, kept_root, chain_root, links_in, AreRooted}
+use Rattle.blot_types.specs.Standing.{chain_under}
+use Rattle.blot_chain.specs.Rooted.{is_version, is_bust, has_key, is_version_of, is_bust_of, kept_root, links_in, AreRooted}
 
 -- One link: what is said of the root beside it is what is said of its role.
 
 pub kept_root-own :
-    (earlier : List Link) (key : ExecKey) (role : Role) (root : ExecKey) → chain_root earlier key role ≡ Some root
+    (earlier : List Link) (key : ExecKey) (role : Role) (root : ExecKey) → chain_under earlier key role ≡ Some root
     → (if is_version role then Some root else None) ≡ own_root (root_in earlier) key role
 kept_root-own earlier key Begins root is = sym is
 kept_root-own earlier key (Corrects reference) root is = sym is
 kept_root-own earlier key (Busts reference) root is = refl
 
 pub version-is_root :
-    (earlier : List Link) (key : ExecKey) (role : Role) (root wanted : ExecKey) → chain_root earlier key role ≡ Some root
+    (earlier : List Link) (key : ExecKey) (role : Role) (root wanted : ExecKey) → chain_under earlier key role ≡ Some root
     → (is_version role && same_exec root wanted) ≡ is_root wanted (own_root (root_in earlier) key role)
 version-is_root earlier key Begins root wanted is = ap (is_root wanted) (sym is)
 version-is_root earlier key (Corrects reference) root wanted is = ap (is_root wanted) (sym is)
 version-is_root earlier key (Busts reference) root wanted is = refl
 
 bust-busts :
-    (earlier : List Link) (key : ExecKey) (role : Role) (root wanted : ExecKey) → chain_root earlier key role ≡ Some root
+    (earlier : List Link) (key : ExecKey) (role : Role) (root wanted : ExecKey) → chain_under earlier key role ≡ Some root
     → (is_bust role && same_exec root wanted) ≡ busts earlier wanted role
 bust-busts earlier key Begins root wanted is = refl
 bust-busts earlier key (Corrects reference) root wanted is = refl

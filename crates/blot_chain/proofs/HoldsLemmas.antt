@@ -24,7 +24,8 @@ use Rattle.blot_chain.specs.Cells.{busts_in, takers_in, versions_in}
 use Rattle.blot_chain.specs.Holds.{HoldsChains, shown_of}
 use Rattle.blot_chain.specs.Index.{IsIndexed}
 use Rattle.blot_chain.specs.Steps.{AddsOne, IsNewest, number_of}
-use Rattle.blot_chain.specs.Rooted.{has_key, is_version_of, is_bust_of, kept_root, chain_root, link_number, links_in, AreRooted}
+use Rattle.blot_types.specs.Standing.{chain_under}
+use Rattle.blot_chain.specs.Rooted.{has_key, is_version_of, is_bust_of, kept_root, link_number, links_in, AreRooted}
 use Rattle.blot_chain.proofs.ChainLemmas.{chained-parts, find-root, find-current, find-bust, find-taker}
 use Rattle.blot_chain.proofs.RootedLemmas.{chain-told, live-rooted}
 
@@ -108,7 +109,7 @@ pub held-push :
     → IsIndexed new (record { item = record { link = link; root = root; place = place }; is_live = true } ∷ reverse slots)
     → link_refusal (shown_of (reverse slots)).list link.key link.role ≡ None
     → is_above_links link.number (shown_of (reverse slots)).list ≡ true → is_above_links link.number (shown_of (reverse slots)).kept ≡ true
-    → chain_root (shown_of (reverse slots)).list link.key link.role ≡ Some root
+    → chain_under (shown_of (reverse slots)).list link.key link.role ≡ Some root
     → HoldsChains new (reverse written)
 held-push index new slots written link root place holds is indexed accepted above above_kept rooted =
     let slot : Slot Rooted = record { item = record { link = link; root = root; place = place }; is_live = true } in

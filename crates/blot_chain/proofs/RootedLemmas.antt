@@ -14,7 +14,8 @@ use Rattle.blot_types.specs.Chains.{root_in, link_refusal, chain_refusal, is_cha
 use Rattle.blot_types.proofs.ChainLemmas.{accepted_key, clash}
 use Rattle.blot_types.proofs.KeyLemmas.{same_exec-true}
 use Rattle.blot_chain.specs.declared.rooted.Rooted.{Rooted}
-use Rattle.blot_chain.specs.Rooted.{has_key, kept_root, chain_root, links_in, AreRooted, slot_root, slot_chain, HaveRoots, NewestLive}
+use Rattle.blot_types.specs.Standing.{chain_under}
+use Rattle.blot_chain.specs.Rooted.{has_key, kept_root, links_in, AreRooted, slot_root, slot_chain, HaveRoots, NewestLive}
 use Rattle.blot_chain.proofs.ChainLemmas.{find-root, chained-parts}
 
 -- the live slot of a key is the newest of that key
@@ -61,7 +62,7 @@ found_root links reference (Some root) none = (root, refl)
 told-chain :
     (earlier : List (Slot Rooted)) (key : ExecKey) (role : Role) (root : ExecKey) → NewestLive earlier → AreRooted (live earlier)
     → link_refusal (links_in (live earlier)) key role ≡ None → slot_chain earlier key role ≡ Some root
-    → chain_root (links_in (live earlier)) key role ≡ Some root
+    → chain_under (links_in (live earlier)) key role ≡ Some root
 told-chain earlier key Begins root newest rooted accepted is = is
 told-chain earlier key (Corrects reference) root newest rooted accepted is =
     let links : List Link = links_in (live earlier) in
@@ -75,7 +76,7 @@ told-chain earlier key (Busts reference) root newest rooted accepted is =
 -- the other way round
 pub chain-told :
     (earlier : List (Slot Rooted)) (key : ExecKey) (role : Role) (root : ExecKey) → NewestLive earlier → AreRooted (live earlier)
-    → chain_root (links_in (live earlier)) key role ≡ Some root → slot_chain earlier key role ≡ Some root
+    → chain_under (links_in (live earlier)) key role ≡ Some root → slot_chain earlier key role ≡ Some root
 chain-told earlier key Begins root newest rooted is = is
 chain-told earlier key (Corrects reference) root newest rooted is = root-newest earlier reference root newest rooted is
 chain-told earlier key (Busts reference) root newest rooted is = root-newest earlier reference root newest rooted is

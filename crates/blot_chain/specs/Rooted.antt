@@ -8,8 +8,9 @@ use Rattle.blot_types.specs.declared.keys.ExecKey.{ExecKey}
 use Rattle.blot_types.specs.declared.link.Link.{Link}
 use Rattle.blot_types.specs.declared.link.Role.{Role}
 use Rattle.blot_types.specs.declared.link.Role.TheVariants.{Begins, Corrects, Busts}
-use Rattle.blot_types.specs.Chains.{refers_to, root_in}
+use Rattle.blot_types.specs.Chains.{refers_to}
 use Rattle.blot_types.specs.Keys.{same_exec}
+use Rattle.blot_types.specs.Standing.{chain_under}
 use Rattle.blot_chain.specs.declared.rooted.Rooted.{Rooted}
 
 -- whether a link of this role brings a version to its chain: a Trade and a Correct do
@@ -44,13 +45,6 @@ refers key item = refers_to key item.link.role
 abbrev pub kept_root : Rooted → Option ExecKey
 kept_root item = if is_version item.link.role then Some item.root else None
 
--- the root of the chain of a link: a Trade begins that of its own key, a Correct and a Bust have the root of
--- their reference
-abbrev pub chain_root : List Link → ExecKey → Role → Option ExecKey
-chain_root earlier key Begins = Some key
-chain_root earlier key (Corrects reference) = root_in earlier reference
-chain_root earlier key (Busts reference) = root_in earlier reference
-
 -- the number of its link
 abbrev pub link_number : Rooted → ℕ
 link_number item = item.link.number
@@ -62,7 +56,7 @@ links_in rooted = map (λ item. item.link) rooted
 -- beside each link stands the root of its chain
 abbrev pub AreRooted : List Rooted → Type 0
 AreRooted [] = ⊤
-AreRooted (item ∷ earlier) = (chain_root (links_in earlier) item.link.key item.link.role ≡ Some item.root) × AreRooted earlier
+AreRooted (item ∷ earlier) = (chain_under (links_in earlier) item.link.key item.link.role ≡ Some item.root) × AreRooted earlier
 
 -- the root of a key, as the newest slot of that key tells it, live or lifted
 abbrev pub slot_root : List (Slot Rooted) → ExecKey → Option ExecKey

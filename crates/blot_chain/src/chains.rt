@@ -3,7 +3,7 @@ ghost use Rattle.std.specs.Prelude.{◌≡◌, [], Some, None, IfSome, IsSome, I
 ghost use Rattle.blot_types.specs.declared.link.Role.TheVariants.{Begins, Corrects, Busts};
 ghost use Rattle.blot_types.specs.Chains.{root_in, current_in, bust_in, taker_in, link_refusal, is_above_links, is_chained, first_needing_link, version_after_in, version_before_in};
 ghost use Rattle.blot_types.specs.Laws.{IsOneTrade};
-ghost use Rattle.blot_chain.specs.Rooted.{chain_root};
+ghost use Rattle.blot_types.specs.Standing.{chain_under};
 ghost use Rattle.blot_chain.specs.Standing.{standing_root_in, standing_version_in};
 ghost use Rattle.blot_chain.specs.Steps.{Adds, AddsOne, CanReturn, IsNewest, exec_refusal, lifted_out, link_at, put_back};
 
@@ -257,7 +257,7 @@ impl Chains {
         requires accepted { link_refusal self.old.list key.now role ≡ None }
         requires above { IsTrue (is_above_links number self.old.list) }
         requires above_kept { IsTrue (is_above_links number self.old.kept) }
-        requires rooted { chain_root self.old.list key.now role ≡ Some root.now }
+        requires rooted { chain_under self.old.list key.now role ≡ Some root.now }
         ensures ok { OnOk result (Adds number key.now role self.old self.new) }
         ensures kept { self.new.kept ≡ self.old.kept }
         ensures err { OnErr result (self.new ≡ self.old) }

@@ -22,7 +22,7 @@ use Rattle.blot_types.specs.Survivors.{links_of, versions_of, survivors}
 use Rattle.blot_types.proofs.BringLemmas.{found-All}
 use Rattle.blot_types.proofs.ChainLemmas.{differing}
 use Rattle.blot_types.proofs.KeyLemmas.{same_exec-refl, same_exec-sym}
-use Rattle.blot_types.proofs.PartLemmas.{part_under, parts_under, total-named, NamesMore, moves-chain, chain-standing}
+use Rattle.blot_types.proofs.PartLemmas.{part_under, parts_under, total-named, NamesMore, moves-chain, chain-standing, MovesChain}
 use Rattle.blot_types.proofs.StandLemmas.{and-true, and-false}
 use Rattle.blot_types.proofs.SumLemmas.{total-cons}
 use Rattle.blot_position.specs.Positions.{Cells, has_cell}
@@ -129,93 +129,49 @@ AlwaysLight list others count qty = (named : ExecKey → Bool) → Light count q
 pub relight : (changes : List Change) (cells : Cells) (count qty count' qty' : ℕ) (whole : Whole) → Reaches changes cells count qty whole → Light count' qty' whole → Reaches changes cells count' qty' whole
 relight changes cells count qty count' qty' whole reached light = record { can = reached.can; carried = reached.carried; light = light }
 
--- one chain goes to the house account
-house_one :
-    (list : List Entry) (cells : Cells) (count qty : ℕ) (root : ExecKey) (found : Option Version) (before after : ExecKey → Bool) (others : Whole) → standing list root ≡ found
-    → IsBooked list cells → NamesMore root before after → Carries (beside list before others) cells → AlwaysLight list others count qty → IsCount others
-    → IsLightEnough (count + 2) (qty + 2 * 10 ^ 16)
-    → Reaches (flat_map to_house (cons_option found [])) cells count qty (beside list after others)
-house_one list cells count qty root None before after others is booked names carried light some enough =
-    let chain : survivors_of_chain list root ≡ [] = chain-standing list root booked.book ∙ ap (λ o. cons_option o []) is in
+-- the version that stands of a chain leaves one account for another: its own and the house account, by what it was named and is
+move_one :
+    (list : List Entry) (cells : Cells) (count qty : ℕ) (root : ExecKey) (found : Option Version) (before after : ExecKey → Bool) (others rest : Whole) (was is : Bool)
+    → standing list root ≡ found → IsBooked list cells
+    → ((f : Part → ℤ) → total f (parts_under before (links_of list) (survivors list)) ≡ (total (λ v. f (part_of_fill was v.fill)) (survivors_of_chain list root) +ℤ rest f))
+    → ((f : Part → ℤ) → total f (parts_under after (links_of list) (survivors list)) ≡ (total (λ v. f (part_of_fill is v.fill)) (survivors_of_chain list root) +ℤ rest f))
+    → ((version : Version) → HasFillCells cells version.fill → has_cell cells (account_of is version.fill) version.fill.symbol ≡ true)
+    → Carries (beside list before others) cells → AlwaysLight list others count qty → IsCount (λ f. rest f +ℤ others f) → IsLightEnough (count + 2) (qty + 2 * 10 ^ 16)
+    → Reaches (flat_map (λ version. taken_out (part_of_fill was version.fill) ∷ put_in (part_of_fill is version.fill) ∷ []) (cons_option found [])) cells count qty (beside list after others)
+move_one list cells count qty root None before after others rest was is stands booked sum_was sum_is made carried light low enough =
+    let chain : survivors_of_chain list root ≡ [] = chain-standing list root booked.book ∙ ap (λ o. cons_option o []) stands in
     let same : SameWhole (beside list before others) (beside list after others) =
     λ f.
-    let moved = moves-chain f list root before after names in
-    let was : total f (parts_under before (links_of list) (survivors list)) ≡ (pos 0 +ℤ moved.rest) = rw chain at moved.was in
-    let now : total f (parts_under after (links_of list) (survivors list)) ≡ (pos 0 +ℤ moved.rest) = rw chain at moved.is in
-    omega (arith, ints, was, now) in
+    let old : total f (parts_under before (links_of list) (survivors list)) ≡ (pos 0 +ℤ rest f) = rw chain at sum_was f in
+    let new : total f (parts_under after (links_of list) (survivors list)) ≡ (pos 0 +ℤ rest f) = rw chain at sum_is f in
+    omega (arith, ints, old, new) in
     reach-same [] cells count qty (beside list before others) (beside list after others) same (reach-nothing cells count qty (beside list before others) carried (light before))
-house_one list cells count qty root (Some version) before after others is booked names carried light some enough =
-    let chain : survivors_of_chain list root ≡ version ∷ [] = chain-standing list root booked.book ∙ ap (λ o. cons_option o []) is in
-    let fits : FillFits version.fill = standing-All list (λ v. FillFits v.fill) root version booked.fits is in
-    let made : HasFillCells cells version.fill = standing-All list (λ v. HasFillCells cells v.fill) root version booked.made is in
-    let gone = part_of_fill false version.fill in
-    let come = part_of_fill true version.fill in
-    let rest : Whole = λ f. (moves-chain f list root before after names).rest +ℤ others f in
-    let was : SameWhole (beside list before others) (more gone rest) =
+move_one list cells count qty root (Some version) before after others rest was is stands booked sum_was sum_is made carried light low enough =
+    let chain : survivors_of_chain list root ≡ version ∷ [] = chain-standing list root booked.book ∙ ap (λ o. cons_option o []) stands in
+    let fits : FillFits version.fill = standing-All list (λ v. FillFits v.fill) root version booked.fits stands in
+    let there : HasFillCells cells version.fill = standing-All list (λ v. HasFillCells cells v.fill) root version booked.made stands in
+    let gone = part_of_fill was version.fill in
+    let come = part_of_fill is version.fill in
+    let whole : Whole = λ f. rest f +ℤ others f in
+    let old : SameWhole (beside list before others) (more gone whole) =
     λ f.
-    let moved = moves-chain f list root before after names in
-    let sum : total f (parts_under before (links_of list) (survivors list)) ≡ (total (λ v. f (part_of_fill false v.fill)) (version ∷ []) +ℤ moved.rest) = rw chain at moved.was in
-    let one = one_part f false version in
+    let sum : total f (parts_under before (links_of list) (survivors list)) ≡ (total (λ v. f (part_of_fill was v.fill)) (version ∷ []) +ℤ rest f) = rw chain at sum_was f in
+    let one = one_part f was version in
     omega (arith, ints, sum, one) in
-    let now : SameWhole (more come rest) (beside list after others) =
+    let new : SameWhole (more come whole) (beside list after others) =
     λ f.
-    let moved = moves-chain f list root before after names in
-    let sum : total f (parts_under after (links_of list) (survivors list)) ≡ (total (λ v. f (part_of_fill true v.fill)) (version ∷ []) +ℤ moved.rest) = rw chain at moved.is in
-    let one = one_part f true version in
+    let sum : total f (parts_under after (links_of list) (survivors list)) ≡ (total (λ v. f (part_of_fill is v.fill)) (version ∷ []) +ℤ rest f) = rw chain at sum_is f in
+    let one = one_part f is version in
     omega (arith, ints, sum, one) in
-    let small_gone = fits false in
-    let small_come = fits true in
+    let small_gone = fits was in
+    let small_come = fits is in
     let small : (qty + unsigned_abs gone.qty) + unsigned_abs come.qty ≤ qty + 2 * 10 ^ 16 = omega (arith, small_gone.qty, small_come.qty) in
     let swapped =
-    reach-swap gone come cells count qty rest (Carries-same (beside list before others) (more gone rest) cells was carried) (Light-same (beside list before others) (more gone rest) count qty was (light before))
-    (rest_low list root before after names others some) small_gone small_come made.housed
+    reach-swap gone come cells count qty whole (Carries-same (beside list before others) (more gone whole) cells old carried) (Light-same (beside list before others) (more gone whole) count qty old (light before))
+    low small_gone small_come (made version there)
     (less_enough (count + 2) (count + 2) (qty + 2 * 10 ^ 16) ((qty + unsigned_abs gone.qty) + unsigned_abs come.qty) (omega arith) small enough) in
     relight (taken_out gone ∷ put_in come ∷ []) cells (count + 2) ((qty + unsigned_abs gone.qty) + unsigned_abs come.qty) count qty (beside list after others)
-    (reach-same (taken_out gone ∷ put_in come ∷ []) cells (count + 2) ((qty + unsigned_abs gone.qty) + unsigned_abs come.qty) (more come rest) (beside list after others) now swapped) (light after)
-
--- and comes back from it
-home_one :
-    (list : List Entry) (cells : Cells) (count qty : ℕ) (root : ExecKey) (found : Option Version) (before after : ExecKey → Bool) (others : Whole) → standing list root ≡ found
-    → IsBooked list cells → NamesMore root after before → Carries (beside list before others) cells → AlwaysLight list others count qty → IsCount others
-    → IsLightEnough (count + 2) (qty + 2 * 10 ^ 16)
-    → Reaches (flat_map from_house (cons_option found [])) cells count qty (beside list after others)
-home_one list cells count qty root None before after others is booked names carried light some enough =
-    let chain : survivors_of_chain list root ≡ [] = chain-standing list root booked.book ∙ ap (λ o. cons_option o []) is in
-    let same : SameWhole (beside list before others) (beside list after others) =
-    λ f.
-    let moved = moves-chain f list root after before names in
-    let was : total f (parts_under after (links_of list) (survivors list)) ≡ (pos 0 +ℤ moved.rest) = rw chain at moved.was in
-    let now : total f (parts_under before (links_of list) (survivors list)) ≡ (pos 0 +ℤ moved.rest) = rw chain at moved.is in
-    omega (arith, ints, was, now) in
-    reach-same [] cells count qty (beside list before others) (beside list after others) same (reach-nothing cells count qty (beside list before others) carried (light before))
-home_one list cells count qty root (Some version) before after others is booked names carried light some enough =
-    let chain : survivors_of_chain list root ≡ version ∷ [] = chain-standing list root booked.book ∙ ap (λ o. cons_option o []) is in
-    let fits : FillFits version.fill = standing-All list (λ v. FillFits v.fill) root version booked.fits is in
-    let made : HasFillCells cells version.fill = standing-All list (λ v. HasFillCells cells v.fill) root version booked.made is in
-    let gone = part_of_fill true version.fill in
-    let come = part_of_fill false version.fill in
-    let rest : Whole = λ f. (moves-chain f list root after before names).rest +ℤ others f in
-    let was : SameWhole (beside list before others) (more gone rest) =
-    λ f.
-    let moved = moves-chain f list root after before names in
-    let sum : total f (parts_under before (links_of list) (survivors list)) ≡ (total (λ v. f (part_of_fill true v.fill)) (version ∷ []) +ℤ moved.rest) = rw chain at moved.is in
-    let one = one_part f true version in
-    omega (arith, ints, sum, one) in
-    let now : SameWhole (more come rest) (beside list after others) =
-    λ f.
-    let moved = moves-chain f list root after before names in
-    let sum : total f (parts_under after (links_of list) (survivors list)) ≡ (total (λ v. f (part_of_fill false v.fill)) (version ∷ []) +ℤ moved.rest) = rw chain at moved.was in
-    let one = one_part f false version in
-    omega (arith, ints, sum, one) in
-    let small_gone = fits true in
-    let small_come = fits false in
-    let small : (qty + unsigned_abs gone.qty) + unsigned_abs come.qty ≤ qty + 2 * 10 ^ 16 = omega (arith, small_gone.qty, small_come.qty) in
-    let swapped =
-    reach-swap gone come cells count qty rest (Carries-same (beside list before others) (more gone rest) cells was carried) (Light-same (beside list before others) (more gone rest) count qty was (light before))
-    (rest_low list root after before names others some) small_gone small_come made.own
-    (less_enough (count + 2) (count + 2) (qty + 2 * 10 ^ 16) ((qty + unsigned_abs gone.qty) + unsigned_abs come.qty) (omega arith) small enough) in
-    relight (taken_out gone ∷ put_in come ∷ []) cells (count + 2) ((qty + unsigned_abs gone.qty) + unsigned_abs come.qty) count qty (beside list after others)
-    (reach-same (taken_out gone ∷ put_in come ∷ []) cells (count + 2) ((qty + unsigned_abs gone.qty) + unsigned_abs come.qty) (more come rest) (beside list after others) now swapped) (light after)
+    (reach-same (taken_out gone ∷ put_in come ∷ []) cells (count + 2) ((qty + unsigned_abs gone.qty) + unsigned_abs come.qty) (more come whole) (beside list after others) new swapped) (light after)
 
 -- ---- the chains of some roots
 
@@ -282,7 +238,10 @@ reach-house list (root ∷ roots) cells count qty named others booked free apart
       is = own;
       others = λ other apart_from. sym (ap (λ b. b || named other) (same_exec-sym root other ∙ apart_from));
     } in
-    let first = house_one list cells count qty root (standing list root) named after others refl booked names carried light some enough in
+    let chain : (f : Part → ℤ) → MovesChain f list root named after = λ f. moves-chain f list root named after names in
+    let first =
+    move_one list cells count qty root (standing list root) named after others (λ f. (chain f).rest) false true refl booked (λ f. (chain f).was) (λ f. (chain f).is)
+    (λ version made. made.housed) carried light (rest_low list root named after names others some) enough in
     let moved = flat_map to_house (cons_option (standing list root) []) in
     let cells_after = changed_all moved cells in
     let free_rest : All (λ r. after r ≡ false) roots =
@@ -311,7 +270,10 @@ reach-home list (root ∷ roots) cells count qty named others booked held apart 
       is = here;
       others = λ other apart_from. ap (λ b. named other && not b) (same_exec-sym root other ∙ apart_from) ∙ and-true (named other);
     } in
-    let first = home_one list cells count qty root (standing list root) named after others refl booked names carried light some enough in
+    let chain : (f : Part → ℤ) → MovesChain f list root after named = λ f. moves-chain f list root after named names in
+    let first =
+    move_one list cells count qty root (standing list root) named after others (λ f. (chain f).rest) true false refl booked (λ f. (chain f).is) (λ f. (chain f).was)
+    (λ version made. made.own) carried light (rest_low list root after named names others some) enough in
     let moved = flat_map from_house (cons_option (standing list root) []) in
     let cells_after = changed_all moved cells in
     let held_rest : All (λ r. after r ≡ true) roots =

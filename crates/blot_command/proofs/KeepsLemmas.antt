@@ -4,7 +4,7 @@ use Rattle.std.specs.Prelude.{Contains, find, nat_eq, not}
 use Rattle.std.proofs.lemmas.Bool.{cases_Bool, eqb-true, eq-eqb}
 use Rattle.std.proofs.lemmas.Option.{same_Some}
 use Rattle.std.proofs.lemmas.List.{map-append}
-use Rattle.std.proofs.lemmas.List.Elements.{All-weaker, All-contains, All-contains_itself, Contains-append_left, Contains-append_right, Contains-append_cases, Contains-push, Contains-push_cases}
+use Rattle.std.proofs.lemmas.List.Elements.{All-weaker, All-contains, All-contains_itself, Contains-append_left, Contains-append_right, Contains-append_cases, Contains-push_cases}
 use Rattle.blot_types.specs.declared.command.Entry.{Entry}
 use Rattle.blot_types.specs.Legal.{is_book, without}
 use Rattle.blot_types.proofs.LawLemmas.{book_parts}
@@ -97,9 +97,6 @@ numbers-push list entry = map-append entry_number list (entry ∷ [])
 
 pub pushed_was : (list : List Entry) (entry : Entry) (n : ℕ) → Contains (numbers_of list) n → Contains (numbers_of (list ++ entry ∷ [])) n
 pushed_was list entry n within = subst (λ l. Contains l n) (sym (numbers-push list entry)) (Contains-append_left (numbers_of list) (entry.number ∷ []) n within)
-
-pub pushed_own : (list : List Entry) (entry : Entry) → Contains (numbers_of (list ++ entry ∷ [])) entry.number
-pushed_own list entry = subst (λ l. Contains l entry.number) (sym (numbers-push list entry)) (Contains-push (numbers_of list) entry.number)
 
 pushed_number : (list : List Entry) (entry : Entry) (n : ℕ) → Contains (numbers_of (list ++ entry ∷ [])) n → Contains (numbers_of list) n ⊎ (entry.number ≡ n)
 pushed_number list entry n within = Contains-push_cases (numbers_of list) entry.number n (subst (λ l. Contains l n) (numbers-push list entry) within)

@@ -1,5 +1,5 @@
 -- The entry that takes up a key, among those newest first.
-use Rattle.std.proofs.Common.{◌≡◌, ℕ, ◌+◌, ◌<◌, Bool, true, false, List, [], ◌∷◌, ◌++◌, reverse, Option, Some, None, refl, sym, ap, subst, ◌∙◌, arith, inl, inr}
+use Rattle.std.proofs.Common.{◌≡◌, ℕ, ◌+◌, ◌<◌, true, false, List, [], ◌∷◌, ◌++◌, reverse, Option, Some, None, refl, sym, ap, subst, ◌∙◌, arith, inl, inr}
 use Rattle.std.specs.Prelude.{IfSome, find, nat_lt, if◌then◌else◌}
 use Rattle.std.specs.List.{cons_option}
 use Rattle.std.specs.Option.{option_and_then, option_map, option_map_or}
@@ -27,7 +27,8 @@ use Rattle.blot_types.specs.Survivors.{link_by, link_of, links_in, links_of}
 use Rattle.blot_types.proofs.EntryLemmas.{is_above_links-links}
 use Rattle.blot_command.specs.Book.{has_number}
 use Rattle.blot_command.proofs.ChainEntryLemmas.{before-under, chain-parts, found-later, found-own, found-turned, from-before, from-current, from_in}
-use Rattle.blot_command.specs.Questions.{allocation_of, chain_in, chain_keyed, entry_in, takes_alloc, takes_exec}
+use Rattle.blot_command.specs.Withdrawing.{takes_exec}
+use Rattle.blot_command.specs.Questions.{allocation_of, chain_in, chain_keyed, entry_in, takes_alloc}
 
 -- the entry of a number, newest first
 abbrev pub entry_at : List Entry → Option ℕ → Option Entry

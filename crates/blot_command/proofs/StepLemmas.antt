@@ -13,7 +13,7 @@ use Rattle.blot_command.specs.declared.fault.ApplyFault.TheVariants.{Refused as 
 use Rattle.blot_command.specs.Book.{Shown, entry_number, numbers_of, command_at}
 use Rattle.blot_command.specs.Law.{lawful_by}
 use Rattle.blot_command.specs.Meanings.{meaning_by, entry_meaning}
-use Rattle.blot_command.specs.Undoable.{AllBelow, IsAboveNumbers, IsStep, numbers_in, Adds, TakesOut, Undoes}
+use Rattle.blot_command.specs.Undoable.{AllBelow, IsStep, numbers_in, Adds, TakesOut, Undoes}
 use Rattle.blot_command.specs.Withdrawing.{with_entry, HasLast}
 use Rattle.blot_command.proofs.WithinLemmas.{cons_cases, none_within}
 use Rattle.blot_command.proofs.KeepsLemmas.{Carries, carries_numbers, carries_push, carries_pop, popped_within, entries_within, numbers_from, keeps_earlier-entry, number_gone}
@@ -52,7 +52,7 @@ is_of_kind embed project back book inverse command (earlier, c, number, undoes) 
     kind_of project (command_at book.list inverse) command c given is
 
 -- a number above all numbers in a book is above those of the list, and of what is kept
-pub above_list : (number : ℕ) (book : Shown) → IsAboveNumbers entry_meaning number book → AllBelow number (numbers_of book.list)
+pub above_list : (number : ℕ) (book : Shown) → AllBelow number (numbers_in entry_meaning book) → AllBelow number (numbers_of book.list)
 above_list number book above =
     All-weaker (Contains (numbers_of book.list)) (λ k. k < number)
     (λ k within. All-contains (λ k. k < number) (numbers_in entry_meaning book) k above (Contains-append_right (numbers_of book.kept) (numbers_of book.list) k within))
@@ -64,7 +64,7 @@ above_entries number (entry ∷ entries) below =
     and_from _ _ (lt-ltb entry.number number (All-head (λ k. k < number) entry.number (numbers_of entries) below))
     (above_entries number entries (All-tail (λ k. k < number) entry.number (numbers_of entries) below))
 
-pub above_kept : (number : ℕ) (book : Shown) → IsAboveNumbers entry_meaning number book → is_above_entries number book.kept ≡ true
+pub above_kept : (number : ℕ) (book : Shown) → AllBelow number (numbers_in entry_meaning book) → is_above_entries number book.kept ≡ true
 above_kept number book above =
     above_entries number book.kept (All-weaker (Contains (numbers_of book.kept)) (λ k. k < number)
     (λ k within. All-contains (λ k. k < number) (numbers_in entry_meaning book) k above (Contains-append_left (numbers_of book.kept) (numbers_of book.list) k within))
@@ -82,7 +82,7 @@ has_last book inverse (earlier, command, number, undoes) = record {
 -- ---- what the state keeps
 
 -- an entry that came above all numbers
-pub adds : (old : Shown) (entry : Entry) → IsAboveNumbers entry_meaning entry.number old → Adds entry_meaning entry.number entry.number old (with_entry entry old)
+pub adds : (old : Shown) (entry : Entry) → AllBelow entry.number (numbers_in entry_meaning old) → Adds entry_meaning entry.number entry.number old (with_entry entry old)
 adds old entry above =
     let carries = carries_push old entry in
     record {
@@ -94,7 +94,7 @@ adds old entry above =
 
 -- and that the book accepts
 pub enters :
-    (old new : Shown) (command : Command) (number : ℕ) → is_book old.list ≡ true → entry_refusal old.list command ≡ None → IsAboveNumbers entry_meaning number old → number ≤ EVENTS_MAX
+    (old new : Shown) (command : Command) (number : ℕ) → is_book old.list ≡ true → entry_refusal old.list command ≡ None → AllBelow number (numbers_in entry_meaning old) → number ≤ EVENTS_MAX
     → new ≡ with_entry (record { number = number; command = command }) old → IsStep entry_meaning old.list command number number new.list
 enters old new command number book accepted above within is = record {
   valid = book;

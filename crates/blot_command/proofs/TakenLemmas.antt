@@ -31,7 +31,7 @@ use Rattle.blot_command.specs.declared.inverse.Inverse.TheVariants.{Number, Take
 use Rattle.blot_command.specs.Book.{Shown, entry_number, has_number, numbers_of, after, inverse_of}
 use Rattle.blot_command.specs.Law.{enters_or_takes, entry_lawful, has_entry}
 use Rattle.blot_command.specs.Meanings.{entry_meaning, command_meaning}
-use Rattle.blot_command.specs.Undoable.{AllBelow, IsAboveNumbers, IsStep, Adds, UndoesStep, Undoes, TakesOut}
+use Rattle.blot_command.specs.Undoable.{AllBelow, IsStep, Adds, UndoesStep, Undoes, TakesOut, numbers_in}
 use Rattle.blot_command.specs.Withdrawing.{with_entry, lifted, returned, takes_exec, shares_exec, CanReturn, Keeps}
 use Rattle.blot_command.proofs.WithinLemmas.{mapped, within_turned}
 use Rattle.blot_command.proofs.KeepsLemmas.{Carries, carries_numbers, carries_push, carries_pop, carries_out, carries_in, within-out, within-in, keeps_earlier, listed_in, entries_within, numbers_within, number_within, numbers_from, Parted, parted, own_within}
@@ -257,7 +257,7 @@ without_twice n (first ∷ kept) =
 -- what the state keeps for a step that took an entry out, and for the earlier ones
 pub withdraw_adds :
     (old new : Shown) (taken number : ℕ) (entry : Entry) → is_book old.list ≡ true → find (has_number taken) old.list ≡ Some entry
-    → new ≡ lifted entry old → CanReturn entry new → IsAboveNumbers command_meaning number old
+    → new ≡ lifted entry old → CanReturn entry new → AllBelow number (numbers_in command_meaning old)
     → Adds command_meaning number (Taken entry) old new
 withdraw_adds old new taken number entry book found is can above =
     let rest = without entry.number old.list in

@@ -26,7 +26,7 @@ has_number number entry = entry.number == number
 
 -- the numbers of a list of entries
 abbrev pub numbers_of : List Entry → List ℕ
-numbers_of list = map entry_number list
+numbers_of list = map (λ entry. entry.number) list
 
 -- the list after a command that is an entry: it stands at its end under its number
 abbrev pub entered : List Entry → Command → ℕ → List Entry

@@ -1,7 +1,7 @@
 -- The kinds of command, each read back from the command that it is.
 use Rattle.std.specs.Prelude.{ℕ, Option, Some, None, refl}
 use Rattle.blot_types.specs.declared.command.Command.{Command}
-use Rattle.blot_types.specs.declared.command.Command.TheVariants.{Trade as TradeCommand, Correct as CorrectCommand, Bust as BustCommand, AllocNew as NewCommand, AllocReplace as ReplaceCommand, AllocCancel as CancelCommand, Withdraw as WithdrawCommand}
+use Rattle.blot_types.specs.declared.command.Command.TheVariants.{Trade as TradeCommand, Correct as CorrectCommand, Bust as BustCommand, AllocNew as NewCommand, AllocReplace as ReplaceCommand, AllocCancel as CancelCommand}
 use Rattle.blot_types.specs.declared.command.AllocCancel.{AllocCancel}
 use Rattle.blot_types.specs.declared.command.AllocNew.{AllocNew}
 use Rattle.blot_types.specs.declared.command.AllocReplace.{AllocReplace}
@@ -15,12 +15,7 @@ use Rattle.blot_command.specs.Undoable.{IsLawful}
 -- a Trade, where the command is one
 abbrev pub trade_of : Command → Option Trade
 trade_of (TradeCommand trade) = Some trade
-trade_of (CorrectCommand correct) = None
-trade_of (BustCommand bust) = None
-trade_of (NewCommand new) = None
-trade_of (ReplaceCommand replace) = None
-trade_of (CancelCommand cancel) = None
-trade_of (WithdrawCommand withdrawn) = None
+trade_of _ = None
 
 -- what a Trade means on the book
 abbrev pub trade_meaning : BookMeaning Trade ℕ
@@ -33,12 +28,7 @@ trade_lawful = lawful_by TradeCommand trade_of (λ trade. refl)
 -- a Correct, where the command is one
 abbrev pub correct_of : Command → Option Correct
 correct_of (CorrectCommand correct) = Some correct
-correct_of (TradeCommand trade) = None
-correct_of (BustCommand bust) = None
-correct_of (NewCommand new) = None
-correct_of (ReplaceCommand replace) = None
-correct_of (CancelCommand cancel) = None
-correct_of (WithdrawCommand withdrawn) = None
+correct_of _ = None
 
 -- what a Correct means on the book
 abbrev pub correct_meaning : BookMeaning Correct ℕ
@@ -51,12 +41,7 @@ correct_lawful = lawful_by CorrectCommand correct_of (λ correct. refl)
 -- a Bust, where the command is one
 abbrev pub bust_of : Command → Option Bust
 bust_of (BustCommand bust) = Some bust
-bust_of (TradeCommand trade) = None
-bust_of (CorrectCommand correct) = None
-bust_of (NewCommand new) = None
-bust_of (ReplaceCommand replace) = None
-bust_of (CancelCommand cancel) = None
-bust_of (WithdrawCommand withdrawn) = None
+bust_of _ = None
 
 -- what a Bust means on the book
 abbrev pub bust_meaning : BookMeaning Bust ℕ
@@ -69,12 +54,7 @@ bust_lawful = lawful_by BustCommand bust_of (λ bust. refl)
 -- an AllocNew, where the command is one
 abbrev pub alloc_new_of : Command → Option AllocNew
 alloc_new_of (NewCommand command) = Some command
-alloc_new_of (TradeCommand trade) = None
-alloc_new_of (CorrectCommand correct) = None
-alloc_new_of (BustCommand bust) = None
-alloc_new_of (ReplaceCommand replace) = None
-alloc_new_of (CancelCommand cancel) = None
-alloc_new_of (WithdrawCommand withdrawn) = None
+alloc_new_of _ = None
 
 -- what an AllocNew means on the book
 abbrev pub alloc_new_meaning : BookMeaning AllocNew ℕ
@@ -87,12 +67,7 @@ alloc_new_lawful = lawful_by NewCommand alloc_new_of (λ command. refl)
 -- an AllocReplace, where the command is one
 abbrev pub alloc_replace_of : Command → Option AllocReplace
 alloc_replace_of (ReplaceCommand command) = Some command
-alloc_replace_of (TradeCommand trade) = None
-alloc_replace_of (CorrectCommand correct) = None
-alloc_replace_of (BustCommand bust) = None
-alloc_replace_of (NewCommand new) = None
-alloc_replace_of (CancelCommand cancel) = None
-alloc_replace_of (WithdrawCommand withdrawn) = None
+alloc_replace_of _ = None
 
 -- what an AllocReplace means on the book
 abbrev pub alloc_replace_meaning : BookMeaning AllocReplace ℕ
@@ -105,12 +80,7 @@ alloc_replace_lawful = lawful_by ReplaceCommand alloc_replace_of (λ command. re
 -- an AllocCancel, where the command is one
 abbrev pub alloc_cancel_of : Command → Option AllocCancel
 alloc_cancel_of (CancelCommand command) = Some command
-alloc_cancel_of (TradeCommand trade) = None
-alloc_cancel_of (CorrectCommand correct) = None
-alloc_cancel_of (BustCommand bust) = None
-alloc_cancel_of (NewCommand new) = None
-alloc_cancel_of (ReplaceCommand replace) = None
-alloc_cancel_of (WithdrawCommand withdrawn) = None
+alloc_cancel_of _ = None
 
 -- what an AllocCancel means on the book
 abbrev pub alloc_cancel_meaning : BookMeaning AllocCancel ℕ

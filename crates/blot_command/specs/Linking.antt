@@ -5,7 +5,7 @@ use Rattle.blot_places.specs.declared.slots.Slot.{Slot}
 use Rattle.blot_places.specs.Shown.{Shown}
 use Rattle.blot_types.specs.declared.allocation.Instruction.{Instruction}
 use Rattle.blot_types.specs.declared.command.Command.{Command}
-use Rattle.blot_types.specs.declared.command.Command.TheVariants.{Trade, Correct, Bust, AllocNew, AllocReplace, AllocCancel, Withdraw}
+use Rattle.blot_types.specs.declared.command.Command.TheVariants.{Trade, Correct, Bust, AllocNew, AllocReplace, AllocCancel}
 use Rattle.blot_types.specs.declared.command.Entry.{Entry}
 use Rattle.blot_types.specs.declared.link.Link.{Link}
 use Rattle.blot_types.specs.Allocations.{instruction_by}
@@ -54,39 +54,27 @@ abbrev pub without_link : Command → List Link → List Link
 without_link (Trade trade) links = rest_of links
 without_link (Correct correct) links = rest_of links
 without_link (Bust bust) links = rest_of links
-without_link (AllocNew new) links = links
-without_link (AllocReplace replace) links = links
-without_link (AllocCancel cancel) links = links
-without_link (Withdraw withdrawn) links = links
+without_link _ links = links
 
 -- the instructions without the newest, where a command is an instruction
 abbrev pub without_instruction : Command → List Instruction → List Instruction
-without_instruction (Trade trade) instructions = instructions
-without_instruction (Correct correct) instructions = instructions
-without_instruction (Bust bust) instructions = instructions
 without_instruction (AllocNew new) instructions = rest_of instructions
 without_instruction (AllocReplace replace) instructions = rest_of instructions
 without_instruction (AllocCancel cancel) instructions = rest_of instructions
-without_instruction (Withdraw withdrawn) instructions = instructions
+without_instruction _ instructions = instructions
 
 -- whether a command is a link, or an instruction
 abbrev pub is_link : Command → Bool
 is_link (Trade trade) = true
 is_link (Correct correct) = true
 is_link (Bust bust) = true
-is_link (AllocNew new) = false
-is_link (AllocReplace replace) = false
-is_link (AllocCancel cancel) = false
-is_link (Withdraw withdrawn) = false
+is_link _ = false
 
 abbrev pub is_instruction : Command → Bool
-is_instruction (Trade trade) = false
-is_instruction (Correct correct) = false
-is_instruction (Bust bust) = false
 is_instruction (AllocNew new) = true
 is_instruction (AllocReplace replace) = true
 is_instruction (AllocCancel cancel) = true
-is_instruction (Withdraw withdrawn) = false
+is_instruction _ = false
 
 -- the chains and the allocations once an entry is lifted out of them, whatever came later; and once it is put back
 abbrev pub lifted_chains : Entry → Shown Link → Shown Link

@@ -8,11 +8,12 @@ use Rattle.blot_types.specs.declared.keys.ExecKey.{ExecKey}
 use Rattle.blot_types.specs.Allocations.{instructions_of}
 use Rattle.blot_types.specs.Chains.{bust_in, current_in, is_root}
 use Rattle.blot_types.specs.Instructions.{ended_in, holder_in}
-use Rattle.blot_types.specs.Keys.{same_alloc, same_exec}
-use Rattle.blot_types.specs.Refusals.{alloc_key, exec_key}
+use Rattle.blot_types.specs.Keys.{same_alloc}
+use Rattle.blot_types.specs.Refusals.{alloc_key}
 use Rattle.blot_types.specs.Standing.{chain_by}
 use Rattle.blot_types.specs.Survivors.{link_of, links_in, links_of}
 use Rattle.blot_command.specs.Book.{has_number}
+use Rattle.blot_command.specs.Withdrawing.{takes_exec}
 use Rattle.blot_command.specs.declared.questions.AllocationAnswer.{AllocationAnswer}
 use Rattle.blot_command.specs.declared.questions.ExecutionAnswer.{ExecutionAnswer}
 
@@ -33,10 +34,7 @@ chain_entries list root = reverse (chain_in (reverse list) root)
 abbrev pub entry_in : List Entry → Option ℕ → Option Entry
 entry_in list number = option_and_then (λ n. find (has_number n) list) number
 
--- whether an entry takes up the key of an execution, or of an allocation
-abbrev pub takes_exec : ExecKey → Entry → Bool
-takes_exec key entry = option_map_or (λ own. same_exec own key) (exec_key entry.command) false
-
+-- whether an entry takes up the key of an allocation
 abbrev pub takes_alloc : AllocKey → Entry → Bool
 takes_alloc key entry = option_map_or (λ own. same_alloc own key) (alloc_key entry.command) false
 

@@ -40,10 +40,6 @@ AllBelow number numbers = All (λ earlier. earlier < number) numbers
 abbrev pub numbers_in : {S L C I R : Type 0} → Meaning S L C I R → S → List ℕ
 numbers_in m state = m.spare state ++ m.numbers (m.list_of state)
 
--- a number is above all numbers in a state
-abbrev pub IsAboveNumbers : {S L C I R : Type 0} → Meaning S L C I R → ℕ → S → Type 0
-IsAboveNumbers m number state = AllBelow number (numbers_in m state)
-
 -- a command may be taken next under a number: the list accepts it, and the number is above its numbers
 pub record IsNext {S L C I R : Type 0} (m : Meaning S L C I R) (list : L) (command : C) (number : ℕ) : Type 0 where
   pub accepted : m.refused list command ≡ None
@@ -57,10 +53,6 @@ pub record IsStep {S L C I R : Type 0} (m : Meaning S L C I R) (list : L) (comma
   pub is_next : IsNext m list command number
   pub inverse_is : inverse ≡ m.inverse_of list command number
   pub list_is : next ≡ m.after list command number
-
--- a state took a step: its list did, which led to that of the next state and handed out this inverse
-abbrev pub TakesStep : {S L C I R : Type 0} → Meaning S L C I R → S → C → ℕ → S → I → Type 0
-TakesStep m state command number next inverse = IsStep m (m.list_of state) command number inverse (m.list_of next)
 
 -- the law, on a valid list: what stands before what stands after is the list itself, and the command comes back; after a
 -- number up to EVENTS_MAX a valid list stands

@@ -2,7 +2,7 @@
 ghost use Rattle.std.specs.Prelude.{◌≡◌, ◌≤◌, IfOk, IfErr};
 ghost use Rattle.blot_types.specs.declared.TheConstants.{EVENTS_MAX};
 ghost use Rattle.blot_command.specs.Meanings.{entry_meaning};
-ghost use Rattle.blot_command.specs.Undoable.{IsAboveNumbers, TakesStep, Refuses, IsRefusal, Adds, Undoes, TakesOut};
+ghost use Rattle.blot_command.specs.Undoable.{Refuses, IsRefusal, Adds, Undoes, TakesOut, AllBelow, numbers_in, IsStep};
 ghost use Rattle.blot_command.specs.Withdrawing.{with_command};
 
 use crate::{ApplyFault, BoxedEntry, Tables};
@@ -15,9 +15,9 @@ pub(crate) fn enter(
     command: Command,
     number: u64,
 ) -> Result<u64, (Command, ApplyFault)>
-    requires above { IsAboveNumbers entry_meaning number tables.old }
+    requires above { AllBelow number (numbers_in entry_meaning tables.old) }
     requires within { number ≤ EVENTS_MAX }
-    ensures accepted { IfOk result (TakesStep entry_meaning tables.old command number tables.new) }
+    ensures accepted { IfOk result (λ inverse. IsStep entry_meaning tables.old.list command number inverse tables.new.list) }
     ensures kept { IfOk result (λ inverse. Adds entry_meaning number inverse tables.old tables.new) }
     ensures entered { IfOk result (λ inverse. tables.new ≡ with_command command number tables.old) }
     ensures refused { IfErr result (Refuses entry_meaning tables.old command tables.new) }
@@ -49,9 +49,9 @@ pub(crate) fn enter_boxed(
     tables: &mut Tables,
     entry: BoxedEntry,
 ) -> Result<u64, (BoxedEntry, ApplyFault)>
-    requires above { IsAboveNumbers entry_meaning entry.number tables.old }
+    requires above { AllBelow entry.number (numbers_in entry_meaning tables.old) }
     requires within { entry.number ≤ EVENTS_MAX }
-    ensures accepted { IfOk result (TakesStep entry_meaning tables.old entry.command entry.number tables.new) }
+    ensures accepted { IfOk result (λ inverse. IsStep entry_meaning tables.old.list entry.command entry.number inverse tables.new.list) }
     ensures kept { IfOk result (λ inverse. Adds entry_meaning entry.number inverse tables.old tables.new) }
     ensures entered { IfOk result (λ inverse. tables.new ≡ with_command entry.command entry.number tables.old) }
     ensures number { IfOk result (λ number. number ≡ entry.number) }

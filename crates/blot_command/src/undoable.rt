@@ -1,7 +1,7 @@
 //! What a command of any kind promises.
 ghost use Rattle.std.specs.Prelude.{◌≡◌, ◌≤◌, Some, IfOk, IfErr};
 ghost use Rattle.blot_types.specs.declared.TheConstants.{EVENTS_MAX};
-ghost use Rattle.blot_command.specs.Undoable.{Meaning, IsLawful, IsAboveNumbers, TakesStep, Refuses, Adds, Undoes, TakesOut};
+ghost use Rattle.blot_command.specs.Undoable.{Meaning, IsLawful, Refuses, Adds, Undoes, TakesOut, AllBelow, numbers_in, IsStep};
 
 use blot_types::EVENTS_MAX;
 
@@ -30,9 +30,9 @@ pub trait Undoable: Sized + Drop {
         state: &mut Self::State,
         number: u64,
     ) -> Result<Self::Inverse, (Self, Self::Refusal)>
-        requires above { IsAboveNumbers meaning number state.old }
+        requires above { AllBelow number (numbers_in meaning state.old) }
         requires within { number ≤ EVENTS_MAX }
-        ensures accepted { IfOk result (TakesStep meaning state.old self number state.new) }
+        ensures accepted { IfOk result (λ inverse. IsStep meaning (meaning.list_of state.old) self number inverse (meaning.list_of state.new)) }
         ensures kept { IfOk result (λ inverse. Adds meaning number inverse state.old state.new) }
         ensures refused { IfErr result (Refuses meaning state.old self state.new) };
 

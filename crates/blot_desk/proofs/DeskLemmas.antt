@@ -27,7 +27,7 @@ use Rattle.blot_desk.specs.declared.event.Event.TheVariants.{Submit, Undo, Redo,
 use Rattle.blot_desk.specs.declared.event.Recorded.{Recorded}
 use Rattle.blot_desk.specs.declared.event.Reply.{Reply}
 use Rattle.blot_desk.specs.declared.event.Reply.TheVariants.{Accepted}
-use Rattle.blot_desk.specs.Desk.{DeskBook, Outcome, empty_book, newest_entry_of, submit_by, submit_of, refused_by, undo_by, redo_by, step_of, run_on, run_of, events_of, replies_of, IsRunOf, IsJournal}
+use Rattle.blot_desk.specs.Desk.{DeskBook, Outcome, newest_entry_of, submit_by, submit_of, refused_by, undo_by, redo_by, step_of, run_of, events_of, IsJournal, empty_journal, recorded_of, with_recorded, IsRun}
 
 -- the list's own reason, where the fault gives one
 reason_in : (found : Option Reason) (reason : ApplyFault) (why : Reason) → (option_map Refused found ≡ Some reason) ⊎ ((option_map Refused found ≡ None) × (reason ≡ NoMemory)) → reason ≡ Refused why → found ≡ Some why
@@ -91,15 +91,14 @@ step_next book (AskPosition account symbol) = omega arith
 
 -- the run of a history with one more record
 run_more :
-    (book next : DeskBook) (history : List Recorded) (event : Event) (reply : Reply) → IsRunOf book history → record { book = next; reply = reply } ≡ step_of book event
-    → IsRunOf next (history ++ record { event = event; reply = reply } ∷ [])
+    (book next : DeskBook) (history : List Recorded) (event : Event) (reply : Reply) → IsRun (record { book = book; history = history }) → record { book = next; reply = reply } ≡ step_of book event
+    → IsRun (record { book = next; history = history ++ record { event = event; reply = reply } ∷ [] })
 run_more book next history event reply run is =
     let last : Recorded = record { event = event; reply = reply } in
     ap run_of (map_push (λ (r : Recorded). r.event) history last)
-    ∙ fold-append run_on (record { book = empty_book; replies = [] }) (events_of history) (event ∷ [])
-    ∙ ap (λ run. run_on run event) run
-    ∙ ap (λ (outcome : Outcome). record { book = outcome.book; replies = replies_of history ++ outcome.reply ∷ [] }) (sym is)
-    ∙ ap (λ replies. record { book = next; replies = replies }) (sym (map_push (λ (r : Recorded). r.reply) history last))
+    ∙ fold-append recorded_of empty_journal (events_of history) (event ∷ [])
+    ∙ ap (λ journal. recorded_of journal event) run
+    ∙ ap (λ (outcome : Outcome). record { book = outcome.book; history = with_recorded event outcome.reply history }) (sym is)
 
 -- what a desk keeps after one event more
 pub journal_more :

@@ -1,5 +1,5 @@
 -- A desk's day with a withdrawal, computed.
-use Rattle.std.specs.Prelude.{◌≡◌, ℕ, ◌+◌, ◌*◌, ◌^◌, pos, List, [], ◌∷◌, ◌++◌, map, Some, None, true, false, refl}
+use Rattle.std.specs.Prelude.{◌≡◌, ℕ, ◌+◌, ◌*◌, ◌^◌, pos, List, [], ◌∷◌, map, Some, None, true, false, refl}
 use Rattle.blot_types.specs.declared.command.Command.{Command}
 use Rattle.blot_types.specs.declared.command.Command.TheVariants.{Trade, Bust, Withdraw}
 use Rattle.blot_types.specs.declared.fill.Sign.TheVariants.{Buy}
@@ -9,12 +9,12 @@ use Rattle.blot_command.specs.declared.inverse.Inverse.{Inverse}
 use Rattle.blot_command.specs.declared.inverse.Inverse.TheVariants.{Number}
 use Rattle.blot_command.specs.Book.{Shown}
 use Rattle.blot_command.specs.Meanings.{command_meaning}
-use Rattle.blot_undo.specs.Book.{Stack, book_of, apply_of, undone_of, undo_in, undo_of as undone_book, redo_in, redo_of as redone_book, past, book_undone, book_redone, done_number, undone_number, newest_done, newest_undone}
+use Rattle.blot_undo.specs.Book.{Stack, book_of, apply_of, undone_of, undo_in, undo_of as undone_book, redo_in, redo_of as redone_book, past, done_number, newest_done, newest_undone}
 use Rattle.blot_desk.specs.declared.event.Event.{Event}
 use Rattle.blot_desk.specs.declared.event.Event.TheVariants.{Submit, Undo, Redo, AskOrder}
 use Rattle.blot_desk.specs.declared.event.Recorded.{Recorded}
 use Rattle.blot_desk.specs.declared.event.Reply.TheVariants.{Accepted, Refused, Undone, Redone, Order}
-use Rattle.blot_desk.specs.Desk.{DeskBook, empty_book, refused_by, submit_by, submit_of, undo_by, undo_of, redo_by, redo_of, step_of, undone_once, after_undos, after_redos, run_on, run_of, empty_journal, with_recorded, recorded_of, events_of, list_after, replies_of}
+use Rattle.blot_desk.specs.Desk.{DeskBook, empty_book, refused_by, submit_by, submit_of, undo_by, undo_of, redo_by, redo_of, step_of, undone_once, after_undos, after_redos, run_of, empty_journal, with_recorded, recorded_of, events_of, list_after, replies_of}
 use Rattle.blot_desk.specs.Keeping.{is_ask, kept_events}
 
 abbrev exec : ℕ → ExecKey
@@ -43,7 +43,7 @@ abbrev events : List Event
 events =
     Submit (trade 1) ∷ Submit (bust 4 1) ∷ Submit (trade 2) ∷ Submit (Withdraw 2) ∷ Submit (Withdraw 2) ∷ Undo 4 ∷ Redo ∷ []
 
-replies : (run_of events).replies ≡ Accepted 1 ∷ Accepted 2 ∷ Accepted 3 ∷ Accepted 4 ∷ Refused (NotLive 2) ∷ Undone 4 ∷ Redone 4 ∷ []
+replies : replies_of (run_of events).history ≡ Accepted 1 ∷ Accepted 2 ∷ Accepted 3 ∷ Accepted 4 ∷ Refused (NotLive 2) ∷ Undone 4 ∷ Redone 4 ∷ []
 replies = refl
 
 live : map (λ entry. entry.number) (run_of events).book.list ≡ 1 ∷ 3 ∷ []
@@ -76,17 +76,14 @@ seen_book = refl
 two_steps_ago : map (λ entry. entry.number) (past command_meaning last.list last.done 2) ≡ 1 ∷ 2 ∷ []
 two_steps_ago = refl
 
-steps_undone : map (λ entry. entry.number) (book_undone command_meaning steps).list ≡ 1 ∷ 2 ∷ []
+steps_undone : map (λ entry. entry.number) (undone_book command_meaning (book_of command_meaning steps)).list ≡ 1 ∷ 2 ∷ []
 steps_undone = refl
 
-steps_redone : book_redone command_meaning steps ≡ last
+steps_redone : redone_book command_meaning (book_of command_meaning steps) ≡ last
 steps_redone = refl
 
 done_numbers : map done_number last.done ≡ 4 ∷ 3 ∷ 2 ∷ 1 ∷ []
 done_numbers = refl
-
-undone_numbers : map undone_number undone_last.undone ≡ 4 ∷ []
-undone_numbers = refl
 
 newest_step : map newest_done ([] ∷ last.done ∷ []) ≡ None ∷ Some 4 ∷ []
 newest_step = refl
@@ -168,9 +165,6 @@ asked = record { event = asking; reply = Order None }
 -- and then there is nothing to redo
 abbrev history : List Recorded
 history = asked ∷ record { event = Redo; reply = Refused NothingToRedo } ∷ []
-
-one_more : (run_on (run_of events) Redo).replies ≡ (run_of events).replies ++ Refused NothingToRedo ∷ []
-one_more = refl
 
 at_the_end : with_recorded Redo (Refused NothingToRedo) (asked ∷ []) ≡ history
 at_the_end = refl

@@ -2,10 +2,10 @@
 use Rattle.std.proofs.Common.{◌≡◌, ℕ, zero, suc, ◌+◌, ◌<◌, ◌≤◌, List, [], ◌∷◌, ◌++◌, length, map, reverse, take, get_or, Option, Some, None, refl, sym, ap, ◌∙◌, arith}
 use Rattle.std.specs.Prelude.{slice_get}
 use Rattle.std.specs.List.{cons_option}
-use Rattle.std.proofs.lemmas.List.{append-nil, append_assoc, reverse-append, take_all, take-append-le, take_more, length-append, length-take}
+use Rattle.std.proofs.lemmas.List.{append_assoc, reverse-append, take_more, length-append, length-take}
 use Rattle.blot_desk.specs.declared.event.Recorded.{Recorded}
 use Rattle.blot_desk.specs.declared.question.RefusalRow.{RefusalRow}
-use Rattle.blot_desk.specs.Questions.{newest_refusals, refusal_row, refusals_from}
+use Rattle.blot_desk.specs.Questions.{refusal_row, refusals_from}
 
 -- ---- done steps
 
@@ -73,13 +73,6 @@ pub record IsWalkedTo (history : List Recorded) (count : ℕ) (rows : List Refus
   pub few : length rows ≤ count
   pub whole : rows ++ turned_from history place ≡ reverse (refusals_from 1 history)
 
-pub walk_begins : (history : List Recorded) (count : ℕ) (rows : List RefusalRow) (place : ℕ) → rows ≡ [] → place ≡ length history → IsWalkedTo history count rows place
-walk_begins history count rows place none at = record {
-  within = omega (arith, at);
-  few = omega (arith, ap length none);
-  whole = ap (λ front. front ++ turned_from history place) none ∙ ap (λ n. turned_from history n) at ∙ ap (λ all. reverse (refusals_from 1 all)) (take_all (length history) history (omega arith));
-}
-
 pub walk_on :
     (history : List Recorded) (count place before : ℕ) (rows more : List RefusalRow) (x : Recorded) → IsWalkedTo history count rows place → before + 1 ≡ place → x ≡ get_or history before x
     → more ≡ rows ++ one (row_at place x) → length rows < count → IsWalkedTo history count more before
@@ -94,12 +87,3 @@ walk_on history count place before rows more x walked is_before is put less = re
     one_long : (row : Option RefusalRow) → length (one row) ≤ 1
     one_long None = omega arith
     one_long (Some row) = omega arith
-
-pub walk_ends-front : (history : List Recorded) (count place : ℕ) (rows : List RefusalRow) → IsWalkedTo history count rows place → place ≡ 0 → rows ≡ newest_refusals count history
-walk_ends-front history count place rows walked first =
-    let all : rows ≡ reverse (refusals_from 1 history) = sym (append-nil rows) ∙ ap (λ n. rows ++ turned_from history n) (sym first) ∙ walked.whole in
-    all ∙ sym (take_all count (reverse (refusals_from 1 history)) (omega (arith, walked.few, ap length all)))
-
-pub walk_ends-full : (history : List Recorded) (count place : ℕ) (rows : List RefusalRow) → IsWalkedTo history count rows place → count ≤ length rows → rows ≡ newest_refusals count history
-walk_ends-full history count place rows walked full =
-    sym (ap (take count) (sym walked.whole) ∙ take-append-le count rows (turned_from history place) (omega (arith, full)) ∙ take_all count rows (omega (arith, walked.few)))

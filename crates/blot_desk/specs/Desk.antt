@@ -1,9 +1,9 @@
 -- What a desk does: one event on the book, and a run of events from the empty book.
 use Rattle.std.specs.Prelude.{◌≡◌, ℕ, zero, suc, ◌+◌, ◌≤◌, ◌==◌, Bool, true, false, List, [], ◌∷◌, ◌++◌, length, map, fold, Option, Some, None, if◌then◌else◌}
 use Rattle.std.specs.List.{last_or}
-use Rattle.std.specs.Option.{option_map, option_map_or}
+use Rattle.std.specs.Option.{option_map, unwrap_or}
 use Rattle.blot_types.specs.declared.command.Command.{Command}
-use Rattle.blot_types.specs.declared.command.Command.TheVariants.{Trade, Correct, Bust, AllocNew, AllocReplace, AllocCancel, Withdraw}
+use Rattle.blot_types.specs.declared.command.Command.TheVariants.{Correct, Bust}
 use Rattle.blot_types.specs.declared.command.Entry.{Entry}
 use Rattle.blot_types.specs.declared.refused.Refused.{Refused as Reason}
 use Rattle.blot_types.specs.declared.refused.Refused.TheVariants.{NothingToUndo, Moved, NothingToRedo}
@@ -62,13 +62,9 @@ submit_of book command = submit_by book command (refusal_of book.list command)
 
 -- whether a command corrects or busts an execution
 abbrev pub corrects_or_busts : Command → Bool
-corrects_or_busts (Trade trade) = false
 corrects_or_busts (Correct correct) = true
 corrects_or_busts (Bust bust) = true
-corrects_or_busts (AllocNew new) = false
-corrects_or_busts (AllocReplace replace) = false
-corrects_or_busts (AllocCancel cancel) = false
-corrects_or_busts (Withdraw withdrawn) = false
+corrects_or_busts _ = false
 
 -- undo, by the number of the newest done step: only where it is the one that the caller believes to be newest
 abbrev pub undo_by : DeskBook → ℕ → Option ℕ → Outcome
@@ -101,7 +97,7 @@ step_of book (AskPosition account symbol) = record { book = book; reply = Positi
 
 -- the book after an undo that names its newest done step; where no step is done, the undo is refused
 abbrev pub undone_once : DeskBook → DeskBook
-undone_once book = (step_of book (Undo (option_map_or (λ number. number) (newest_done book.done) 0))).book
+undone_once book = (step_of book (Undo (unwrap_or (newest_done book.done) 0))).book
 
 -- the book after a count of such undos, and after a count of redos
 abbrev pub after_undos : ℕ → DeskBook → DeskBook
@@ -121,24 +117,6 @@ abbrev pub RedosReturn : DeskBook → Type 0
 RedosReturn book = (count : ℕ) → count ≤ length book.done → after_redos count (after_undos count book) ≡ book
 
 -- ---- a run
-
--- a run of events: the book after them, and the reply to each
-pub record Run : Type 0 where
-  pub book : DeskBook
-  pub replies : List Reply
-
--- one event more
-abbrev pub run_on : Run → Event → Run
-run_on run event = record { book = (step_of run.book event).book; replies = run.replies ++ (step_of run.book event).reply ∷ [] }
-
--- the run of events from the empty book
-abbrev pub run_of : List Event → Run
-run_of events = fold run_on (record { book = empty_book; replies = [] }) events
-
--- the reply to an event, after a run of some events
-pub record IsReply (event : Event) (reply : Reply) : Type 0 where
-  pub earlier : List Event
-  pub reply_is : reply ≡ (step_of (run_of earlier).book event).reply
 
 -- what a desk holds: the book, and the recorded events with their replies
 pub record Journal : Type 0 where
@@ -160,6 +138,15 @@ recorded_of journal event = record {
   history = with_recorded event (step_of journal.book event).reply journal.history;
 }
 
+-- the run of events: what a desk holds after them, from the empty book on
+abbrev pub run_of : List Event → Journal
+run_of events = fold recorded_of empty_journal events
+
+-- the reply to an event, after a run of some events
+pub record IsReply (event : Event) (reply : Reply) : Type 0 where
+  pub earlier : List Event
+  pub reply_is : reply ≡ (step_of (run_of earlier).book event).reply
+
 -- the recorded events
 abbrev pub events_of : List Recorded → List Event
 events_of history = map (λ recorded. recorded.event) history
@@ -168,21 +155,17 @@ events_of history = map (λ recorded. recorded.event) history
 abbrev pub list_after : List Recorded → List Entry
 list_after history = (run_of (events_of history)).book.list
 
--- the replies to them
+-- the replies to the events
 abbrev pub replies_of : List Recorded → List Reply
 replies_of history = map (λ recorded. recorded.reply) history
 
--- a book and the replies of a history are those of the run of its events
-abbrev pub IsRunOf : DeskBook → List Recorded → Type 0
-IsRunOf book history = run_of (events_of history) ≡ record { book = book; replies = replies_of history }
-
--- the same of what a desk holds
+-- what a desk holds is the run of its events
 abbrev pub IsRun : Journal → Type 0
-IsRun journal = IsRunOf journal.book journal.history
+IsRun journal = run_of (events_of journal.history) ≡ journal
 
 -- what a desk keeps: its book and replies are the run of its events, of which there are at most EVENTS_MAX; no more
 -- numbers are given than there are events
 pub record IsJournal (book : DeskBook) (history : List Recorded) : Type 0 where
-  pub run : IsRunOf book history
+  pub run : IsRun (record { book = book; history = history })
   pub few : length history ≤ EVENTS_MAX
   pub next : book.next ≤ length history + 1

@@ -1,13 +1,15 @@
 -- The two numbers of a peer, by the frames of a journal: 35=UN sets both, the peer's commands the expected one, and what the blotter
 -- sends to it the next one.
 use Rattle.std.specs.Prelude.{ℕ, ◌+◌, Bool, ◌&&◌, not, List, fold, if◌then◌else◌}
+use Rattle.std.specs.Option.{option_map_or}
 use Rattle.blot_types.specs.Keys.{same_text}
+use Rattle.blot_tag.specs.Fields.{fields_of}
 use Rattle.blot_tag.specs.Walking.{frames_of}
 use Rattle.blot_diary.specs.declared.kept.Content.{Content}
 use Rattle.blot_diary.specs.declared.kept.Content.TheVariants as contents
 use Rattle.blot_diary.specs.declared.kept.Kept.{Kept}
 use Rattle.blot_diary.specs.declared.numbers.Numbers.{Numbers}
-use Rattle.blot_diary.specs.Keeping.{kept_in}
+use Rattle.blot_diary.specs.Keeping.{kept_in, kept_of}
 
 -- those of a peer that was never heard of
 abbrev pub first_numbers : Numbers
@@ -43,6 +45,17 @@ next_after own peer next kept = next_by own peer next kept kept.content
 -- both after a frame
 abbrev pub numbers_after : List ℕ → List ℕ → Numbers → Kept → Numbers
 numbers_after own peer numbers kept = record { expected = expected_after peer numbers.expected kept; next = next_after own peer numbers.next kept }
+
+-- both after a text that is one frame
+abbrev pub numbers_behind : List ℕ → List ℕ → List ℕ → Numbers → Numbers
+numbers_behind own peer text numbers = option_map_or (numbers_after own peer numbers) (kept_of (fields_of text)) numbers
+
+-- the same of two numbers in a pair
+abbrev pub pair_of : Numbers → ℕ × ℕ
+pair_of numbers = (numbers.expected, numbers.next)
+
+abbrev pub pair_behind : List ℕ → List ℕ → List ℕ → ℕ × ℕ → ℕ × ℕ
+pair_behind own peer text pair = pair_of (numbers_behind own peer text (record { expected = pair.0; next = pair.1 }))
 
 -- both after frames
 abbrev pub numbers_in : List ℕ → List ℕ → List (List ℕ) → Numbers

@@ -2,7 +2,8 @@
 ghost use Rattle.std.specs.Prelude.{◌≡◌, ◌≤◌, true, IfOk, IfSome};
 ghost use Rattle.blot_fields.specs.declared.TheConstants.{SEQUENCE_MAX};
 ghost use Rattle.blot_diary.specs.Keeping.{IsInRange};
-ghost use Rattle.blot_diary.specs.Laws.{spells_frames};
+ghost use Rattle.blot_diary.specs.Laws.{counts_frames, spells_frames};
+ghost use Rattle.blot_diary.specs.Numbering.{pair_behind};
 
 use crate::own::event_of_line;
 use crate::{Diary, Numbers, asked_record, is_quiet, numbers_record, wrapped_record};
@@ -14,7 +15,11 @@ use blot_tag::Frame;
 use std::alloc::{AllocError as NoMemory, Global};
 
 impl<D: Device + Drop> FrameKeeper for Diary<D> {
+    ghost numbers_after = { pair_behind };
+
     ghost spells_frames = { λ text command valid brings. spells_frames text command valid brings };
+
+    ghost counts_frames = { λ kept. counts_frames };
 
     fn is_kept() -> bool {
         true

@@ -11,7 +11,8 @@ use Rattle.blot_desk.specs.declared.event.Reply.{Reply}
 use Rattle.blot_desk.specs.declared.fault.DeskFault.{DeskFault}
 use Rattle.blot_desk.specs.declared.receipt.Receipt.{Receipt}
 use Rattle.blot_gateway.specs.declared.ended.Ended.{Ended}
-use Rattle.blot_gateway.specs.Wires.{Did, Answered, Steps}
+use Rattle.blot_gateway.specs.Wires.{Did, Notice, Steps, hands}
+use Rattle.blot_gateway.specs.Wires.Notice.{Handed, HeardOf}
 use Rattle.blot_gateway.specs.AtOnce.{AddsSubmits, EachAdds, EachServed, Follows, IsServed, Keeps, Line, TakesReceipt, is_submit}
 
 -- ---- the receipts of a seat
@@ -33,10 +34,14 @@ adds-on a b c one two =
     }
 
 -- the sink of a seat takes only submits
-adds-steps : (answers : List Answered) (before after : List Receipt) → Steps TakesReceipt before answers after → AddsSubmits before after
+adds-notice : (notice : Notice) (before after : List Receipt) → hands TakesReceipt before notice after → AddsSubmits before after
+adds-notice (Handed answered) before after takes = adds-one before after answered.command answered.answer takes
+adds-notice (HeardOf text heard) before after same = adds-none before after same
+
+adds-steps : (notices : List Notice) (before after : List Receipt) → Steps (hands TakesReceipt) before notices after → AddsSubmits before after
 adds-steps [] before after same = adds-none before after same
-adds-steps (answered ∷ answers) before after steps =
-    adds-on before steps.0 after (adds-one before steps.0 answered.command answered.answer steps.1) (adds-steps answers steps.0 after steps.2)
+adds-steps (notice ∷ notices) before after steps =
+    adds-on before steps.0 after (adds-notice notice before steps.0 steps.1) (adds-steps notices steps.0 after steps.2)
 
 adds-follows : {W C : Type 0} (does : W → Did → W → Type 0) (ticks : C → ℤ → C → Type 0) (answer : Result (List ℕ) Ended) (end : Ended) (unread : List ℕ)
     (before after : Line W C (List Receipt)) → Follows does ticks TakesReceipt answer end unread before after → AddsSubmits before.sink after.sink
@@ -44,7 +49,7 @@ adds-follows does ticks (Err cause) end unread before after follows = adds-none 
 adds-follows does ticks (Ok peer) end unread before after follows =
     elim follows [
       | inl turned ↦ adds-none before.sink after.sink (ap (λ line. line.sink) turned.same)
-      | inr serves ↦ adds-steps serves.served.within.ends.answers before.sink after.sink serves.served.within.ends.happens.sink
+      | inr serves ↦ adds-steps serves.served.within.ends.notices before.sink after.sink serves.served.within.ends.happens.sink
     ]
 
 adds-served : {W C : Type 0} (does : W → Did → W → Type 0) (ticks : C → ℤ → C → Type 0) (failures : W → ℕ) (own : List ℕ)

@@ -11,9 +11,9 @@ use Rattle.blot_session.specs.declared.state.State.{State}
 use Rattle.blot_session.specs.Runs.{Call, AreMet, outcome, actions_of, behind_calls, delivered_by, delivered_of, sent_of}
 use Rattle.blot_gateway.specs.declared.ended.Ended.{Ended}
 use Rattle.blot_gateway.specs.declared.ended.Ended.TheVariants as ended
-use Rattle.blot_gateway.specs.Wires.{Read, Did, Answered, Steps, read_in}
+use Rattle.blot_gateway.specs.Wires.{Read, Did, Notice, Steps, command_in, commands_of, read_in}
 use Rattle.blot_gateway.specs.declared.parties.Parties.{Parties}
-use Rattle.blot_gateway.specs.Serving.{Due, Turn, Happens, InTurn, Runs, Ends, GoesOn, HasLast, Stops, EndsWith, Cause, Wrote, call_in, did_in, due_in, reads_behind, written_in, texts_of, close_in, closed_by, moment_by, moments_of, reply_by, is_served, has_memory, seen_by}
+use Rattle.blot_gateway.specs.Serving.{Due, Turn, Happens, InTurn, Runs, Ends, GoesOn, HasLast, Stops, EndsWith, Cause, Wrote, call_in, did_in, due_in, reads_behind, written_in, texts_of, close_in, closed_by, moment_by, moments_of, is_served, has_memory, told_by, told_in, told_of}
 use Rattle.blot_gateway.proofs.SendingLemmas.{steps-on}
 
 -- ---- two facts at once
@@ -45,6 +45,12 @@ delivered-on [] second state = refl
 delivered-on (call ∷ first) second state =
     let here = delivered_by state.expected (outcome state call).actions in
     ap (λ rest. here ++ rest) (delivered-on first second (outcome state call).state) ∙ sym (append_assoc here _ _)
+
+told-on : (first second : List Call) (state : State) → told_of state (first ++ second) ≡ told_of state first ++ told_of (behind_calls state first) second
+told-on [] second state = refl
+told-on (call ∷ first) second state =
+    let here = told_in state call in
+    ap (λ rest. here ++ rest) (told-on first second (outcome state call).state) ∙ sym (append_assoc here _ _)
 
 pub met-on : (first second : List Call) (state : State) → AreMet state first → AreMet (behind_calls state first) second → AreMet state (first ++ second)
 met-on [] second state one two = two
@@ -126,28 +132,28 @@ cause-behind ended.NoGreeting first second left two = tt
 
 -- ---- what happens
 
-pub happens-on : {W C S : Type 0} (does : W → Did → W → Type 0) (ticks : C → ℤ → C → Type 0) (takes : S → Answered → S → Type 0)
-    (a b c : Parties W C S) (calls calls_b : List Call) (dids dids_b : List Did) (answers answers_b : List Answered)
-    → Happens does ticks takes a calls dids answers b → Happens does ticks takes b calls_b dids_b answers_b c
-    → Happens does ticks takes a (calls ++ calls_b) (dids ++ dids_b) (answers ++ answers_b) c
-happens-on does ticks takes a b c calls calls_b dids dids_b answers answers_b one two =
+pub happens-on : {W C S : Type 0} (does : W → Did → W → Type 0) (ticks : C → ℤ → C → Type 0) (takes : S → Notice → S → Type 0)
+    (a b c : Parties W C S) (calls calls_b : List Call) (dids dids_b : List Did) (notices notices_b : List Notice)
+    → Happens does ticks takes a calls dids notices b → Happens does ticks takes b calls_b dids_b notices_b c
+    → Happens does ticks takes a (calls ++ calls_b) (dids ++ dids_b) (notices ++ notices_b) c
+happens-on does ticks takes a b c calls calls_b dids dids_b notices notices_b one two =
     record {
       session = two.session ∙ ap (λ (state : State). behind_calls state calls_b) one.session ∙ sym (behind-on calls calls_b a.session);
       served = list_all-append is_served calls calls_b ∙ both (list_all is_served calls) (list_all is_served calls_b) one.served two.served;
       met = met-on calls calls_b a.session one.met (subst (λ state. AreMet state calls_b) one.session two.met);
       clock = subst (λ moments. Steps ticks a.clock moments c.clock) (sym (flat_map-append moment_by calls calls_b))
           (steps-on ticks (moments_of calls) (moments_of calls_b) a.clock b.clock c.clock one.clock two.clock);
-      sink = steps-on takes answers answers_b a.sink b.sink c.sink one.sink two.sink;
-      told = map-append (λ answered. seen_by answered.answer) answers answers_b ∙ appended one.told two.told ∙ sym (flat_map-append reply_by calls calls_b);
+      sink = steps-on takes notices notices_b a.sink b.sink c.sink one.sink two.sink;
+      told = map-append told_by notices notices_b ∙ appended one.told (two.told ∙ ap (λ (state : State). told_of state calls_b) one.session) ∙ sym (told-on calls calls_b a.session);
       wire = steps-on does dids dids_b a.wire b.wire c.wire one.wire two.wire;
     }
 
-pub handed-on : (answers answers_b : List Answered) (calls calls_b : List Call) (state next : State) → next ≡ behind_calls state calls
-    → map (λ answered. answered.command) answers ≡ map (λ numbered. numbered.command) (delivered_of state calls)
-    → map (λ answered. answered.command) answers_b ≡ map (λ numbered. numbered.command) (delivered_of next calls_b)
-    → map (λ answered. answered.command) (answers ++ answers_b) ≡ map (λ numbered. numbered.command) (delivered_of state (calls ++ calls_b))
-handed-on answers answers_b calls calls_b state next led one two =
-    map-append (λ answered. answered.command) answers answers_b
+pub handed-on : (notices notices_b : List Notice) (calls calls_b : List Call) (state next : State) → next ≡ behind_calls state calls
+    → commands_of notices ≡ map (λ numbered. numbered.command) (delivered_of state calls)
+    → commands_of notices_b ≡ map (λ numbered. numbered.command) (delivered_of next calls_b)
+    → commands_of (notices ++ notices_b) ≡ map (λ numbered. numbered.command) (delivered_of state (calls ++ calls_b))
+handed-on notices notices_b calls calls_b state next led one two =
+    flat_map-append command_in notices notices_b
     ∙ appended one (two ∙ ap (λ (before : State). map (λ numbered. numbered.command) (delivered_of before calls_b)) led)
     ∙ sym (map-append (λ numbered. numbered.command) (delivered_of state calls) (delivered_of (behind_calls state calls) calls_b))
     ∙ ap (map (λ numbered. numbered.command)) (sym (delivered-on calls calls_b state))
@@ -182,34 +188,34 @@ in-turn-on wrote state next calls calls_b dids dids_b due left rest reads reads_
 
 -- ---- calls in turn
 
-pub runs-on : {W C S : Type 0} (does : W → Did → W → Type 0) (ticks : C → ℤ → C → Type 0) (takes : S → Answered → S → Type 0)
+pub runs-on : {W C S : Type 0} (does : W → Did → W → Type 0) (ticks : C → ℤ → C → Type 0) (takes : S → Notice → S → Type 0)
     (a b c : Parties W C S) (due left rest : List Due) (reads reads_b : List Read)
     → Runs does ticks takes a due reads left b → Runs does ticks takes b left reads_b rest c → Runs does ticks takes a due (reads ++ reads_b) rest c
 runs-on does ticks takes a b c due left rest reads reads_b one two =
     record {
       calls = one.calls ++ two.calls;
       dids = one.dids ++ two.dids;
-      answers = one.answers ++ two.answers;
-      happens = happens-on does ticks takes a b c one.calls two.calls one.dids two.dids one.answers two.answers one.happens two.happens;
+      notices = one.notices ++ two.notices;
+      happens = happens-on does ticks takes a b c one.calls two.calls one.dids two.dids one.notices two.notices one.happens two.happens;
       in_turn = in-turn-on (λ written sent. written ≡ sent) a.session b.session one.calls two.calls one.dids two.dids due left rest reads reads_b
           (λ _ _ _ _ first second. appended first second) one.happens.session one.in_turn two.in_turn;
-      handed = handed-on one.answers two.answers one.calls two.calls a.session b.session one.happens.session one.handed two.handed;
+      handed = handed-on one.notices two.notices one.calls two.calls a.session b.session one.happens.session one.handed two.handed;
       goes_on = goes-on one.calls two.calls a.session one.goes_on (subst (λ state. GoesOn state two.calls) one.happens.session two.goes_on);
     }
 
-pub ends-behind : {W C S : Type 0} (does : W → Did → W → Type 0) (ticks : C → ℤ → C → Type 0) (takes : S → Answered → S → Type 0)
+pub ends-behind : {W C S : Type 0} (does : W → Did → W → Type 0) (ticks : C → ℤ → C → Type 0) (takes : S → Notice → S → Type 0)
     (end : Ended) (a b c : Parties W C S) (due left : List Due) (reads reads_b : List Read)
     → Runs does ticks takes a due reads left b → Ends does ticks takes end b left reads_b c → Ends does ticks takes end a due (reads ++ reads_b) c
 ends-behind does ticks takes end a b c due left reads reads_b one two =
     record {
       calls = one.calls ++ two.calls;
       dids = one.dids ++ two.dids;
-      answers = one.answers ++ two.answers;
+      notices = one.notices ++ two.notices;
       left = two.left;
-      happens = happens-on does ticks takes a b c one.calls two.calls one.dids two.dids one.answers two.answers one.happens two.happens;
+      happens = happens-on does ticks takes a b c one.calls two.calls one.dids two.dids one.notices two.notices one.happens two.happens;
       in_turn = in-turn-on (Wrote end) a.session b.session one.calls two.calls one.dids two.dids due left two.left reads reads_b (wrote-behind end)
           one.happens.session one.in_turn two.in_turn;
-      handed = handed-on one.answers two.answers one.calls two.calls a.session b.session one.happens.session one.handed two.handed;
+      handed = handed-on one.notices two.notices one.calls two.calls a.session b.session one.happens.session one.handed two.handed;
       stops = stops-behind end one.calls two.calls a.session one.goes_on (subst (λ state. Stops end state two.calls) one.happens.session two.stops);
       cause = cause-behind end reads reads_b two.left two.cause;
     }

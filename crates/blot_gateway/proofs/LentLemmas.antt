@@ -5,7 +5,7 @@ use Rattle.blot_session.specs.declared.state.State.{State}
 use Rattle.blot_gateway.specs.declared.ended.Ended.{Ended}
 use Rattle.blot_gateway.specs.declared.parties.Parties.{Parties}
 use Rattle.blot_gateway.specs.Serving.{Served, parties}
-use Rattle.blot_gateway.specs.Wires.{Answered, Did, Steps}
+use Rattle.blot_gateway.specs.Wires.{Did, Notice, Steps}
 
 -- one step of what is behind a reference, which stays the same one
 abbrev pub Lent : {S E : Type 0} → (S → E → S → Type 0) → MutBor S → E → MutBor S → Type 0
@@ -20,7 +20,7 @@ same-behind does before after [] same = ap (λ it. it.ghost_name) same
 same-behind does before after (event ∷ events) steps = same-behind does steps.0 after events steps.2 ∙ steps.1.1
 
 -- so what is served over lent ones is served over those behind them
-pub served-behind : {W C S : Type 0} (does : W → Did → W → Type 0) (ticks : C → ℤ → C → Type 0) (takes : S → Answered → S → Type 0) (most : ℕ) (end : Ended)
+pub served-behind : {W C S : Type 0} (does : W → Did → W → Type 0) (ticks : C → ℤ → C → Type 0) (takes : S → Notice → S → Type 0) (most : ℕ) (end : Ended)
     (before after : Parties (MutBor W) (MutBor C) (MutBor S)) (unread : List ℕ) → Served (Lent does) (Lent ticks) (Lent takes) most end before unread after
     → Served does ticks takes most end (parties before.wire.now before.clock.now before.sink.now before.session) unread (parties after.wire.now after.clock.now after.sink.now after.session)
 served-behind does ticks takes most end before after unread served =
@@ -36,7 +36,7 @@ served-behind does ticks takes most end before after unread served =
         ends = record {
           calls = ends.calls;
           dids = ends.dids;
-          answers = ends.answers;
+          notices = ends.notices;
           left = ends.left;
           happens = record {
             session = happens.session;
@@ -57,7 +57,7 @@ served-behind does ticks takes most end before after unread served =
     }
 
 -- and over what a session and the references are known to be
-pub served-lent : {W C S : Type 0} (does : W → Did → W → Type 0) (ticks : C → ℤ → C → Type 0) (takes : S → Answered → S → Type 0) (most : ℕ) (end : Ended)
+pub served-lent : {W C S : Type 0} (does : W → Did → W → Type 0) (ticks : C → ℤ → C → Type 0) (takes : S → Notice → S → Type 0) (most : ℕ) (end : Ended)
     (before after : Parties (MutBor W) (MutBor C) (MutBor S)) (unread : List ℕ) (session : State) (wire : W) (clock : C) (sink : S)
     → before.session ≡ session → after.wire.now ≡ wire → after.clock.now ≡ clock → after.sink.now ≡ sink → Served (Lent does) (Lent ticks) (Lent takes) most end before unread after
     → Served does ticks takes most end (parties before.wire.now before.clock.now before.sink.now session) unread (parties wire clock sink after.session)

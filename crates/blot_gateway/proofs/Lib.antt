@@ -1,10 +1,12 @@
 pub mod AtOnceLemmas
 mod CallLemmas
 mod DeliveredLemmas
+mod Rows
 mod RunLemmas
 mod GreetingLemmas
 mod LentLemmas
 mod MemoryLemmas
+mod NumbersLemmas
 mod SendingLemmas
 pub mod ServingLemmas
 mod StepLemmas

@@ -1,11 +1,10 @@
 -- A call, and what it comes to.
-use Rattle.std.proofs.Common.{◌≡◌, ℕ, Bool, true, false, List, [], ◌∷◌, ◌++◌, map, Option, Some, None, Result, refl, sym, ap, subst, ◌∙◌, inl, inr}
+use Rattle.std.proofs.Common.{◌≡◌, ℕ, Bool, true, false, List, [], ◌∷◌, ◌++◌, map, Option, Some, None, refl, sym, ap, subst, ◌∙◌, inl, inr}
 use Rattle.std.specs.Prelude.{ℤ, option_to_list}
 use Rattle.std.specs.List.{flat_map}
 use Rattle.std.proofs.lemmas.List.{append-nil, map-append}
+use Rattle.std.proofs.lemmas.List.Concat.{flat_map-append}
 use Rattle.blot_types.specs.declared.command.Command.{Command}
-use Rattle.blot_session.specs.declared.replies.NotTaken.{NotTaken}
-use Rattle.blot_session.specs.declared.replies.SeenReply.{SeenReply}
 use Rattle.blot_session.specs.declared.state.State.{State}
 use Rattle.blot_session.specs.Runs.{Call, DeliversJust, Meets, outcome, bytes_of, delivered_by, delivered_of, sent_of}
 use Rattle.blot_session.specs.Runs.Call.{Frame, Reply, Tick}
@@ -15,54 +14,67 @@ use Rattle.blot_gateway.specs.declared.ended.Ended.TheVariants as ended
 use Rattle.blot_gateway.specs.declared.ended.Stop.{Stop}
 use Rattle.blot_gateway.specs.declared.ended.Stop.TheVariants as stops
 use Rattle.blot_gateway.specs.Endings.{ended_by}
-use Rattle.blot_gateway.specs.Wires.{Read, Did, Answered, Steps, reads_of, written_of}
+use Rattle.blot_gateway.specs.declared.wire.Heard.{Heard}
+use Rattle.blot_gateway.specs.Hearing.{word_in, word_of}
+use Rattle.blot_gateway.specs.Wires.{Read, Did, Answered, Notice, Steps, command_in, commands_of, reads_of, written_of}
+use Rattle.blot_gateway.specs.Wires.Notice.{Handed}
 use Rattle.blot_gateway.specs.Wires.Did.{Gave}
 use Rattle.blot_gateway.specs.Wires.Read.{AtEnd, Failed}
 use Rattle.blot_gateway.specs.declared.parties.Parties.{Parties}
-use Rattle.blot_gateway.specs.Serving.{Due, EndsWith, parties, Happens, InTurn, Runs, Ends, GoesOn, HasLast, Stops, Cause, IsFront, Wrote, close_in, due_by, moment_by, reply_by, is_served, has_memory, seen_by, texts_of, written_in}
+use Rattle.blot_gateway.specs.Serving.{Due, EndsWith, parties, Happens, InTurn, Runs, Ends, GoesOn, HasLast, Stops, Cause, IsFront, Wrote, close_in, due_by, moment_by, is_served, has_memory, seen_by, told_by, told_in, texts_of, written_in}
 use Rattle.blot_gateway.specs.Serving.Due.{Fed, Came, Passed}
 use Rattle.blot_gateway.specs.Serving.Turn.{Reads, Calls}
-use Rattle.blot_gateway.specs.Sending.{Called, StopsAt, Halted, Submitted, SubmittedLast}
+use Rattle.blot_gateway.specs.Sending.{Called, StopsAt, Halted, Comes, Submitted, SubmittedLast}
 use Rattle.blot_gateway.proofs.SendingLemmas.{steps-one}
 use Rattle.blot_gateway.proofs.CallLemmas.{goes-on, goes-nowhere, happens-on, in-turn-on, appended, stops-behind, wrote-behind}
 
 -- ---- a single call
 
--- a call that is served: what is due and what is replied by it
-pub record IsCall (call : ℤ → Bool → Call) (state : State) (due : List Due) (replies : List (Result SeenReply NotTaken)) : Type 0 where
+-- a call that is served: what is due by it, and what the sink gets in it
+pub record IsCall (call : ℤ → Bool → Call) (state : State) (due : List Due) (handed : List Command) (notices : ℤ → Bool → List Notice) : Type 0 where
   pub moment : (now : ℤ) (memory : Bool) → moment_by (call now memory) ≡ now ∷ []
   pub due_is : (now : ℤ) (memory : Bool) → due_by (call now memory) ≡ due
-  pub replied : (now : ℤ) (memory : Bool) → reply_by (call now memory) ≡ replies
+  pub told : (now : ℤ) (memory : Bool) → map told_by (notices now memory) ≡ told_in state (call now memory)
+  pub handed_is : (now : ℤ) (memory : Bool) → commands_of (notices now memory) ≡ handed
   pub served : (now : ℤ) (memory : Bool) → is_served (call now memory) ≡ true
   pub memory_is : (now : ℤ) (memory : Bool) → has_memory (call now memory) ≡ memory
   pub meets : (now : ℤ) (memory : Bool) → Meets state (call now memory)
   pub nothing : (now : ℤ) → (outcome state (call now false)).actions ≡ []
 
-pub frame-call : (text : List ℕ) (state : State) → IsIdle state → IsCall (Frame text) state (Came text ∷ []) []
+no-command : (text : List ℕ) (heard : Option Heard) → commands_of (word_of text heard) ≡ []
+no-command text None = refl
+no-command text (Some heard) = refl
+
+no-command-in : (text : List ℕ) (state : State) (now : ℤ) (memory : Bool) → commands_of (word_in state (Frame text now memory)) ≡ []
+no-command-in text state now true = no-command text _
+no-command-in text state now false = refl
+
+pub frame-call : (text : List ℕ) (state : State) → IsIdle state → IsCall (Frame text) state (Came text ∷ []) [] (λ now memory. word_in state (Frame text now memory))
 frame-call text state idle =
-    record { moment = λ _ _. refl; due_is = λ _ _. refl; replied = λ _ _. refl; served = λ _ _. refl; memory_is = λ _ _. refl; meets = λ _ _. idle; nothing = λ _. refl }
+    record { moment = λ _ _. refl; due_is = λ _ _. refl; told = λ _ _. refl; handed_is = no-command-in text state; served = λ _ _. refl; memory_is = λ _ _. refl; meets = λ _ _. idle; nothing = λ _. refl }
 
-pub tick-call : (state : State) → IsIdle state → IsCall Tick state (Passed ∷ []) []
+pub tick-call : (state : State) → IsIdle state → IsCall Tick state (Passed ∷ []) [] (λ _ _. [])
 tick-call state idle =
-    record { moment = λ _ _. refl; due_is = λ _ _. refl; replied = λ _ _. refl; served = λ _ _. refl; memory_is = λ _ _. refl; meets = λ _ _. idle; nothing = λ _. refl }
+    record { moment = λ _ _. refl; due_is = λ _ _. refl; told = λ _ _. refl; handed_is = λ _ _. refl; served = λ _ _. refl; memory_is = λ _ _. refl; meets = λ _ _. idle; nothing = λ _. refl }
 
-pub reply-call : (reply : Result SeenReply NotTaken) (state : State) → IsAwaiting state → IsCall (Reply reply) state [] (reply ∷ [])
-reply-call reply state awaiting =
-    record { moment = λ _ _. refl; due_is = λ _ _. refl; replied = λ _ _. refl; served = λ _ _. refl; memory_is = λ _ _. refl; meets = λ _ _. awaiting; nothing = λ _. refl }
+pub reply-call : (answered : Answered) (state : State) → IsAwaiting state
+    → IsCall (Reply (seen_by answered.answer)) state [] (answered.command ∷ []) (λ _ _. Handed answered ∷ [])
+reply-call answered state awaiting =
+    record { moment = λ _ _. refl; due_is = λ _ _. refl; told = λ _ _. refl; handed_is = λ _ _. refl; served = λ _ _. refl; memory_is = λ _ _. refl; meets = λ _ _. awaiting; nothing = λ _. refl }
 
-happens-one : {W C S : Type 0} (does : W → Did → W → Type 0) (ticks : C → ℤ → C → Type 0) (takes : S → Answered → S → Type 0)
-    (call : ℤ → Bool → Call) (now : ℤ) (memory : Bool) (a b : Parties W C S) (due : List Due) (replies : List (Result SeenReply NotTaken)) (dids : List Did) (answers : List Answered)
-    → IsCall call a.session due replies → b.session ≡ (outcome a.session (call now memory)).state → ticks a.clock now b.clock → Steps takes a.sink answers b.sink
-    → map (λ answered. seen_by answered.answer) answers ≡ replies → Steps does a.wire dids b.wire
-    → Happens does ticks takes a (call now memory ∷ []) dids answers b
-happens-one does ticks takes call now memory a b due replies dids answers is led ticked taken told steps =
+happens-one : {W C S : Type 0} (does : W → Did → W → Type 0) (ticks : C → ℤ → C → Type 0) (takes : S → Notice → S → Type 0)
+    (call : ℤ → Bool → Call) (now : ℤ) (memory : Bool) (a b : Parties W C S) (due : List Due) (handed : List Command) (notices : ℤ → Bool → List Notice) (dids : List Did)
+    → IsCall call a.session due handed notices → b.session ≡ (outcome a.session (call now memory)).state → ticks a.clock now b.clock
+    → Steps takes a.sink (notices now memory) b.sink → Steps does a.wire dids b.wire
+    → Happens does ticks takes a (call now memory ∷ []) dids (notices now memory) b
+happens-one does ticks takes call now memory a b due handed notices dids is led ticked taken steps =
     record {
       session = led;
       served = rw (is.served now memory) refl;
       met = (is.meets now memory, tt);
       clock = subst (λ moments. Steps ticks a.clock moments b.clock) (sym (append-nil (moment_by (call now memory)) ∙ is.moment now memory)) (steps-one ticks now a.clock b.clock ticked);
       sink = taken;
-      told = told ∙ sym (append-nil (reply_by (call now memory)) ∙ is.replied now memory);
+      told = is.told now memory ∙ sym (append-nil (told_in a.session (call now memory)));
       wire = steps;
     }
 
@@ -95,20 +107,20 @@ commands-one : (state : State) (call : Call) (command : Option Command) → Deli
 commands-one state call command delivers =
     ap (map (λ numbered. numbered.command)) (append-nil (delivered_by state.expected (outcome state call).actions)) ∙ delivers state.expected
 
-pub runs-one : {W C S : Type 0} (does : W → Did → W → Type 0) (ticks : C → ℤ → C → Type 0) (takes : S → Answered → S → Type 0)
-    (call : ℤ → Bool → Call) (a : Parties W C S) (due more : List Due) (wire : W) (clock : C) (state : State)
-    → IsCall call a.session due [] → Called does ticks None call a.wire a.clock a.session wire clock state
-    → Runs does ticks takes a (due ++ more) [] more (parties wire clock a.sink state)
-runs-one does ticks takes call a due more wire clock state is called =
+pub runs-one : {W C S : Type 0} (does : W → Did → W → Type 0) (ticks : C → ℤ → C → Type 0) (takes : S → Notice → S → Type 0)
+    (call : ℤ → Bool → Call) (a b : Parties W C S) (due more : List Due) (notices : ℤ → Bool → List Notice)
+    → IsCall call a.session due [] notices → (called : Called does ticks None call a.wire a.clock a.session b.wire b.clock b.session)
+    → Steps takes a.sink (notices called.now true) b.sink → Runs does ticks takes a (due ++ more) [] more b
+runs-one does ticks takes call a b due more notices is called taken =
     let made = call called.now true in
     record {
       calls = made ∷ [];
       dids = called.writes.dids;
-      answers = [];
-      happens = happens-one does ticks takes call called.now true a (parties wire clock a.sink state) due [] called.writes.dids [] is called.session called.ticked refl refl called.writes.steps;
+      notices = notices called.now true;
+      happens = happens-one does ticks takes call called.now true a b due [] notices called.writes.dids is called.session called.ticked taken called.writes.steps;
       in_turn = in-turn-one (λ written sent. written ≡ sent) a.session made called.writes.dids due more (is.due_is called.now true) called.writes.read
           (all-one a.session made called.writes.dids called.writes.written);
-      handed = sym (commands-one a.session made None called.delivers);
+      handed = is.handed_is called.now true ∙ sym (commands-one a.session made None called.delivers);
       goes_on = goes-one a.session made called.stays (is.memory_is called.now true);
     }
 
@@ -168,116 +180,105 @@ no-cause (stops.Closed reason) reads left = tt
 no-cause stops.WriteFault reads left = tt
 no-cause stops.NoMemory reads left = tt
 
-nothing-then : (call : ℤ → Bool → Call) (state : State) (due : List Due) (replies : List (Result SeenReply NotTaken)) (now : ℤ) (memory : Bool) → IsCall call state due replies
+nothing-then : (call : ℤ → Bool → Call) (state : State) (due : List Due) (handed : List Command) (notices : ℤ → Bool → List Notice) (now : ℤ) (memory : Bool) → IsCall call state due handed notices
     → memory ≡ false → (outcome state (call now memory)).actions ≡ []
-nothing-then call state due replies now memory is none = ap (λ given. (outcome state (call now given)).actions) none ∙ is.nothing now
+nothing-then call state due handed notices now memory is none = ap (λ given. (outcome state (call now given)).actions) none ∙ is.nothing now
 
 halted-broke : {W C : Type 0} (does : W → Did → W → Type 0) (ticks : C → ℤ → C → Type 0) (stop : Stop) (call : ℤ → Bool → Call) (before : W) (clock : C) (state : State) (after : W) (clock_after : C) (next : State)
-    (due : List Due) (replies : List (Result SeenReply NotTaken)) → IsCall call state due replies
+    (due : List Due) (handed : List Command) (notices : ℤ → Bool → List Notice) → IsCall call state due handed notices
     → (halted : Halted does ticks call before clock state after clock_after next stop) → Broke does stop before state (call halted.now halted.memory) after
-halted-broke does ticks stop call before clock state after clock_after next due replies is halted =
+halted-broke does ticks stop call before clock state after clock_after next due handed notices is halted =
     broke does stop before state (call halted.now halted.memory) halted.memory after (is.memory_is halted.now halted.memory)
-    (nothing-then call state due replies halted.now halted.memory is) halted.halts
+    (nothing-then call state due handed notices halted.now halted.memory is) halted.halts
 
-pub ends-one : {W C S : Type 0} (does : W → Did → W → Type 0) (ticks : C → ℤ → C → Type 0) (takes : S → Answered → S → Type 0)
-    (stop : Stop) (call : ℤ → Bool → Call) (a : Parties W C S) (due more : List Due) (wire : W) (clock : C) (state : State)
-    → IsCall call a.session due [] → Halted does ticks call a.wire a.clock a.session wire clock state stop
-    → Ends does ticks takes (ended_by stop) a (due ++ more) [] (parties wire clock a.sink state)
-ends-one does ticks takes stop call a due more wire clock state is halted =
+pub ends-one : {W C S : Type 0} (does : W → Did → W → Type 0) (ticks : C → ℤ → C → Type 0) (takes : S → Notice → S → Type 0)
+    (stop : Stop) (call : ℤ → Bool → Call) (a b : Parties W C S) (due more : List Due) (notices : ℤ → Bool → List Notice)
+    → IsCall call a.session due [] notices → (halted : Halted does ticks call a.wire a.clock a.session b.wire b.clock b.session stop)
+    → Steps takes a.sink (notices halted.now halted.memory) b.sink → Ends does ticks takes (ended_by stop) a (due ++ more) [] b
+ends-one does ticks takes stop call a b due more notices is halted taken =
     let made = call halted.now halted.memory in
-    let broken = halted-broke does ticks stop call a.wire a.clock a.session wire clock state due [] is halted in
+    let broken = halted-broke does ticks stop call a.wire a.clock a.session b.wire b.clock b.session due [] notices is halted in
     record {
       calls = made ∷ [];
       dids = broken.dids;
-      answers = [];
+      notices = notices halted.now halted.memory;
       left = more;
-      happens = happens-one does ticks takes call halted.now halted.memory a (parties wire clock a.sink state) due [] broken.dids [] is halted.session halted.ticked refl refl broken.steps;
+      happens = happens-one does ticks takes call halted.now halted.memory a b due [] notices broken.dids is halted.session halted.ticked taken broken.steps;
       in_turn = in-turn-one (Wrote (ended_by stop)) a.session made broken.dids due more (is.due_is halted.now halted.memory) broken.read broken.written;
-      handed = sym (commands-one a.session made None halted.delivers);
+      handed = is.handed_is halted.now halted.memory ∙ sym (commands-one a.session made None halted.delivers);
       stops = broken.stops;
       cause = no-cause stop [] more;
     }
 
 -- ---- a frame that delivers a command, and the reply
 
--- the frame comes, and all goes on
-abbrev first : {W C S : Type 0} → Parties W C S → W → C → State → Parties W C S
-first a wire clock state = parties wire clock a.sink state
-
-happens-first : {W C S : Type 0} (does : W → Did → W → Type 0) (ticks : C → ℤ → C → Type 0) (takes : S → Answered → S → Type 0)
-    (command : Option Command) (call : ℤ → Bool → Call) (a : Parties W C S) (due : List Due) (wire : W) (clock : C) (state : State) → IsCall call a.session due []
-    → (called : Called does ticks command call a.wire a.clock a.session wire clock state)
-    → Happens does ticks takes a (call called.now true ∷ []) called.writes.dids [] (parties wire clock a.sink state)
-happens-first does ticks takes command call a due wire clock state is called =
-    happens-one does ticks takes call called.now true a (parties wire clock a.sink state) due [] called.writes.dids [] is called.session called.ticked refl refl called.writes.steps
-
-handed-pair : (command : Command) (call reply : Call) (state next : State) → next ≡ (outcome state call).state
-    → DeliversJust (Some command) (outcome state call).actions → DeliversJust None (outcome next reply).actions
-    → command ∷ [] ≡ map (λ numbered. numbered.command) (delivered_of state (call ∷ reply ∷ []))
-handed-pair command call reply state next led one two =
-    sym (map-append (λ numbered. numbered.command) (delivered_by state.expected (outcome state call).actions) (delivered_of (outcome state call).state (reply ∷ []))
+handed-pair : (text : List ℕ) (answered : Answered) (now : ℤ) (state next : State) (reply : Call) → next ≡ (outcome state (Frame text now true)).state
+    → DeliversJust (Some answered.command) (outcome state (Frame text now true)).actions → DeliversJust None (outcome next reply).actions
+    → commands_of (word_in state (Frame text now true) ++ Handed answered ∷ []) ≡ map (λ numbered. numbered.command) (delivered_of state (Frame text now true ∷ reply ∷ []))
+handed-pair text answered now state next reply led one two =
+    let call = Frame text now true in
+    flat_map-append command_in (word_in state call) (Handed answered ∷ []) ∙ ap (λ front. front ++ answered.command ∷ []) (no-command-in text state now true)
+    ∙ sym (map-append (λ numbered. numbered.command) (delivered_by state.expected (outcome state call).actions) (delivered_of (outcome state call).state (reply ∷ []))
     ∙ appended (one state.expected)
     (ap (λ (before : State). map (λ numbered. numbered.command) (delivered_of before (reply ∷ []))) (sym led) ∙ commands-one next reply None two))
 
-pub runs-pair : {W C S : Type 0} (does : W → Did → W → Type 0) (ticks : C → ℤ → C → Type 0) (takes : S → Answered → S → Type 0)
-    (command : Command) (call : ℤ → Bool → Call) (a c : Parties W C S) (due more : List Due) (wire : W) (clock : C) (state : State)
-    → IsCall call a.session due [] → IsAwaiting state → Called does ticks (Some command) call a.wire a.clock a.session wire clock state
-    → Submitted does ticks takes command (parties wire clock a.sink state) c → Runs does ticks takes a (due ++ more) [] more c
-runs-pair does ticks takes command call a c due more wire clock state is awaiting called submitted =
+pub runs-pair : {W C S : Type 0} (does : W → Did → W → Type 0) (ticks : C → ℤ → C → Type 0) (takes : S → Notice → S → Type 0)
+    (command : Command) (text : List ℕ) (a b c : Parties W C S) (more : List Due) → IsIdle a.session → IsAwaiting b.session
+    → Comes does ticks takes (Some command) text a b → Submitted does ticks takes command b c → Runs does ticks takes a (Came text ∷ more) [] more c
+runs-pair does ticks takes command text a b c more idle awaiting comes submitted =
+    let called = comes.called in
     let reply = submitted.called in
-    let seen = seen_by submitted.answer in
-    let b = parties wire clock a.sink state in
-    let one = call called.now true in
-    let two = Reply seen reply.now true in
     let answered : Answered = record { command = command; answer = submitted.answer } in
-    let told = reply-call seen state awaiting in
+    let is = frame-call text a.session idle in
+    let told = reply-call answered b.session awaiting in
+    let one = Frame text called.now true in
+    let two = Reply (seen_by submitted.answer) reply.now true in
     record {
       calls = one ∷ two ∷ [];
       dids = called.writes.dids ++ reply.writes.dids;
-      answers = answered ∷ [];
-      happens = happens-on does ticks takes a b c (one ∷ []) (two ∷ []) called.writes.dids reply.writes.dids [] (answered ∷ [])
-          (happens-first does ticks takes (Some command) call a due wire clock state is called)
-          (happens-one does ticks takes (Reply seen) reply.now true b c [] (seen ∷ []) reply.writes.dids (answered ∷ []) told reply.session reply.ticked
-          (steps-one takes answered a.sink c.sink submitted.taken) refl reply.writes.steps);
-      in_turn = in-turn-on (λ written sent. written ≡ sent) a.session state (one ∷ []) (two ∷ []) called.writes.dids reply.writes.dids (due ++ more) more more [] []
+      notices = word_in a.session one ++ Handed answered ∷ [];
+      happens = happens-on does ticks takes a b c (one ∷ []) (two ∷ []) called.writes.dids reply.writes.dids (word_in a.session one) (Handed answered ∷ [])
+          (happens-one does ticks takes (Frame text) called.now true a b (Came text ∷ []) [] _ called.writes.dids is called.session called.ticked comes.heard called.writes.steps)
+          (happens-one does ticks takes (Reply (seen_by submitted.answer)) reply.now true b c [] (command ∷ []) _ reply.writes.dids told reply.session reply.ticked
+          (steps-one takes (Handed answered) b.sink c.sink submitted.taken) reply.writes.steps);
+      in_turn = in-turn-on (λ written sent. written ≡ sent) a.session b.session (one ∷ []) (two ∷ []) called.writes.dids reply.writes.dids (Came text ∷ more) more more [] []
           (λ _ _ _ _ first second. appended first second) called.session
-          (in-turn-one (λ written sent. written ≡ sent) a.session one called.writes.dids due more (is.due_is called.now true) called.writes.read
+          (in-turn-one (λ written sent. written ≡ sent) a.session one called.writes.dids (Came text ∷ []) more refl called.writes.read
           (all-one a.session one called.writes.dids called.writes.written))
-          (in-turn-one (λ written sent. written ≡ sent) state two reply.writes.dids [] more refl reply.writes.read (all-one state two reply.writes.dids reply.writes.written));
-      handed = handed-pair command one two a.session state called.session called.delivers reply.delivers;
-      goes_on = goes-on (one ∷ []) (two ∷ []) a.session (goes-one a.session one called.stays (is.memory_is called.now true))
-          (subst (λ (before : State). GoesOn before (two ∷ [])) called.session (goes-one state two reply.stays refl));
+          (in-turn-one (λ written sent. written ≡ sent) b.session two reply.writes.dids [] more refl reply.writes.read (all-one b.session two reply.writes.dids reply.writes.written));
+      handed = handed-pair text answered called.now a.session b.session two called.session called.delivers reply.delivers;
+      goes_on = goes-on (one ∷ []) (two ∷ []) a.session (goes-one a.session one called.stays refl)
+          (subst (λ (before : State). GoesOn before (two ∷ [])) called.session (goes-one b.session two reply.stays refl));
     }
 
-pub ends-pair : {W C S : Type 0} (does : W → Did → W → Type 0) (ticks : C → ℤ → C → Type 0) (takes : S → Answered → S → Type 0)
-    (stop : Stop) (command : Command) (call : ℤ → Bool → Call) (a c : Parties W C S) (due more : List Due) (wire : W) (clock : C) (state : State)
-    → IsCall call a.session due [] → IsAwaiting state → Called does ticks (Some command) call a.wire a.clock a.session wire clock state
-    → SubmittedLast does ticks takes command (parties wire clock a.sink state) c stop → Ends does ticks takes (ended_by stop) a (due ++ more) [] c
-ends-pair does ticks takes stop command call a c due more wire clock state is awaiting called submitted =
+pub ends-pair : {W C S : Type 0} (does : W → Did → W → Type 0) (ticks : C → ℤ → C → Type 0) (takes : S → Notice → S → Type 0)
+    (stop : Stop) (command : Command) (text : List ℕ) (a b c : Parties W C S) (more : List Due) → IsIdle a.session → IsAwaiting b.session
+    → Comes does ticks takes (Some command) text a b → SubmittedLast does ticks takes command b c stop → Ends does ticks takes (ended_by stop) a (Came text ∷ more) [] c
+ends-pair does ticks takes stop command text a b c more idle awaiting comes submitted =
+    let called = comes.called in
     let reply = submitted.halted in
-    let seen = seen_by submitted.answer in
-    let b = parties wire clock a.sink state in
-    let one = call called.now true in
-    let two = Reply seen reply.now reply.memory in
     let answered : Answered = record { command = command; answer = submitted.answer } in
-    let told = reply-call seen state awaiting in
-    let broken = halted-broke does ticks stop (Reply seen) wire clock state c.wire c.clock c.session [] (seen ∷ []) told reply in
-    let goes = goes-one a.session one called.stays (is.memory_is called.now true) in
+    let is = frame-call text a.session idle in
+    let told = reply-call answered b.session awaiting in
+    let one = Frame text called.now true in
+    let two = Reply (seen_by submitted.answer) reply.now reply.memory in
+    let broken = halted-broke does ticks stop (Reply (seen_by submitted.answer)) b.wire b.clock b.session c.wire c.clock c.session [] (command ∷ []) _ told reply in
+    let goes = goes-one a.session one called.stays refl in
     record {
       calls = one ∷ two ∷ [];
       dids = called.writes.dids ++ broken.dids;
-      answers = answered ∷ [];
+      notices = word_in a.session one ++ Handed answered ∷ [];
       left = more;
-      happens = happens-on does ticks takes a b c (one ∷ []) (two ∷ []) called.writes.dids broken.dids [] (answered ∷ [])
-          (happens-first does ticks takes (Some command) call a due wire clock state is called)
-          (happens-one does ticks takes (Reply seen) reply.now reply.memory b c [] (seen ∷ []) broken.dids (answered ∷ []) told reply.session reply.ticked
-          (steps-one takes answered a.sink c.sink submitted.taken) refl broken.steps);
-      in_turn = in-turn-on (Wrote (ended_by stop)) a.session state (one ∷ []) (two ∷ []) called.writes.dids broken.dids (due ++ more) more more [] []
+      happens = happens-on does ticks takes a b c (one ∷ []) (two ∷ []) called.writes.dids broken.dids (word_in a.session one) (Handed answered ∷ [])
+          (happens-one does ticks takes (Frame text) called.now true a b (Came text ∷ []) [] _ called.writes.dids is called.session called.ticked comes.heard called.writes.steps)
+          (happens-one does ticks takes (Reply (seen_by submitted.answer)) reply.now reply.memory b c [] (command ∷ []) _ broken.dids told reply.session reply.ticked
+          (steps-one takes (Handed answered) b.sink c.sink submitted.taken) broken.steps);
+      in_turn = in-turn-on (Wrote (ended_by stop)) a.session b.session (one ∷ []) (two ∷ []) called.writes.dids broken.dids (Came text ∷ more) more more [] []
           (wrote-behind (ended_by stop)) called.session
-          (in-turn-one (λ written sent. written ≡ sent) a.session one called.writes.dids due more (is.due_is called.now true) called.writes.read
+          (in-turn-one (λ written sent. written ≡ sent) a.session one called.writes.dids (Came text ∷ []) more refl called.writes.read
           (all-one a.session one called.writes.dids called.writes.written))
-          (in-turn-one (Wrote (ended_by stop)) state two broken.dids [] more refl broken.read broken.written);
-      handed = handed-pair command one two a.session state called.session called.delivers reply.delivers;
+          (in-turn-one (Wrote (ended_by stop)) b.session two broken.dids [] more refl broken.read broken.written);
+      handed = handed-pair text answered called.now a.session b.session two called.session called.delivers reply.delivers;
       stops = stops-behind (ended_by stop) (one ∷ []) (two ∷ []) a.session goes (subst (λ (before : State). Stops (ended_by stop) before (two ∷ [])) called.session broken.stops);
       cause = no-cause stop [] more;
     }
@@ -285,26 +286,26 @@ ends-pair does ticks takes stop command call a c due more wire clock state is aw
 -- ---- no call
 
 -- a read is made
-pub runs-read : {W C S : Type 0} (does : W → Did → W → Type 0) (ticks : C → ℤ → C → Type 0) (takes : S → Answered → S → Type 0)
+pub runs-read : {W C S : Type 0} (does : W → Did → W → Type 0) (ticks : C → ℤ → C → Type 0) (takes : S → Notice → S → Type 0)
     (read : Read) (a : Parties W C S) (due : List Due) (wire : W) → does a.wire (Gave read) wire → Runs does ticks takes a (Fed read ∷ due) (read ∷ []) due (parties wire a.clock a.sink a.session)
 runs-read does ticks takes read a due wire step =
     record {
       calls = [];
       dids = Gave read ∷ [];
-      answers = [];
+      notices = [];
       happens = record { session = refl; served = refl; met = tt; clock = refl; sink = refl; told = refl; wire = steps-one does (Gave read) a.wire wire step };
       in_turn = record { turns = Reads read ∷ []; called = refl; did = refl; done = refl; read = refl; apart = refl; written = refl };
       handed = refl;
       goes_on = goes-nowhere a.session;
     }
 
-pub runs-nowhere : {W C S : Type 0} (does : W → Did → W → Type 0) (ticks : C → ℤ → C → Type 0) (takes : S → Answered → S → Type 0)
+pub runs-nowhere : {W C S : Type 0} (does : W → Did → W → Type 0) (ticks : C → ℤ → C → Type 0) (takes : S → Notice → S → Type 0)
     (a : Parties W C S) (due : List Due) → Runs does ticks takes a due [] due a
 runs-nowhere does ticks takes a due =
     record {
       calls = [];
       dids = [];
-      answers = [];
+      notices = [];
       happens = record { session = refl; served = refl; met = tt; clock = refl; sink = refl; told = refl; wire = refl };
       in_turn = record { turns = []; called = refl; did = refl; done = refl; read = refl; apart = refl; written = refl };
       handed = refl;
@@ -326,13 +327,13 @@ in-turn-all wrote state calls dids due reads left all in_turn =
     }
 
 -- memory runs out between two calls
-pub ends-there : {W C S : Type 0} (does : W → Did → W → Type 0) (ticks : C → ℤ → C → Type 0) (takes : S → Answered → S → Type 0)
+pub ends-there : {W C S : Type 0} (does : W → Did → W → Type 0) (ticks : C → ℤ → C → Type 0) (takes : S → Notice → S → Type 0)
     (a b : Parties W C S) (due left : List Due) (reads : List Read) → Runs does ticks takes a due reads left b → Ends does ticks takes ended.NoMemory a due reads b
 ends-there does ticks takes a b due left reads run =
     record {
       calls = run.calls;
       dids = run.dids;
-      answers = run.answers;
+      notices = run.notices;
       left = left;
       happens = run.happens;
       in_turn = in-turn-all (Wrote ended.NoMemory) a.session run.calls run.dids due reads left (λ _ _ is. is) run.in_turn;
@@ -347,13 +348,13 @@ pub data ByWire : Ended → List Read → Type 0 where
   failed : (reads : List Read) → EndsWith Failed reads → ByWire ended.ReadFault reads
   too_long : (reads : List Read) → ByWire ended.TooLong reads
 
-pub ends-by-wire : {W C S : Type 0} (does : W → Did → W → Type 0) (ticks : C → ℤ → C → Type 0) (takes : S → Answered → S → Type 0)
+pub ends-by-wire : {W C S : Type 0} (does : W → Did → W → Type 0) (ticks : C → ℤ → C → Type 0) (takes : S → Notice → S → Type 0)
     (end : Ended) (a b : Parties W C S) (due : List Due) (reads : List Read) → ByWire end reads → Runs does ticks takes a due reads [] b → Ends does ticks takes end a due reads b
 ends-by-wire does ticks takes end a b due reads (at_end given with_end) run =
     record {
       calls = run.calls;
       dids = run.dids;
-      answers = run.answers;
+      notices = run.notices;
       left = [];
       happens = run.happens;
       in_turn = in-turn-all (Wrote ended.End) a.session run.calls run.dids due reads [] (λ _ _ is. is) run.in_turn;
@@ -365,7 +366,7 @@ ends-by-wire does ticks takes end a b due reads (failed given with_end) run =
     record {
       calls = run.calls;
       dids = run.dids;
-      answers = run.answers;
+      notices = run.notices;
       left = [];
       happens = run.happens;
       in_turn = in-turn-all (Wrote ended.ReadFault) a.session run.calls run.dids due reads [] (λ _ _ is. is) run.in_turn;
@@ -377,7 +378,7 @@ ends-by-wire does ticks takes end a b due reads (too_long given) run =
     record {
       calls = run.calls;
       dids = run.dids;
-      answers = run.answers;
+      notices = run.notices;
       left = [];
       happens = run.happens;
       in_turn = in-turn-all (Wrote ended.TooLong) a.session run.calls run.dids due reads [] (λ _ _ is. is) run.in_turn;

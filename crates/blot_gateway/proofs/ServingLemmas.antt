@@ -12,7 +12,7 @@ use Rattle.blot_gateway.specs.declared.ended.Ended.TheVariants as ended
 use Rattle.blot_gateway.specs.declared.ended.Stop.{Stop}
 use Rattle.blot_gateway.specs.declared.ended.Stop.TheVariants as stops
 use Rattle.blot_gateway.specs.Endings.{ended_by}
-use Rattle.blot_gateway.specs.Wires.{Read, Did, Answered, Counts}
+use Rattle.blot_gateway.specs.Wires.{Read, Did, Notice, Counts}
 use Rattle.blot_gateway.specs.Wires.Read.{AtEnd, Failed}
 use Rattle.blot_gateway.specs.Wires.Did.{Gave}
 use Rattle.blot_gateway.specs.Progress.{CountsStop, Handles}
@@ -42,7 +42,7 @@ left_in reading more = map Came (frames_of reading.unread) ++ more
 left-first : (old new : Reading) (text : List ℕ) (more : List Due) → TakesFirst old text new → left_in old more ≡ Came text ∷ left_in new more
 left-first old new text more takes = ap (λ texts. map Came texts ++ more) (frames-first old new text takes)
 
-pub runs-frame : {W C S : Type 0} (does : W → Did → W → Type 0) (ticks : C → ℤ → C → Type 0) (takes : S → Answered → S → Type 0)
+pub runs-frame : {W C S : Type 0} (does : W → Did → W → Type 0) (ticks : C → ℤ → C → Type 0) (takes : S → Notice → S → Type 0)
     (a b c : Parties W C S) (due more : List Due) (old new : Reading) (text : List ℕ) → TakesFirst old text new
     → Runs does ticks takes a due [] (left_in old more) b → Runs does ticks takes b (Came text ∷ left_in new more) [] (left_in new more) c
     → Runs does ticks takes a due [] (left_in new more) c
@@ -50,7 +50,7 @@ runs-frame does ticks takes a b c due more old new text first one two =
     runs-on does ticks takes a b c due (Came text ∷ left_in new more) (left_in new more) [] []
     (subst (λ left. Runs does ticks takes a due [] left b) (left-first old new text more first) one) two
 
-pub ends-frame : {W C S : Type 0} (does : W → Did → W → Type 0) (ticks : C → ℤ → C → Type 0) (takes : S → Answered → S → Type 0)
+pub ends-frame : {W C S : Type 0} (does : W → Did → W → Type 0) (ticks : C → ℤ → C → Type 0) (takes : S → Notice → S → Type 0)
     (end : Ended) (a b c : Parties W C S) (due more : List Due) (old new : Reading) (text : List ℕ) → TakesFirst old text new
     → Runs does ticks takes a due [] (left_in old more) b → Ends does ticks takes end b (Came text ∷ left_in new more) [] c
     → Ends does ticks takes end a due [] c
@@ -60,22 +60,22 @@ ends-frame does ticks takes end a b c due more old new text first one two =
 
 -- ---- a moment after the frames
 
-pub runs-fed : {W C S : Type 0} (does : W → Did → W → Type 0) (ticks : C → ℤ → C → Type 0) (takes : S → Answered → S → Type 0)
+pub runs-fed : {W C S : Type 0} (does : W → Did → W → Type 0) (ticks : C → ℤ → C → Type 0) (takes : S → Notice → S → Type 0)
     (a b : Parties W C S) (unread rest : List ℕ) (more : List Read) (wire : W) (clock : C) (state : State) → rest ≡ rest_of unread → IsIdle b.session
     → Runs does ticks takes a (due_fed unread more) [] (Passed ∷ due_behind (rest_of unread) more) b → Called does ticks None Tick b.wire b.clock b.session wire clock state
     → Runs does ticks takes a (due_fed unread more) [] (due_behind rest more) (parties wire clock b.sink state)
 runs-fed does ticks takes a b unread rest more wire clock state left idle one called =
     subst (λ text. Runs does ticks takes a (due_fed unread more) [] (due_behind text more) (parties wire clock b.sink state)) (sym left)
     (runs-on does ticks takes a b (parties wire clock b.sink state) (due_fed unread more) (Passed ∷ due_behind (rest_of unread) more) (due_behind (rest_of unread) more) [] [] one
-    (runs-one does ticks takes Tick b (Passed ∷ []) (due_behind (rest_of unread) more) wire clock state (tick-call b.session idle) called))
+    (runs-one does ticks takes Tick b (parties wire clock b.sink state) (Passed ∷ []) (due_behind (rest_of unread) more) (λ _ _. []) (tick-call b.session idle) called refl))
 
-pub ends-fed : {W C S : Type 0} (does : W → Did → W → Type 0) (ticks : C → ℤ → C → Type 0) (takes : S → Answered → S → Type 0)
+pub ends-fed : {W C S : Type 0} (does : W → Did → W → Type 0) (ticks : C → ℤ → C → Type 0) (takes : S → Notice → S → Type 0)
     (stop : Stop) (a b : Parties W C S) (unread : List ℕ) (more : List Read) (wire : W) (clock : C) (state : State) → IsIdle b.session
     → Runs does ticks takes a (due_fed unread more) [] (Passed ∷ due_behind (rest_of unread) more) b → Halted does ticks Tick b.wire b.clock b.session wire clock state stop
     → Ends does ticks takes (ended_by stop) a (due_fed unread more) [] (parties wire clock b.sink state)
 ends-fed does ticks takes stop a b unread more wire clock state idle one halted =
     ends-behind does ticks takes (ended_by stop) a b (parties wire clock b.sink state) (due_fed unread more) (Passed ∷ due_behind (rest_of unread) more) [] [] one
-    (ends-one does ticks takes stop Tick b (Passed ∷ []) (due_behind (rest_of unread) more) wire clock state (tick-call b.session idle) halted)
+    (ends-one does ticks takes stop Tick b (parties wire clock b.sink state) (Passed ∷ []) (due_behind (rest_of unread) more) (λ _ _. []) (tick-call b.session idle) halted refl)
 
 -- ---- one read
 
@@ -109,13 +109,13 @@ counted-behind ended.NoMemory before mid after one two = omega (arith, one, two)
 counted-behind ended.NoGreeting before mid after one two = omega (arith, one, two)
 
 -- a read, and then what is due by it
-pub runs-behind-read : {W C S : Type 0} (does : W → Did → W → Type 0) (ticks : C → ℤ → C → Type 0) (takes : S → Answered → S → Type 0)
+pub runs-behind-read : {W C S : Type 0} (does : W → Did → W → Type 0) (ticks : C → ℤ → C → Type 0) (takes : S → Notice → S → Type 0)
     (read : Read) (a b : Parties W C S) (due left : List Due) (wire : W) → does a.wire (Gave read) wire
     → Runs does ticks takes (parties wire a.clock a.sink a.session) due [] left b → Runs does ticks takes a (Fed read ∷ due) (read ∷ []) left b
 runs-behind-read does ticks takes read a b due left wire step run =
     runs-on does ticks takes a (parties wire a.clock a.sink a.session) b (Fed read ∷ due) due left (read ∷ []) [] (runs-read does ticks takes read a due wire step) run
 
-pub ends-behind-read : {W C S : Type 0} (does : W → Did → W → Type 0) (ticks : C → ℤ → C → Type 0) (takes : S → Answered → S → Type 0)
+pub ends-behind-read : {W C S : Type 0} (does : W → Did → W → Type 0) (ticks : C → ℤ → C → Type 0) (takes : S → Notice → S → Type 0)
     (stop : Stop) (read : Read) (a b : Parties W C S) (due : List Due) (wire : W) → does a.wire (Gave read) wire
     → Ends does ticks takes (ended_by stop) (parties wire a.clock a.sink a.session) due [] b → Ends does ticks takes (ended_by stop) a (Fed read ∷ due) (read ∷ []) b
 ends-behind-read does ticks takes stop read a b due wire step ends =
@@ -123,13 +123,13 @@ ends-behind-read does ticks takes stop read a b due wire step ends =
     (runs-read does ticks takes read a due wire step) ends
 
 -- the wire's end, and its failure
-pub ends-at-end : {W C S : Type 0} (does : W → Did → W → Type 0) (ticks : C → ℤ → C → Type 0) (takes : S → Answered → S → Type 0)
+pub ends-at-end : {W C S : Type 0} (does : W → Did → W → Type 0) (ticks : C → ℤ → C → Type 0) (takes : S → Notice → S → Type 0)
     (a : Parties W C S) (wire : W) → does a.wire (Gave AtEnd) wire → Ends does ticks takes ended.End a (Fed AtEnd ∷ []) (AtEnd ∷ []) (parties wire a.clock a.sink a.session)
 ends-at-end does ticks takes a wire step =
     ends-by-wire does ticks takes ended.End a (parties wire a.clock a.sink a.session) (Fed AtEnd ∷ []) (AtEnd ∷ []) (at_end (AtEnd ∷ []) (record { earlier = []; joined = refl }))
     (runs-read does ticks takes AtEnd a [] wire step)
 
-pub ends-failed : {W C S : Type 0} (does : W → Did → W → Type 0) (ticks : C → ℤ → C → Type 0) (takes : S → Answered → S → Type 0)
+pub ends-failed : {W C S : Type 0} (does : W → Did → W → Type 0) (ticks : C → ℤ → C → Type 0) (takes : S → Notice → S → Type 0)
     (a : Parties W C S) (wire : W) → does a.wire (Gave Failed) wire → Ends does ticks takes ended.ReadFault a (Fed Failed ∷ []) (Failed ∷ []) (parties wire a.clock a.sink a.session)
 ends-failed does ticks takes a wire step =
     ends-by-wire does ticks takes ended.ReadFault a (parties wire a.clock a.sink a.session) (Fed Failed ∷ []) (Failed ∷ []) (failed (Failed ∷ []) (record { earlier = []; joined = refl }))
@@ -138,17 +138,17 @@ ends-failed does ticks takes a wire step =
 -- ---- all reads
 
 -- so many reads, and what is due by them is done
-pub record Serves {W C S : Type 0} (does : W → Did → W → Type 0) (ticks : C → ℤ → C → Type 0) (takes : S → Answered → S → Type 0)
+pub record Serves {W C S : Type 0} (does : W → Did → W → Type 0) (ticks : C → ℤ → C → Type 0) (takes : S → Notice → S → Type 0)
     (a : Parties W C S) (unread : List ℕ) (count : ℕ) (b : Parties W C S) (rest : List ℕ) : Type 0 where
   pub reads : List Read
   pub many : length reads ≡ count
   pub runs : (more : List Read) → Runs does ticks takes a (due_behind unread (reads ++ more)) reads (due_behind rest more) b
 
-pub serves-none : {W C S : Type 0} (does : W → Did → W → Type 0) (ticks : C → ℤ → C → Type 0) (takes : S → Answered → S → Type 0)
+pub serves-none : {W C S : Type 0} (does : W → Did → W → Type 0) (ticks : C → ℤ → C → Type 0) (takes : S → Notice → S → Type 0)
     (a : Parties W C S) (unread : List ℕ) → Serves does ticks takes a unread 0 a unread
 serves-none does ticks takes a unread = record { reads = []; many = refl; runs = λ more. runs-nowhere does ticks takes a (due_behind unread more) }
 
-pub serves-more : {W C S : Type 0} (does : W → Did → W → Type 0) (ticks : C → ℤ → C → Type 0) (takes : S → Answered → S → Type 0)
+pub serves-more : {W C S : Type 0} (does : W → Did → W → Type 0) (ticks : C → ℤ → C → Type 0) (takes : S → Notice → S → Type 0)
     (a b c : Parties W C S) (unread rest left : List ℕ) (count : ℕ) (read : Read) → Serves does ticks takes a unread count b rest
     → ((more : List Read) → Runs does ticks takes b (due_behind rest (read ∷ more)) (read ∷ []) (due_behind left more) c) → Serves does ticks takes a unread (count + 1) c left
 serves-more does ticks takes a b c unread rest left count read one two =
@@ -162,7 +162,7 @@ serves-more does ticks takes a b c unread rest left count read one two =
     }
 
 -- the end of the reads
-pub serves-end : {W C S : Type 0} (does : W → Did → W → Type 0) (ticks : C → ℤ → C → Type 0) (takes : S → Answered → S → Type 0)
+pub serves-end : {W C S : Type 0} (does : W → Did → W → Type 0) (ticks : C → ℤ → C → Type 0) (takes : S → Notice → S → Type 0)
     (most : ℕ) (end : Ended) (a b c : Parties W C S) (unread rest : List ℕ) (count : ℕ) (read : Read) → count < most → end ≢ ended.TooLong → Serves does ticks takes a unread count b rest
     → ((more : List Read) → Ends does ticks takes end b (due_behind rest (read ∷ more)) (read ∷ []) c) → EndsWithin does ticks takes most end a (due_behind unread) c
 serves-end does ticks takes most end a b c unread rest count read within short one two =
@@ -174,7 +174,7 @@ serves-end does ticks takes most end a b c unread rest count read within short o
           (one.runs (read ∷ [])) (two []);
     }
 
-pub serves-long : {W C S : Type 0} (does : W → Did → W → Type 0) (ticks : C → ℤ → C → Type 0) (takes : S → Answered → S → Type 0)
+pub serves-long : {W C S : Type 0} (does : W → Did → W → Type 0) (ticks : C → ℤ → C → Type 0) (takes : S → Notice → S → Type 0)
     (most : ℕ) (a b : Parties W C S) (unread rest : List ℕ) → Serves does ticks takes a unread most b rest
     → EndsWithin does ticks takes most ended.TooLong a (due_behind unread) b
 serves-long does ticks takes most a b unread rest one =
@@ -186,14 +186,14 @@ serves-long does ticks takes most a b unread rest one =
           (subst (λ reads. Runs does ticks takes a (due_behind unread reads) one.reads [] b) (append-nil one.reads) (one.runs []));
     }
 
-pub ends-no-memory : {W C S : Type 0} (does : W → Did → W → Type 0) (ticks : C → ℤ → C → Type 0) (takes : S → Answered → S → Type 0)
+pub ends-no-memory : {W C S : Type 0} (does : W → Did → W → Type 0) (ticks : C → ℤ → C → Type 0) (takes : S → Notice → S → Type 0)
     (most : ℕ) (a : Parties W C S) (unread : List ℕ) → EndsWithin does ticks takes most ended.NoMemory a (due_behind unread) a
 ends-no-memory does ticks takes most a unread =
     record { reads = []; few = omega arith; long = λ is. absurd cc; ends = ends-there does ticks takes a a [] [] [] (runs-nowhere does ticks takes a []) }
 
 -- ---- the whole session
 
-pub served-reads : {W C S : Type 0} (does : W → Did → W → Type 0) (ticks : C → ℤ → C → Type 0) (takes : S → Answered → S → Type 0)
+pub served-reads : {W C S : Type 0} (does : W → Did → W → Type 0) (ticks : C → ℤ → C → Type 0) (takes : S → Notice → S → Type 0)
     (most : ℕ) (end : Ended) (a b c : Parties W C S) (unread rest : List ℕ) → rest ≡ rest_of unread
     → Handles does ticks takes a (map Came (frames_of unread)) b → EndsWithin does ticks takes most end b (due_behind rest) c
     → EndsWithin does ticks takes most end a (due_of unread) c
@@ -208,7 +208,7 @@ served-reads does ticks takes most end a b c unread rest left one two =
     }
 
 -- what ends before the first read
-pub ends-unread : {W C S : Type 0} (does : W → Did → W → Type 0) (ticks : C → ℤ → C → Type 0) (takes : S → Answered → S → Type 0)
+pub ends-unread : {W C S : Type 0} (does : W → Did → W → Type 0) (ticks : C → ℤ → C → Type 0) (takes : S → Notice → S → Type 0)
     (most : ℕ) (stop : Stop) (end : Ended) (a b : Parties W C S) (unread : List ℕ) → end ≡ ended_by stop
     → Ends does ticks takes (ended_by stop) a (due_of unread []) [] b → EndsWithin does ticks takes most end a (due_of unread) b
 ends-unread does ticks takes most stop end a b unread is ends =

@@ -1,6 +1,6 @@
 -- One call of a session.
 use Rattle.std.proofs.Common.{◌≡◌, Bool, true, List, map, Option, None, Result, Ok, Err, refl, sym, ap, subst}
-use Rattle.std.specs.Prelude.{ℤ, IfErr, IsErrAnd, IsOk, OnOk}
+use Rattle.std.specs.Prelude.{ℕ, ℤ, IfErr, IsErrAnd, IsOk, OnOk}
 use Rattle.std.proofs.lemmas.Bool.{false≢true}
 use Rattle.std.specs.List.{flat_map}
 use Rattle.blot_types.specs.declared.command.Command.{Command}
@@ -8,14 +8,17 @@ use Rattle.blot_session.specs.declared.action.Action.{Action}
 use Rattle.blot_session.specs.declared.state.State.{State}
 use Rattle.blot_session.specs.Calls.{Outcome, Awaits}
 use Rattle.blot_session.specs.Runs.{Call, DeliversJust, outcome, bytes_of}
+use Rattle.blot_session.specs.Runs.Call.{Frame}
 use Rattle.blot_session.specs.States.{IsIdle}
 use Rattle.blot_gateway.specs.declared.ended.Ended.{Ended}
 use Rattle.blot_gateway.specs.declared.ended.Stop.{Stop}
 use Rattle.blot_gateway.specs.declared.ended.Stop.TheVariants as stops
 use Rattle.blot_gateway.specs.Endings.{ended_by}
-use Rattle.blot_gateway.specs.Wires.{Did}
+use Rattle.blot_gateway.specs.declared.parties.Parties.{Parties}
+use Rattle.blot_gateway.specs.Hearing.{word_in}
+use Rattle.blot_gateway.specs.Wires.{Did, Notice, Steps}
 use Rattle.blot_gateway.specs.Serving.{close_in}
-use Rattle.blot_gateway.specs.Sending.{Writes, Halts, Called, StopsAt, Halted}
+use Rattle.blot_gateway.specs.Sending.{Writes, Halts, Called, Comes, ComesLast, StopsAt, Halted}
 use Rattle.blot_session.proofs.ActionLemmas.{delivered-idle}
 
 -- ---- results
@@ -81,4 +84,32 @@ halted does ticks stop call wire wire_after clock clock_after state after now sl
       halts = subst (λ (gives : Outcome). StopsAt does stop wire gives.actions true wire_after) is (stops-at does stop wire actions wire_after
           (subst (λ list. Halts does stop wire list wire_after) same halts));
       delivers = subst (λ (gives : Outcome). DeliversJust None gives.actions) is delivers;
+    }
+
+-- a frame, of which the sink heard where it brought no command
+pub comes : {W C S : Type 0} (does : W → Did → W → Type 0) (ticks : C → ℤ → C → Type 0) (takes : S → Notice → S → Type 0) (command : Option Command) (text : List ℕ)
+    (before after : Parties W C S) (now : ℤ) (actions : List Action)
+    → record { state = after.session; actions = actions } ≡ outcome before.session (Frame text now true) → ticks before.clock now after.clock
+    → Writes does before.wire (flat_map bytes_of actions) after.wire → close_in actions ≡ None → DeliversJust command actions
+    → Steps takes before.sink (word_in before.session (Frame text now true)) after.sink
+    → Comes does ticks takes command text before after
+unfolding called
+comes does ticks takes command text before after now actions is ticked writes stays delivers heard =
+    record {
+      called = called does ticks command (Frame text) before.wire after.wire before.clock after.clock before.session after.session now actions is ticked writes stays delivers;
+      heard = heard;
+    }
+
+-- a frame that stops the session, of which the sink heard
+pub comes-last : {W C S : Type 0} (does : W → Did → W → Type 0) (ticks : C → ℤ → C → Type 0) (takes : S → Notice → S → Type 0) (stop : Stop) (text : List ℕ)
+    (before after : Parties W C S) (now : ℤ) (slice actions : List Action) → slice ≡ actions
+    → record { state = after.session; actions = actions } ≡ outcome before.session (Frame text now true) → ticks before.clock now after.clock
+    → Halts does stop before.wire slice after.wire → DeliversJust None actions
+    → Steps takes before.sink (word_in before.session (Frame text now true)) after.sink
+    → ComesLast does ticks takes text before after stop
+unfolding halted
+comes-last does ticks takes stop text before after now slice actions same is ticked halts delivers heard =
+    record {
+      halted = halted does ticks stop (Frame text) before.wire after.wire before.clock after.clock before.session after.session now slice actions same is ticked halts delivers;
+      heard = heard;
     }

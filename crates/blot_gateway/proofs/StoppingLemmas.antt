@@ -7,18 +7,18 @@ use Rattle.blot_gateway.specs.Progress.{Handles}
 use Rattle.blot_gateway.specs.Serving.{Runs, due_behind, due_of}
 use Rattle.blot_gateway.specs.Serving.Due.{Came}
 use Rattle.blot_gateway.specs.Stopping.{GoesOnFor}
-use Rattle.blot_gateway.specs.Wires.{Answered, Did}
+use Rattle.blot_gateway.specs.Wires.{Did, Notice}
 use Rattle.blot_gateway.proofs.CallLemmas.{runs-on}
 use Rattle.blot_gateway.proofs.ServingLemmas.{Serves}
 
 -- so many reads are no more than that many
-pub goes-on-for : {W C S : Type 0} (does : W → Did → W → Type 0) (ticks : C → ℤ → C → Type 0) (takes : S → Answered → S → Type 0)
+pub goes-on-for : {W C S : Type 0} (does : W → Did → W → Type 0) (ticks : C → ℤ → C → Type 0) (takes : S → Notice → S → Type 0)
     (most : ℕ) (a b : Parties W C S) (unread rest : List ℕ) (count : ℕ) → count ≤ most → Serves does ticks takes a unread count b rest
     → GoesOnFor does ticks takes most a (due_behind unread) b rest
 goes-on-for does ticks takes most a b unread rest count few one = record { reads = one.reads; few = omega (arith, few, one.many); runs = one.runs }
 
 -- the frames of what the reader held come before the reads
-pub goes-on-behind : {W C S : Type 0} (does : W → Did → W → Type 0) (ticks : C → ℤ → C → Type 0) (takes : S → Answered → S → Type 0)
+pub goes-on-behind : {W C S : Type 0} (does : W → Did → W → Type 0) (ticks : C → ℤ → C → Type 0) (takes : S → Notice → S → Type 0)
     (most : ℕ) (a b c : Parties W C S) (unread rest left : List ℕ) → rest ≡ rest_of unread
     → Handles does ticks takes a (map Came (frames_of unread)) b → GoesOnFor does ticks takes most b (due_behind rest) c left
     → GoesOnFor does ticks takes most a (due_of unread) c left

@@ -18,7 +18,7 @@ use Rattle.blot_gateway.specs.declared.ended.Ended.TheVariants as ended
 use Rattle.blot_gateway.specs.declared.ended.TheConstants.{READS_MAX}
 use Rattle.blot_gateway.specs.Greeting.{Greeted}
 use Rattle.blot_gateway.specs.Serving.{Served, IsCounted, parties}
-use Rattle.blot_gateway.specs.Wires.{Did, Answered}
+use Rattle.blot_gateway.specs.Wires.{Did, Answered, hands}
 
 -- ---- the receipts of a seat
 
@@ -69,7 +69,7 @@ pub record ServesPeer {W C S : Type 0} (does : W → Did → W → Type 0) (tick
   pub session : State
   pub last : State
   pub waits : IsWaiting peer session
-  pub served : Served does ticks takes READS_MAX end (parties before.wire before.clock before.sink session) unread (parties after.wire after.clock after.sink last)
+  pub served : Served does ticks (hands takes) READS_MAX end (parties before.wire before.clock before.sink session) unread (parties after.wire after.clock after.sink last)
 
 -- it is refused with one of two faults, and nothing is done. Which of them, and whether it had to be, isn't said: the table is under a lock
 pub record TurnsAway {W C S : Type 0} (end : Ended) (before after : Line W C S) : Type 0 where

@@ -1,11 +1,19 @@
--- What a sink hears of a frame that brought no command.
-use Rattle.std.specs.Prelude.{◌==◌, nat_lt, Bool, true, false, ◌&&◌, ◌||◌, not, Option, Some, None, is_some, if◌then◌else◌}
+-- What a sink hears of a frame of which no command was delivered.
+use Rattle.std.specs.Prelude.{◌==◌, nat_lt, ℕ, ℤ, Bool, true, false, ◌&&◌, ◌||◌, not, List, [], ◌∷◌, Option, Some, None, Result, is_some, if◌then◌else◌}
+use Rattle.blot_fields.specs.declared.fault.FieldFault.{FieldFault}
+use Rattle.blot_fields.specs.declared.message.Message.{Message}
+use Rattle.blot_session.specs.Calls.{on_frame}
+use Rattle.blot_session.specs.Met.{met_of}
+use Rattle.blot_session.specs.Runs.{Call, said_by}
+use Rattle.blot_session.specs.Runs.Call.{Frame}
 use Rattle.blot_session.specs.declared.state.Phase.{Phase}
 use Rattle.blot_session.specs.declared.state.Phase.TheVariants as phases
 use Rattle.blot_session.specs.declared.state.State.{State}
 use Rattle.blot_session.specs.States.{awaited_of, phase_of}
 use Rattle.blot_gateway.specs.declared.calling.Before.{Before}
 use Rattle.blot_gateway.specs.declared.wire.Heard.{Heard}
+use Rattle.blot_gateway.specs.Wires.{Notice}
+use Rattle.blot_gateway.specs.Wires.Notice.{HeardOf}
 
 -- whether a phase is that of a session that is on
 abbrev pub is_on : Phase → Bool
@@ -26,3 +34,21 @@ heard before session =
       expected = session.expected;
       next = session.next;
     })
+
+-- a session before a frame came that says this, and what becomes of the frame
+abbrev pub before_frame : State → Result Message FieldFault → ℤ → Before
+before_frame state said now = record { met = met_of state said now; phase = phase_of state; expected = state.expected; next = state.next }
+
+-- what is heard of a frame with this text that comes at this moment
+abbrev pub heard_by : State → List ℕ → ℤ → Option Heard
+heard_by state text now = heard (before_frame state (said_by text) now) (on_frame state (said_by text) now).state
+
+-- word of a frame, if something is heard of it
+abbrev pub word_of : List ℕ → Option Heard → List Notice
+word_of text None = []
+word_of text (Some heard) = HeardOf text heard ∷ []
+
+-- what a sink hears of a call, for which there was memory or wasn't
+abbrev pub word_in : State → Call → List Notice
+word_in state (Frame text now true) = word_of text (heard_by state text now)
+word_in state call = []

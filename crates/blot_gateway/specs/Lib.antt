@@ -3,6 +3,7 @@ pub mod Endings
 pub mod Greeting
 pub mod Hearing
 pub mod Memory
+pub mod Numbers
 pub mod Progress
 pub mod Sending
 pub mod Serving

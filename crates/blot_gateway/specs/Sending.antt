@@ -7,10 +7,12 @@ use Rattle.blot_desk.specs.declared.fault.DeskFault.{DeskFault}
 use Rattle.blot_session.specs.declared.action.Action.{Action}
 use Rattle.blot_session.specs.declared.state.State.{State}
 use Rattle.blot_session.specs.Runs.{Call, DeliversJust, outcome, bytes_of}
-use Rattle.blot_session.specs.Runs.Call.{Reply}
+use Rattle.blot_session.specs.Runs.Call.{Frame, Reply}
 use Rattle.blot_gateway.specs.declared.ended.Stop.{Stop}
 use Rattle.blot_gateway.specs.declared.ended.Stop.TheVariants as stops
-use Rattle.blot_gateway.specs.Wires.{Did, Answered, Steps, reads_of, written_of}
+use Rattle.blot_gateway.specs.Hearing.{word_in}
+use Rattle.blot_gateway.specs.Wires.{Did, Notice, Steps, reads_of, written_of}
+use Rattle.blot_gateway.specs.Wires.Notice.{Handed}
 use Rattle.blot_gateway.specs.declared.parties.Parties.{Parties}
 use Rattle.blot_gateway.specs.Serving.{IsFront, close_in, seen_by}
 
@@ -59,16 +61,28 @@ pub record Halted {W C : Type 0} (does : W → Did → W → Type 0) (ticks : C 
   pub halts : StopsAt does stop wire (outcome state (call now memory)).actions memory wire_after
   pub delivers : DeliversJust None (outcome state (call now memory)).actions
 
+-- a frame with this text comes to a session, and where no command is delivered the sink hears what it came to
+pub record Comes {W C S : Type 0} (does : W → Did → W → Type 0) (ticks : C → ℤ → C → Type 0) (takes : S → Notice → S → Type 0)
+    (command : Option Command) (text : List ℕ) (before after : Parties W C S) : Type 0 where
+  pub called : Called does ticks command (Frame text) before.wire before.clock before.session after.wire after.clock after.session
+  pub heard : Steps takes before.sink (word_in before.session (Frame text called.now true)) after.sink
+
+-- and that stops it
+pub record ComesLast {W C S : Type 0} (does : W → Did → W → Type 0) (ticks : C → ℤ → C → Type 0) (takes : S → Notice → S → Type 0)
+    (text : List ℕ) (before after : Parties W C S) (stop : Stop) : Type 0 where
+  pub halted : Halted does ticks (Frame text) before.wire before.clock before.session after.wire after.clock after.session stop
+  pub heard : Steps takes before.sink (word_in before.session (Frame text halted.now halted.memory)) after.sink
+
 -- a command is handed to the sink, and the session told the answer
-pub record Submitted {W C S : Type 0} (does : W → Did → W → Type 0) (ticks : C → ℤ → C → Type 0) (takes : S → Answered → S → Type 0)
+pub record Submitted {W C S : Type 0} (does : W → Did → W → Type 0) (ticks : C → ℤ → C → Type 0) (takes : S → Notice → S → Type 0)
     (command : Command) (before after : Parties W C S) : Type 0 where
   pub answer : Result DeskReply DeskFault
-  pub taken : takes before.sink (record { command = command; answer = answer }) after.sink
+  pub taken : takes before.sink (Handed (record { command = command; answer = answer })) after.sink
   pub called : Called does ticks None (Reply (seen_by answer)) before.wire before.clock before.session after.wire after.clock after.session
 
 -- and that stops it
-pub record SubmittedLast {W C S : Type 0} (does : W → Did → W → Type 0) (ticks : C → ℤ → C → Type 0) (takes : S → Answered → S → Type 0)
+pub record SubmittedLast {W C S : Type 0} (does : W → Did → W → Type 0) (ticks : C → ℤ → C → Type 0) (takes : S → Notice → S → Type 0)
     (command : Command) (before after : Parties W C S) (stop : Stop) : Type 0 where
   pub answer : Result DeskReply DeskFault
-  pub taken : takes before.sink (record { command = command; answer = answer }) after.sink
+  pub taken : takes before.sink (Handed (record { command = command; answer = answer })) after.sink
   pub halted : Halted does ticks (Reply (seen_by answer)) before.wire before.clock before.session after.wire after.clock after.session stop

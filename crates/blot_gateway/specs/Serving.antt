@@ -1,6 +1,7 @@
 -- One session, served over a wire: which calls it gets, in which order, and what comes of them.
 use Rattle.std.specs.Prelude.{◌≡◌, ℕ, ℤ, ◌<◌, ◌≤◌, ◌⊎◌, Bool, true, false, List, [], ◌∷◌, ◌++◌, length, map, Option, Some, None, Result, Ok, Err}
 use Rattle.std.specs.List.{flat_map, list_all}
+use Rattle.std.proofs.Common.{inl, inr}
 use Rattle.blot_tag.specs.Walking.{frames_of, rest_of}
 use Rattle.blot_types.specs.Told.{refused_number}
 use Rattle.blot_desk.specs.declared.event.Reply.{Reply as DeskReply}
@@ -19,8 +20,11 @@ use Rattle.blot_session.specs.States.{closed}
 use Rattle.blot_gateway.specs.declared.ended.Ended.{Ended}
 use Rattle.blot_gateway.specs.declared.ended.Ended.TheVariants as ended
 use Rattle.blot_gateway.specs.declared.parties.Parties.{Parties}
-use Rattle.blot_gateway.specs.Wires.{Read, Did, Answered, Counts, Steps, reads_of, written_of}
+use Rattle.blot_gateway.specs.declared.wire.Heard.{Heard}
+use Rattle.blot_gateway.specs.Hearing.{word_in}
+use Rattle.blot_gateway.specs.Wires.{Read, Did, Notice, Counts, Steps, commands_of, reads_of, written_of}
 use Rattle.blot_gateway.specs.Wires.Did.{Gave}
+use Rattle.blot_gateway.specs.Wires.Notice.{Handed, HeardOf}
 use Rattle.blot_gateway.specs.Wires.Read.{Piece, Silence, AtEnd, Failed}
 
 -- ---- what is due to a session
@@ -65,19 +69,26 @@ moment_by call = []
 abbrev pub moments_of : List Call → List ℤ
 moments_of calls = flat_map moment_by calls
 
--- the replies among them
-abbrev pub reply_by : Call → List (Result SeenReply NotTaken)
-reply_by (Reply reply now memory) = reply ∷ []
-reply_by call = []
-
-abbrev pub replies_of : List Call → List (Result SeenReply NotTaken)
-replies_of calls = flat_map reply_by calls
-
 -- what a session is told of a sink's answer
 abbrev pub seen_by : Result DeskReply DeskFault → Result SeenReply NotTaken
 seen_by (Ok (replies.Accepted number)) = Ok seen.Accepted
 seen_by (Ok (replies.Refused refused)) = Ok (seen.Refused (refused_number refused))
 seen_by answer = Err (record {})
+
+-- what passes between a session and its sink: the session is told how a command was answered, or the sink what a frame came to
+abbrev pub told_by : Notice → Result SeenReply NotTaken ⊎ (List ℕ × Heard)
+told_by (Handed answered) = inl (seen_by answered.answer)
+told_by (HeardOf text heard) = inr (text, heard)
+
+-- in a call of the session
+abbrev pub told_in : State → Call → List (Result SeenReply NotTaken ⊎ (List ℕ × Heard))
+told_in state (Reply reply now memory) = inl reply ∷ []
+told_in state call = map told_by (word_in state call)
+
+-- over some calls
+abbrev pub told_of : State → List Call → List (Result SeenReply NotTaken ⊎ (List ℕ × Heard))
+told_of state [] = []
+told_of state (call ∷ calls) = told_in state call ++ told_of (outcome state call).state calls
 
 -- a frame, a reply or a moment, and no other call
 abbrev pub is_served : Call → Bool
@@ -235,38 +246,38 @@ abbrev pub parties : {W C S : Type 0} → W → C → S → State → Parties W 
 parties wire clock sink session = record { wire = wire; clock = clock; sink = sink; session = session }
 
 -- what happens between them over some calls: each call comes at the clock's next moment; after each delivery, and only there, comes a
--- reply, which is the sink's answer
-pub record Happens {W C S : Type 0} (does : W → Did → W → Type 0) (ticks : C → ℤ → C → Type 0) (takes : S → Answered → S → Type 0)
-    (before : Parties W C S) (calls : List Call) (dids : List Did) (answers : List Answered) (after : Parties W C S) : Type 0 where
+-- reply, which is the sink's answer; and of each other frame the sink hears what it came to
+pub record Happens {W C S : Type 0} (does : W → Did → W → Type 0) (ticks : C → ℤ → C → Type 0) (takes : S → Notice → S → Type 0)
+    (before : Parties W C S) (calls : List Call) (dids : List Did) (notices : List Notice) (after : Parties W C S) : Type 0 where
   pub session : after.session ≡ behind_calls before.session calls
   pub served : list_all is_served calls ≡ true
   pub met : AreMet before.session calls
   pub clock : Steps ticks before.clock (moments_of calls) after.clock
-  pub sink : Steps takes before.sink answers after.sink
-  pub told : map (λ answered. seen_by answered.answer) answers ≡ replies_of calls
+  pub sink : Steps takes before.sink notices after.sink
+  pub told : map told_by notices ≡ told_of before.session calls
   pub wire : Steps does before.wire dids after.wire
 
 -- calls that go on, in turn; the sink is handed what the session delivers, in order, each once; and all is written that is sent
-pub record Runs {W C S : Type 0} (does : W → Did → W → Type 0) (ticks : C → ℤ → C → Type 0) (takes : S → Answered → S → Type 0)
+pub record Runs {W C S : Type 0} (does : W → Did → W → Type 0) (ticks : C → ℤ → C → Type 0) (takes : S → Notice → S → Type 0)
     (before : Parties W C S) (due : List Due) (reads : List Read) (left : List Due) (after : Parties W C S) : Type 0 where
   pub calls : List Call
   pub dids : List Did
-  pub answers : List Answered
-  pub happens : Happens does ticks takes before calls dids answers after
+  pub notices : List Notice
+  pub happens : Happens does ticks takes before calls dids notices after
   pub in_turn : InTurn (λ written sent. written ≡ sent) before.session calls dids due reads left
-  pub handed : map (λ answered. answered.command) answers ≡ map (λ numbered. numbered.command) (delivered_of before.session calls)
+  pub handed : commands_of notices ≡ map (λ numbered. numbered.command) (delivered_of before.session calls)
   pub goes_on : GoesOn before.session calls
 
 -- calls that end so, in turn
-pub record Ends {W C S : Type 0} (does : W → Did → W → Type 0) (ticks : C → ℤ → C → Type 0) (takes : S → Answered → S → Type 0)
+pub record Ends {W C S : Type 0} (does : W → Did → W → Type 0) (ticks : C → ℤ → C → Type 0) (takes : S → Notice → S → Type 0)
     (end : Ended) (before : Parties W C S) (due : List Due) (reads : List Read) (after : Parties W C S) : Type 0 where
   pub calls : List Call
   pub dids : List Did
-  pub answers : List Answered
+  pub notices : List Notice
   pub left : List Due
-  pub happens : Happens does ticks takes before calls dids answers after
+  pub happens : Happens does ticks takes before calls dids notices after
   pub in_turn : InTurn (Wrote end) before.session calls dids due reads left
-  pub handed : map (λ answered. answered.command) answers ≡ map (λ numbered. numbered.command) (delivered_of before.session calls)
+  pub handed : commands_of notices ≡ map (λ numbered. numbered.command) (delivered_of before.session calls)
   pub stops : Stops end before.session calls
   pub cause : Cause end reads left
 
@@ -278,7 +289,7 @@ left_by (ended.Closed reason) state = state
 left_by end state = closed state
 
 -- the wire gave some reads, no more than this many, which led to calls that end so; where it was read too often, they are just this many
-pub record EndsWithin {W C S : Type 0} (does : W → Did → W → Type 0) (ticks : C → ℤ → C → Type 0) (takes : S → Answered → S → Type 0)
+pub record EndsWithin {W C S : Type 0} (does : W → Did → W → Type 0) (ticks : C → ℤ → C → Type 0) (takes : S → Notice → S → Type 0)
     (most : ℕ) (end : Ended) (before : Parties W C S) (due : List Read → List Due) (after : Parties W C S) : Type 0 where
   pub reads : List Read
   pub few : length reads ≤ most
@@ -286,7 +297,7 @@ pub record EndsWithin {W C S : Type 0} (does : W → Did → W → Type 0) (tick
   pub ends : Ends does ticks takes end before (due reads) reads after
 
 -- after what the reader held, the wire's reads led to calls that end so
-pub record Served {W C S : Type 0} (does : W → Did → W → Type 0) (ticks : C → ℤ → C → Type 0) (takes : S → Answered → S → Type 0)
+pub record Served {W C S : Type 0} (does : W → Did → W → Type 0) (ticks : C → ℤ → C → Type 0) (takes : S → Notice → S → Type 0)
     (most : ℕ) (end : Ended) (before : Parties W C S) (unread : List ℕ) (after : Parties W C S) : Type 0 where
   pub last : State
   pub within : EndsWithin does ticks takes most end before (due_of unread) (record after { session = last })

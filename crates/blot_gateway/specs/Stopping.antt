@@ -12,10 +12,10 @@ use Rattle.blot_gateway.specs.declared.stopping.TheConstants.{LAST_READS}
 use Rattle.blot_gateway.specs.Endings.{ended_by}
 use Rattle.blot_gateway.specs.Sending.{Called, Halted}
 use Rattle.blot_gateway.specs.Serving.{Due, EndsWithin, Runs, Served, due_behind, due_of, left_by}
-use Rattle.blot_gateway.specs.Wires.{Answered, Did, Read}
+use Rattle.blot_gateway.specs.Wires.{Did, Notice, Read}
 
 -- the wire gave some reads, no more than this many, which led to calls that go on; of all that further reads would make due, nothing is done
-pub record GoesOnFor {W C S : Type 0} (does : W → Did → W → Type 0) (ticks : C → ℤ → C → Type 0) (takes : S → Answered → S → Type 0)
+pub record GoesOnFor {W C S : Type 0} (does : W → Did → W → Type 0) (ticks : C → ℤ → C → Type 0) (takes : S → Notice → S → Type 0)
     (most : ℕ) (before : Parties W C S) (due : List Read → List Due) (after : Parties W C S) (unread : List ℕ) : Type 0 where
   pub reads : List Read
   pub few : length reads ≤ most
@@ -29,7 +29,7 @@ pub record StopsTold {W C S : Type 0} (does : W → Did → W → Type 0) (ticks
   pub sink : after.sink ≡ before.sink
 
 -- or it goes on, for two reads at most
-pub record StopsLater {W C S : Type 0} (does : W → Did → W → Type 0) (ticks : C → ℤ → C → Type 0) (takes : S → Answered → S → Type 0) (end : Ended)
+pub record StopsLater {W C S : Type 0} (does : W → Did → W → Type 0) (ticks : C → ℤ → C → Type 0) (takes : S → Notice → S → Type 0) (end : Ended)
     (before : Parties W C S) (unread : List ℕ) (after : Parties W C S) : Type 0 where
   pub between : Parties W C S
   pub called : Called does ticks None StopCall before.wire before.clock before.session between.wire between.clock between.session
@@ -37,7 +37,7 @@ pub record StopsLater {W C S : Type 0} (does : W → Did → W → Type 0) (tick
   pub within : EndsWithin does ticks takes LAST_READS end between (due_behind unread) after
 
 -- one of the two
-abbrev pub ToldStop : {W C S : Type 0} → (W → Did → W → Type 0) → (C → ℤ → C → Type 0) → (S → Answered → S → Type 0)
+abbrev pub ToldStop : {W C S : Type 0} → (W → Did → W → Type 0) → (C → ℤ → C → Type 0) → (S → Notice → S → Type 0)
     → Ended → Parties W C S → List ℕ → Parties W C S → Type 0
 ToldStop does ticks takes end before unread after = StopsTold does ticks end before after ⊎ StopsLater does ticks takes end before unread after
 
@@ -47,7 +47,7 @@ goodbye ended.TooLong = ended.Closed reasons.LoggedOut
 goodbye end = end
 
 -- the session is told that the day ends, and is closed in the end
-pub record SaysGoodbye {W C S : Type 0} (does : W → Did → W → Type 0) (ticks : C → ℤ → C → Type 0) (takes : S → Answered → S → Type 0)
+pub record SaysGoodbye {W C S : Type 0} (does : W → Did → W → Type 0) (ticks : C → ℤ → C → Type 0) (takes : S → Notice → S → Type 0)
     (end : Ended) (before : Parties W C S) (unread : List ℕ) (after : Parties W C S) : Type 0 where
   pub last : State
   pub cause : Ended
@@ -56,7 +56,7 @@ pub record SaysGoodbye {W C S : Type 0} (does : W → Did → W → Type 0) (tic
   pub ends : end ≡ goodbye cause
 
 -- a session is served up to the end of the day, and then says goodbye, of what the reader holds by then
-pub record ServedToTheEnd {W C S : Type 0} (does : W → Did → W → Type 0) (ticks : C → ℤ → C → Type 0) (takes : S → Answered → S → Type 0)
+pub record ServedToTheEnd {W C S : Type 0} (does : W → Did → W → Type 0) (ticks : C → ℤ → C → Type 0) (takes : S → Notice → S → Type 0)
     (end : Ended) (before : Parties W C S) (unread : List ℕ) (after : Parties W C S) : Type 0 where
   pub between : Parties W C S
   pub left : List ℕ
@@ -64,7 +64,7 @@ pub record ServedToTheEnd {W C S : Type 0} (does : W → Did → W → Type 0) (
   pub said : SaysGoodbye does ticks takes end between left after
 
 -- a session is served until it ends, as without an end of the day, or until the day ends, where that may come
-abbrev pub ServedUntil : {W C S : Type 0} → (W → Did → W → Type 0) → (C → ℤ → C → Type 0) → (S → Answered → S → Type 0) → Type 0
+abbrev pub ServedUntil : {W C S : Type 0} → (W → Did → W → Type 0) → (C → ℤ → C → Type 0) → (S → Notice → S → Type 0) → Type 0
     → Ended → Parties W C S → List ℕ → Parties W C S → Type 0
 ServedUntil does ticks takes may_end end before unread after =
     Served does ticks takes READS_MAX end before unread after ⊎ (may_end × ServedToTheEnd does ticks takes end before unread after)

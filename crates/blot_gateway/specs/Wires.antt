@@ -4,6 +4,7 @@ use Rattle.std.specs.List.{flat_map}
 use Rattle.blot_types.specs.declared.command.Command.{Command}
 use Rattle.blot_desk.specs.declared.event.Reply.{Reply}
 use Rattle.blot_desk.specs.declared.fault.DeskFault.{DeskFault}
+use Rattle.blot_gateway.specs.declared.wire.Heard.{Heard}
 use Rattle.blot_gateway.specs.declared.wire.Reading.{Reading}
 use Rattle.blot_gateway.specs.declared.wire.Reading.TheVariants as reading
 use Rattle.blot_gateway.specs.declared.wire.Writing.{Writing}
@@ -26,6 +27,25 @@ pub data Did : Type 0 where
 pub record Answered : Type 0 where
   pub command : Command
   pub answer : Result Reply DeskFault
+
+-- what a sink gets: a command, which it answers, or word of a frame with this text, of which none was delivered
+pub data Notice : Type 0 where
+  Handed : Answered → Notice
+  HeardOf : List ℕ → Heard → Notice
+
+-- what a sink of commands alone does: it hears of nothing
+abbrev pub hands : {S : Type 0} → (S → Answered → S → Type 0) → S → Notice → S → Type 0
+hands takes before (Handed answered) after = takes before answered after
+hands takes before (HeardOf text heard) after = after ≡ before
+
+-- the command of a notice
+abbrev pub command_in : Notice → List Command
+command_in (Handed answered) = answered.command ∷ []
+command_in (HeardOf text heard) = []
+
+-- the commands among some notices
+abbrev pub commands_of : List Notice → List Command
+commands_of notices = flat_map command_in notices
 
 -- a read, by its answer and the buffer after it
 abbrev pub read_by : Reading → List ℕ → Read

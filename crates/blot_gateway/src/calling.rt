@@ -1,5 +1,5 @@
 //! What is due to a session: its call, and what that comes to at the wire and at the sink.
-ghost use Rattle.std.specs.Prelude.{◌≡◌, ◌≤◌, [], ◌∷◌, Ok, Err, Some, None, IfOk, IfErr, IfSome, OnOk, OnErr, is_some};
+ghost use Rattle.std.specs.Prelude.{◌≡◌, ◌≤◌, [], ◌∷◌, Ok, Err, Some, None, IfOk, IfErr, IfSome, OnOk, OnErr, is_some, true};
 ghost use Rattle.blot_fields.specs.Bringing.{brought};
 ghost use Rattle.blot_tag.specs.Views.{text_of};
 ghost use Rattle.blot_session.specs.Calls.{Awaits, DeliversAlone, Gives, on_frame};
@@ -7,10 +7,11 @@ ghost use Rattle.blot_session.specs.Runs.{DeliversOwn, said_by};
 ghost use Rattle.blot_session.specs.Runs.Call.{Frame as FrameCall, Reply as ReplyCall, Stop as StopCall, Tick};
 ghost use Rattle.blot_session.specs.States.{awaited_of, closed, IsIdle, IsAwaiting};
 ghost use Rattle.blot_gateway.specs.Progress.{CountsStop, Handles, HandlesLast};
-ghost use Rattle.blot_gateway.specs.Sending.{Called, Halted, Submitted, SubmittedLast};
-ghost use Rattle.blot_gateway.specs.Hearing.{heard, is_renumbered};
-ghost use Rattle.blot_gateway.specs.Serving.{seen_by};
+ghost use Rattle.blot_gateway.specs.Sending.{Called, Comes, ComesLast, Halted, Submitted, SubmittedLast};
+ghost use Rattle.blot_gateway.specs.Hearing.{heard, is_renumbered, word_in};
+ghost use Rattle.blot_gateway.specs.Serving.{parties, seen_by};
 ghost use Rattle.blot_gateway.specs.Serving.Due.{Came};
+ghost use Rattle.blot_gateway.specs.Wires.{Steps};
 
 use crate::ended::Stop;
 use crate::writing::carry_out;
@@ -129,14 +130,13 @@ fn give_frame<W: Wire, C: Clock, S: FrameSink>(
     frame: &Frame,
 ) -> Result<Option<Command>, Stop>
     requires { IsIdle session.old }
-    ensures ok { IfOk result (λ command. Called W.does C.ticks command (FrameCall (text_of frame.now)) wire.old clock.old session.old
-        wire.new clock.new session.new) }
+    ensures ok { IfOk result (λ command. Comes W.does C.ticks S.takes command (text_of frame.now) (parties wire.old clock.old sink.old session.old)
+        (parties wire.new clock.new sink.new session.new)) }
     ensures brought { IfOk result (λ found. IfSome found (λ command. brought (text_of frame.now) ≡ Some command)) }
     ensures awaits { IfOk result (λ command. is_some command ≡ is_some (awaited_of session.new)) }
-    ensures err { IfErr result (Halted W.does C.ticks (FrameCall (text_of frame.now)) wire.old clock.old session.old
-        wire.new clock.new session.new) }
+    ensures err { IfErr result (ComesLast W.does C.ticks S.takes (text_of frame.now) (parties wire.old clock.old sink.old session.old)
+        (parties wire.new clock.new sink.new session.new)) }
     ensures idle { OnErr result (IsIdle session.new) }
-    ensures same { sink.new ≡ sink.old }
     ensures failures { W.failures wire.old ≤ W.failures wire.new }
     ensures failed { IfErr result (CountsStop (W.failures wire.old) (W.failures wire.new)) }
 {
@@ -150,7 +150,7 @@ fn give_frame<W: Wire, C: Clock, S: FrameSink>(
     }
 }
 
-// What a session does about a frame. Where that brings no command, the sink hears of it. An error is out of memory.
+// What a session does about a frame. Where no command is delivered, the sink hears of it. An error is out of memory.
 fn decide<S: FrameSink>(
     alloc: Global,
     sink: &mut S,
@@ -164,7 +164,8 @@ fn decide<S: FrameSink>(
     ensures awaits { IfOk result (λ actions. Awaits session.new actions.items) }
     ensures alone { IfOk result (λ actions. DeliversAlone actions.items) }
     ensures own { IfOk result (λ actions. DeliversOwn (text_of frame.now) actions.items) }
-    ensures same { sink.new ≡ sink.old }
+    ensures heard { OnOk result (Steps S.takes sink.old (word_in session.old (FrameCall (text_of frame.now) now true)) sink.new) }
+    ensures unheard { OnErr result (sink.new ≡ sink.old) }
 {
     let said = decode(alloc, frame);
     if is_out_of_memory(&said) {

@@ -1,10 +1,15 @@
 //! What keeps the events of a desk as FIX frames.
-ghost use Rattle.std.specs.Prelude.{◌≡◌, false, true, List, ℕ, Some, IfNone, IfOk, IfSome};
+ghost use Rattle.std.specs.Prelude.{◌≡◌, ◌+◌, false, true, List, ℕ, Ok, Some, IfNone, IfOk, IfSome};
 ghost use Rattle.blot_types.specs.declared.command.Command.{Command};
+ghost use Rattle.blot_types.specs.Keys.{same_text};
 ghost use Rattle.blot_desk.specs.declared.event.Event.TheVariants.{Submit};
 ghost use Rattle.blot_desk.specs.Keeping.{IsSpelled};
 ghost use Rattle.blot_tag.specs.Frames.{IsFrame};
+ghost use Rattle.blot_tag.specs.Fields.{fields_of};
 ghost use Rattle.blot_fields.specs.Bringing.{brought};
+ghost use Rattle.blot_fields.specs.Commands.{command_of};
+ghost use Rattle.blot_fields.specs.Decoding.{decoded};
+ghost use Rattle.blot_fields.specs.declared.message.Message.{Message};
 
 use blot_desk::{Event, Keeper, NoKeeper};
 use blot_tag::Frame;
@@ -28,6 +33,10 @@ pub struct RecordHead {
 /// What keeps the events of a desk as FIX frames: the frame of a command as it came, and frames of its own for an operator's. It keeps frames
 /// that spell no event, too. An error is out of memory.
 pub trait FrameKeeper: Keeper {
+    /// The two numbers of a peer's session after a kept text of one frame, by those before it: the expected one, and that of the next message
+    /// to send. The blotter's CompID comes first, then the peer's.
+    ghost numbers_after: { List ℕ → List ℕ → List ℕ → ℕ × ℕ → ℕ × ℕ };
+
     /// Whether it keeps any events.
     fn is_kept() -> bool
         ensures { result ≡ false → Self.IsKept → ⊥ };
@@ -42,7 +51,11 @@ pub trait FrameKeeper: Keeper {
         head: &RecordHead,
         frame: &Frame,
     ) -> Result<Option<Vec<u8>>, NoMemory>
-        ensures { IfOk result (λ made. IfSome made (λ text. Self.spells_none text.items)) };
+        ensures spelled { IfOk result (λ made. IfSome made (λ text. Self.spells_none text.items)) }
+
+        // It leaves all numbers as they are.
+        ensures numbers { IfOk result (λ made. IfSome made (λ text. (peer : List ℕ) (numbers : ℕ × ℕ)
+            → Self.numbers_after head.entry.now.own peer text.items numbers ≡ numbers)) };
 
     /// The record of a session's numbers: the one that it expects, and that of the next message that it sends. None where it can't be made.
     fn numbers_record(
@@ -51,7 +64,11 @@ pub trait FrameKeeper: Keeper {
         expected: u64,
         next: u64,
     ) -> Result<Option<Vec<u8>>, NoMemory>
-        ensures { IfOk result (λ made. IfSome made (λ text. Self.spells_none text.items)) };
+        ensures spelled { IfOk result (λ made. IfSome made (λ text. Self.spells_none text.items)) }
+
+        // After it the numbers of the party are these.
+        ensures numbers { IfOk result (λ made. IfSome made (λ text. (numbers : ℕ × ℕ)
+            → Self.numbers_after head.entry.now.own head.entry.now.party text.items numbers ≡ (expected, next))) };
 
     /// The record of an operator's event, for which this line asks. None where the line can't be kept.
     fn line_record(
@@ -67,10 +84,19 @@ pub trait FrameKeeper: Keeper {
 
     /// A frame that brings a command spells its submit.
     ghost spells_frames: { (text : List ℕ) (command : Command) → IsFrame text → brought text ≡ Some command → Self.spells text (Submit command) };
+
+    /// It makes the number after its own the expected one of its sender's session.
+    ghost counts_frames: { Self.IsKept → (own text : List ℕ) (message : Message) (command : Command) (numbers : ℕ × ℕ) → decoded (fields_of text) ≡ Ok message
+        → command_of message message.head.sender ≡ Some command → same_text message.head.sender own ≡ false
+        → Self.numbers_after own message.head.sender text numbers ≡ (message.head.number + 1, numbers.1) };
 }
 
 impl FrameKeeper for NoKeeper {
+    ghost numbers_after = { λ own peer text numbers. numbers };
+
     ghost spells_frames = { λ text command valid brings. tt };
+
+    ghost counts_frames = { λ kept. absurd kept };
 
     fn is_kept() -> bool {
         false

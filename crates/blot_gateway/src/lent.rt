@@ -39,8 +39,9 @@ impl<C: Clock> Clock for &mut C {
 
 impl<S: Sink> FrameSink for &mut S {
     ghost use Rattle.std.specs.Prelude.{◌≡◌};
+    ghost use Rattle.blot_gateway.specs.Wires.{hands};
 
-    ghost takes = { λ before answered after. S.takes before.now answered after.now × (after.ghost_name ≡ before.ghost_name) };
+    ghost takes = { λ before notice after. hands S.takes before.now notice after.now × (after.ghost_name ≡ before.ghost_name) };
 
     fn take(&mut self, _frame: &Frame, command: Command) -> Result<Reply, DeskFault> {
         (**self).take(command)

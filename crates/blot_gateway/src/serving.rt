@@ -8,6 +8,7 @@ ghost use Rattle.blot_gateway.specs.Progress.{CountsStop, Handles, HandlesLast, 
 ghost use Rattle.blot_gateway.specs.Serving.{EndsWithin, Served, IsCounted, due_behind, due_of, left_by, parties};
 ghost use Rattle.blot_gateway.specs.Serving.Due.{Came};
 ghost use Rattle.blot_gateway.specs.Stopping.{GoesOnFor};
+ghost use Rattle.blot_gateway.specs.Wires.{hands};
 
 use crate::calling::pass_moment;
 use crate::ended::Stop;
@@ -34,7 +35,7 @@ pub fn serve_session<W: Wire, C: Clock, S: Sink>(
     session: &mut Session,
 ) -> Ended
     requires { IsIdle session.old }
-    ensures served { Served W.does C.ticks S.takes READS_MAX result (parties wire.old clock.old sink.old session.old) reader.old.unread
+    ensures served { Served W.does C.ticks (hands S.takes) READS_MAX result (parties wire.old clock.old sink.old session.old) reader.old.unread
         (parties wire.new clock.new sink.new session.new) }
     ensures counted { IsCounted (W.failures wire.old) (W.failures wire.new) result }
 {
@@ -53,7 +54,7 @@ pub fn serve_session_within<W: Wire, C: Clock, S: Sink>(
     reads: u64,
 ) -> Ended
     requires { IsIdle session.old }
-    ensures served { Served W.does C.ticks S.takes reads result (parties wire.old clock.old sink.old session.old) reader.old.unread
+    ensures served { Served W.does C.ticks (hands S.takes) reads result (parties wire.old clock.old sink.old session.old) reader.old.unread
         (parties wire.new clock.new sink.new session.new) }
     ensures counted { IsCounted (W.failures wire.old) (W.failures wire.new) result }
 {

@@ -1,6 +1,8 @@
 //! A session that is served until it ends, or the day does.
-ghost use Rattle.std.specs.Prelude.{◌≡◌, ◌≤◌};
+ghost use Rattle.std.specs.Prelude.{◌≡◌, ◌≤◌, List};
+ghost use Rattle.blot_session.specs.Runs.{Call, behind_calls};
 ghost use Rattle.blot_session.specs.States.{IsIdle};
+ghost use Rattle.blot_gateway.specs.Numbers.{KeepsAllNumbers};
 ghost use Rattle.blot_gateway.specs.Serving.{IsCounted};
 ghost use Rattle.blot_gateway.specs.Stopping.{SaysGoodbye, ServedUntil, ToldStop, goodbye};
 
@@ -23,6 +25,9 @@ impl<W: Wire, C: Clock, S: FrameSink> Parties<W, C, S> {
     pub fn serve_until<D: Watch>(&mut self, alloc: Global, reader: &mut Reader, watch: &D) -> Ended
         requires { IsIdle self.old.session }
         ensures served { ServedUntil W.does C.ticks S.takes D.may_end result self.old reader.old.unread self.new }
+
+        // From any moment of the connection to the next reset, what the sink is told and what is sent give the session's two numbers.
+        ensures numbers { (calls : List Call) → KeepsAllNumbers (behind_calls self.old.session calls) }
         ensures counted { IsCounted (W.failures self.old.wire) (W.failures self.new.wire) result }
     {
         match self.serve_watched(alloc, reader, READS_MAX, watch) {

@@ -2,7 +2,8 @@
 ghost use Rattle.std.specs.Prelude.{◌≡◌, ◌<◌, ℕ, ℤ, Some, length};
 ghost use Rattle.blot_fields.specs.Bringing.{brought};
 ghost use Rattle.blot_tag.specs.Views.{text_of};
-ghost use Rattle.blot_gateway.specs.Wires.{Did, Answered, read_by, written_by, ReadFits, WriteFits, CountsRead, CountsWrite};
+ghost use Rattle.blot_gateway.specs.Wires.{Answered, Did, Notice, read_by, written_by, ReadFits, WriteFits, CountsRead, CountsWrite};
+ghost use Rattle.blot_gateway.specs.Wires.Notice.{Handed, HeardOf};
 ghost use Rattle.blot_gateway.specs.Wires.Did.{Gave};
 
 use blot_desk::{DeskFault, Reply};
@@ -82,20 +83,20 @@ pub trait Sink {
 
 /// What takes the commands that a session delivers, each with the frame that brought it, and hears of the other frames.
 pub trait FrameSink {
-    /// A sink, a command with the answer to it, and the sink after that.
-    ghost takes: { Self → Answered → Self → Type 0 };
+    /// A sink, a command with the answer to it or word of another frame, and the sink after that.
+    ghost takes: { Self → Notice → Self → Type 0 };
 
     /// Takes a command, which this frame brought.
     fn take(&mut self, frame: &Frame, command: Command) -> Result<Reply, DeskFault>
         requires { brought (text_of frame.now) ≡ Some command }
-        ensures { takes self.old (record { command = command; answer = result }) self.new };
+        ensures { takes self.old (Handed (record { command = command; answer = result })) self.new };
 
-    /// Hears of a frame that brought no command, and what it came to, before anything is written of that. A contract sees nothing of it.
+    /// Hears of a frame of which no command was delivered, and what it came to, before anything is written of that.
     fn hear(&mut self, frame: &Frame, heard: Heard)
-        ensures { self.new ≡ self.old };
+        ensures { takes self.old (HeardOf (text_of frame.now) heard) self.new };
 }
 
-/// What a frame that brought no command came to at a session that is on, or was.
+/// What a frame came to of which no command was delivered, at a session that is on, or was.
 #[derive(Clone, Copy, Debug, PartialEq, Eq)]
 pub struct Heard {
     /// What became of it.

@@ -3,6 +3,7 @@ ghost use Rattle.std.specs.Prelude.{◌≡◌, Some, true};
 ghost use Rattle.blot_fields.specs.Bringing.{brought};
 ghost use Rattle.blot_tag.specs.Views.{text_of};
 ghost use Rattle.blot_gateway.specs.AtOnce.{are_submits};
+ghost use Rattle.blot_gateway.specs.Wires.Notice.{Handed};
 ghost use Rattle.blot_lanes.specs.Seats.{TakesAs};
 
 use crate::PeerStore;
@@ -147,7 +148,7 @@ impl<L: Ledger> BrokerSeat<L> {
         command: Command,
     ) -> Result<Reply, DeskFault>
         requires { brought (text_of frame.now) ≡ Some command }
-        ensures { TakesAs self.old (record { command = command; answer = result }) self.new }
+        ensures { TakesAs self.old (Handed (record { command = command; answer = result })) self.new }
     {
         let event = Event::Submit(command);
         desk.submit_with(rt, &mut self.seat, &self.peer, event, frame.text())

@@ -115,7 +115,7 @@ impl<'a, R, L: Ledger, K: FrameKeeper> PeerStore<'a, R, L, K> {
 }
 
 impl<'a, R: Wait + time::Clock, L: Ledger, K: FrameKeeper> PeerStore<'a, R, L, K> {
-    /// Keeps a frame that brought no command, and the session's numbers where they are new.
+    /// Keeps a frame of which no command was delivered, and the session's numbers where they are new.
     pub(crate) fn hear(&self, frame: &Frame, heard: Heard) {
         self.lose_unless(self.keep_heard(frame, heard));
     }

@@ -176,9 +176,6 @@ put_under-unput n slots fills view is = ap (option_and_then fill_put) (sym (get-
 pub kept_at-held_by : (n : ℕ) (slots : List (Option Held)) (fills : Fills) → held_by slots ≡ fills → kept_at fills n ≡ option_and_then fill_kept (slot_at slots n)
 kept_at-held_by n slots fills view = ap (option_and_then fill_kept) (ap (λ shown. finite.get shown n) (sym view) ∙ get-held_by slots n)
 
-pub put_within : (n : ℕ) (slots : List (Option Held)) (fills : Fills) (fill : Fill) → held_by slots ≡ fills → put_at fills n ≡ Some fill → n < length slots
-put_within n slots fills fill view is = slot_within n slots (Put fill) (slot_at-put n slots fills fill view is)
-
 -- ---- the fills that are put
 
 put-held_from : (n : ℕ) (slots : List (Option Held)) → filter_map fill_put (map (λ entry. entry.1) (held_from n slots)) ≡ fills_in_slots slots

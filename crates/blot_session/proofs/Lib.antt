@@ -7,5 +7,6 @@ mod OwnLemmas
 mod RowLemmas
 mod Rows
 mod RunLemmas
+pub mod SendingLemmas
 mod StateLemmas
 mod TextLemmas

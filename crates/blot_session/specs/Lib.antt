@@ -7,3 +7,4 @@ pub mod Calls
 pub mod Met
 pub mod InTurn
 pub mod Runs
+pub mod Sending

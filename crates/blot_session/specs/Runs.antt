@@ -161,6 +161,16 @@ AreBelow number (taken ∷ later) = (taken.number < number) × AreBelow number l
 abbrev pub Bears : ℕ → Result Message FieldFault → Type 0
 Bears number said = option_map (λ head. head.number) (head_in said) ≡ Some number
 
+-- a frame whose command is delivered bears the number that is expected then
+abbrev pub IsBorne : State → Call → Type 0
+IsBorne state (Frame text now memory) = (delivered_by state.expected (outcome state (Frame text now memory)).actions ≡ []) ⊎ Bears state.expected (said_by text)
+IsBorne state call = Unit {0}
+
+-- so does each of some calls
+abbrev pub AreBorne : State → List Call → Type 0
+AreBorne state [] = Unit {0}
+AreBorne state (call ∷ calls) = IsBorne state call × AreBorne (outcome state call).state calls
+
 -- a message that covers a number, where this one is expected: a Sequence Reset to a higher one. A gap fill has to bear the
 -- expected number itself
 abbrev pub CoversBy : ℕ → ℕ → Result Message FieldFault → Body → Type 0

@@ -1,5 +1,6 @@
 //! The session with one peer.
 ghost use Rattle.std.specs.Prelude.{◌≡◌, ◌+◌, ◌≤◌, ℕ, List, true, false, is_some, IfOk, OnErr, IsTrue};
+ghost use Rattle.std.specs.List.{list_all};
 ghost use Rattle.blot_tag.specs.Views.{text_of};
 ghost use Rattle.blot_types.specs.Keys.{same_text};
 ghost use Rattle.blot_types.specs.Text.{is_text};
@@ -9,7 +10,8 @@ ghost use Rattle.blot_session.specs.declared.state.State.{State};
 ghost use Rattle.blot_session.specs.Calls.{Awaits, DeliversAlone, Gives, GivesCommand, command_said, on_frame, on_tick, on_stop, on_reply, row_of_reply};
 ghost use Rattle.blot_session.specs.InTurn.{is_report_said};
 ghost use Rattle.blot_session.specs.Met.{IsOfNumber, met_of};
-ghost use Rattle.blot_session.specs.Runs.{Call, AreMet, DeliversOwn, HasNoReset, IsInOrder, said_by};
+ghost use Rattle.blot_session.specs.Runs.{Call, AreBorne, AreMet, DeliversOwn, HasNoReset, IsInOrder, behind_calls, said_by};
+ghost use Rattle.blot_session.specs.Sending.{CountUp, all_sent, is_of_connection};
 ghost use Rattle.blot_session.specs.States.{awaited_of, fresh, resumed, waiting_again, closed, phase_of, IsIdle, IsAwaiting, IsState};
 
 use crate::carrying::{go_on, take_row};
@@ -94,7 +96,7 @@ impl Session {
     }
 
     /// MsgSeqNum(34) of the peer's next message, 1 to 1,000,000,000.
-    #[tactic(auto, using(crate::proofs::RunLemmas::in_order))]
+    #[tactic(auto, using(crate::proofs::RunLemmas::in_order, crate::proofs::SendingLemmas::all_borne))]
     pub fn expected(&self) -> u64
         ensures number { result ≡ self.now.expected }
         ensures range { (1 ≤ result) × (result ≤ SEQUENCE_MAX + 1) }
@@ -102,14 +104,22 @@ impl Session {
         // Until the numbers are reset, the numbers of what is taken rise, and each that is missing was covered by a
         // Sequence Reset or borne by another message.
         ensures law { (calls : List Call) → IsIdle self.now → AreMet self.now calls → HasNoReset calls → IsInOrder self.now calls }
+
+        // Each command that is delivered is of a message that bears the number that is expected then.
+        ensures borne { (calls : List Call) → AreMet self.now calls → HasNoReset calls → AreBorne self.now calls }
     {
         self.state.expected
     }
 
     /// MsgSeqNum(34) of the next message to send, 1 to 1,000,000,000.
+    #[tactic(auto, using(crate::proofs::SendingLemmas::counted_up))]
     pub fn next(&self) -> u64
         ensures number { result ≡ self.now.next }
         ensures range { (1 ≤ result) × (result ≤ SEQUENCE_MAX + 1) }
+
+        // Until the numbers are reset, the messages of a connection are numbered one after the other, from this one on.
+        ensures law { (calls : List Call) → IsIdle self.now → AreMet self.now calls → HasNoReset calls → list_all is_of_connection calls ≡ true
+            → CountUp self.now.next (all_sent self.now calls) (behind_calls self.now calls).next }
     {
         self.state.next
     }

@@ -22,7 +22,7 @@ use Rattle.blot_types.specs.Chains.{taker_in}
 use Rattle.blot_types.specs.Instructions.{is_keyed, alloc_taker_in, brings_allocation, is_allocation_of, is_allocation_in, ends, ended_in, is_live_in, names, holds_in, named_in, is_reference, holds_beside, other_holder_in}
 use Rattle.blot_types.specs.Legal.{is_legal, refusal_of}
 use Rattle.blot_types.specs.Order.{order_of}
-use Rattle.blot_types.specs.Position.{house, signed, account_of, part_of_fill, part_of_line, from_house, moves_of_line, moves_of, is_named, part_of, parts_of, is_at, position_by, position_of}
+use Rattle.blot_types.specs.Position.{house, signed, account_of, part_of_fill, part_of_line, from_house, moves_of_line, moves_of, is_named, part_of, parts_of, is_at, position_by, position_of, signed_part}
 use Rattle.blot_types.specs.Refusals.{exec_key, alloc_key, alloc_reference, terms_of, listed_by, exec_references, withdrawn_by, is_live, first_of, bust_of_key, same_chain, repeated_in, other_holder, version_in, current_fill, same_sign, differs, booked, mismatch, never_entry, duplicate_exec, duplicate_alloc, unknown_alloc, dead_alloc, unknown_exec, busted_exec, repeated_exec, exec_taken, instrument, quantity}
 use Rattle.blot_types.specs.Survivors.{links_of, survivors}
 
@@ -295,6 +295,9 @@ by_side = refl
 
 house_if_named : map (λ named. account_of named sold) (true ∷ false ∷ []) ≡ house ∷ A1 ∷ []
 house_if_named = refl
+
+five_sold : signed_part A1 XYZ Sell 5 (pos 3) ≡ record { account = A1; symbol = XYZ; qty = neg_ℤ (pos 5); value = neg_ℤ (pos 15) }
+five_sold = refl
 
 sold_part : part_of_fill false sold ≡ record { account = A1; symbol = XYZ; qty = neg_ℤ (units 50); value = neg_ℤ (worth 5500000) }
 sold_part = refl

@@ -11,7 +11,7 @@ use Rattle.blot_types.specs.declared.lines.OrderLine.{OrderLine}
 use Rattle.blot_types.specs.declared.lines.Version.{Version}
 use Rattle.blot_types.specs.declared.keys.OrderKey.{OrderKey}
 use Rattle.blot_types.specs.Keys.{same_order}
-use Rattle.blot_types.specs.Order.{line_of, fills_among, with_fill, cum_before, value_before, IsWithin}
+use Rattle.blot_types.specs.Order.{line_of, with_fill, cum_before, value_before, IsWithin, fills_of}
 
 -- the last of a list with one more element is that element
 pub last_or-push : {A : Type 0} → (o : Option A) (xs : List A) (x : A) → last_or o (xs ++ x ∷ []) ≡ Some x
@@ -53,25 +53,25 @@ IsWithin-weaker m n line more within = record {
 }
 
 -- the fills of an order among versions with one more
-pub fills_among-push :
+pub fills_of-push :
     (versions : List Version) (version : Version) (order : OrderKey)
-    → fills_among (versions ++ version ∷ []) order
-    ≡ fills_among versions order ++ (if same_order version.fill.order order then version.fill ∷ [] else [])
-fills_among-push versions version order =
+    → fills_of (map (λ (v : Version). v.fill) (versions ++ version ∷ [])) order
+    ≡ fills_of (map (λ (v : Version). v.fill) versions) order ++ (if same_order version.fill.order order then version.fill ∷ [] else [])
+fills_of-push versions version order =
     ap (filter (λ fill. same_order fill.order order)) (map-append (λ v. v.fill) versions (version ∷ []))
     ∙ filter-append (λ fill. same_order fill.order order) (map (λ v. v.fill) versions) (version.fill ∷ [])
 
 -- the line of an order where the next version is one of its fills, and where it isn't
 pub line_of-taken :
     (versions : List Version) (version : Version) (order : OrderKey) (line : Option OrderLine)
-    → line ≡ line_of (fills_among versions order) → same_order version.fill.order order ≡ true
-    → Some (with_fill line version.fill) ≡ line_of (fills_among (versions ++ version ∷ []) order)
+    → line ≡ line_of (fills_of (map (λ (v : Version). v.fill) versions) order) → same_order version.fill.order order ≡ true
+    → Some (with_fill line version.fill) ≡ line_of (fills_of (map (λ (v : Version). v.fill) (versions ++ version ∷ [])) order)
 line_of-taken versions version order line is same =
-    rw (is, fills_among-push, same) (sym (line_of-push (fills_among versions order) version.fill))
+    rw (is, fills_of-push, same) (sym (line_of-push (fills_of (map (λ (v : Version). v.fill) versions) order) version.fill))
 
 pub line_of-passed :
     (versions : List Version) (version : Version) (order : OrderKey) (line : Option OrderLine)
-    → line ≡ line_of (fills_among versions order) → same_order version.fill.order order ≡ false
-    → line ≡ line_of (fills_among (versions ++ version ∷ []) order)
+    → line ≡ line_of (fills_of (map (λ (v : Version). v.fill) versions) order) → same_order version.fill.order order ≡ false
+    → line ≡ line_of (fills_of (map (λ (v : Version). v.fill) (versions ++ version ∷ [])) order)
 line_of-passed versions version order line is other =
-    rw (is, fills_among-push, other) (ap line_of (sym (append-nil (fills_among versions order))))
+    rw (is, fills_of-push, other) (ap line_of (sym (append-nil (fills_of (map (λ (v : Version). v.fill) versions) order))))

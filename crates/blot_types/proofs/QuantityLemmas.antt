@@ -15,8 +15,8 @@ use Rattle.blot_types.specs.declared.refused.Refused.TheVariants.{Quantity}
 use Rattle.blot_types.specs.Allocations.{Allocation, allocation_of}
 use Rattle.blot_types.specs.Legal.{refusal_in, legal_in, is_legal}
 use Rattle.blot_types.specs.Order.{cum_of}
-use Rattle.blot_types.specs.Refusals.{never_entry, current_fill, booked, mismatch, duplicate_exec, duplicate_alloc, unknown_alloc, dead_alloc, unknown_exec, busted_exec, repeated_exec, exec_taken, instrument}
-use Rattle.blot_types.proofs.AcceptLemmas.{or_parts}
+use Rattle.blot_types.specs.Refusals.{current_fill, booked, mismatch}
+use Rattle.blot_types.proofs.AcceptOutLemmas.{accepts}
 use Rattle.blot_types.proofs.ChainLemmas.{none_is}
 
 -- the lines of an allocation book what its block is
@@ -42,17 +42,7 @@ books_found wanted (Some a) none = matched (wanted a.terms) (pos a.terms.block) 
 
 accepted_books : (entries : List Entry) (command : Command) → refusal_in entries command ≡ None → IfSome (allocation_of command) BooksItsBlock
 accepted_books entries command accepted =
-    let zero = or_parts (never_entry command) _ accepted in
-    let one = or_parts (duplicate_exec entries command) _ zero.1 in
-    let two = or_parts (duplicate_alloc entries command) _ one.1 in
-    let three = or_parts (unknown_alloc entries command) _ two.1 in
-    let four = or_parts (dead_alloc entries command) _ three.1 in
-    let five = or_parts (unknown_exec entries command) _ four.1 in
-    let six = or_parts (busted_exec entries command) _ five.1 in
-    let seven = or_parts (repeated_exec entries command) _ six.1 in
-    let eight = or_parts (exec_taken entries command) _ seven.1 in
-    let nine = or_parts (instrument entries command) _ eight.1 in
-    books_found (λ terms. cum_of (filter_map (current_fill entries) terms.execs)) (allocation_of command) nine.1
+    books_found (λ terms. cum_of (filter_map (current_fill entries) terms.execs)) (allocation_of command) (accepts entries command accepted).adding
 
 -- so do all those of a legal list
 abbrev pub EntryBooks : Entry → Type 0

@@ -18,7 +18,7 @@ use Rattle.blot_types.specs.Chains.{takes_up, taker_in, own_root, root_in, is_ro
 use Rattle.blot_types.specs.Keys.{same_text, same_exec, is_among, same_order, same_alloc}
 use Rattle.blot_types.specs.Laws.{survivors_of_chain, survivors_beside}
 use Rattle.blot_types.specs.Legal.{is_legal, refusal_of}
-use Rattle.blot_types.specs.Order.{total, cum_of, value_of, line_by, line_of, fills_of, fills_among, order_of}
+use Rattle.blot_types.specs.Order.{total, cum_of, value_of, line_by, line_of, fills_of, order_of}
 use Rattle.blot_types.specs.Survivors.{link_by, link_of, links_in, links_of, root_of, busted_roots, version_by, version_of, versions_of, is_number, stands_under, stands_in, survivors}
 
 abbrev exec : ℕ → ExecKey
@@ -265,6 +265,3 @@ line_if_filled = refl
 
 fills_by_order : map (fills_of (other_fill ∷ two_fills)) (order 1 ∷ order 2 ∷ []) ≡ two_fills ∷ (other_fill ∷ []) ∷ []
 fills_by_order = refl
-
-surviving_fills : fills_among (survivors corrected) (order 1) ≡ two_fills
-surviving_fills = refl

@@ -5,7 +5,7 @@ use Rattle.blot_types.specs.declared.allocation.AllocRole.TheVariants.{Allocates
 use Rattle.blot_types.specs.declared.allocation.Instruction.{Instruction}
 use Rattle.blot_types.specs.declared.allocation.Terms.{Terms}
 use Rattle.blot_types.specs.declared.command.Command.{Command}
-use Rattle.blot_types.specs.declared.command.Command.TheVariants.{Trade, Correct, Bust, AllocNew, AllocReplace, AllocCancel, Withdraw}
+use Rattle.blot_types.specs.declared.command.Command.TheVariants.{AllocNew, AllocReplace, AllocCancel}
 use Rattle.blot_types.specs.declared.command.Entry.{Entry}
 use Rattle.blot_types.specs.declared.keys.AllocKey.{AllocKey}
 use Rattle.blot_types.specs.declared.keys.ExecKey.{ExecKey}
@@ -21,16 +21,13 @@ roots_of_terms links terms = filter_map (root_in links) terms.execs
 -- an entry as the allocations see it, where these links stand before it: that of an allocation is an
 -- instruction, and no other
 abbrev pub instruction_by : List Link → ℕ → Command → Option Instruction
-instruction_by links number (Trade trade) = None
-instruction_by links number (Correct correct) = None
-instruction_by links number (Bust bust) = None
 instruction_by links number (AllocNew new) =
     Some (record { number = number; key = new.key; role = Allocates; roots = roots_of_terms links new.terms })
 instruction_by links number (AllocReplace replace) =
     Some (record { number = number; key = replace.key; role = Replaces replace.reference; roots = roots_of_terms links replace.terms })
 instruction_by links number (AllocCancel cancel) =
     Some (record { number = number; key = cancel.key; role = Cancels cancel.reference; roots = [] })
-instruction_by links number (Withdraw withdrawn) = None
+instruction_by links number _ = None
 
 -- the instructions of entries, newest first
 abbrev pub instructions_in : List Entry → List Instruction
@@ -47,13 +44,9 @@ pub record Allocation : Type 0 where
 
 -- the allocation that a command brings: an AllocNew and an AllocReplace bring one
 abbrev pub allocation_of : Command → Option Allocation
-allocation_of (Trade trade) = None
-allocation_of (Correct correct) = None
-allocation_of (Bust bust) = None
 allocation_of (AllocNew new) = Some (record { key = new.key; terms = new.terms })
 allocation_of (AllocReplace replace) = Some (record { key = replace.key; terms = replace.terms })
-allocation_of (AllocCancel cancel) = None
-allocation_of (Withdraw withdrawn) = None
+allocation_of _ = None
 
 -- the allocations that stand, in list order: those to which no AllocReplace or AllocCancel refers
 abbrev pub live_allocations : List Entry → List Allocation

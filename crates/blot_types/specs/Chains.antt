@@ -4,7 +4,7 @@
 -- newest first: after a link stand the earlier ones.
 use Rattle.std.specs.Prelude.{ℕ, Bool, true, false, ◌&&◌, List, [], ◌∷◌, reverse, Option, Some, None, find, is_none, nat_eq, nat_lt, if◌then◌else◌}
 use Rattle.std.specs.List.{cons_option, filter, list_all}
-use Rattle.std.specs.Option.{option_map, option_or, option_and_then}
+use Rattle.std.specs.Option.{option_map, option_map_or, option_or, option_and_then}
 use Rattle.blot_types.specs.declared.keys.ExecKey.{ExecKey}
 use Rattle.blot_types.specs.declared.link.Link.{Link}
 use Rattle.blot_types.specs.declared.link.Role.{Role}
@@ -35,14 +35,12 @@ root_in (link ∷ earlier) key = if takes_up key link then own_root (root_in ear
 
 -- whether there is a root, and it is this one
 abbrev pub is_root : ExecKey → Option ExecKey → Bool
-is_root root None = false
-is_root root (Some found) = same_exec found root
+is_root root found = option_map_or (λ key. same_exec key root) found false
 
 -- whether an entry is a Bust of the chain of this root
 abbrev pub busts : List Link → ExecKey → Role → Bool
-busts earlier root Begins = false
-busts earlier root (Corrects reference) = false
 busts earlier root (Busts reference) = is_root root (root_in earlier reference)
+busts earlier root _ = false
 
 -- the number of the Bust of the chain of a root
 abbrev pub bust_in : List Link → ExecKey → Option ℕ
@@ -51,9 +49,8 @@ bust_in (link ∷ earlier) root = if busts earlier root link.role then Some link
 
 -- the roots of the chains that are busted: those of the references of the Busts
 abbrev pub busted_by : List Link → Role → List ExecKey → List ExecKey
-busted_by earlier Begins others = others
-busted_by earlier (Corrects reference) others = others
 busted_by earlier (Busts reference) others = cons_option (root_in earlier reference) others
+busted_by earlier _ others = others
 
 abbrev pub busted_roots_in : List Link → List ExecKey
 busted_roots_in [] = []

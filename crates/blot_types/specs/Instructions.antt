@@ -20,9 +20,8 @@ alloc_taker_in instructions key = option_map (λ instruction. instruction.number
 
 -- whether an instruction of this role brings an allocation
 abbrev pub brings_allocation : AllocRole → Bool
-brings_allocation Allocates = true
-brings_allocation (Replaces reference) = true
 brings_allocation (Cancels reference) = false
+brings_allocation _ = true
 
 -- whether an instruction brings the allocation of this key
 abbrev pub is_allocation_of : AllocKey → Instruction → Bool
@@ -64,8 +63,7 @@ named_in instructions = flat_map (λ instruction. instruction.roots) (filter (is
 
 -- whether a key is this one, if there is one
 abbrev pub is_reference : Option AllocKey → AllocKey → Bool
-is_reference None key = false
-is_reference (Some reference) key = same_alloc reference key
+is_reference reference key = option_map_or (λ other. same_alloc other key) reference false
 
 -- whether an instruction's allocation is live, names the chain of this root, and isn't the one referred to
 abbrev pub holds_beside : List Instruction → Option AllocKey → ExecKey → Instruction → Bool

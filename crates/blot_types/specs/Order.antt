@@ -8,7 +8,6 @@ use Rattle.blot_types.specs.declared.command.Entry.{Entry}
 use Rattle.blot_types.specs.declared.fill.Fill.{Fill}
 use Rattle.blot_types.specs.declared.keys.OrderKey.{OrderKey}
 use Rattle.blot_types.specs.declared.lines.OrderLine.{OrderLine}
-use Rattle.blot_types.specs.declared.lines.Version.{Version}
 use Rattle.blot_types.specs.Keys.{same_order}
 use Rattle.blot_types.specs.Survivors.{survivors}
 
@@ -42,13 +41,9 @@ line_of fills = option_map (line_by fills) (last_or None fills)
 abbrev pub fills_of : List Fill → OrderKey → List Fill
 fills_of fills order = filter (λ fill. same_order fill.order order) fills
 
--- the fills of an order among versions
-abbrev pub fills_among : List Version → OrderKey → List Fill
-fills_among versions order = fills_of (map (λ version. version.fill) versions) order
-
 -- the line of an order (FIX 4.4 volume 4, CumQty and LeavesQty; computed from the survivors alone)
 abbrev pub order_of : List Entry → OrderKey → Option OrderLine
-order_of list order = line_of (fills_among (survivors list) order)
+order_of list order = line_of (fills_of (map (λ version. version.fill) (survivors list)) order)
 
 -- the sums of a line; 0 without one
 abbrev pub cum_before : Option OrderLine → ℤ

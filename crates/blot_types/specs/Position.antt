@@ -32,23 +32,18 @@ abbrev pub account_of : Bool → Fill → List ℕ
 account_of true fill = house
 account_of false fill = unwrap_or fill.account house
 
+-- what a quantity at a price adds, under a sign, to the position of an account in a symbol
+abbrev pub signed_part : List ℕ → List ℕ → Sign → ℕ → ℤ → Part
+signed_part account symbol sign qty price =
+    record { account = account; symbol = symbol; qty = signed sign (pos qty); value = signed sign (pos qty *ℤ price) }
+
 -- what a fill adds to a position
 abbrev pub part_of_fill : Bool → Fill → Part
-part_of_fill named fill = record {
-  account = account_of named fill;
-  symbol = fill.symbol;
-  qty = signed fill.sign (pos fill.qty);
-  value = signed fill.sign (pos fill.qty *ℤ fill.price);
-}
+part_of_fill named fill = signed_part (account_of named fill) fill.symbol fill.sign fill.qty fill.price
 
 -- what a line of an allocation adds to its account, under the allocation's own symbol and sign
 abbrev pub part_of_line : Terms → Line → Part
-part_of_line terms line = record {
-  account = line.account;
-  symbol = terms.symbol;
-  qty = signed terms.sign (pos line.qty);
-  value = signed terms.sign (pos line.qty *ℤ line.price);
-}
+part_of_line terms line = signed_part line.account terms.symbol terms.sign line.qty line.price
 
 -- the same amounts, taken from the house account
 abbrev pub from_house : Part → Part

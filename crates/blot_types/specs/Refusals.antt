@@ -1,6 +1,6 @@
 -- Why a list of entries refuses a command: one definition a rule. The entries are newest first.
 use Rattle.std.specs.Prelude.{ℕ, ◌==◌, Bool, true, false, ◌&&◌, not, ℤ, pos, List, [], ◌∷◌, ◌++◌, Option, Some, None, find, is_none, is_some, if◌then◌else◌}
-use Rattle.std.specs.List.{filter_map, list_any}
+use Rattle.std.specs.List.{list_any, filter_map}
 use Rattle.std.specs.Option.{option_map, option_map_or, option_or, option_and_then}
 use Rattle.std.specs.Ordering.{int_eq}
 use Rattle.blot_types.specs.declared.allocation.Instruction.{Instruction}
@@ -23,7 +23,7 @@ use Rattle.blot_types.specs.Chains.{taker_in, root_in, is_root, bust_in, current
 use Rattle.blot_types.specs.Instructions.{alloc_taker_in, is_allocation_in, ended_in, other_holder_in}
 use Rattle.blot_types.specs.Keys.{same_text}
 use Rattle.blot_types.specs.Order.{total, cum_of}
-use Rattle.blot_types.specs.Survivors.{links_in, version_of}
+use Rattle.blot_types.specs.Survivors.{links_in, versions_of}
 
 -- ---- what a command says, by its kind
 
@@ -32,30 +32,20 @@ abbrev pub exec_key : Command → Option ExecKey
 exec_key (Trade trade) = Some trade.key
 exec_key (Correct correct) = Some correct.key
 exec_key (Bust bust) = Some bust.key
-exec_key (AllocNew new) = None
-exec_key (AllocReplace replace) = None
-exec_key (AllocCancel cancel) = None
-exec_key (Withdraw withdrawn) = None
+exec_key _ = None
 
 -- the allocation that it takes up
 abbrev pub alloc_key : Command → Option AllocKey
-alloc_key (Trade trade) = None
-alloc_key (Correct correct) = None
-alloc_key (Bust bust) = None
 alloc_key (AllocNew new) = Some new.key
 alloc_key (AllocReplace replace) = Some replace.key
 alloc_key (AllocCancel cancel) = Some cancel.key
-alloc_key (Withdraw withdrawn) = None
+alloc_key _ = None
 
 -- the allocation that it refers to
 abbrev pub alloc_reference : Command → Option AllocKey
-alloc_reference (Trade trade) = None
-alloc_reference (Correct correct) = None
-alloc_reference (Bust bust) = None
-alloc_reference (AllocNew new) = None
 alloc_reference (AllocReplace replace) = Some replace.reference
 alloc_reference (AllocCancel cancel) = Some cancel.reference
-alloc_reference (Withdraw withdrawn) = None
+alloc_reference _ = None
 
 -- what it allocates
 abbrev pub terms_of : Command → Option Terms
@@ -67,23 +57,14 @@ listed_by command = option_map_or (λ terms. terms.execs) (terms_of command) []
 
 -- the executions that it refers to: that of a Correct or a Bust, those that an allocation lists
 abbrev pub exec_references : Command → List ExecKey
-exec_references (Trade trade) = []
 exec_references (Correct correct) = correct.reference ∷ []
 exec_references (Bust bust) = bust.reference ∷ []
-exec_references (AllocNew new) = new.terms.execs
-exec_references (AllocReplace replace) = replace.terms.execs
-exec_references (AllocCancel cancel) = []
-exec_references (Withdraw withdrawn) = []
+exec_references command = listed_by command
 
 -- the number of the entry that it takes out of the list: a Withdraw takes one out, and so is never an entry itself
 abbrev pub withdrawn_by : Command → Option ℕ
-withdrawn_by (Trade trade) = None
-withdrawn_by (Correct correct) = None
-withdrawn_by (Bust bust) = None
-withdrawn_by (AllocNew new) = None
-withdrawn_by (AllocReplace replace) = None
-withdrawn_by (AllocCancel cancel) = None
 withdrawn_by (Withdraw withdrawn) = Some withdrawn
+withdrawn_by _ = None
 
 -- ---- what the rules ask
 
@@ -116,7 +97,7 @@ other_holder links instructions reference key = option_and_then (other_holder_in
 
 -- the version of a number
 abbrev pub version_in : List Entry → ℕ → Option Version
-version_in entries number = find (λ version. version.number == number) (filter_map version_of entries)
+version_in entries number = find (λ version. version.number == number) (versions_of entries)
 
 -- the fill of the last version of the chain of a key
 abbrev pub current_fill : List Entry → ExecKey → Option Fill
@@ -127,9 +108,8 @@ current_fill entries key =
 -- whether two signs are one
 abbrev pub same_sign : Sign → Sign → Bool
 same_sign Buy Buy = true
-same_sign Buy Sell = false
-same_sign Sell Buy = false
 same_sign Sell Sell = true
+same_sign _ _ = false
 
 -- whether a fill is of another instrument or side than the terms
 abbrev pub differs : Terms → Fill → Bool

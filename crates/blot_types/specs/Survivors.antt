@@ -2,8 +2,9 @@
 -- are newest first, as `Chains` reads them.
 use Rattle.std.specs.Prelude.{ℕ, ◌==◌, Bool, false, ◌&&◌, List, filter, reverse, Option, Some, None, is_none}
 use Rattle.std.specs.List.{filter_map}
+use Rattle.std.specs.Option.{option_map_or}
 use Rattle.blot_types.specs.declared.command.Command.{Command}
-use Rattle.blot_types.specs.declared.command.Command.TheVariants.{Trade, Correct, Bust, AllocNew, AllocReplace, AllocCancel, Withdraw}
+use Rattle.blot_types.specs.declared.command.Command.TheVariants.{Trade, Correct, Bust}
 use Rattle.blot_types.specs.declared.command.Entry.{Entry}
 use Rattle.blot_types.specs.declared.keys.ExecKey.{ExecKey}
 use Rattle.blot_types.specs.declared.lines.Version.{Version}
@@ -16,10 +17,7 @@ abbrev pub link_by : ℕ → Command → Option Link
 link_by number (Trade trade) = Some (record { number = number; key = trade.key; role = Begins })
 link_by number (Correct correct) = Some (record { number = number; key = correct.key; role = Corrects correct.reference })
 link_by number (Bust bust) = Some (record { number = number; key = bust.key; role = Busts bust.reference })
-link_by number (AllocNew new) = None
-link_by number (AllocReplace replace) = None
-link_by number (AllocCancel cancel) = None
-link_by number (Withdraw withdrawn) = None
+link_by number _ = None
 
 abbrev pub link_of : Entry → Option Link
 link_of entry = link_by entry.number entry.command
@@ -43,11 +41,7 @@ busted_roots list = busted_roots_in (links_of list)
 abbrev pub version_by : ℕ → Command → Option Version
 version_by number (Trade trade) = Some (record { number = number; key = trade.key; fill = trade.fill })
 version_by number (Correct correct) = Some (record { number = number; key = correct.key; fill = correct.fill })
-version_by number (Bust bust) = None
-version_by number (AllocNew new) = None
-version_by number (AllocReplace replace) = None
-version_by number (AllocCancel cancel) = None
-version_by number (Withdraw withdrawn) = None
+version_by number _ = None
 
 abbrev pub version_of : Entry → Option Version
 version_of entry = version_by entry.number entry.command
@@ -58,14 +52,12 @@ versions_of list = filter_map version_of list
 
 -- whether there is a number, and it is this one
 abbrev pub is_number : ℕ → Option ℕ → Bool
-is_number number None = false
-is_number number (Some found) = found == number
+is_number number found = option_map_or (λ other. other == number) found false
 
 -- whether the version of a number stands, where this is its root: no Bust ended its chain, and it is the
 -- chain's last version
 abbrev pub stands_under : List Link → ℕ → Option ExecKey → Bool
-stands_under links number None = false
-stands_under links number (Some root) = is_none (bust_in links root) && is_number number (current_in links root)
+stands_under links number found = option_map_or (λ root. is_none (bust_in links root) && is_number number (current_in links root)) found false
 
 abbrev pub stands_in : List Link → Version → Bool
 stands_in links version = stands_under links version.number (root_in links version.key)

@@ -4,7 +4,7 @@ use Rattle.std.proofs.lemmas.List.{reverse-append}
 use Rattle.blot_command.specs.Undoable.{Meaning, IsStep, IsLawful}
 use Rattle.blot_undo.specs.declared.step.Done.{Done}
 use Rattle.blot_undo.specs.declared.step.Undone.{Undone}
-use Rattle.blot_undo.specs.Book.{Book, undo_of, redo_of, rewound, redone, done_number, undone_number}
+use Rattle.blot_undo.specs.Book.{Book, undo_of, redo_of, rewound, redone, done_number}
 use Rattle.blot_undo.specs.Laws.{LeadTo, GoesBack}
 
 -- ---- one step
@@ -91,12 +91,13 @@ goes_back {C = C} m lawful (suc count) list (step ∷ earlier) undone next lead 
     let first = undo_first m count (book list (step ∷ earlier) undone next) ∙ ap (rewound m count) (undone_one m lawful list step earlier undone next lead) in
     let rest = goes_back m lawful count (m.before list step.inverse) earlier undone2 next lead.1 (omega (arith, few)) in
     let numbers = map done_number earlier in
+    let told : List (Undone C) → List ℕ = map (λ u. u.number) in
     let oldest : reverse (take (suc count) (step.number ∷ numbers)) ≡ reverse (take count numbers) ++ step.number ∷ [] = reverse-append (step.number ∷ []) (take count numbers) in
     record {
       list = ap (λ b. b.list) first ∙ rest.list;
       done = ap (λ b. b.done) first ∙ rest.done;
-      undone = ap (λ b. map undone_number b.undone) first ∙ rest.undone
-          ∙ sym (ap (λ front. front ++ map undone_number undone) oldest ∙ append_assoc (reverse (take count numbers)) (step.number ∷ []) (map undone_number undone));
+      undone = ap (λ b. told b.undone) first ∙ rest.undone
+          ∙ sym (ap (λ front. front ++ told undone) oldest ∙ append_assoc (reverse (take count numbers)) (step.number ∷ []) (told undone));
       next = ap (λ b. b.next) first ∙ rest.next;
     }
 

@@ -4,7 +4,7 @@ use Rattle.std.specs.Prelude.{slice_get}
 use Rattle.std.specs.List.{filter_map}
 use Rattle.std.proofs.lemmas.List.{append-nil, map_push, reverse-append, reverse-reverse, length-map, length-reverse, length-append, get_or_append_left, get_or_at, get_or-reverse, set_at, take_at, nil_from_length, set-get_or}
 use Rattle.std.proofs.lemmas.List.Elements.{filter_map-append}
-use Rattle.std.proofs.lemmas.Option.{get_or_from_slice_get, slice_get-get_or, slice_get_past}
+use Rattle.std.proofs.lemmas.Option.{get_or_from_slice_get, slice_get-get_or}
 use Rattle.blot_undo.specs.declared.step.Done.{Done}
 use Rattle.blot_undo.specs.declared.step.Undone.{Undone}
 use Rattle.blot_undo.specs.declared.step.Step.{Step}
@@ -179,6 +179,3 @@ back_at {C = C} {I = I} row place back at done undone found stands less is_at is
       is ∙ ap (λ r. get_or r at found) stands.row_is ∙ get_or_append_left front (map UndoneStep undone) found at (omega (arith, within, long done front refl)) ∙ there.2,
       slice_get-get_or done back there.0 (omega (arith, less, stands.place_is)) ∙ ap Some same,
     )
-
-pub none_back : {C I : Type 0} (row : List (Step C I)) (place back : ℕ) (done : List (Done I)) (undone : List (Undone C)) → StandFor row place done undone → place ≤ back → slice_get done back ≡ None
-none_back row place back done undone stands more = slice_get_past done back (omega (arith, more, stands.place_is))

@@ -3,7 +3,7 @@ use Rattle.std.proofs.Common.{◌≡◌, ℕ, ◌<◌, ◌≤◌, ◌+◌, List,
 use Rattle.std.specs.Prelude.{All, Contains}
 use Rattle.std.proofs.lemmas.List.Elements.{All-nil, All-cons, All-weaker, All-contains, All-contains_itself, Contains-append_left, Contains-append_right, Contains-append_cases, Contains-push, Contains-push_cases}
 use Rattle.blot_types.specs.declared.TheConstants.{EVENTS_MAX}
-use Rattle.blot_command.specs.Undoable.{Meaning, IsStep, IsLawful, IsAboveNumbers, KeepsEarlier, Adds, Leaves, TakesOut, UndoesStep, Undoes, numbers_in}
+use Rattle.blot_command.specs.Undoable.{Meaning, IsStep, IsLawful, KeepsEarlier, Adds, Leaves, TakesOut, UndoesStep, Undoes, numbers_in, AllBelow}
 use Rattle.blot_undo.specs.declared.step.Done.{Done}
 use Rattle.blot_undo.specs.declared.step.Undone.{Undone}
 use Rattle.blot_undo.specs.declared.step.Step.{Step}
@@ -54,7 +54,7 @@ fall_below (step ∷ earlier) below fall =
 -- so a number at the limit is above those of the state
 pub above_state :
     {S L C I R : Type 0} (m : Meaning S L C I R) (state : S) (done : List (Done I)) (below : ℕ)
-    → ((k : ℕ) → Contains (numbers_in m state) k → Contains (map done_number done) k) → Fall done below → IsAboveNumbers m below state
+    → ((k : ℕ) → Contains (numbers_in m state) k → Contains (map done_number done) k) → Fall done below → AllBelow below (numbers_in m state)
 above_state m state done below numbered fall =
     All-weaker (Contains (numbers_in m state)) (λ n. n < below)
     (λ k within. All-contains (λ n. n < below) (map done_number done) k (fall_below done below fall) (numbered k within))
@@ -62,7 +62,7 @@ above_state m state done below numbered fall =
 
 -- after a step every number is below the one that comes next
 below_next :
-    {S L C I R : Type 0} (m : Meaning S L C I R) (number : ℕ) (inverse : I) (old new : S) → IsAboveNumbers m number old → Adds m number inverse old new → IsAboveNumbers m (number + 1) new
+    {S L C I R : Type 0} (m : Meaning S L C I R) (number : ℕ) (inverse : I) (old new : S) → AllBelow number (numbers_in m old) → Adds m number inverse old new → AllBelow (number + 1) (numbers_in m new)
 below_next m number inverse old new above step =
     All-weaker (Contains (numbers_in m new)) (λ earlier. earlier < number + 1)
     (λ k within. elim (step.brings k within) [
@@ -153,7 +153,7 @@ undoes_newest m state step earlier undone next stack = record {
 -- the next number is above those of the state
 pub above_next :
     {S L C I R : Type 0} (m : Meaning S L C I R) (state : S) (done : List (Done I)) (undone : List (Undone C)) (next : ℕ)
-    → IsStack m state done undone next → IsAboveNumbers m next state
+    → IsStack m state done undone next → AllBelow next (numbers_in m state)
 above_next m state done undone next stack =
     above_state m state done next stack.numbered (fall_weaker done (limit undone next) next (limit_next undone next stack.rise) stack.fall)
 
@@ -265,7 +265,7 @@ redo_keeps {C = C} {I = I} m lawful old new row row2 place next found step inver
 -- it may be applied under its number
 pub above_redone :
     {S L C I R : Type 0} (m : Meaning S L C I R) (state : S) (row : List (Step C I)) (place next : ℕ) (found : Step C I) (step : Undone C)
-    → Holds m state row place next → (place ≡ length row → ⊥) → found ≡ get_or row place found → found ≡ UndoneStep step → IsAboveNumbers m step.number state × (step.number ≤ EVENTS_MAX)
+    → Holds m state row place next → (place ≡ length row → ⊥) → found ≡ get_or row place found → found ≡ UndoneStep step → AllBelow step.number (numbers_in m state) × (step.number ≤ EVENTS_MAX)
 above_redone m state row place next found step holds more is is_undone =
     let within = next_within row place (done_in row) (undone_in row) holds.0 more in
     let at = next_is row place (done_in row) (undone_in row) found step holds.0 within is is_undone in

@@ -94,15 +94,7 @@ past m list (step ∷ earlier) (suc count) = past m (m.before list step.inverse)
 abbrev pub book_with : {S L C I R : Type 0} → Meaning S L C I R → Stack S C I → C → Book L C I
 book_with m stack command = apply_of m (book_of m stack) command
 
--- with its newest step undone
-abbrev pub book_undone : {S L C I R : Type 0} → Meaning S L C I R → Stack S C I → Book L C I
-book_undone m stack = undo_of m (book_of m stack)
-
--- with the step that was undone last done again
-abbrev pub book_redone : {S L C I R : Type 0} → Meaning S L C I R → Stack S C I → Book L C I
-book_redone m stack = redo_of m (book_of m stack)
-
--- with a count of steps undone
+-- and with a count of steps undone
 abbrev pub book_rewound : {S L C I R : Type 0} → Meaning S L C I R → ℕ → Stack S C I → Book L C I
 book_rewound m count stack = rewound m count (book_of m stack)
 
@@ -113,10 +105,6 @@ list_before m count stack = past m (list_in m stack) stack.done count
 -- the number of a done step
 abbrev pub done_number : {I : Type 0} → Done I → ℕ
 done_number step = step.number
-
--- the number of an undone step
-abbrev pub undone_number : {C : Type 0} → Undone C → ℕ
-undone_number step = step.number
 
 -- the number of the newest done step
 abbrev pub newest_done : {I : Type 0} → List (Done I) → Option ℕ

@@ -2,7 +2,7 @@
 use Rattle.std.specs.Prelude.{◌≡◌, ℕ, ◌≤◌, List, [], ◌∷◌, ◌++◌, length, take, drop, map, reverse}
 use Rattle.blot_command.specs.Undoable.{Meaning, IsStep}
 use Rattle.blot_undo.specs.declared.step.Done.{Done}
-use Rattle.blot_undo.specs.Book.{Book, rewound, redone, past, done_number, undone_number}
+use Rattle.blot_undo.specs.Book.{Book, rewound, redone, past}
 
 -- each done step led from the list that stands before it to the list that stands after it
 abbrev pub LeadTo : {S L C I R : Type 0} → Meaning S L C I R → List (Done I) → L → Type 0
@@ -15,7 +15,7 @@ LeadTo {C = C} m (step ∷ earlier) list =
 pub record GoesBack {S L C I R : Type 0} (m : Meaning S L C I R) (count : ℕ) (old new : Book L C I) : Type 0 where
   pub list : new.list ≡ past m old.list old.done count
   pub done : new.done ≡ drop count old.done
-  pub undone : map undone_number new.undone ≡ reverse (take count (map done_number old.done)) ++ map undone_number old.undone
+  pub undone : map (λ step. step.number) new.undone ≡ reverse (take count (map (λ step. step.number) old.done)) ++ map (λ step. step.number) old.undone
   pub next : new.next ≡ old.next
 
 -- any count of done steps undone and as many redone give the book again

@@ -3,7 +3,7 @@ ghost use Rattle.std.specs.Prelude.{◌≡◌, ◌≤◌, ◌<◌, List, [], IsT
 ghost use Rattle.std.specs.List.{swap_remove};
 ghost use Rattle.std.specs.Option.{option_copied};
 ghost use Rattle.blot_command.specs.Undoable.{numbers_in};
-ghost use Rattle.blot_undo.specs.Book.{Accepts, book_of, book_redone, book_rewound, book_undone, book_with, list_before, list_in, newest_done, newest_undone};
+ghost use Rattle.blot_undo.specs.Book.{Accepts, book_of, book_rewound, book_with, list_before, list_in, newest_done, newest_undone, undo_of, redo_of};
 ghost use Rattle.blot_undo.specs.Laws.{LeadTo, GoesBack, RoundTrips};
 ghost use Rattle.blot_undo.specs.Faults.{IsFault};
 
@@ -144,7 +144,7 @@ impl<C: Undoable> Steps<C> {
     /// Takes the newest done step back and answers its number, or none where no step is done. No memory is
     /// taken.
     pub fn undo(&mut self) -> Option<u64>
-        ensures book { book_of C.meaning self.new ≡ book_undone C.meaning self.old }
+        ensures book { book_of C.meaning self.new ≡ undo_of C.meaning (book_of C.meaning self.old) }
         ensures number { result ≡ newest_done self.old.done }
     {
         let place = self.place.checked_sub(1)?;
@@ -162,7 +162,7 @@ impl<C: Undoable> Steps<C> {
     /// Takes the step that was undone last again, under its old number, which it answers, or none where no
     /// step is undone. Where memory runs out the step stays undone.
     pub fn redo(&mut self) -> Result<Option<u64>, NoMemory>
-        ensures book { OnOk result (book_of C.meaning self.new ≡ book_redone C.meaning self.old) }
+        ensures book { OnOk result (book_of C.meaning self.new ≡ redo_of C.meaning (book_of C.meaning self.old)) }
         ensures number { IfOk result (λ number. number ≡ newest_undone self.old.undone) }
         ensures err { OnErr result (book_of C.meaning self.new ≡ book_of C.meaning self.old) }
     {

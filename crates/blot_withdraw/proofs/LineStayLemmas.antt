@@ -16,7 +16,7 @@ use Rattle.blot_types.specs.Allocations.{Allocation, allocation_of, instructions
 use Rattle.blot_types.specs.Chains.{root_in, bust_in, current_in}
 use Rattle.blot_types.specs.Instructions.{ended_in, named_in}
 use Rattle.blot_types.specs.Keys.{is_among}
-use Rattle.blot_types.specs.Order.{order_of, line_of, fills_among}
+use Rattle.blot_types.specs.Order.{order_of, line_of, fills_of}
 use Rattle.blot_types.specs.Position.{moves_of, is_at, part_of, part_of_fill, parts_of, position_of, position_by}
 use Rattle.blot_types.specs.Refusals.{alloc_key}
 use Rattle.blot_types.specs.Survivors.{links_in, links_of, root_of, versions_of, is_number, stands_under, stands_in, survivors}
@@ -82,7 +82,7 @@ survivors-spared split list it =
     ∙ filter_agree (λ version. version_stays split version && stands_in kept version) (stands_in (links_of list)) (λ version. stands-spared split list version it) (versions_of list)
 
 pub order-spared : (split : Split) (list : List Entry) (order : OrderKey) → SparesLines split list → order_of (filter split.stays list) order ≡ order_of list order
-order-spared split list order it = ap (λ versions. line_of (fills_among versions order)) (survivors-spared split list it)
+order-spared split list order it = ap (λ versions. line_of (fills_of (map (λ (v : Version). v.fill) versions) order)) (survivors-spared split list it)
 
 -- ---- positions
 

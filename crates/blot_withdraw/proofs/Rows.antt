@@ -14,7 +14,7 @@ use Rattle.blot_types.specs.Legal.{is_book}
 use Rattle.blot_types.specs.Order.{order_of}
 use Rattle.blot_types.specs.Position.{position_of}
 use Rattle.blot_withdraw.specs.declared.fault.EraseFault.TheVariants.{UnknownExec, NotBusted, Named}
-use Rattle.blot_withdraw.specs.Erasure.{chained_by, is_of_chain, without_chain, without_chain_of, lists_chain, first_listing, chain_fault, fault_by, erase_fault}
+use Rattle.blot_withdraw.specs.Erasure.{chained_by, is_of_chain, without_chain, without_chain_of, lists_chain, first_listing, chain_fault, erase_fault}
 
 abbrev exec : ℕ → ExecKey
 exec n = record { peer = 66 ∷ []; id = 69 ∷ n ∷ [] }
@@ -157,5 +157,5 @@ first_listed = refl
 faults_of_chains : map (chain_fault day) (exec 1 ∷ exec 2 ∷ []) ≡ None ∷ Some NotBusted ∷ []
 faults_of_chains = refl
 
-faults_of_roots : map (fault_by day) (None ∷ Some (exec 1) ∷ Some (exec 2) ∷ []) ≡ Some UnknownExec ∷ None ∷ Some NotBusted ∷ []
-faults_of_roots = refl
+faults_of_keys : map (erase_fault day) (exec 9 ∷ exec 1 ∷ exec 2 ∷ []) ≡ Some UnknownExec ∷ None ∷ Some NotBusted ∷ []
+faults_of_keys = refl

@@ -1,29 +1,25 @@
 -- Rule by rule: what the entries accepted, those that stay accept.
-use Rattle.std.proofs.Common.{◌≡◌, ℕ, ◌==◌, true, false, List, [], ◌∷◌, ◌++◌, pos, Option, Some, None, refl, sym, ap, ◌∙◌}
-use Rattle.std.specs.Prelude.{not, find, filter, is_none, All, if◌then◌else◌}
-use Rattle.std.specs.List.{filter_map, list_any}
-use Rattle.std.specs.Option.{option_map, option_map_or, option_and_then}
+use Rattle.std.proofs.Common.{◌≡◌, ℕ, ◌==◌, true, false, List, Option, Some, None, refl, sym, ap, ◌∙◌}
+use Rattle.std.specs.Prelude.{not, find, filter, All}
+use Rattle.std.specs.List.{filter_map}
+use Rattle.std.specs.Option.{option_map, option_and_then}
 use Rattle.std.proofs.lemmas.List.{reverse-reverse}
-use Rattle.std.proofs.lemmas.List.Elements.{All-nil, All-cons, All-head, All-tail, All-append, All-weaker}
-use Rattle.blot_types.specs.declared.allocation.Terms.{Terms}
+use Rattle.std.proofs.lemmas.List.Elements.{All-weaker}
 use Rattle.blot_types.specs.declared.command.Command.{Command}
-use Rattle.blot_types.specs.declared.command.Command.TheVariants.{Trade, Correct, Bust, AllocNew, AllocReplace, AllocCancel, Withdraw}
 use Rattle.blot_types.specs.declared.command.Entry.{Entry}
 use Rattle.blot_types.specs.declared.keys.AllocKey.{AllocKey}
 use Rattle.blot_types.specs.declared.keys.ExecKey.{ExecKey}
-use Rattle.blot_types.specs.declared.link.Link.{Link}
-use Rattle.blot_types.specs.declared.refused.Refused.TheVariants.{DuplicateExec, DuplicateAlloc, UnknownAlloc, DeadAlloc, UnknownExec, BustedExec, RepeatedExec, ExecTaken, Instrument}
 use Rattle.blot_types.specs.Allocations.{instructions_in}
-use Rattle.blot_types.specs.Chains.{takes_up, taker_in, root_in, is_root, bust_in, current_in}
+use Rattle.blot_types.specs.Chains.{takes_up, taker_in, root_in, bust_in, current_in}
 use Rattle.blot_types.specs.Instructions.{alloc_taker_in, is_allocation_in, ended_in, other_holder_in}
 use Rattle.blot_types.specs.Legal.{refusal_in}
-use Rattle.blot_types.specs.Order.{cum_of}
-use Rattle.blot_types.specs.Refusals.{never_entry, exec_key, alloc_key, alloc_reference, terms_of, listed_by, exec_references, bust_of_key, same_chain, repeated_in, other_holder, version_in, current_fill, differs, booked, mismatch, duplicate_exec, duplicate_alloc, unknown_alloc, dead_alloc, unknown_exec, busted_exec, repeated_exec, exec_taken, instrument, quantity}
+use Rattle.blot_types.specs.Refusals.{alloc_reference, listed_by, exec_references, bust_of_key, other_holder, version_in, current_fill}
 use Rattle.blot_types.specs.Survivors.{links_in, version_of}
-use Rattle.blot_types.proofs.AcceptLemmas.{or_parts, unmapped}
+use Rattle.blot_types.proofs.AcceptLemmas.{unmapped}
+use Rattle.blot_types.proofs.AcceptOutLemmas.{accepts, accepted as accepted_by, accepts-out, listed, shaped}
 use Rattle.blot_types.proofs.SurvivorLemmas.{current-found, version_in-rising}
 use Rattle.blot_withdraw.proofs.InstructionStayLemmas.{instruction_stays, instructions-split, tied, taker-stays, allocation-stays, unended-stays, holder-stays}
-use Rattle.blot_types.proofs.StayLemmas.{mapped-none, or-none, then-none, filter_map-agree, unfound-among, found-stays, find-agree, any-agree, first-none}
+use Rattle.blot_types.proofs.StayLemmas.{mapped-none, then-none, unfound-among, found-stays}
 use Rattle.blot_withdraw.proofs.SpareLemmas.{Spares, roots-spared, unbusted-spared, current-spared}
 use Rattle.blot_withdraw.proofs.Split.{Split, links-split, version_stays, versions-split}
 
@@ -119,47 +115,7 @@ pub record NeedsNone (split : Split) (command : Command) : Type 0 where
   pub chains : All (KeyStays split) (exec_references command)
   pub allocation : (reference : AllocKey) → alloc_reference command ≡ Some reference → split.drops reference ≡ false
 
-listed : (split : Split) (command : Command) → All (KeyStays split) (exec_references command) → All (KeyStays split) (listed_by command)
-listed split (Trade trade) chains = All-nil (KeyStays split)
-listed split (Correct correct) chains = All-nil (KeyStays split)
-listed split (Bust bust) chains = All-nil (KeyStays split)
-listed split (AllocNew new) chains = chains
-listed split (AllocReplace replace) chains = chains
-listed split (AllocCancel cancel) chains = All-nil (KeyStays split)
-listed split (Withdraw withdrawn) chains = All-nil (KeyStays split)
-
--- ---- the rules
-
-known :
-    (split : Split) (entries others : List Entry) (reference : Option AllocKey) → Answers split entries others → ((key : AllocKey) → reference ≡ Some key → split.drops key ≡ false)
-    → option_and_then (λ key. if is_allocation_in (instructions_in others) key then None else Some UnknownAlloc) reference
-    ≡ option_and_then (λ key. if is_allocation_in (instructions_in entries) key then None else Some UnknownAlloc) reference
-known split entries others None same stays = refl
-known split entries others (Some key) same stays = ap (λ there. if there then None else Some UnknownAlloc) (same.allocation key (stays key refl))
-
-same-chain :
-    (links others : List Link) (key other : ExecKey) → root_in others key ≡ root_in links key → root_in others other ≡ root_in links other
-    → same_chain others key other ≡ same_chain links key other
-same-chain links others key other here there =
-    ap (λ found. option_map_or (λ root. is_root root (root_in others other)) found false) here
-    ∙ ap (λ found. option_map_or (λ root. is_root root found) (root_in links key) false) there
-
-repeated-same :
-    (links others : List Link) (before keys : List ExecKey) → All (λ key. root_in others key ≡ root_in links key) before → All (λ key. root_in others key ≡ root_in links key) keys
-    → repeated_in others before keys ≡ repeated_in links before keys
-repeated-same links others before [] earlier later = refl
-repeated-same links others before (key ∷ keys) earlier later =
-    let here : root_in others key ≡ root_in links key = All-head (λ k. root_in others k ≡ root_in links k) key keys later in
-    let test : list_any (same_chain others key) before ≡ list_any (same_chain links key) before =
-    any-agree (same_chain others key) (same_chain links key) before
-    (All-weaker (λ k. root_in others k ≡ root_in links k) (λ k. same_chain others key k ≡ same_chain links key k) (λ k there. same-chain links others key k here there) before earlier) in
-    let rest : repeated_in others (before ++ key ∷ []) keys ≡ repeated_in links (before ++ key ∷ []) keys =
-    repeated-same links others (before ++ key ∷ []) keys
-    (All-append (λ k. root_in others k ≡ root_in links k) before (key ∷ []) earlier (All-cons (λ k. root_in others k ≡ root_in links k) key [] here (All-nil (λ k. root_in others k ≡ root_in links k))))
-    (All-tail (λ k. root_in others k ≡ root_in links k) key keys later) in
-    ap (λ b. if b then Some key else repeated_in others (before ++ key ∷ []) keys) test
-    ∙ ap (λ o. if list_any (same_chain links key) before then Some key else o) rest
-
+-- a chain that no other live allocation names is named by none of those that stay
 untaken :
     (split : Split) (entries others : List Entry) (reference : Option AllocKey) (key : ExecKey) → Answers split entries others → KeyStays split key
     → other_holder (links_in entries) (instructions_in entries) reference key ≡ None → other_holder (links_in others) (instructions_in others) reference key ≡ None
@@ -167,71 +123,30 @@ untaken split entries others reference key same stays none =
     ap (option_and_then (other_holder_in (instructions_in others) reference)) (same.root key stays)
     ∙ then-none (other_holder_in (instructions_in entries) reference) (other_holder_in (instructions_in others) reference) (root_in (links_in entries) key) (same.holder reference) none
 
--- the rules of instrument and quantity, where the fills of the executions are the same
-of-terms :
-    (split : Split) (entries others : List Entry) (found : Option Terms) → Answers split entries others → All (KeyStays split) (option_map_or (λ terms. terms.execs) found [])
-    → (option_and_then (λ terms. option_map Instrument (find (λ key. option_map_or (differs terms) (current_fill others key) false) terms.execs)) found
-    ≡ option_and_then (λ terms. option_map Instrument (find (λ key. option_map_or (differs terms) (current_fill entries key) false) terms.execs)) found)
-    × (option_and_then (λ terms. mismatch (cum_of (filter_map (current_fill others) terms.execs)) (pos terms.block) (booked terms.lines)) found
-    ≡ option_and_then (λ terms. mismatch (cum_of (filter_map (current_fill entries) terms.execs)) (pos terms.block) (booked terms.lines)) found)
-of-terms split entries others None same stays = (refl, refl)
-of-terms split entries others (Some terms) same stays =
-    let fills : All (λ key. current_fill others key ≡ current_fill entries key) terms.execs = All-weaker (KeyStays split) (λ key. current_fill others key ≡ current_fill entries key) same.fill terms.execs stays in (
-      ap (option_map Instrument)
-          (find-agree (λ key. option_map_or (differs terms) (current_fill others key) false) (λ key. option_map_or (differs terms) (current_fill entries key) false) terms.execs
-          (All-weaker (λ key. current_fill others key ≡ current_fill entries key)
-          (λ key. option_map_or (differs terms) (current_fill others key) false ≡ option_map_or (differs terms) (current_fill entries key) false)
-          (λ key is. ap (λ fill. option_map_or (differs terms) fill false) is) terms.execs fills)),
-      ap (λ fills. mismatch (cum_of fills) (pos terms.block) (booked terms.lines)) (filter_map-agree (current_fill others) (current_fill entries) terms.execs fills),
-    )
-
 -- a command that some entries accept, and that needs nothing that goes, is accepted by those that stay
 pub accepted-spared :
     (split : Split) (entries others : List Entry) (command : Command) → Answers split entries others → NeedsNone split command → refusal_in entries command ≡ None
     → refusal_in others command ≡ None
 accepted-spared split entries others command same needs accepted =
-    let never = or_parts (never_entry command) _ accepted in
-    let one = or_parts (duplicate_exec entries command) _ never.1 in
-    let two = or_parts (duplicate_alloc entries command) _ one.1 in
-    let three = or_parts (unknown_alloc entries command) _ two.1 in
-    let four = or_parts (dead_alloc entries command) _ three.1 in
-    let five = or_parts (unknown_exec entries command) _ four.1 in
-    let six = or_parts (busted_exec entries command) _ five.1 in
-    let seven = or_parts (repeated_exec entries command) _ six.1 in
-    let eight = or_parts (exec_taken entries command) _ seven.1 in
-    let nine = or_parts (instrument entries command) _ eight.1 in
-    let refers = exec_references command in
-    let lists = listed split command needs.chains in
-    let terms = of-terms split entries others (terms_of command) same lists in
-    let roots : All (λ key. root_in (links_in others) key ≡ root_in (links_in entries) key) refers =
-    All-weaker (KeyStays split) (λ key. root_in (links_in others) key ≡ root_in (links_in entries) key) same.root refers needs.chains in
-    or-none (never_entry command) _ never.0
-    (or-none (duplicate_exec others command) _ (mapped-none DuplicateExec _ (then-none (taker_in (links_in entries)) (taker_in (links_in others)) (exec_key command) same.taker (unmapped DuplicateExec _ one.0)))
-    (or-none (duplicate_alloc others command) _
-    (mapped-none DuplicateAlloc _ (then-none (alloc_taker_in (instructions_in entries)) (alloc_taker_in (instructions_in others)) (alloc_key command) same.alloc_taker (unmapped DuplicateAlloc _ two.0)))
-    (or-none (unknown_alloc others command) _ (known split entries others (alloc_reference command) same needs.allocation ∙ three.0)
-    (or-none (dead_alloc others command) _
-    (mapped-none DeadAlloc _ (then-none (ended_in (instructions_in entries)) (ended_in (instructions_in others)) (alloc_reference command) same.ended (unmapped DeadAlloc _ four.0)))
-    (or-none (unknown_exec others command) _
-    (ap (option_map UnknownExec)
-    (find-agree (λ key. is_none (root_in (links_in others) key)) (λ key. is_none (root_in (links_in entries) key)) refers
-    (All-weaker (λ key. root_in (links_in others) key ≡ root_in (links_in entries) key) (λ key. is_none (root_in (links_in others) key) ≡ is_none (root_in (links_in entries) key)) (λ key is. ap is_none is) refers roots))
-    ∙ five.0)
-    (or-none (busted_exec others command) _
-    (mapped-none BustedExec _
-    (first-none (bust_of_key (links_in entries)) (bust_of_key (links_in others)) refers
-    (All-weaker (KeyStays split) (λ key. bust_of_key (links_in entries) key ≡ None → bust_of_key (links_in others) key ≡ None) same.bust refers needs.chains)
-    (unmapped BustedExec _ six.0)))
-    (or-none (repeated_exec others command) _
-    (ap (option_map RepeatedExec)
-    (repeated-same (links_in entries) (links_in others) [] (listed_by command) (All-nil (λ key. root_in (links_in others) key ≡ root_in (links_in entries) key))
-    (All-weaker (KeyStays split) (λ key. root_in (links_in others) key ≡ root_in (links_in entries) key) same.root (listed_by command) lists))
-    ∙ seven.0)
-    (or-none (exec_taken others command) _
-    (mapped-none ExecTaken _
-    (first-none (other_holder (links_in entries) (instructions_in entries) (alloc_reference command)) (other_holder (links_in others) (instructions_in others) (alloc_reference command)) (listed_by command)
-    (All-weaker (KeyStays split)
-    (λ key. other_holder (links_in entries) (instructions_in entries) (alloc_reference command) key ≡ None → other_holder (links_in others) (instructions_in others) (alloc_reference command) key ≡ None)
-    (λ key stays none. untaken split entries others (alloc_reference command) key same stays none) (listed_by command) lists)
-    (unmapped ExecTaken _ eight.0)))
-    (or-none (instrument others command) (quantity others command) (terms.0 ∙ nine.0) (terms.1 ∙ nine.1))))))))))
+    let lists = listed (KeyStays split) command needs.chains in
+    accepted_by others command
+    (accepts-out (KeyStays split) (KeyStays split) (λ key. split.drops key ≡ false) entries others command
+    (record {
+      taker = same.taker;
+      root = same.root;
+      bust = same.bust;
+      fill = λ key stays. ap shaped (same.fill key stays);
+      alloc_taker = same.alloc_taker;
+      allocation = same.allocation;
+      ended = same.ended;
+    })
+    (record {
+      refers = needs.chains;
+      lists = lists;
+      shows = lists;
+      allocation = needs.allocation;
+      holder = All-weaker (KeyStays split)
+          (λ key. other_holder (links_in entries) (instructions_in entries) (alloc_reference command) key ≡ None → other_holder (links_in others) (instructions_in others) (alloc_reference command) key ≡ None)
+          (λ key stays none. untaken split entries others (alloc_reference command) key same stays none) (listed_by command) lists;
+    })
+    (accepts entries command accepted))

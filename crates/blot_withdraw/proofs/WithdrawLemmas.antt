@@ -11,7 +11,7 @@ use Rattle.blot_command.specs.declared.inverse.Inverse.TheVariants.{Taken}
 use Rattle.blot_command.specs.Book.{Shown, has_number, numbers_of, taken_of}
 use Rattle.blot_command.specs.Law.{has_entry}
 use Rattle.blot_command.specs.Meanings.{command_meaning}
-use Rattle.blot_command.specs.Undoable.{AllBelow, IsAboveNumbers, IsStep, Adds, UndoesStep, Undoes, TakesOut}
+use Rattle.blot_command.specs.Undoable.{AllBelow, IsStep, Adds, UndoesStep, Undoes, TakesOut, numbers_in}
 use Rattle.blot_command.specs.Withdrawing.{lifted, returned, CanReturn}
 use Rattle.blot_command.proofs.TakenLemmas.{withdraw_adds, returns_taken, puts_back}
 use Rattle.blot_withdraw.specs.declared.withdrawing.Withdraw.{Withdraw}
@@ -30,7 +30,7 @@ withdraw_step list next withdraw number entry book accepted found within above i
 
 pub withdraw_keeps :
     (old new : Shown) (taken number : ℕ) (entry : Entry) → is_book old.list ≡ true → find (has_number taken) old.list ≡ Some entry → new ≡ lifted entry old → CanReturn entry new
-    → IsAboveNumbers withdraw_meaning number old → Adds withdraw_meaning number entry old new
+    → AllBelow number (numbers_in withdraw_meaning old) → Adds withdraw_meaning number entry old new
 withdraw_keeps old new taken number entry book found is can above =
     let adds = withdraw_adds old new taken number entry book found is can above in
     record { brings = adds.brings; own = adds.own; earlier = λ n other below kept. adds.earlier n (Taken other) below kept; stays = adds.stays }

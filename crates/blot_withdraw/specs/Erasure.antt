@@ -3,7 +3,7 @@ use Rattle.std.specs.Prelude.{◌≡◌, ℕ, ◌⊎◌, Bool, not, List, filter
 use Rattle.std.specs.List.{list_any}
 use Rattle.std.specs.Option.{option_map, option_map_or, option_and_then}
 use Rattle.blot_types.specs.declared.command.Command.{Command}
-use Rattle.blot_types.specs.declared.command.Command.TheVariants.{Trade, Correct, Bust, AllocNew, AllocReplace, AllocCancel, Withdraw}
+use Rattle.blot_types.specs.declared.command.Command.TheVariants.{Trade, Correct, Bust}
 use Rattle.blot_types.specs.declared.command.Entry.{Entry}
 use Rattle.blot_types.specs.declared.keys.ExecKey.{ExecKey}
 use Rattle.blot_types.specs.declared.keys.OrderKey.{OrderKey}
@@ -20,10 +20,7 @@ abbrev pub chained_by : Command → Option ExecKey
 chained_by (Trade trade) = Some trade.key
 chained_by (Correct correct) = Some correct.key
 chained_by (Bust bust) = Some bust.reference
-chained_by (AllocNew new) = None
-chained_by (AllocReplace replace) = None
-chained_by (AllocCancel cancel) = None
-chained_by (Withdraw withdrawn) = None
+chained_by _ = None
 
 -- whether an entry is of the chain of a root: it is its Trade, one of its Corrects, or its Bust
 abbrev pub is_of_chain : List Entry → ExecKey → Entry → Bool
@@ -50,12 +47,8 @@ abbrev pub chain_fault : List Entry → ExecKey → Option EraseFault
 chain_fault list root = if is_none (bust_in (links_of list) root) then Some NotBusted else option_map Named (first_listing list root)
 
 -- why the chain of a key isn't taken out: the key has no root, or else why that of its root isn't
-abbrev pub fault_by : List Entry → Option ExecKey → Option EraseFault
-fault_by list None = Some UnknownExec
-fault_by list (Some root) = chain_fault list root
-
 abbrev pub erase_fault : List Entry → ExecKey → Option EraseFault
-erase_fault list key = fault_by list (root_of list key)
+erase_fault list key = option_map_or (chain_fault list) (root_of list key) (Some UnknownExec)
 
 -- the first fault that applies; or none applies, and memory ran out
 abbrev pub IsEraseFault : List Entry → ExecKey → EraseFault → Type 0

@@ -7,7 +7,7 @@ use Rattle.blot_desk.specs.declared.event.Recorded.{Recorded}
 use Rattle.blot_desk.specs.declared.fault.DeskFault.{DeskFault}
 use Rattle.blot_desk.specs.declared.fault.DeskFault.TheVariants as desk
 use Rattle.blot_desk.specs.declared.receipt.Receipt.{Receipt}
-use Rattle.blot_desk.specs.Desk.{events_of, replies_of, run_of}
+use Rattle.blot_desk.specs.Desk.{events_of, run_of}
 use Rattle.blot_desk.specs.Keeping.{kept_events}
 use Rattle.blot_desk.specs.Receipts.{IsSettled}
 use Rattle.blot_gateway.specs.AtOnce.{are_submits}
@@ -23,7 +23,7 @@ use Rattle.blot_stream.specs.declared.outcome.ServeFault.TheVariants as fault
 -- its events
 pub record ReportedOf (history : List Recorded) (day : ℤ) (seats : List (List Receipt)) (before after : Option (List ℕ)) : Type 0 where
   pub settled : IsSettled history seats
-  pub replied : (run_of (events_of history)).replies ≡ replies_of history
+  pub replied : (run_of (events_of history)).history ≡ history
   pub written : Appends before after (report_of (run_of (events_of history)).book.list day)
 
 -- it is written of some such history

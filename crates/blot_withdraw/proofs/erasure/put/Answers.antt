@@ -12,7 +12,7 @@ use Rattle.blot_command.specs.declared.inverse.Inverse.{Inverse}
 use Rattle.blot_command.specs.declared.inverse.Inverse.TheVariants.{Number}
 use Rattle.blot_command.specs.Book.{Shown, numbers_of, taken_of}
 use Rattle.blot_command.specs.Meanings.{StaysFor, command_meaning}
-use Rattle.blot_command.specs.Undoable.{AllBelow, IsAboveNumbers, IsStep, IsRefusal, Adds}
+use Rattle.blot_command.specs.Undoable.{AllBelow, IsStep, IsRefusal, Adds, numbers_in}
 use Rattle.blot_withdraw.proofs.ErasureLemmas.{last_of}
 use Rattle.blot_withdraw.proofs.erasure.put.Goals as goal
 
@@ -24,7 +24,7 @@ never_refused book next command returned fault reason accepted refusal is = elim
   | inr memory ↦ cc
 ]
 
-above : (book : Shown) (entry : Entry) → is_book (book.list ++ entry ∷ []) ≡ true → book.kept ≡ [] → IsAboveNumbers command_meaning entry.number book
+above : (book : Shown) (entry : Entry) → is_book (book.list ++ entry ∷ []) ≡ true → book.kept ≡ [] → AllBelow entry.number (numbers_in command_meaning book)
 above book entry is none =
     subst (λ kept. AllBelow entry.number (numbers_of kept ++ numbers_of book.list)) (sym none) (last_of book.list entry is).above
 

@@ -4,7 +4,7 @@ use Rattle.blot_places.specs.declared.slots.Slot.{Slot}
 use Rattle.blot_types.specs.Chains.{link_refusal, is_above_links}
 use Rattle.blot_chain.specs.declared.rooted.Rooted.{Rooted}
 use Rattle.blot_chain.specs.Holds.{HoldsChains}
-use Rattle.blot_chain.specs.Rooted.{chain_root}
+use Rattle.blot_types.specs.Standing.{chain_under}
 use Rattle.blot_chain.proofs.HoldsLemmas.{held-index, held-push}
 use Rattle.blot_chain.proofs.chains.Chains.push_link.Goals as goal
 
@@ -44,5 +44,5 @@ invariant_of-self-2 c =
     (subst (λ (it : Rooted). is_above_links it.link.number c.args.self.now.list ≡ true) (sym made) c.requires.above))
     (subst (λ shown. is_above_links item.link.number shown.kept ≡ true) (sym c.self.view_is)
     (subst (λ (it : Rooted). is_above_links it.link.number c.args.self.now.kept ≡ true) (sym made) c.requires.above_kept))
-    (subst (λ shown. chain_root shown.list item.link.key item.link.role ≡ Some item.root) (sym c.self.view_is)
-    (subst (λ (it : Rooted). chain_root c.args.self.now.list it.link.key it.link.role ≡ Some it.root) (sym made) c.requires.rooted))
+    (subst (λ shown. chain_under shown.list item.link.key item.link.role ≡ Some item.root) (sym c.self.view_is)
+    (subst (λ (it : Rooted). chain_under c.args.self.now.list it.link.key it.link.role ≡ Some it.root) (sym made) c.requires.rooted))

@@ -1,4 +1,4 @@
-use Rattle.std.proofs.Common.{[], ◌∷◌, ◌++◌, take}
+use Rattle.std.proofs.Common.{[], ◌∷◌, ◌++◌, take, refl}
 use Rattle.blot_session.specs.Runs.Call.{Tick}
 use Rattle.blot_gateway.specs.Progress.{ServesRead, ServesReadLast, TakesFedLast}
 use Rattle.blot_gateway.specs.Wires.Read.{Piece, Silence, AtEnd, Failed}
@@ -51,8 +51,8 @@ returns-in-Quiet-clause-ok g c =
       Silence,
       λ more. runs-behind-read g.W.Wire.does g.C.Clock.ticks g.S.FrameSink.takes Silence a b (Passed ∷ due_behind unread more) (due_behind unread more)
           c.read_some.new.self c.in-Quiet.ensures.gave
-          (runs-one g.W.Wire.does g.C.Clock.ticks g.S.FrameSink.takes Tick m (Passed ∷ []) (due_behind unread more) c.pass_moment.new.wire c.pass_moment.new.clock c.pass_moment.new.session
-          (tick-call c.args.self.now.session c.requires.idle) called),
+          (runs-one g.W.Wire.does g.C.Clock.ticks g.S.FrameSink.takes Tick m b (Passed ∷ []) (due_behind unread more) (λ _ _. [])
+          (tick-call c.args.self.now.session c.requires.idle) called refl),
     ))
 
 pub returns-in-Quiet-clause-err : goal.returns-in-Quiet-clause-err
@@ -69,8 +69,8 @@ returns-in-Quiet-clause-err g c =
       Silence,
       λ more. ends-behind-read g.W.Wire.does g.C.Clock.ticks g.S.FrameSink.takes stop Silence a b (Passed ∷ due_behind unread more)
           c.read_some.new.self c.in-Quiet.ensures.gave
-          (ends-one g.W.Wire.does g.C.Clock.ticks g.S.FrameSink.takes stop Tick m (Passed ∷ []) (due_behind unread more) c.pass_moment.new.wire c.pass_moment.new.clock c.pass_moment.new.session
-          (tick-call c.args.self.now.session c.requires.idle) halted),
+          (ends-one g.W.Wire.does g.C.Clock.ticks g.S.FrameSink.takes stop Tick m b (Passed ∷ []) (due_behind unread more) (λ _ _. [])
+          (tick-call c.args.self.now.session c.requires.idle) halted refl),
     ))
 
 pub returns-in-End-clause-err : goal.returns-in-End-clause-err

@@ -1,4 +1,6 @@
 use Rattle.std.proofs.Common.{refl, inr}
+use Rattle.blot_session.specs.Runs.{behind_calls}
+use Rattle.blot_gateway.proofs.NumbersLemmas.{keeps_all_numbers}
 use Rattle.blot_gateway.proofs.parties.Parties.serve_until.Goals as goal
 
 pub returns-in-None-clause-served : goal.returns-in-None-clause-served
@@ -12,3 +14,9 @@ returns-in-None-clause-served g c =
         said = c.say_goodbye.ensures.said;
       },
     )
+
+pub returns-in-Some-clause-numbers : goal.returns-in-Some-clause-numbers
+returns-in-Some-clause-numbers g c = λ calls. keeps_all_numbers (behind_calls c.args.self.now.session calls)
+
+pub returns-in-None-clause-numbers : goal.returns-in-None-clause-numbers
+returns-in-None-clause-numbers g c = λ calls. keeps_all_numbers (behind_calls c.args.self.now.session calls)

@@ -1,5 +1,5 @@
 use Rattle.std.proofs.Common.{◌∙◌, ap, sym, arith}
-use Rattle.blot_undo.specs.Book.{Stack, book_of, book_redone, redo_in, newest_undone}
+use Rattle.blot_undo.specs.Book.{Stack, book_of, redo_in, newest_undone, redo_of}
 use Rattle.blot_undo.proofs.RowLemmas.{next_within, next_is, next_at, none_undone}
 use Rattle.blot_undo.proofs.StackLemmas.{above_redone, redo_keeps, redo_leaves}
 use Rattle.blot_undo.proofs.steps.Steps.redo.Goals as goal
@@ -25,7 +25,7 @@ returns-in-Ok-clause-book g c =
     (redo_keeps g.C.Undoable.meaning g.met.C.Undoable.lawful c.self.inside.state _ c.self.inside.steps.items _ c.self.inside.place _ _ c.in-Undone.step _
     c.self.invariant (λ end. c.if-place-len.false (omega arith)) c.swap_remove.ensures.value c.in-Undone.is c.in-Ok.ensures.accepted c.in-Ok.ensures.kept
     (λ within. c.put_back.ensures _ _ within c.swap_remove.ensures.items)).1
-    ∙ ap (λ (stack : Stack _ _ _). book_redone g.C.Undoable.meaning stack) c.self.view_is
+    ∙ ap (λ (stack : Stack _ _ _). redo_of g.C.Undoable.meaning (book_of g.C.Undoable.meaning stack)) c.self.view_is
 
 pub returns-in-Ok-clause-number : goal.returns-in-Ok-clause-number
 returns-in-Ok-clause-number g c =

@@ -1,5 +1,5 @@
 use Rattle.std.proofs.Common.{◌∙◌, ap, sym, arith}
-use Rattle.blot_undo.specs.Book.{Stack, book_of, book_undone, undo_in, newest_done}
+use Rattle.blot_undo.specs.Book.{Stack, book_of, undo_in, newest_done, undo_of}
 use Rattle.blot_undo.proofs.RowLemmas.{place_within, none_done, newest_at, newest_is}
 use Rattle.blot_undo.proofs.StackLemmas.{undoes_stack, undo_keeps}
 use Rattle.blot_undo.proofs.steps.Steps.undo.Goals as goal
@@ -25,7 +25,7 @@ returns-clause-book g c =
     (undo_keeps g.C.Undoable.meaning g.met.C.Undoable.lawful c.self.inside.state _ c.self.inside.steps.items _ _ c.in_ok-place.place _ _ c.in-Done.step _
     c.self.invariant (omega arith) c.swap_remove.ensures.value c.in-Done.is c.revert-command.ensures.list c.revert-command.ensures.command c.revert-command.ensures.kept
     (λ within. c.put_back.ensures _ _ within c.swap_remove.ensures.items)).1
-    ∙ ap (λ (stack : Stack _ _ _). book_undone g.C.Undoable.meaning stack) c.self.view_is
+    ∙ ap (λ (stack : Stack _ _ _). undo_of g.C.Undoable.meaning (book_of g.C.Undoable.meaning stack)) c.self.view_is
 
 pub returns-clause-number : goal.returns-clause-number
 returns-clause-number g c =
