@@ -98,7 +98,7 @@ GROUPS = [
                                blot_journal/journal.rt'''),
     ('What is kept', '''blot_desk/Keeping blot_desk/keeper.rt blot_desk/closed.rt blot_desk/opening.rt blot_recovery/recovering.rt blot_diary/Diary
                         blot_diary/diary.rt'''),
-    ('What is told', 'blot_gateway/Wires blot_gateway/wire.rt blot_gateway/Storing blot_gateway/stored_wire.rt blot_lanes/Storing blot_lanes/peer_store.rt'),
+    ('What is told', 'blot_gateway/Counting blot_gateway/Wires blot_gateway/wire.rt blot_gateway/Storing blot_gateway/stored_wire.rt blot_lanes/Storing blot_lanes/peer_store.rt'),
 ]
 
 CLOSED = {
@@ -110,6 +110,7 @@ CLOSED = {
                                  'events of the text of that file. So sentence 7 is the same whatever they say.',
     'blot_diary/Diary desk_events': 'likewise.',
     'blot_journal/File IsWhole': 'that a file has its text to the end. No sentence uses it.',
+    'blot_gateway/Counting CountsItself': 'that a message which is put brings no event, and what it says of sequence numbers. No sentence uses it.',
 }
 
 AROUND = '''# The headline, and what it rests on

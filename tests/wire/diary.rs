@@ -4,7 +4,7 @@ use crate::expect::{expect, text};
 use crate::frames::{frame, stream};
 use blot_desk::Event;
 use blot_diary::{
-    Kept, Noted, Numbers, Party, asked_record, beginning_record, is_quiet, numbers_record,
+    Kept, Noted, Numbers, Party, asked_record, beginning_record, is_plain, numbers_record,
     read_kept, wrapped_record,
 };
 use blot_tag::Reader;
@@ -228,19 +228,22 @@ fn wraps_a_message_that_fits(rt: HostRuntime) -> Result<(), Fail> {
 }
 
 #[test]
-fn is_quiet_where_one_frame_brings_no_event(rt: HostRuntime) -> Result<(), Fail> {
+fn is_plain_where_one_frame_keeps_its_message_alone(rt: HostRuntime) -> Result<(), Fail> {
     let alloc = rt.alloc();
     for (body, word, _, _) in ROWS {
         let text = frame(alloc, body)?;
-        expect(&rt, body, is_quiet(alloc, &text)? == (*word == "none"));
+        let is_message = *word == "none" && !body.starts_with("35=U");
+        expect(&rt, body, is_plain(alloc, &text)? == is_message);
     }
     let logon = frame(alloc, ROWS[1].0)?;
-    expect(&rt, "a part of one", !is_quiet(alloc, &logon[1..])?);
+    expect(&rt, "a part of one", !is_plain(alloc, &logon[1..])?);
     let two = stream(
         alloc,
         "35=0|49=BRKA|56=MO|34=2|52=20240105-10:00:00|\n35=0|49=BRKA|56=MO|34=3|52=20240105-10:00:00|",
     )?;
-    expect(&rt, "two of them", !is_quiet(alloc, &two)?);
-    expect(&rt, "none", !is_quiet(alloc, b"")?);
+    expect(&rt, "two of them", !is_plain(alloc, &two)?);
+    expect(&rt, "none", !is_plain(alloc, b"")?);
+    let faulty = frame(alloc, "35=A|49=BRKA|56=MO|34=2|52=20240105-10:00:00|98=0|")?;
+    expect(&rt, "one at fault", !is_plain(alloc, &faulty)?);
     Ok(())
 }

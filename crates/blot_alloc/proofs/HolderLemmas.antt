@@ -1,7 +1,7 @@
 -- What the newest instruction of a key, and the newest that names a chain, tell of the definitions.
-use Rattle.std.proofs.Common.{◌≡◌, ℕ, ◌≤◌, Bool, true, false, ◌&&◌, cond, List, [], ◌∷◌, length, Option, Some, None, refl, sym, ap, subst, ◌∙◌, arith, inl, inr}
-use Rattle.std.specs.Prelude.{not, filter, find, is_none}
-use Rattle.std.specs.List.{list_any, list_all}
+use Rattle.std.proofs.Common.{◌≡◌, ◌≤◌, Bool, true, false, ◌&&◌, cond, List, [], ◌∷◌, length, Option, Some, None, refl, sym, ap, subst, ◌∙◌, arith, inl, inr}
+use Rattle.std.specs.Prelude.{not, filter, find}
+use Rattle.std.specs.List.{list_any}
 use Rattle.std.specs.Option.{option_and_then, option_map, option_map_or}
 use Rattle.std.proofs.lemmas.Bool.{cases_Bool, and_parts}
 use Rattle.blot_places.proofs.SlotLemmas.{find_here, find_on}
@@ -9,11 +9,10 @@ use Rattle.blot_types.specs.declared.allocation.Instruction.{Instruction}
 use Rattle.blot_types.specs.declared.keys.AllocKey.{AllocKey}
 use Rattle.blot_types.specs.declared.keys.ExecKey.{ExecKey}
 use Rattle.blot_types.specs.Instructions.{alloc_taker_in, brings_allocation, ends, holds_beside, holds_in, is_allocation_in, is_allocation_of, is_instructed, is_keyed, is_live_in, is_reference, may_follow, names, other_holder_in, reference_of}
-use Rattle.blot_types.specs.Keys.{same_exec}
-use Rattle.blot_types.proofs.ChainLemmas.{differing, none_is}
-use Rattle.blot_types.proofs.InstructionLemmas.{Follows, ends-reference, filter-unfound, follows, holds-step, live-step, named_once}
+use Rattle.blot_types.proofs.ChainLemmas.{differing}
+use Rattle.blot_types.proofs.InstructionLemmas.{Follows, ends-reference, filter-unfound, follows, holds-step, live-step, named_once, named-free, no_number}
 use Rattle.blot_types.proofs.StandLemmas.{and-true}
-use Rattle.blot_types.proofs.KeyLemmas.{same_alloc-true, same_exec-true}
+use Rattle.blot_types.proofs.KeyLemmas.{same_alloc-true}
 
 -- ---- lists
 
@@ -58,10 +57,6 @@ find-stronger p q (x ∷ xs) weaker one =
 
 -- ---- the newest instruction of a key
 
-absent : {X : Type 0} (f : X → ℕ) (found : Option X) → option_map f found ≡ None → found ≡ None
-absent f None none = refl
-absent f (Some x) none = cc
-
 -- no key is taken up twice
 pub keyed_once : (instructions : List Instruction) (key : AllocKey) → is_instructed instructions ≡ true → length (filter (is_keyed key) instructions) ≤ 1
 keyed_once [] key instructed = omega arith
@@ -70,7 +65,7 @@ keyed_once (i ∷ earlier) key instructed =
     elim (cases_Bool (is_keyed key i)) [
       | inl here ↦
           let fresh : alloc_taker_in earlier key ≡ None = subst (λ k. alloc_taker_in earlier k ≡ None) (same_alloc-true i.key key here) (follows earlier i.key i.role i.roots parts.0).fresh in
-          let none : filter (is_keyed key) earlier ≡ [] = filter-unfound (is_keyed key) earlier (absent (λ x. x.number) _ fresh) in
+          let none : filter (is_keyed key) earlier ≡ [] = filter-unfound (is_keyed key) earlier (no_number (λ x. x.number) _ fresh) in
           rw (here, none) (omega arith)
       | inr other ↦ rw other (keyed_once earlier key parts.1)
     ]
@@ -115,20 +110,6 @@ allocation-taker instructions key found is once =
 
 -- ---- the newest instruction that names a chain
 
--- a chain that an instruction names is held by no other allocation than the one that it refers to
-named-free :
-    (earlier : List Instruction) (reference : Option AllocKey) (root : ExecKey) (roots : List ExecKey)
-    → list_all (λ r. is_none (other_holder_in earlier reference r)) roots ≡ true → list_any (λ named. same_exec named root) roots ≡ true
-    → other_holder_in earlier reference root ≡ None
-named-free earlier reference root [] all any = cc
-named-free earlier reference root (first ∷ roots) all any =
-    let parts : (is_none (other_holder_in earlier reference first) ≡ true) × (list_all (λ r. is_none (other_holder_in earlier reference r)) roots ≡ true) = and_parts _ _ all in
-    elim (cases_Bool (same_exec first root)) [
-      | inl same ↦
-          subst (λ r. other_holder_in earlier reference r ≡ None) (same_exec-true first root same) (none_is (other_holder_in earlier reference first) parts.0)
-      | inr other ↦ named-free earlier reference root roots parts.1 (rw other at any)
-    ]
-
 find-same : {X : Type 0} (p q : X → Bool) (xs : List X) → ((x : X) → p x ≡ q x) → find p xs ≡ find q xs
 find-same p q xs same = ap (λ test. find test xs) (λ k x. same x k)
 
@@ -140,7 +121,7 @@ held-behind i earlier root it named =
     let reference = reference_of i.role in
     find-same (holds_in (i ∷ earlier) root) (holds_beside earlier reference root) earlier
     (λ j. holds-step i earlier root j ∙ ap (λ test. holds_in earlier root j && not test) (ends-reference j.key i.role))
-    ∙ absent (λ x. x.number) _ (named-free earlier reference root i.roots it.unnamed named)
+    ∙ no_number (λ x. x.number) _ (named-free earlier reference root i.roots it.unnamed named)
 
 unnamed : (a b : Bool) → b ≡ false → (a && b) ≡ false
 unnamed true b none = none

@@ -1,4 +1,4 @@
 pub mod HolderLemmas
 mod HoldsLemmas
-mod NeedLemmas
+pub mod NeedLemmas
 mod RootLemmas

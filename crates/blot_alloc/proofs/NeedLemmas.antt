@@ -21,7 +21,7 @@ use Rattle.blot_places.specs.Places.{places_in}
 use Rattle.blot_places.specs.Shown.{Shown, item_at, shown_of}
 use Rattle.blot_places.specs.Slots.{is_above, live, numbers_fall, places_by}
 use Rattle.blot_places.proofs.AroundLemmas.{oldest-above, parted-above}
-use Rattle.blot_places.proofs.FirstLemmas.{first-either, first-more, first-none, first_by}
+use Rattle.blot_places.proofs.FirstLemmas.{first-either, first-more, first-none, first_by, none-and}
 use Rattle.blot_places.proofs.MarkLemmas.{falling-side}
 use Rattle.blot_places.proofs.ShownLemmas.{at-here, at-number, at-on, falling-parts}
 use Rattle.blot_alloc.specs.declared.index.Index.{Index}
@@ -47,13 +47,9 @@ shown-falls index slots shown holds view = subst (λ (shown : Shown Instruction)
 
 -- ---- one of some roots
 
-and-either : (after a b : Bool) → (after && (a || b)) ≡ ((after && a) || (after && b))
+pub and-either : (after a b : Bool) → (after && (a || b)) ≡ ((after && a) || (after && b))
 and-either true a b = refl
 and-either false a b = refl
-
-none-and : (b : Bool) → (b && false) ≡ false
-none-and true = refl
-none-and false = refl
 
 -- the first that passes one of two tests
 first-of_two :
@@ -144,7 +140,7 @@ its-number n (i ∷ earlier) k found = elim (cases_Bool (nat_eq (number_of i) n)
   | inr other ↦ its-number n earlier k (sym (at-on number_of n i earlier other) ∙ found)
 ]
 
-or-none : (found : Option ℕ) → option_or found None ≡ found
+pub or-none : (found : Option ℕ) → option_or found None ≡ found
 or-none None = refl
 or-none (Some n) = refl
 

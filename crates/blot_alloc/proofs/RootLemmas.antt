@@ -1,5 +1,5 @@
 -- One place more, or one less, under each of some roots.
-use Rattle.std.proofs.Common.{◌≡◌, ℕ, ◌<◌, ◌+◌, Bool, true, false, ◌||◌, List, [], ◌∷◌, ◌++◌, drop, take, length, get_or, refl, sym, ap, subst, ◌∙◌, inl, inr, if◌then◌else◌}
+use Rattle.std.proofs.Common.{◌≡◌, ℕ, ◌<◌, ◌+◌, true, false, List, [], ◌∷◌, ◌++◌, drop, take, length, get_or, sym, ap, subst, ◌∙◌, inl, inr, if◌then◌else◌}
 use Rattle.std.specs.Prelude.{not}
 use Rattle.std.specs.List.{All}
 use Rattle.std.proofs.lemmas.Bool.{cases_Bool, and_parts}
@@ -11,6 +11,7 @@ use Rattle.blot_types.specs.declared.keys.ExecKey.{ExecKey}
 use Rattle.blot_types.specs.Instructions.{are_apart}
 use Rattle.blot_types.specs.Keys.{is_among, same_exec}
 use Rattle.blot_types.proofs.KeyLemmas.{same_exec-true, same_exec-sym}
+use Rattle.blot_types.proofs.AcceptLemmas.{or-false}
 
 -- what was done, with the change under each of the rest, is the change under each of the roots
 abbrev pub ChangeEach : (List ℕ → List ℕ) → List ExecKey → List ExecKey → (ExecKey → List ℕ) → (ExecKey → List ℕ) → Type 0
@@ -48,10 +49,6 @@ change-first change root rest roots now next before apart is changed other =
           ap (λ places. if is_among rest other then change places else places) here ∙ all
     ]
 
-neither : (a b : Bool) → (a || b) ≡ false → (a ≡ false) × (b ≡ false)
-neither true b none = cc
-neither false b none = (refl, none)
-
 -- room under the rest stays, where only a root is changed that is none of them
 pub room-rest :
     (root : ExecKey) (rest : List ExecKey) (now next : Stacks ExecKey)
@@ -61,7 +58,7 @@ pub room-rest :
     → All (HasRoom same_exec next) rest
 room-rest root [] now next absent kept room = All-nil (HasRoom same_exec next)
 room-rest root (first ∷ rest) now next absent kept room =
-    let tests : (same_exec first root ≡ false) × (is_among rest root ≡ false) = neither (same_exec first root) (is_among rest root) absent in
+    let tests : (same_exec first root ≡ false) × (is_among rest root ≡ false) = or-false (same_exec first root) (is_among rest root) absent in
     let Roomy = HasRoom same_exec now in
     let others = All-tail Roomy root (first ∷ rest) room in
     All-cons (HasRoom same_exec next) first rest (kept first (same_exec-sym root first ∙ tests.0) (All-head Roomy first rest others))

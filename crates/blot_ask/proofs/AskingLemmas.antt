@@ -325,10 +325,6 @@ pub name_in_part : (name : List ℕ) (input sent sent_after : Option (List ℕ))
 name_in_part name None sent sent_after front = tt
 name_in_part name (Some bytes) sent sent_after front = front_more sent sent_after (with_end (naming name)) (requests_of bytes) front
 
-pub none_in_part : (name : List ℕ) (input sent : Option (List ℕ)) → AppendsFrontOf (sent_by name) input sent sent
-none_in_part name None sent = tt
-none_in_part name (Some bytes) sent = front_none sent (sent_by name bytes)
-
 pub lines_in_part : (name : List ℕ) (input sent sent_now sent_after : Option (List ℕ)) → Appends sent sent_now (with_end (naming name))
     → AppendsFrontOf requests_of input sent_now sent_after → AppendsFrontOf (sent_by name) input sent sent_after
 lines_in_part name None sent sent_now sent_after first front = tt

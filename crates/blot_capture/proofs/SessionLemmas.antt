@@ -31,7 +31,7 @@ use Rattle.blot_session.specs.InTurn.{is_report_said}
 use Rattle.blot_session.specs.Rows.{reply_row}
 use Rattle.blot_session.specs.Runs.{Numbered, outcome, said_by, delivered_by, taken_behind, taken_of}
 use Rattle.blot_session.specs.States.{awaited_of, phase_of}
-use Rattle.blot_gateway.specs.Serving.{seen_by}
+use Rattle.blot_gateway.specs.Serving.{seen_reply}
 use Rattle.blot_session.proofs.ActionLemmas.{delivered-none}
 use Rattle.blot_session.proofs.OneLemmas.{AtMostOne, one-frame}
 use Rattle.blot_capture.specs.Capture.{frame_call, reply_calls, waiting_calls, behind_frame, behind_reply, calls_of, taken_by, moment_at, is_closed_phase}
@@ -68,15 +68,15 @@ seen-by state (Some (awaits.Allocation id)) seen now =
 seen-by state None seen now = refl
 
 submit-seen : (book : DeskBook) (command : Command) (refused : Option Refusal) (state : State) (now : ℤ)
-    → (on_reply state (seen_by (Ok (submit_by book command refused).reply)) now).state ≡ (on_reply state (Ok Accepted) now).state
+    → (on_reply state (seen_reply (Ok (submit_by book command refused).reply)) now).state ≡ (on_reply state (Ok Accepted) now).state
 submit-seen book command None state now = refl
 submit-seen book command (Some reason) state now = seen-by state (awaited_of state) (Refused (refused_number reason)) now
 
 -- the session after the desk's reply is the one after an acceptance
 pub replied : (book : DeskBook) (command : Command) (reply : DeskReply) (seen : Result SeenReply NotTaken) (state : State) (now : ℤ)
-    → reply ≡ (step_of book (Submit command)).reply → seen ≡ seen_by (Ok reply) → (on_reply state seen now).state ≡ (on_reply state (Ok Accepted) now).state
+    → reply ≡ (step_of book (Submit command)).reply → seen ≡ seen_reply (Ok reply) → (on_reply state seen now).state ≡ (on_reply state (Ok Accepted) now).state
 replied book command reply seen state now given told =
-    ap (λ said. (on_reply state said now).state) (told ∙ ap (λ answer. seen_by (Ok answer)) given)
+    ap (λ said. (on_reply state said now).state) (told ∙ ap (λ answer. seen_reply (Ok answer)) given)
     ∙ submit-seen book command (refusal_of book.list command) state now
 
 -- ---- the calls of a frame

@@ -58,8 +58,8 @@ abbrev pub calls_of : State → List ℕ → List Call
 calls_of state text = frame_call text ∷ reply_calls (behind_frame state text) (moment_at text) ++ waiting_calls (behind_reply state text)
 
 -- a session after all of them
-abbrev pub behind_all : State → List ℕ → State
-behind_all state text = behind_calls state (calls_of state text)
+abbrev pub behind_text : State → List ℕ → State
+behind_text state text = behind_calls state (calls_of state text)
 
 -- the commands that are taken in these calls
 abbrev pub taken_by : State → List ℕ → List Command
@@ -82,7 +82,7 @@ is_from peer text = option_map_or (λ sender. same_text sender peer) (sender_of 
 -- the sessions after a frame: its sender's is the one after the frame's calls, the others are as they were
 abbrev pub sessions_behind : Sessions → List ℕ → Sessions
 sessions_behind sessions text peer =
-    if is_from peer text then option_map (λ state. behind_all state text) (sessions peer) else sessions peer
+    if is_from peer text then option_map (λ state. behind_text state text) (sessions peer) else sessions peer
 
 -- the commands that the session of a frame's sender takes; the frames of others bring none
 abbrev pub commands_in : Sessions → List ℕ → List Command
@@ -104,7 +104,7 @@ commands_from peer sessions (text ∷ texts) =
 -- all calls of a session over its own frames, one after the other
 abbrev pub calls_over : State → List (List ℕ) → List Call
 calls_over state [] = []
-calls_over state (text ∷ texts) = calls_of state text ++ calls_over (behind_all state text) texts
+calls_over state (text ∷ texts) = calls_of state text ++ calls_over (behind_text state text) texts
 
 -- for each listed peer: what `taken_of` says of the calls of its own session, over the frames that are its own
 abbrev pub TakesEachPeer : List ℕ → List (List ℕ) → Type 0

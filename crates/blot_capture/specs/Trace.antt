@@ -18,7 +18,7 @@ use Rattle.blot_desk.specs.declared.event.Event.TheVariants.{Submit}
 use Rattle.blot_desk.specs.declared.event.Reply.{Reply}
 use Rattle.blot_desk.specs.declared.event.Reply.TheVariants.{Accepted}
 use Rattle.blot_desk.specs.Desk.{Journal, empty_journal, run_of, step_of, replies_of}
-use Rattle.blot_gateway.specs.Serving.{seen_by}
+use Rattle.blot_gateway.specs.Serving.{seen_reply}
 use Rattle.blot_capture.specs.declared.became.Became.{Became}
 use Rattle.blot_capture.specs.declared.became.Became.TheVariants as became
 use Rattle.blot_capture.specs.Capture.{Sessions, behind_frame, commands_in, commands_of, frame_call, moment_at, sessions_behind, taken_by}
@@ -36,7 +36,7 @@ reply_to journal command = (step_of journal.book (Submit command)).reply
 
 -- what a session does that is told the reply to its command
 abbrev pub on_told : State → Reply → ℤ → Outcome
-on_told state reply now = on_reply state (seen_by (Ok reply)) now
+on_told state reply now = on_reply state (seen_reply (Ok reply)) now
 
 -- what became of a frame: the reply to the command that it brought, or else what its session made of it
 abbrev pub became_of : Met → Journal → List Command → Became

@@ -11,8 +11,8 @@ ghost use Rattle.blot_session.specs.Runs.{behind_calls, said_by};
 ghost use Rattle.blot_session.specs.States.{IsIdle, IsAwaiting};
 ghost use Rattle.blot_desk.specs.declared.event.Event.TheVariants.{Submit};
 ghost use Rattle.blot_desk.specs.Desk.{recorded_of};
-ghost use Rattle.blot_gateway.specs.Serving.{seen_by};
-ghost use Rattle.blot_capture.specs.Capture.{behind_all, behind_reply, reply_calls, waiting_calls, taken_by};
+ghost use Rattle.blot_gateway.specs.Serving.{seen_reply};
+ghost use Rattle.blot_capture.specs.Capture.{behind_reply, behind_text, reply_calls, waiting_calls, taken_by};
 ghost use Rattle.blot_capture.specs.Handling.{IsHandled, IsHandledBy, IsReplied, delivered_in, report_actions, is_fill_said};
 ghost use Rattle.blot_capture.specs.Replay.{submitted, Stopped, fault_of};
 ghost use Rattle.blot_capture.specs.Trace.{actions_after, became_of, on_told, reply_to};
@@ -21,7 +21,7 @@ use crate::handled::Handled;
 use crate::moment::sending_by;
 use blot_desk::{DeskFault, TakesCommands};
 use blot_fields::{Body, FieldFault, Message, command_of_report, decode, is_out_of_memory};
-use blot_gateway::seen_by;
+use blot_gateway::seen_reply;
 use blot_session::{Action, NotTaken, Phase, SeenReply, Session, delivered};
 use blot_stream::ReplayFault;
 use blot_tag::Frame;
@@ -38,7 +38,7 @@ pub(crate) fn take_frame<D: TakesCommands>(
     desk: &mut D,
 ) -> Result<Handled, ReplayFault>
     requires { IsIdle session.old }
-    ensures session { OnOk result (session.new ≡ behind_all session.old (text_of frame.now)) }
+    ensures session { OnOk result (session.new ≡ behind_text session.old (text_of frame.now)) }
     ensures peer { session.new.peer ≡ session.old.peer }
     ensures idle { IsIdle session.new }
     ensures desk { OnOk result (D.journal_of desk.new ≡ submitted (D.journal_of desk.old) (taken_by session.old (text_of frame.now))) }
@@ -170,7 +170,7 @@ fn submit<D: TakesCommands>(
     ensures no_write { result ≢ Err ReplayFault.Write }
 {
     let answer = desk.submit(command);
-    let told = tell(alloc, session, seen_by(&answer), now);
+    let told = tell(alloc, session, seen_reply(&answer), now);
     match answer {
         Ok(reply) => Ok(Handled::Replied(reply, told?)),
         Err(fault) => {

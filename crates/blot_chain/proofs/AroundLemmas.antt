@@ -22,7 +22,7 @@ use Rattle.blot_places.specs.declared.slots.Slot.{Slot}
 use Rattle.blot_places.specs.Shown.{item_at}
 use Rattle.blot_places.specs.Slots.{is_above, items, live, live_item, live_items, numbers_fall, places_by}
 use Rattle.blot_places.proofs.AroundLemmas.{find-above, newest-below, oldest-above, parted-above, parted-below}
-use Rattle.blot_places.proofs.FirstLemmas.{first-agree, first-either, first-more, first-through, first_by}
+use Rattle.blot_places.proofs.FirstLemmas.{first-agree, first-either, first-more, first-through, first_by, none-and}
 use Rattle.blot_places.proofs.MarkLemmas.{at-all, falling-side}
 use Rattle.blot_places.proofs.ShownLemmas.{at-here, at-on, at-through, falling-parts, none-at}
 use Rattle.blot_chain.specs.declared.index.Index.{Index}
@@ -224,10 +224,6 @@ of_chain n (item ∷ earlier) k are chained fall found =
     ]
 
 -- so it stands on the stack of the versions, or on that of the Busts
-
-none-and : (b : Bool) → (b && false) ≡ false
-none-and true = refl
-none-and false = refl
 
 or-none : (b : Bool) → b ≡ (b || false)
 or-none true = refl

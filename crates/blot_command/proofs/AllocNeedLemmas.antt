@@ -46,7 +46,7 @@ any-never : {A : Type 0} (xs : List A) → list_any (λ x. false) xs ≡ false
 any-never [] = refl
 any-never (x ∷ xs) = any-never xs
 
-or-turned : (a b c d : Bool) → ((a || b) || (c || d)) ≡ ((a || c) || (b || d))
+pub or-turned : (a b c d : Bool) → ((a || b) || (c || d)) ≡ ((a || c) || (b || d))
 or-turned true b c d = refl
 or-turned false true true d = refl
 or-turned false true false d = refl
@@ -95,7 +95,7 @@ none-keyed key p (i ∷ earlier) none =
       | inr other ↦ ap (λ b. ((b && brings_allocation i.role) && p i) || list_any (λ i. is_allocation_of key i && p i) earlier) other ∙ none-keyed key p earlier (rw other at none)
     ]
 
-or-none : (b : Bool) → (b || false) ≡ b
+pub or-none : (b : Bool) → (b || false) ≡ b
 or-none true = refl
 or-none false = refl
 

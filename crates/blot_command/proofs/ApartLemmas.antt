@@ -1,9 +1,8 @@
 -- A book with and without an entry: what of it the accounts and the orders ask.
-use Rattle.std.proofs.Common.{◌≡◌, ℕ, true, List, ◌∷◌, ◌++◌, Option, Some, None}
+use Rattle.std.proofs.Common.{◌≡◌, true, List, ◌∷◌, ◌++◌, Some, None}
 use Rattle.std.specs.Prelude.{◌==◌, find, All, IfSome}
 use Rattle.std.specs.Option.{option_map}
 use Rattle.blot_types.specs.declared.command.Entry.{Entry}
-use Rattle.blot_types.specs.declared.lines.Version.{Version}
 use Rattle.blot_types.specs.declared.link.Link.{Link}
 use Rattle.blot_types.specs.Allocations.{allocation_of, live_allocations}
 use Rattle.blot_types.specs.Legal.{is_book}
@@ -11,21 +10,18 @@ use Rattle.blot_types.specs.Position.{is_named}
 use Rattle.blot_types.specs.Refusals.{alloc_reference, withdrawn_by}
 use Rattle.blot_types.specs.Standing.{chain_of, stood}
 use Rattle.blot_types.specs.Survivors.{link_of, links_of, survivors}
-use Rattle.blot_types.proofs.ApartLemmas.{link-apart as whole-link}
+use Rattle.blot_types.proofs.ApartLemmas.{link-apart as whole-link, number_of}
 use Rattle.blot_types.proofs.BetweenLemmas.{instruction-apart as whole-instruction}
 use Rattle.blot_types.proofs.BringLemmas.{BringsIf, named_beside, live_beside}
 use Rattle.blot_types.proofs.ChangeLemmas.{is_named_root}
 use Rattle.blot_types.proofs.SurvivorLemmas.{without}
 
-abbrev pub number_if : Option Version → Option ℕ
-number_if found = option_map (λ version. version.number) found
-
 pub record LinkApart (list rest : List Entry) (entry : Entry) : Type 0 where
   pub chain : chain_of list entry ≡ chain_of rest entry
-  pub survivors_are : without (number_if (stood list entry)) (survivors list) ≡ without (number_if (stood rest entry)) (survivors rest)
+  pub survivors_are : without (number_of (stood list entry)) (survivors list) ≡ without (number_of (stood rest entry)) (survivors rest)
   pub gone : IfSome (stood list entry) (λ v. find (λ w. w.number == v.number) (survivors list) ≡ Some v)
   pub come : IfSome (stood rest entry) (λ v. find (λ w. w.number == v.number) (survivors rest) ≡ Some v)
-  pub named : All (λ v. is_named list v.key ≡ is_named rest v.key) (without (number_if (stood list entry)) (survivors list))
+  pub named : All (λ v. is_named list v.key ≡ is_named rest v.key) (without (number_of (stood list entry)) (survivors list))
   pub live : live_allocations list ≡ live_allocations rest
 
 pub link-apart :

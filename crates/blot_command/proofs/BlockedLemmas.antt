@@ -28,7 +28,7 @@ use Rattle.blot_types.proofs.BustLemmas.{reverse-middle}
 use Rattle.blot_types.proofs.ChainLemmas.{accepted_key, accepted_root, clash, none_is}
 use Rattle.blot_types.proofs.CorrectLemmas.{as_entry, front-legal}
 use Rattle.blot_types.proofs.EntryLemmas.{chained-links}
-use Rattle.blot_types.proofs.LiveLemmas.{find-none}
+use Rattle.blot_types.proofs.LawLemmas.{find-none}
 use Rattle.blot_types.proofs.NeededLemmas.{needed_first, no_withdraw}
 use Rattle.blot_places.proofs.FirstLemmas.{all-reversed, none-and}
 use Rattle.blot_command.specs.Blocking.{blocked_by, blocked_correct, changes_version, first_listing, lists_at, needed_until}

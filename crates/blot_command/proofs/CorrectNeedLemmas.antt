@@ -26,25 +26,18 @@ use Rattle.blot_types.proofs.EntryLemmas.{chained-links, is_above_links-links, l
 use Rattle.blot_types.proofs.KeyLemmas.{same_exec-refl, same_exec-sym, same_exec-true}
 use Rattle.blot_types.proofs.LinkOutLemmas.{links-whole}
 use Rattle.blot_types.proofs.NeedLemmas.{member-below, not-below}
-use Rattle.blot_command.proofs.AllocNeedLemmas.{any-mapped, any-same}
+use Rattle.blot_places.proofs.FirstLemmas.{none-and}
+use Rattle.blot_command.proofs.AllocNeedLemmas.{any-mapped, any-same, or-none}
 use Rattle.blot_command.proofs.FirstEntryLemmas.{IsTest, after, first_in, instruction_after, needed-by, needed-in}
 use Rattle.blot_command.proofs.LinkNeedLemmas.{first-of_either, referring}
 
 -- ---- tests
-
-none-and : (b : Bool) → (b && false) ≡ false
-none-and true = refl
-none-and false = refl
 
 or-swap : (a b : Bool) → (a || b) ≡ (b || a)
 or-swap true true = refl
 or-swap true false = refl
 or-swap false true = refl
 or-swap false false = refl
-
-or-none : (b : Bool) → (b || false) ≡ b
-or-none true = refl
-or-none false = refl
 
 -- among those that name the chain, those that list the key, or that see a changed fill
 among-named : (listed named changed last : Bool) → listed ≡ (named && listed) → (listed || (changed && (named && last))) ≡ (named && ((changed && last) || listed))

@@ -20,6 +20,7 @@ use Rattle.blot_types.proofs.NeedLemmas.{not-below}
 use Rattle.blot_places.proofs.FirstLemmas.{first-more, first_by, is_under, none-and, one_of_two, under-or}
 use Rattle.blot_chain.specs.Steps.{number_of as link_number}
 use Rattle.blot_alloc.specs.Allocs.{number_of as instruction_number}
+use Rattle.blot_alloc.proofs.NeedLemmas.{or-none}
 
 -- the number of the first that passes
 abbrev pub first_in : (List Entry → Entry → Bool) → List Entry → Option ℕ
@@ -62,10 +63,6 @@ none-at test k front rise =
     ∙ ap (λ b. cond (b && test front k) (Some k.number) None) under
 
 -- ---- among the links, and among the instructions
-
-or-none : (found : Option ℕ) → option_or found None ≡ found
-or-none None = refl
-or-none (Some n) = refl
 
 linked-more : (entry : Entry) (found : Option Link) (test : Link → Bool) (earlier : List Link) → link_of entry ≡ found
     → option_or (first_by link_number test earlier) (cond (option_map_or test found false) (Some entry.number) None) ≡ first_by link_number test (cons_option found earlier)

@@ -2,7 +2,7 @@
 use Rattle.std.proofs.Common.{◌≡◌, ℕ, ◌+◌, ◌*◌, ◌^◌, ◌≤◌, pos, ◌+ℤ◌, ◌≤ℤ◌, arith, Bool, true, false, List, [], ◌∷◌, Option, Some, None, refl, sym, ap, subst, ◌∙◌, inl, inr}
 use Rattle.std.specs.Prelude.{ℤ, unsigned_abs, ◌&&◌, ◌||◌, not, filter, find, is_none, ◌==◌, All, IsTrue, if◌then◌else◌}
 use Rattle.std.specs.List.{cons_option, flat_map}
-use Rattle.std.specs.Option.{option_and_then}
+use Rattle.std.specs.Option.{option_and_then, option_map}
 use Rattle.std.proofs.lemmas.Bool.{cases_Bool, and_from, and_parts}
 use Rattle.std.proofs.lemmas.Int.{ints}
 use Rattle.std.proofs.lemmas.List.Elements.{All-nil, All-cons, All-head, All-tail, All-weaker}
@@ -25,8 +25,10 @@ use Rattle.blot_types.proofs.KeyLemmas.{same_exec-refl, same_exec-sym}
 use Rattle.blot_types.proofs.PartLemmas.{part_under, parts_under, total-named, NamesMore, moves-chain, chain-standing, MovesChain}
 use Rattle.blot_types.proofs.StandLemmas.{and-true, and-false}
 use Rattle.blot_types.proofs.SumLemmas.{total-cons}
+use Rattle.blot_types.proofs.AcceptLemmas.{not_true}
 use Rattle.blot_position.specs.Positions.{Cells, has_cell}
 use Rattle.blot_command.specs.Booking.{Change, put_in, taken_out, changed, changed_all, to_house, from_house, chains_to_house, chains_from_house}
+use Rattle.blot_command.specs.Shown.{standing_fill}
 use Rattle.blot_position.specs.Carried.{Carries}
 use Rattle.blot_command.specs.Carried.{HasFillCells}
 use Rattle.blot_position.proofs.CarryLemmas.{Whole, more, SameWhole, one_at, IsCount, Carries-same, Carries-put, Carries-take, Light, Light-put, Light-take, Light-same, IsLightEnough, has-room, has-part}
@@ -137,7 +139,7 @@ move_one :
     → ((f : Part → ℤ) → total f (parts_under after (links_of list) (survivors list)) ≡ (total (λ v. f (part_of_fill is v.fill)) (survivors_of_chain list root) +ℤ rest f))
     → ((version : Version) → HasFillCells cells version.fill → has_cell cells (account_of is version.fill) version.fill.symbol ≡ true)
     → Carries (beside list before others) cells → AlwaysLight list others count qty → IsCount (λ f. rest f +ℤ others f) → IsLightEnough (count + 2) (qty + 2 * 10 ^ 16)
-    → Reaches (flat_map (λ version. taken_out (part_of_fill was version.fill) ∷ put_in (part_of_fill is version.fill) ∷ []) (cons_option found [])) cells count qty (beside list after others)
+    → Reaches (flat_map (λ fill. taken_out (part_of_fill was fill) ∷ put_in (part_of_fill is fill) ∷ []) (cons_option (option_map (λ version. version.fill) found) [])) cells count qty (beside list after others)
 move_one list cells count qty root None before after others rest was is stands booked sum_was sum_is made carried light low enough =
     let chain : survivors_of_chain list root ≡ [] = chain-standing list root booked.book ∙ ap (λ o. cons_option o []) stands in
     let same : SameWhole (beside list before others) (beside list after others) =
@@ -182,10 +184,6 @@ not_among root (first ∷ roots) none =
       | inl same ↦ absurd (differing (rw same refl) none)
       | inr other ↦ All-cons (λ other. same_exec other root ≡ false) first roots other (not_among root roots (rw other at none))
     ]
-
-not_true : (b : Bool) → not b ≡ true → b ≡ false
-not_true true is = cc
-not_true false is = refl
 
 -- with some chains more, or less
 abbrev pub with_roots : List ExecKey → (ExecKey → Bool) → ExecKey → Bool
@@ -242,7 +240,7 @@ reach-house list (root ∷ roots) cells count qty named others booked free apart
     let first =
     move_one list cells count qty root (standing list root) named after others (λ f. (chain f).rest) false true refl booked (λ f. (chain f).was) (λ f. (chain f).is)
     (λ version made. made.housed) carried light (rest_low list root named after names others some) enough in
-    let moved = flat_map to_house (cons_option (standing list root) []) in
+    let moved = flat_map to_house (cons_option (standing_fill list root) []) in
     let cells_after = changed_all moved cells in
     let free_rest : All (λ r. after r ≡ false) roots =
     all_free root named roots (All-tail (λ r. named r ≡ false) root roots free) (not_among root roots (not_true _ parts.0)) in
@@ -274,7 +272,7 @@ reach-home list (root ∷ roots) cells count qty named others booked held apart 
     let first =
     move_one list cells count qty root (standing list root) named after others (λ f. (chain f).rest) true false refl booked (λ f. (chain f).is) (λ f. (chain f).was)
     (λ version made. made.own) carried light (rest_low list root after named names others some) enough in
-    let moved = flat_map from_house (cons_option (standing list root) []) in
+    let moved = flat_map from_house (cons_option (standing_fill list root) []) in
     let cells_after = changed_all moved cells in
     let held_rest : All (λ r. after r ≡ true) roots =
     all_held root named roots (All-tail (λ r. named r ≡ true) root roots held) (not_among root roots (not_true _ parts.0)) in

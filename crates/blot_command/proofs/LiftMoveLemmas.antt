@@ -30,7 +30,8 @@ use Rattle.blot_command.specs.Booking.{rebooked, allocated, released}
 use Rattle.blot_command.specs.Carried.{IsReady, ShowsPositions}
 use Rattle.blot_command.specs.Withdrawing.{lifted, returned, CanReturn}
 use Rattle.blot_command.proofs.AccountLemmas.{Reads, goes-as, comes-as, LeadsTo}
-use Rattle.blot_command.proofs.ApartLemmas.{number_if, LinkApart}
+use Rattle.blot_types.proofs.ApartLemmas.{number_of}
+use Rattle.blot_command.proofs.ApartLemmas.{LinkApart}
 use Rattle.blot_command.proofs.EntryMoveLemmas.{own_key, Exchanges, rest_low, LinkChanges, InstructionChanges, AreApart, link-changes}
 use Rattle.blot_command.proofs.LiftLemmas.{IsWithout, taken-out, put-in, link-without, instruction-without, chainless, same-chain, EachShown, each-lifted, each-returned}
 use Rattle.blot_command.proofs.LiveLemmas.{rise-of_book}
@@ -70,7 +71,7 @@ total-found g from (first ∷ later) version rise found =
 
 total-apart :
     (g : Version → ℤ) (versions : List Version) (found : Option Version) → rise_from 0 versions ≡ true → IfSome found (IsAmong versions)
-    → total g versions ≡ (total g (cons_option found []) +ℤ total g (without (number_if found) versions))
+    → total g versions ≡ (total g (cons_option found []) +ℤ total g (without (number_of found) versions))
 total-apart g versions None rise found = let is = ap (total g) (without-none versions) in omega (arith, ints, is)
 total-apart g versions (Some version) rise found =
     let is = total-found g 0 versions version rise found in
@@ -85,7 +86,7 @@ sums f list = total-parts f list ∙ ap (λ sum. sum +ℤ lines_of f (live_alloc
 -- the parts of a list: that of one that stands, and the others
 parts-apart :
     (f : Part → ℤ) (list : List Entry) (found : Option Version) → is_book list ≡ true → IfSome found (IsAmong (survivors list))
-    → whole_of list f ≡ (total (amount f list) (cons_option found []) +ℤ (total (amount f list) (without (number_if found) (survivors list)) +ℤ lines_of f (live_allocations list)))
+    → whole_of list f ≡ (total (amount f list) (cons_option found []) +ℤ (total (amount f list) (without (number_of found) (survivors list)) +ℤ lines_of f (live_allocations list)))
 parts-apart f list found book among =
     let whole = sums f list in
     let apart = total-apart (amount f list) (survivors list) found (survivors-rise list (rise-of_book list book)) among in
@@ -101,8 +102,8 @@ stands-among list (Some version) among =
 middle-exchanges :
     (list rest : List Entry) (entry : Entry) → IsWithout list rest entry → LinkApart list rest entry → AllBooked (live_allocations rest) → Exchanges list rest (stood list entry) (stood rest entry)
 middle-exchanges list rest entry it apart booked =
-    let others = without (number_if (stood rest entry)) (survivors rest) in
-    let left = without (number_if (stood list entry)) (survivors list) in
+    let others = without (number_of (stood rest entry)) (survivors rest) in
+    let left = without (number_of (stood list entry)) (survivors list) in
     let stayed : (f : Part → ℤ) → total (amount f list) left ≡ total (amount f rest) others =
     λ f.
     total-agree (amount f list) (amount f rest) left

@@ -29,6 +29,8 @@ use Rattle.blot_types.proofs.KeyLemmas.{same_exec-refl, same_exec-sym, same_exec
 use Rattle.blot_types.proofs.LinkOutLemmas.{links-whole}
 use Rattle.blot_types.proofs.NeedLemmas.{member-below}
 use Rattle.blot_types.proofs.VersionLemmas.{as_entry, as_link, trade-needs}
+use Rattle.blot_types.proofs.AcceptLemmas.{or-false}
+use Rattle.blot_alloc.proofs.NeedLemmas.{and-either}
 use Rattle.blot_command.proofs.AllocNeedLemmas.{any-mapped, any-same}
 use Rattle.blot_command.proofs.FirstEntryLemmas.{IsTest, after, first_in, in-either, instruction_after, instructions-above, links-above, needed-by, needed-in}
 
@@ -56,10 +58,6 @@ numbered-link k front l (entry ∷ later) is rise =
 
 -- ---- the first link or allocation
 
-and-either : (after a b : Bool) → (after && (a || b)) ≡ ((after && a) || (after && b))
-and-either true a b = refl
-and-either false a b = refl
-
 abbrev pub referring : ExecKey → Entry → Bool
 referring key entry = option_map_or (λ link. refers_to key link.role) (link_of entry) false
 
@@ -81,10 +79,6 @@ none-both : (found : Option ℕ) (b : Bool) (n : ℕ) → option_or found (cond 
 none-both (Some m) b n none = cc
 none-both None true n none = cc
 none-both None false n none = (refl, refl)
-
-or-false : (a b : Bool) → (a || b) ≡ false → (a ≡ false) × (b ≡ false)
-or-false true b none = cc
-or-false false b none = (refl, none)
 
 -- no entry of these refers to the key
 abbrev NoneRefer : ExecKey → List Entry → List Entry → Type 0

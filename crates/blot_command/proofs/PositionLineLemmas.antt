@@ -24,7 +24,7 @@ ones : (parts : List Part) → total (λ part. pos 1) parts ≡ pos (length part
 ones [] = refl
 ones (part ∷ parts) = let sum = total-cons (λ (p : Part). pos 1) part parts in let rest = ones parts in omega (arith, ints, sum, rest)
 
-line-of : (parts : List Part) (sums : Sums) → pos sums.parts ≡ pos (length parts) → sums.qty ≡ total (λ p. p.qty) parts → sums.value ≡ total (λ p. p.value) parts → line_by sums ≡ position_by parts
+pub line-of : (parts : List Part) (sums : Sums) → pos sums.parts ≡ pos (length parts) → sums.qty ≡ total (λ p. p.qty) parts → sums.value ≡ total (λ p. p.value) parts → line_by sums ≡ position_by parts
 line-of [] sums count qty value = let none : sums.parts ≡ 0 = omega (arith, ints, count) in rw (eq-eqb sums.parts 0 none) refl
 line-of (part ∷ parts) sums count qty value =
     let some : (sums.parts == 0) ≡ false = ne_eqb sums.parts 0 (λ none. omega (arith, ints, count, none)) in

@@ -22,6 +22,7 @@ use Rattle.blot_types.proofs.BookedLemmas.{books_blocks}
 use Rattle.blot_types.proofs.BringLemmas.{live_beside}
 use Rattle.blot_types.proofs.ChangeLemmas.{is_named_root, allocations_in, total-parts}
 use Rattle.blot_types.proofs.LegalLemmas.{length_numbered}
+use Rattle.blot_types.proofs.SurvivorLemmas.{length-option}
 use Rattle.blot_position.specs.Positions.{Cells, has_cell}
 use Rattle.blot_command.specs.Booking.{Change, put_in, taken_out, changed_all, CanChangeAll, rebooked}
 use Rattle.blot_position.specs.Carried.{Carries}
@@ -45,17 +46,13 @@ length-filtered p (x ∷ xs) =
       | inr fails ↦ rw fails (omega (arith, rest))
     ]
 
-one_longer : {X : Type 0} (o : Option X) (xs : List X) (n : ℕ) → length xs ≤ n → length (cons_option o xs) ≤ n + 1
-one_longer None xs n short = omega (arith, short)
-one_longer (Some x) xs n short = omega (arith, short)
-
 length-brought : {X Y : Type 0} (f : X → Option Y) (xs : List X) → length (filter_map f xs) ≤ length xs
 length-brought f [] = omega arith
-length-brought f (x ∷ xs) = let more = one_longer (f x) (filter_map f xs) (length xs) (length-brought f xs) in omega (arith, more)
+length-brought f (x ∷ xs) = let more = length-option (f x) (filter_map f xs) (length xs) (length-brought f xs) in omega (arith, more)
 
 -- ---- how few entries, fills and allocations a book has
 
-length-book : (list : List Entry) → is_book list ≡ true → length list ≤ EVENTS_MAX + 1
+pub length-book : (list : List Entry) → is_book list ≡ true → length list ≤ EVENTS_MAX + 1
 length-book list book = length_numbered list (and_parts _ _ book).0
 
 pub few-survivors : (list : List Entry) → is_book list ≡ true → length (survivors list) ≤ EVENTS_MAX + 1

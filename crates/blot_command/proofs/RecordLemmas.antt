@@ -22,7 +22,7 @@ use Rattle.blot_order.specs.Fills.{Fills, put_at}
 use Rattle.blot_command.specs.Book.{Shown}
 use Rattle.blot_command.specs.Shown.{version_numbered, version_replaced, Shows, with_kept, CanPut}
 use Rattle.blot_command.specs.Withdrawing.{with_entry}
-use Rattle.blot_command.proofs.ApartLemmas.{number_if}
+use Rattle.blot_types.proofs.ApartLemmas.{number_of}
 use Rattle.blot_command.proofs.EachLemmas.{all-front, all-brought}
 use Rattle.blot_command.proofs.LiveLemmas.{IsNextEntry, next-entry}
 use Rattle.blot_command.proofs.ShowLemmas.{Puts, IsUnused, IsAmong, IsHeld, puts_kept, Trades, trades-back, IsTraded, traded}
@@ -92,7 +92,7 @@ unused-without n replaced (version ∷ versions) free =
 -- versions under other numbers, with the one that is brought: it is there, and taken away again it leaves the others
 back_again :
     (versions : List Version) (n : ℕ) (brought : Option Version) → IsUnused n versions → IfSome brought (λ v. v.number ≡ n)
-    → without (number_if brought) (versions ++ cons_option brought []) ≡ versions
+    → without (number_of brought) (versions ++ cons_option brought []) ≡ versions
 back_again versions n None free numbered = without-none (versions ++ []) ∙ append-nil versions
 back_again versions n (Some version) free numbered = without-last version versions (subst (λ k. IsUnused k versions) (sym numbered) free)
 
@@ -108,7 +108,7 @@ last_among versions n (Some version) free numbered =
 
 -- a survivor, whose number is that of the definition
 record Replaces (list : List Entry) (link : Option Link) (replaced : Option Version) : Type 0 where
-  number_is : replaced_by (links_of list) link ≡ number_if replaced
+  number_is : replaced_by (links_of list) link ≡ number_of replaced
   survives : IfSome replaced (IsAmong (survivors list))
 
 replace :
@@ -139,13 +139,13 @@ next-trades :
     → Trades (list ++ entry ∷ []) list brought replaced
 next-trades list entry brought replaced next brings_it read =
     let replaces_it = replaces list entry replaced next read in
-    let left = without (number_if replaced) (survivors list) in
-    let free = unused-without entry.number (number_if replaced) (survivors list) (unused list entry next) in
+    let left = without (number_of replaced) (survivors list) in
+    let free = unused-without entry.number (number_of replaced) (survivors list) (unused list entry next) in
     let after : survivors (list ++ entry ∷ []) ≡ left ++ cons_option brought [] =
     survivors-push list entry next.rise next.above next.accepted ∙ ap (λ n. without n (survivors list) ++ versions_of (entry ∷ [])) replaces_it.number_is
     ∙ ap (λ o. left ++ cons_option o []) brings_it.is in
     record {
-      same = ap (without (number_if brought)) after ∙ back_again left entry.number brought free brings_it.numbered;
+      same = ap (without (number_of brought)) after ∙ back_again left entry.number brought free brings_it.numbered;
       stood = subst (λ versions. IfSome brought (IsAmong versions)) (sym after) (last_among left entry.number brought free brings_it.numbered);
       stands = replaces_it.survives;
     }
@@ -153,7 +153,7 @@ next-trades list entry brought replaced next brings_it read =
 -- ---- one entry more
 
 -- its fill is kept first, under a number that no version has: the book shows what it showed
-without-brought : (versions : List Version) (n : ℕ) (brought : Option Version) → IsUnused n versions → IfSome brought (λ v. v.number ≡ n) → without (number_if brought) versions ≡ versions
+without-brought : (versions : List Version) (n : ℕ) (brought : Option Version) → IsUnused n versions → IfSome brought (λ v. v.number ≡ n) → without (number_of brought) versions ≡ versions
 without-brought versions n None free numbered = without-none versions
 without-brought versions n (Some version) free numbered = without-unused version.number versions (subst (λ k. IsUnused k versions) (sym numbered) free)
 

@@ -22,11 +22,11 @@ use Rattle.blot_types.specs.Instructions.{alloc_taker_in}
 use Rattle.blot_types.proofs.AcceptLemmas.{or_parts}
 use Rattle.blot_types.specs.Order.{cum_of}
 use Rattle.blot_types.specs.Refusals.{version_in, current_fill, mismatch, same_chain}
-use Rattle.blot_types.specs.Survivors.{links_of}
+use Rattle.blot_types.specs.Survivors.{links_of, versions_of}
 use Rattle.blot_types.proofs.SumLemmas.{total-append}
 use Rattle.blot_types.proofs.SurvivorLemmas.{version_in-rising}
 use Rattle.blot_command.specs.Refusing.{terms_refusal, reference_refusal}
-use Rattle.blot_command.specs.Shown.{current_version, version_numbered}
+use Rattle.blot_command.specs.Shown.{fill_numbered, version_numbered}
 
 pub same_version : (entries : List Entry) (number : ℕ) → numbers_rise entries ≡ true → version_in (reverse entries) number ≡ version_numbered entries number
 same_version entries number rise = version_in-rising (reverse entries) number rise ∙ ap (λ l. version_numbered l number) (reverse-reverse entries)
@@ -35,9 +35,17 @@ same_found : (entries : List Entry) (number : Option ℕ) → numbers_rise entri
 same_found entries None rise = refl
 same_found entries (Some n) rise = same_version entries n rise
 
-pub fill_found : (entries : List Entry) (key : ExecKey) → numbers_rise entries ≡ true → current_fill (reverse entries) key ≡ option_map (λ version. version.fill) (current_version entries key)
-fill_found entries key rise =
-    ap (option_map (λ (version : Version). version.fill)) (same_found entries (option_and_then (current_in (links_of entries)) (root_in (links_of entries) key)) rise)
+fill_by : (entries : List Entry) (number : Option ℕ) → option_and_then (λ n. fill_numbered n (versions_of entries)) number ≡ option_map (λ version. version.fill) (option_and_then (version_numbered entries) number)
+fill_by entries None = refl
+fill_by entries (Some n) = refl
+
+pub fill_found :
+    (links : List Link) (entries : List Entry) (key : ExecKey) (number : Option ℕ) → number ≡ option_and_then (current_in links) (root_in links key) → links ≡ links_of entries → numbers_rise entries ≡ true
+    → option_and_then (λ n. fill_numbered n (versions_of entries)) number ≡ current_fill (reverse entries) key
+fill_found links entries key number found are rise =
+    fill_by entries number
+    ∙ ap (λ n. option_map (λ (version : Version). version.fill) (option_and_then (version_numbered entries) n)) (found ∙ ap (λ all. option_and_then (current_in all) (root_in all key)) are)
+    ∙ ap (option_map (λ (version : Version). version.fill)) (sym (same_found entries (option_and_then (current_in (links_of entries)) (root_in (links_of entries) key)) rise))
 
 -- the sum of listed fills with one key more
 sum_one : (sum : ℤ) (fills : List Fill) (found : Option Fill) → sum ≡ cum_of fills → cum_of (fills ++ cons_option found []) ≡ (sum +ℤ cum_of (cons_option found []))

@@ -2,7 +2,7 @@
 use Rattle.std.proofs.Common.{◌≡◌, ◌≢◌, ℕ, zero, suc, ◌-◌, ◌<◌, ◌==◌, true, List, [], ◌∷◌, length, reverse, get_or, Option, Some, None, refl, sym, ap, subst, ◌∙◌, arith, inl, inr}
 use Rattle.std.specs.Prelude.{find}
 use Rattle.std.specs.List.{cons_option}
-use Rattle.std.specs.Option.{option_and_then, option_or}
+use Rattle.std.specs.Option.{option_and_then, option_map, option_or}
 use Rattle.std.proofs.lemmas.Bool.{cases_Bool, and_parts, ltb-true, eq-eqb, eqb-true, eqb-false, ne_eqb}
 use Rattle.std.proofs.lemmas.List.{length-reverse, get_or-reverse, reverse-reverse}
 use Rattle.std.proofs.lemmas.List.Elements.{filter_map-append}
@@ -13,7 +13,7 @@ use Rattle.blot_types.specs.Legal.{is_above_entries, rises_in, numbers_rise}
 use Rattle.blot_types.specs.Survivors.{version_of, versions_of}
 use Rattle.blot_types.proofs.EntryLemmas.{version-number}
 use Rattle.blot_command.specs.Book.{has_number}
-use Rattle.blot_command.specs.Shown.{version_numbered}
+use Rattle.blot_command.specs.Shown.{fill_numbered, version_numbered}
 
 -- ---- the numbers rise, place by place
 
@@ -90,3 +90,6 @@ version-by_number n (entry ∷ later) rises =
       | inr other ↦
           rw other (rest ∙ sym (split entry later n ∙ rw (other-version entry (version_of entry) n refl (eqb-false entry.number n other)) refl))
     ]
+
+pub fill-by_number : (n : ℕ) (entries : List Entry) → Rise entries → option_map (λ version. version.fill) (option_and_then version_of (find (has_number n) entries)) ≡ fill_numbered n (versions_of entries)
+fill-by_number n entries rises = ap (option_map (λ (version : Version). version.fill)) (version-by_number n entries rises)

@@ -16,7 +16,7 @@ use Rattle.blot_order.specs.Fills.{Fills, put_at, held_at}
 use Rattle.blot_order.proofs.FillLemmas.{put_at-empty, put_at-with_put, put_at-with_kept, held_at-with_put, held_at-with_kept, held_at-put, held_at-kept, kept_at-held}
 use Rattle.blot_command.specs.Book.{Shown}
 use Rattle.blot_command.specs.Shown.{Shows, HoldsFills, fill_numbered, with_put, with_kept, IsPut, IsKept}
-use Rattle.blot_command.proofs.ApartLemmas.{number_if}
+use Rattle.blot_types.proofs.ApartLemmas.{number_of}
 
 cond-same : (test : Bool) → fill_numbered 0 [] ≡ (if test then None else None)
 cond-same true = refl
@@ -114,12 +114,12 @@ kept-from_held fills version unput held = kept_at-held fills version.number vers
 
 -- ---- one version goes, and another comes
 
-pub puts_kept : (fills : Fills) (kept : Option Version) (versions : List Version) → Puts fills versions → Puts (with_kept kept fills) (without (number_if kept) versions)
+pub puts_kept : (fills : Fills) (kept : Option Version) (versions : List Version) → Puts fills versions → Puts (with_kept kept fills) (without (number_of kept) versions)
 puts_kept fills None versions puts = subst (Puts fills) (sym (without-none versions)) puts
 puts_kept fills (Some w) versions puts = Puts-kept fills versions w puts
 
 puts_again :
-    (fills : Fills) (again : Option Version) (versions : List Version) → IfSome again (IsAmong versions) → Puts fills (without (number_if again) versions) → Puts (with_put again fills) versions
+    (fills : Fills) (again : Option Version) (versions : List Version) → IfSome again (IsAmong versions) → Puts fills (without (number_of again) versions) → Puts (with_put again fills) versions
 puts_again fills None versions among puts = subst (Puts fills) (without-none versions) puts
 puts_again fills (Some w) versions among puts = Puts-again fills versions w puts among
 
@@ -130,7 +130,7 @@ put_among fills versions (Some w) puts among = puts w.number ∙ ap (option_map 
 
 -- that of one that is out is kept
 kept_beside :
-    (fills : Fills) (versions : List Version) (found : Option Version) → Puts fills (without (number_if found) versions) → IfSome found (IsAmong versions) → All (IsHeld fills) versions
+    (fills : Fills) (versions : List Version) (found : Option Version) → Puts fills (without (number_of found) versions) → IfSome found (IsAmong versions) → All (IsHeld fills) versions
     → IfSome found (λ version. IsKept version fills)
 kept_beside fills versions None puts among held = tt
 kept_beside fills versions (Some w) puts among held =
@@ -148,7 +148,7 @@ held_again fills (Some w) versions kept held = All-weaker (IsHeld fills) (IsHeld
 
 -- the same versions stand of two lists, but for one that goes and one that comes
 pub record Trades (list rest : List Entry) (gone come : Option Version) : Type 0 where
-  pub same : without (number_if gone) (survivors list) ≡ without (number_if come) (survivors rest)
+  pub same : without (number_of gone) (survivors list) ≡ without (number_of come) (survivors rest)
   pub stood : IfSome gone (IsAmong (survivors list))
   pub stands : IfSome come (IsAmong (survivors rest))
 
@@ -168,7 +168,7 @@ traded list shown lost gained fills trades book puts held held_kept_ones =
     let versions = survivors shown.list in
     let between = with_kept lost fills in
     let taken = put_among fills (survivors list) lost puts trades.stood in
-    let left : Puts between (without (number_if gained) versions) = subst (Puts between) trades.same (puts_kept fills lost (survivors list) puts) in
+    let left : Puts between (without (number_of gained) versions) = subst (Puts between) trades.same (puts_kept fills lost (survivors list) puts) in
     let there = held_kept fills lost (versions_of shown.list) taken held in
     let un_taken = kept_beside between versions gained left trades.stands (All-filter (stands_in (links_of shown.list)) (IsHeld between) (versions_of shown.list) there) in
     record {

@@ -35,6 +35,7 @@ use Rattle.blot_command.specs.Undoable.{AllBelow, IsStep, Adds, UndoesStep, Undo
 use Rattle.blot_command.specs.Withdrawing.{with_entry, lifted, returned, takes_exec, shares_exec, CanReturn, Keeps}
 use Rattle.blot_command.proofs.WithinLemmas.{mapped, within_turned}
 use Rattle.blot_command.proofs.KeepsLemmas.{Carries, carries_numbers, carries_push, carries_pop, carries_out, carries_in, within-out, within-in, keeps_earlier, listed_in, entries_within, numbers_within, number_within, numbers_from, Parted, parted, own_within}
+use Rattle.blot_command.proofs.NewestThereLemmas.{Untaken}
 
 -- ---- a command that is an entry
 
@@ -174,9 +175,6 @@ alone list rest entry book it =
 -- an entry's execution is free above the entry, among entries that came up to a number
 abbrev IsFree : Entry → ℕ → Entry → Type 0
 IsFree entry number other = shares_exec entry other ≡ true → (other.number ≤ entry.number) ⊎ (number < other.number)
-
-abbrev Untaken : Entry → List Entry → Type 0
-Untaken entry entries = list_all (λ other. not (nat_lt entry.number other.number && shares_exec entry other)) entries ≡ true
 
 free-alone : (entry : Entry) (number : ℕ) (entries : List Entry) → All (IsAlone entry) entries → All (IsFree entry number) entries
 free-alone entry number entries each = All-weaker (IsAlone entry) (IsFree entry number) (λ other alone shares. absurd (differ (sym shares ∙ alone))) entries each

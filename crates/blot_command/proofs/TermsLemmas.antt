@@ -20,7 +20,8 @@ use Rattle.blot_types.proofs.AcceptLemmas.{accepted-instruction}
 use Rattle.blot_types.proofs.ChainLemmas.{none_is}
 use Rattle.blot_types.proofs.ChangeLemmas.{allocations_in}
 use Rattle.blot_types.proofs.KeyLemmas.{same_alloc-true, same_alloc-sym}
-use Rattle.blot_types.proofs.LiveLemmas.{IsOfInstruction, of_instruction, turned, has_alloc_key, none_keyed, all_taken, find-none}
+use Rattle.blot_types.proofs.LawLemmas.{find-none}
+use Rattle.blot_types.proofs.LiveLemmas.{IsOfInstruction, of_instruction, turned, has_alloc_key, none_keyed, all_taken, or-nothing}
 use Rattle.blot_command.specs.Book.{has_number}
 use Rattle.blot_command.specs.Shown.{terms_of_key, terms_keyed}
 use Rattle.blot_command.proofs.LiveLemmas.{above-instructions, instruction-number}
@@ -39,15 +40,11 @@ taker-below (i ∷ earlier) key n m above is =
       | inr other ↦ taker-below earlier key n m parts.1 (rw other at is)
     ]
 
-or-none : {A : Type 0} (o : Option A) → option_or o None ≡ o
-or-none None = refl
-or-none (Some a) = refl
-
 -- an entry of another number doesn't change what is found
 terms-other : (list : List Entry) (entry : Entry) (key : AllocKey) (n : ℕ) → n < entry.number → terms_at (list ++ entry ∷ []) key n ≡ terms_at list key n
 terms-other list entry key n less =
     let none : find (has_number n) (entry ∷ []) ≡ None = rw (ne_eqb entry.number n (λ same. absurd (omega (arith, less, same)))) refl in
-    ap (option_and_then (λ e. terms_of_key key e.command)) (find-append (has_number n) list (entry ∷ []) ∙ ap (option_or (find (has_number n) list)) none ∙ or-none (find (has_number n) list))
+    ap (option_and_then (λ e. terms_of_key key e.command)) (find-append (has_number n) list (entry ∷ []) ∙ ap (option_or (find (has_number n) list)) none ∙ or-nothing (find (has_number n) list))
 
 taken-other : (list : List Entry) (entry : Entry) (key : AllocKey) (taken : Option ℕ) → ((n : ℕ) → taken ≡ Some n → n < entry.number)
     → option_and_then (terms_at (list ++ entry ∷ []) key) taken ≡ option_and_then (terms_at list key) taken
@@ -106,7 +103,7 @@ step :
     → option_or (terms_keyed (reverse earlier) key) (option_map (λ a. a.terms) (find (has_alloc_key key) (cons_option (allocation_of entry.command) [])))
     ≡ option_and_then (terms_at (reverse earlier ++ entry ∷ []) key) (alloc_taker_in (cons_option found (instructions_in earlier)) key)
 step entry earlier key None by is fresh above before unused =
-    ap (option_or (terms_keyed (reverse earlier) key)) (other-terms key None (allocation_of entry.command) is (λ i some. cc)) ∙ or-none (terms_keyed (reverse earlier) key) ∙ before
+    ap (option_or (terms_keyed (reverse earlier) key)) (other-terms key None (allocation_of entry.command) is (λ i some. cc)) ∙ or-nothing (terms_keyed (reverse earlier) key) ∙ before
     ∙ sym (taken-other (reverse earlier) entry key (alloc_taker_in (instructions_in earlier) key) (λ n taken. taker-below (instructions_in earlier) key n entry.number (above-instructions entry.number earlier above) taken))
 step entry earlier key (Some i) by is fresh above before unused =
     let brought = allocation_of entry.command in
@@ -124,7 +121,7 @@ step entry earlier key (Some i) by is fresh above before unused =
           ∙ sym (ap (λ test. option_and_then (terms_at (reverse earlier ++ entry ∷ []) key) (option_map (λ j. j.number) (if test then Some i else find (is_keyed key) (instructions_in earlier)))) here
           ∙ ap (option_and_then (λ e. terms_of_key key e.command)) found)
       | inr other ↦
-          ap (option_or (terms_keyed (reverse earlier) key)) (other-terms key (Some i) brought is (λ j some. ap (λ (o : Option Instruction). keyed key o) (sym some) ∙ other)) ∙ or-none (terms_keyed (reverse earlier) key) ∙ before
+          ap (option_or (terms_keyed (reverse earlier) key)) (other-terms key (Some i) brought is (λ j some. ap (λ (o : Option Instruction). keyed key o) (sym some) ∙ other)) ∙ or-nothing (terms_keyed (reverse earlier) key) ∙ before
           ∙ sym (ap (λ test. option_and_then (terms_at (reverse earlier ++ entry ∷ []) key) (option_map (λ j. j.number) (if test then Some i else find (is_keyed key) (instructions_in earlier)))) other
           ∙ taken-other (reverse earlier) entry key (alloc_taker_in (instructions_in earlier) key) (λ n taken. taker-below (instructions_in earlier) key n entry.number (above-instructions entry.number earlier above) taken))
     ]

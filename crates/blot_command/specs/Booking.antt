@@ -5,15 +5,14 @@ use Rattle.std.specs.List.{cons_option, flat_map}
 use Rattle.blot_types.specs.declared.allocation.Line.{Line}
 use Rattle.blot_types.specs.declared.allocation.Terms.{Terms}
 use Rattle.blot_types.specs.declared.command.Entry.{Entry}
+use Rattle.blot_types.specs.declared.fill.Fill.{Fill}
 use Rattle.blot_types.specs.declared.keys.AllocKey.{AllocKey}
 use Rattle.blot_types.specs.declared.keys.ExecKey.{ExecKey}
 use Rattle.blot_types.specs.declared.part.Part.{Part}
-use Rattle.blot_types.specs.declared.lines.Version.{Version}
 use Rattle.blot_types.specs.Position.{part_of_fill, part_of_line, from_house as leaving_house, moves_of_line}
-use Rattle.blot_types.specs.Standing.{standing}
 use Rattle.blot_position.specs.Positions.{Cells, sums_at, has_cell, with_part, without_part}
 use Rattle.blot_position.specs.Sums.{HasRoom, HasPart}
-use Rattle.blot_command.specs.Shown.{terms_keyed, roots_keyed}
+use Rattle.blot_command.specs.Shown.{standing_fill, terms_keyed, roots_keyed}
 
 -- a part is put, or taken
 pub record Change : Type 0 where
@@ -65,19 +64,19 @@ lines_put terms lines = map put_in (flat_map (moved_in terms) lines)
 abbrev pub lines_taken : Terms → List Line → List Change
 lines_taken terms lines = map taken_out (flat_map (moves_of_line terms) lines)
 
--- a version's fill leaves its own account for the house account, and comes back
-abbrev pub to_house : Version → List Change
-to_house version = taken_out (part_of_fill false version.fill) ∷ put_in (part_of_fill true version.fill) ∷ []
+-- a fill leaves its own account for the house account, and comes back
+abbrev pub to_house : Fill → List Change
+to_house fill = taken_out (part_of_fill false fill) ∷ put_in (part_of_fill true fill) ∷ []
 
-abbrev pub from_house : Version → List Change
-from_house version = taken_out (part_of_fill true version.fill) ∷ put_in (part_of_fill false version.fill) ∷ []
+abbrev pub from_house : Fill → List Change
+from_house fill = taken_out (part_of_fill true fill) ∷ put_in (part_of_fill false fill) ∷ []
 
--- so do the versions that stand of some chains
+-- so do the fills of the versions that stand of some chains
 abbrev pub chains_to_house : List Entry → List ExecKey → List Change
-chains_to_house list roots = flat_map (λ root. flat_map to_house (cons_option (standing list root) [])) roots
+chains_to_house list roots = flat_map (λ root. flat_map to_house (cons_option (standing_fill list root) [])) roots
 
 abbrev pub chains_from_house : List Entry → List ExecKey → List Change
-chains_from_house list roots = flat_map (λ root. flat_map from_house (cons_option (standing list root) [])) roots
+chains_from_house list roots = flat_map (λ root. flat_map from_house (cons_option (standing_fill list root) [])) roots
 
 -- the part that goes, if one does, and then the one that comes
 abbrev pub rebooked : Option Part → Option Part → List Change

@@ -15,7 +15,7 @@ use Rattle.blot_types.specs.Chains.{current_in, replaced_by, root_in}
 use Rattle.blot_types.specs.Instructions.{is_keyed}
 use Rattle.blot_types.specs.Keys.{same_alloc}
 use Rattle.blot_types.specs.Legal.{is_book}
-use Rattle.blot_types.specs.Standing.{chain_of}
+use Rattle.blot_types.specs.Standing.{chain_of, standing}
 use Rattle.blot_types.specs.Survivors.{link_of, links_of, versions_of, survivors}
 use Rattle.blot_types.specs.declared.TheConstants.{EVENTS_MAX}
 use Rattle.blot_command.specs.Book.{Shown, has_number}
@@ -44,6 +44,10 @@ chain_numbered list number = option_and_then (chain_of list) (find (has_number n
 -- the fill of the version of a number
 abbrev pub fill_numbered : ℕ → List Version → Option Fill
 fill_numbered number versions = option_map (λ version. version.fill) (find (λ version. version.number == number) versions)
+
+-- the fill of the version that stands of the chain of a root
+abbrev pub standing_fill : List Entry → ExecKey → Option Fill
+standing_fill list root = option_map (λ version. version.fill) (standing list root)
 
 -- the terms of a command, where it brings the allocation of a key
 abbrev pub terms_of_key : AllocKey → Command → Option Terms

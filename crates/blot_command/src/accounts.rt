@@ -250,9 +250,9 @@ fn put_to_house(positions: &mut Positions, live: &LiveList, roots: &[ExecKey])
     ensures { positions.new ≡ changed_all (chains_to_house live.now.list roots.now) positions.old }
 {
     for root in roots {
-        if let Some(version) = live.standing(root) {
-            take_part(positions, &Part::of_fill(false, &version.fill));
-            put_part(positions, &Part::of_fill(true, &version.fill));
+        if let Some(fill) = live.standing_fill(root) {
+            take_part(positions, &Part::of_fill(false, fill));
+            put_part(positions, &Part::of_fill(true, fill));
         }
     }
 }
@@ -263,9 +263,9 @@ fn take_from_house(positions: &mut Positions, live: &LiveList, roots: &[ExecKey]
     ensures { positions.new ≡ changed_all (chains_from_house live.now.list roots.now) positions.old }
 {
     for root in roots {
-        if let Some(version) = live.standing(root) {
-            take_part(positions, &Part::of_fill(true, &version.fill));
-            put_part(positions, &Part::of_fill(false, &version.fill));
+        if let Some(fill) = live.standing_fill(root) {
+            take_part(positions, &Part::of_fill(true, fill));
+            put_part(positions, &Part::of_fill(false, fill));
         }
     }
 }

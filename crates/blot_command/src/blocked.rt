@@ -7,7 +7,7 @@ ghost use Rattle.blot_command.specs.Book.{has_number};
 ghost use Rattle.blot_command.specs.Refusing.{HoldsBoth};
 ghost use Rattle.blot_command.specs.Slots.{AreNumbered, entries_in};
 
-use crate::slots::{EntrySlot, entry_numbered, version_numbered};
+use crate::slots::{EntrySlot, entry_numbered, fill_numbered};
 use blot_alloc::Allocs;
 use blot_chain::Chains;
 use blot_types::{Command, Correct, EVENTS_MAX, ExecKey, Fill, lesser};
@@ -103,9 +103,9 @@ fn changes_version(
 {
     match chains.version_before(root, number) {
         None => false,
-        Some(before) => match version_numbered(slots, before) {
+        Some(before) => match fill_numbered(slots, before) {
             None => false,
-            Some(version) => !fill.is_alike(&version.fill),
+            Some(old) => !fill.is_alike(old),
         },
     }
 }

@@ -9,7 +9,7 @@ ghost use Rattle.blot_types.specs.Position.{is_named};
 ghost use Rattle.blot_types.specs.Standing.{chain_by, standing};
 ghost use Rattle.blot_types.specs.Survivors.{links_of};
 ghost use Rattle.blot_command.specs.Book.{has_number};
-ghost use Rattle.blot_command.specs.Shown.{version_replaced, terms_of_key, terms_keyed, roots_keyed};
+ghost use Rattle.blot_command.specs.Shown.{standing_fill, version_replaced, terms_of_key, terms_keyed, roots_keyed};
 ghost use Rattle.blot_command.specs.Questions.{allocation_of, execution_of};
 ghost use Rattle.blot_command.specs.Slots.{entries_in};
 ghost use Rattle.blot_command.specs.Standings.{standings_of, told_of};
@@ -19,12 +19,14 @@ use crate::blocked::blocked;
 use crate::linking::{lift_entry, link_entry, un_lift_entry, unlink_entry};
 use crate::questions::{allocation, chain_by, copy_entry, execution};
 use crate::refusal::{current_version, refusal};
-use crate::slots::{EntrySlot, entry_numbered, newest_number, put_in, take_out, version_numbered};
+use crate::slots::{
+    EntrySlot, entry_numbered, fill_numbered, newest_number, put_in, take_out, version_numbered,
+};
 use crate::standing::standings_in;
 use crate::{AllocationAnswer, BoxedEntry, ExecutionAnswer, Standing, Told};
 use blot_alloc::Allocs;
 use blot_chain::Chains;
-use blot_types::{AllocKey, Command, Entry, ExecKey, Link, Refused, Terms, Version};
+use blot_types::{AllocKey, Command, Entry, ExecKey, Fill, Link, Refused, Terms, Version};
 use std::alloc::{AllocError as NoMemory, Global};
 use std::marker::Model;
 
@@ -183,12 +185,12 @@ impl LiveList {
         }
     }
 
-    /// The version that stands of the chain of a root: the last one, where the chain isn't busted.
-    pub(crate) fn standing(&self, root: &ExecKey) -> Option<Version>
-        ensures { result ≡ standing self.now.list root.now }
+    /// The fill of the version that stands of the chain of a root: the last one, where the chain isn't busted.
+    pub(crate) fn standing_fill(&self, root: &ExecKey) -> Option<&Fill>
+        ensures { option_copied result ≡ standing_fill self.now.list root.now }
     {
         let number = self.chains.standing_version(root)?;
-        version_numbered(&self.slots, number)
+        fill_numbered(&self.slots, number)
     }
 
     /// The root of the chain that an entry's link begins, corrects or busts.
@@ -204,7 +206,7 @@ impl LiveList {
     {
         match chain {
             None => None,
-            Some(root) => self.standing(root),
+            Some(root) => version_numbered(&self.slots, self.chains.standing_version(root)?),
         }
     }
 

@@ -1,10 +1,10 @@
 //! Why the live list refuses a command: one function a rule, in the order of the rules.
 ghost use Rattle.std.specs.Prelude.{◌≡◌, [], reverse, find, is_none};
 ghost use Rattle.std.specs.List.{list_any};
-ghost use Rattle.std.specs.Option.{option_map};
+ghost use Rattle.std.specs.Option.{option_and_then, option_copied, option_map};
 ghost use Rattle.blot_types.specs.declared.link.Role.TheVariants.{Begins, Corrects, Busts};
 ghost use Rattle.blot_types.specs.declared.refused.Refused.TheVariants.{DuplicateAlloc};
-ghost use Rattle.blot_types.specs.Chains.{root_in, is_root, link_refusal};
+ghost use Rattle.blot_types.specs.Chains.{current_in, root_in, is_root, link_refusal};
 ghost use Rattle.blot_types.specs.Instructions.{alloc_taker_in};
 ghost use Rattle.blot_types.specs.Legal.{entry_refusal};
 ghost use Rattle.blot_types.specs.Refusals.{first_of, bust_of_key, same_chain, repeated_in, other_holder, current_fill};
@@ -13,7 +13,7 @@ ghost use Rattle.blot_command.specs.Refusing.{HoldsBoth, HoldsChainsOf, other_in
 ghost use Rattle.blot_command.specs.Shown.{current_version};
 ghost use Rattle.blot_command.specs.Slots.{entries_in};
 
-use crate::slots::{EntrySlot, version_numbered};
+use crate::slots::{EntrySlot, fill_numbered, version_numbered};
 use blot_alloc::Allocs;
 use blot_chain::Chains;
 use blot_types::{AllocKey, Command, ExecKey, Fill, Refused, Terms, Version};
@@ -239,7 +239,7 @@ fn other_instrument(
 {
     for key in execs {
         if let Some(fill) = current_fill(slots, chains, key) {
-            if terms.differs(&fill) {
+            if terms.differs(fill) {
                 return Some(*key);
             }
         }
@@ -248,14 +248,11 @@ fn other_instrument(
 }
 
 // The fill of the last version of the chain of a key.
-fn current_fill(slots: &[EntrySlot], chains: &Chains, key: &ExecKey) -> Option<Fill>
+fn current_fill<'a>(slots: &'a [EntrySlot], chains: &Chains, key: &ExecKey) -> Option<&'a Fill>
     requires { HoldsChainsOf slots.now chains.now.list }
-    ensures { result ≡ current_fill (reverse (entries_in slots.now)) key.now }
+    ensures { option_copied result ≡ current_fill (reverse (entries_in slots.now)) key.now }
 {
-    match current_version(slots, chains, key) {
-        None => None,
-        Some(version) => Some(version.fill),
-    }
+    fill_numbered(slots, current_number(chains, key)?)
 }
 
 /// The last version of the chain of a key.
@@ -267,9 +264,15 @@ pub(crate) fn current_version(
     requires { HoldsChainsOf slots.now chains.now.list }
     ensures { result ≡ current_version (entries_in slots.now) key.now }
 {
+    version_numbered(slots, current_number(chains, key)?)
+}
+
+// The number of the last version of the chain of a key.
+fn current_number(chains: &Chains, key: &ExecKey) -> Option<u64>
+    ensures { result ≡ option_and_then (current_in chains.now.list) (root_in chains.now.list key.now) }
+{
     let root = chains.root_of(key)?;
-    let number = chains.current(&root)?;
-    version_numbered(slots, number)
+    chains.current(&root)
 }
 
 // The quantity of the last versions of the listed executions, in units of 10^-6.

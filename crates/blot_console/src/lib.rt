@@ -28,3 +28,4 @@ pub use fault::LineFault;
 pub use naming::{Naming, naming_text, parse_name};
 pub use open_day::{DayAsk, SessionLine, parse_day_line};
 pub use parsing::{LINE_MAX, parse_line};
+pub use telling::{put_number, put_word};

@@ -80,8 +80,8 @@ pub(crate) fn put_values(
     }
 }
 
-/// Adds a tab and a number at the end of a text.
-pub(crate) fn put_number(alloc: Global, text: &mut Vec<u8>, number: u64) -> Result<(), NoMemory>
+/// Adds a tab and a number at the end of a text. An error is out of memory, and what the text has then isn't said.
+pub fn put_number(alloc: Global, text: &mut Vec<u8>, number: u64) -> Result<(), NoMemory>
     ensures { OnOk result (text.new.items ≡ text.old.items ++ number_text number) }
 {
     let word = format!(in alloc; "\t{number}")?;
@@ -89,8 +89,8 @@ pub(crate) fn put_number(alloc: Global, text: &mut Vec<u8>, number: u64) -> Resu
     Ok(())
 }
 
-/// Adds a tab and a word at the end of a text.
-pub(crate) fn put_word(text: &mut Vec<u8>, word: &[u8]) -> Result<(), NoMemory>
+/// Adds a tab and a word at the end of a text. An error is out of memory, and what the text has then isn't said.
+pub fn put_word(text: &mut Vec<u8>, word: &[u8]) -> Result<(), NoMemory>
     ensures { OnOk result (text.new.items ≡ text.old.items ++ told word.now) }
 {
     text.push(b'\t')?;

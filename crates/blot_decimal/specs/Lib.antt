@@ -4,3 +4,4 @@ pub mod Halves
 pub mod Text
 pub mod Meaning
 pub mod Printed
+pub mod Sums

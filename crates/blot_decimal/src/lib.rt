@@ -9,6 +9,7 @@ mod printing;
 mod qty;
 mod qty_sum;
 mod reading;
+mod sums;
 mod value;
 mod wide;
 
@@ -16,4 +17,5 @@ pub use fault::DecimalFault;
 pub use price::Price;
 pub use qty::Qty;
 pub use qty_sum::QtySum;
+pub use sums::{minus, plus};
 pub use value::Value;

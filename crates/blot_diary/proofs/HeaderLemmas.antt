@@ -79,7 +79,7 @@ pub record IsReadable (own to : List ℕ) (number : ℕ) (now : ℤ) : Type 0 wh
   pub sent : moment_of (moment_text now) ≡ Ok now
 
 -- a message has this header, and no table but that; no field is empty
-pub record IsPlain (message : Written) (own to : List ℕ) (number : ℕ) (now : ℤ) : Type 0 where
+pub record IsHeaded (message : Written) (own to : List ℕ) (number : ℕ) (now : ℤ) : Type 0 where
   pub kind : is_text message.kind ≡ true
   pub kinds : values 35 (frame_fields message) ≡ message.kind ∷ []
   pub from : values 49 (frame_fields message) ≡ own ∷ []
@@ -91,7 +91,7 @@ pub record IsPlain (message : Written) (own to : List ℕ) (number : ℕ) (now :
   pub some : EachSome message.fields
   pub few : length message.fields ≤ 100
 
-head_of-plain : (message : Written) (own to : List ℕ) (number : ℕ) (now : ℤ) → IsPlain message own to number now → IsReadable own to number now
+head_of-plain : (message : Written) (own to : List ℕ) (number : ℕ) (now : ℤ) → IsHeaded message own to number now → IsReadable own to number now
     → head_of (frame_fields message) ≡ Ok (head_with message.kind own to number now)
 unfolding head_of optional only
 head_of-plain message own to number now has reads =
@@ -116,7 +116,7 @@ short_body message valid =
       length-append (first_fields (decimal (length body))) body,
     )
 
-pub decoded-plain : (message : Written) (own to : List ℕ) (number : ℕ) (now : ℤ) → IsFrame (frame_of message) → IsPlain message own to number now
+pub decoded-plain : (message : Written) (own to : List ℕ) (number : ℕ) (now : ℤ) → IsFrame (frame_of message) → IsHeaded message own to number now
     → IsReadable own to number now → decoded (map Ok (frame_fields message)) ≡ Ok (record {
       head = head_with message.kind own to number now;
       body = bodies.Other;

@@ -4,6 +4,7 @@ pub mod KeptLemmas
 mod OneLemmas
 mod DiaryLemmas
 mod FramingLemmas
+mod PlainLemmas
 mod WritingLemmas
 mod ShortLemmas
 mod HeaderLemmas

@@ -1,6 +1,6 @@
 -- A text that is one frame.
-use Rattle.std.proofs.Common.{◌≡◌, ℕ, ◌<◌, Bool, true, false, not, List, [], Option, Some, None, sym, ap, subst, ◌∙◌, arith, length, length-append}
-use Rattle.std.specs.Prelude.{◌↔◌, IsTrue, is_some, slice_get}
+use Rattle.std.proofs.Common.{◌≡◌, ℕ, ◌<◌, Bool, true, false, not, List, [], Option, Some, sym, ap, subst, ◌∙◌, arith, length, length-append}
+use Rattle.std.specs.Prelude.{◌↔◌, IsTrue, slice_get}
 use Rattle.std.specs.Str.{bytes_eq}
 use Rattle.std.proofs.lemmas.Bool.{false≢true, not-false}
 use Rattle.std.proofs.lemmas.List.{append-nil}
@@ -8,8 +8,7 @@ use Rattle.std.proofs.lemmas.Slice.Eq.{bytes_eq-Decides}
 use Rattle.blot_tag.specs.Frames.{IsFrame, front_of, trailer_of}
 use Rattle.blot_tag.specs.Walking.{Walk, first_frame, walk_of}
 use Rattle.blot_tag.proofs.JoinedLemmas.{comes_first}
-use Rattle.blot_diary.specs.declared.kept.Noted.{Noted}
-use Rattle.blot_diary.specs.Events.{IsQuiet, noted_in}
+use Rattle.blot_diary.specs.Events.{IsPlain, keeps_message}
 
 -- it isn't empty
 pub frame_some : (frame : List ℕ) → IsFrame frame → 0 < length frame
@@ -30,13 +29,8 @@ differs text unread frame is first other valid =
     let eq = (bytes_eq-Decides frame text).1 same in
     false≢true (sym (ap not eq) ∙ sym other)
 
-pub quiet_when : (text frame : List ℕ) (noted : Option Noted) (quiet : Bool) → false ≡ not (bytes_eq frame text) → IsFrame frame → noted ≡ noted_in frame
-    → is_some noted ≡ not quiet → IsTrue quiet ↔ IsQuiet text
-quiet_when text frame noted quiet same valid notes is =
+pub plain_when : (text frame : List ℕ) (plain : Bool) → false ≡ not (bytes_eq frame text) → IsFrame frame → plain ≡ keeps_message frame → IsTrue plain ↔ IsPlain text
+plain_when text frame plain same valid is =
     let is_text = (bytes_eq-Decides frame text).0 (not-false _ (sym same)) in
-    let alike : noted ≡ noted_in text = notes ∙ ap noted_in is_text in
-    (λ true_is. (subst IsFrame is_text valid, none noted alike (is ∙ ap not true_is)), λ brings. not-false quiet (sym is ∙ ap is_some (alike ∙ brings.1)))
-  where
-    none : (one : Option Noted) → one ≡ noted_in text → is_some one ≡ false → noted_in text ≡ None
-    none None alike quiet = sym alike
-    none (Some one) alike quiet = absurd (false≢true (sym quiet))
+    let alike : plain ≡ keeps_message text = is ∙ ap keeps_message is_text in
+    (λ true_is. (subst IsFrame is_text valid, sym alike ∙ true_is), λ keeps. alike ∙ keeps.1)

@@ -21,7 +21,7 @@ use Rattle.blot_diary.specs.Kinds.{kind_of}
 use Rattle.blot_diary.specs.Own.{asked_by, beginning_by, event_of_line, next_form, numbers_by}
 use Rattle.blot_diary.specs.Records.{asked_message, beginning_message, keeps, numbers_message, wrapped_message}
 use Rattle.blot_diary.specs.Writing.{fits, written}
-use Rattle.blot_diary.proofs.HeaderLemmas.{IsPlain, IsReadable, decoded-plain}
+use Rattle.blot_diary.proofs.HeaderLemmas.{IsHeaded, IsReadable, decoded-plain}
 use Rattle.blot_diary.proofs.OneLemmas.{frame_some}
 use Rattle.blot_diary.proofs.ShortLemmas.{IsShort, fits-short, is_number-decimal, number_of-decimal, short_day, short_decimal, short_moment, short_text}
 
@@ -43,7 +43,7 @@ frame_follows digits frame is valid =
 
 -- ---- what is kept
 
-kept-plain : (message : Written) (own to : List ℕ) (number : ℕ) (now : ℤ) → IsFrame (frame_of message) → IsPlain message own to number now
+kept-plain : (message : Written) (own to : List ℕ) (number : ℕ) (now : ℤ) → IsFrame (frame_of message) → IsHeaded message own to number now
     → IsReadable own to number now → kept_of (items_of message) ≡ Some (keeps own to number (content_under (kind_of message.kind) (items_of message)))
 unfolding kept_of
 kept-plain message own to number now valid has reads =

@@ -41,7 +41,7 @@ use Rattle.blot_diary.specs.declared.kept.Party.TheVariants.{Peer, Operator}
 use Rattle.blot_diary.specs.declared.numbers.Numbers.{Numbers}
 use Rattle.blot_diary.specs.Beginnings.{beginning_of, begun_by}
 use Rattle.blot_diary.specs.Diary.{desk_events}
-use Rattle.blot_diary.specs.Events.{events_in, events_of, noted_of}
+use Rattle.blot_diary.specs.Events.{events_in, events_of, keeps_message, noted_of}
 use Rattle.blot_diary.specs.Keeping.{kept_in, kept_of}
 use Rattle.blot_diary.specs.Kinds.{kind_of}
 use Rattle.blot_diary.specs.Numbering.{first_numbers, numbers_after, numbers_in, numbers_of}
@@ -180,6 +180,11 @@ are_frames = (refl, refl, refl)
 are_kept : (kept_in logons ≡ kept_logons) × (kept_in traded ≡ kept_traded) × (kept_in longer ≡ kept_longer)
 unfolding kept_of kind_of next_form decoded head_of needed only optional there has field_wrong text_form number_form moment_form flag_form zero_form any_form qty_form positive_form price_form side_form day_form fields.kind_of exec_type_of logon_of report_of trade_of bust_of execution_of order_size_of size_part moment_of clock_of fraction_of day_of civil_day qty_of price_of size_of are_parts items_behind first_items first_field tag_number data_value console.parsed console.ask_of console.words_line console.kind_of undo_line order_line allocate_line execs_counted execs_of line_of lines_of counted value_at console_forms.number_form console_forms.count_form console_forms.text_form console_forms.sign_form console_forms.day_form console_forms.price_form console_forms.qty_form
 are_kept = (refl, refl, refl)
+
+-- which of them keep a message alone: the Logon and its answer, and the acknowledgement, both times
+messages_alone : map keeps_message longer ≡ false ∷ true ∷ true ∷ false ∷ false ∷ false ∷ false ∷ false ∷ false ∷ true ∷ true ∷ false ∷ []
+unfolding kept_of kind_of next_form decoded head_of needed only optional there has field_wrong text_form number_form moment_form flag_form zero_form any_form qty_form positive_form price_form side_form day_form fields.kind_of exec_type_of logon_of report_of trade_of bust_of execution_of order_size_of size_part moment_of clock_of fraction_of day_of civil_day qty_of price_of size_of are_parts items_behind first_items first_field tag_number data_value console.parsed console.ask_of console.words_line console.kind_of undo_line order_line allocate_line execs_counted execs_of line_of lines_of counted value_at console_forms.number_form console_forms.count_form console_forms.text_form console_forms.sign_form console_forms.day_form console_forms.price_form console_forms.qty_form
+messages_alone = refl
 
 -- ---- the two folds over them, from their bytes
 

@@ -1,6 +1,6 @@
 -- Short values: fields of them aren't refused, and are read again.
-use Rattle.std.proofs.Common.{◌≡◌, ℕ, ◌+◌, ◌*◌, ◌%◌, ◌^◌, ◌<◌, ◌≤◌, true, false, ◌&&◌, not, leb, List, [], ◌∷◌, ◌++◌, length, None, refl, ap, ◌∙◌, inl, inr, arith, length-append, append_assoc, lit<, rules}
-use Rattle.std.specs.Prelude.{fold, is_none, nat_lt, ℤ}
+use Rattle.std.proofs.Common.{◌≡◌, ℕ, ◌+◌, ◌*◌, ◌%◌, ◌^◌, ◌<◌, ◌≤◌, true, false, ◌&&◌, not, leb, List, [], ◌∷◌, ◌++◌, length, None, refl, ap, ◌∙◌, inl, inr, arith, length-append, append_assoc, lit<}
+use Rattle.std.specs.Prelude.{is_none, nat_lt, ℤ}
 use Rattle.std.specs.Char.{is_ascii_digit}
 use Rattle.std.specs.Fmt.{decimal}
 use Rattle.std.specs.List.{list_all}
@@ -9,14 +9,14 @@ use Rattle.std.proofs.lemmas.Fmt.{digits_decimal, digits_value-decimal, length-d
 use Rattle.std.proofs.lemmas.List.Concat.{flat_map-append}
 use Rattle.std.proofs.lemmas.List.Folds.{list_any_none}
 use Rattle.std.proofs.lemmas.List.Sums.{AllPass-from_list_all}
-use Rattle.std.proofs.lemmas.Str.Parse.{IsNumeralModel, numerals_by_fold}
-use Rattle.blot_tag.specs.Bytes.{is_number, is_soh, number_of, with_digit}
+use Rattle.blot_tag.specs.Bytes.{is_number, is_soh, number_of}
 use Rattle.blot_tag.specs.FieldText.{field_text}
 use Rattle.blot_tag.specs.Fields.{TagValue}
 use Rattle.blot_tag.specs.Writing.{Written, begun, body_of, has_soh, is_data_tag, kind_field, refusal_of, with_field}
 use Rattle.blot_time.specs.Clock.{clock_text}
 use Rattle.blot_time.specs.Day.{day_text}
 use Rattle.blot_time.specs.Moment.{moment_text}
+use Rattle.blot_tag.proofs.FieldTextLemmas.{numeral}
 use Rattle.blot_types.specs.Text.{is_text, printable}
 use Rattle.blot_diary.specs.Writing.{fits, takes_all}
 
@@ -42,9 +42,6 @@ short_text value is =
       few = leb-true _ 64 inner.1;
       plain = list_any_none is_soh value (λ k d inside. printable-soh _ (AllPass-from_list_all printable value outer.1 k d inside));
     }
-
-numeral : IsNumeralModel (λ digits. list_all is_ascii_digit digits ≡ true) number_of
-numeral = numerals_by_fold _ (search rules) (fold with_digit) (search rules)
 
 digit-soh : (byte : ℕ) → is_ascii_digit byte ≡ true → is_soh byte ≡ false
 digit-soh byte is =

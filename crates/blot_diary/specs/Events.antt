@@ -1,7 +1,7 @@
 -- The events of a journal: those that its frames bring, in their order, each with who brought it.
-use Rattle.std.specs.Prelude.{◌≡◌, ℕ, false, List, [], ◌∷◌, ◌++◌, Option, Some, None, Ok}
+use Rattle.std.specs.Prelude.{◌≡◌, ℕ, Bool, true, false, List, [], ◌∷◌, ◌++◌, Option, Some, None, Ok}
 use Rattle.std.specs.List.{filter_map}
-use Rattle.std.specs.Option.{option_and_then}
+use Rattle.std.specs.Option.{option_and_then, option_map_or}
 use Rattle.blot_tag.specs.Fields.{Item, fields_of}
 use Rattle.blot_tag.specs.Frames.{IsFrame}
 use Rattle.blot_tag.specs.Walking.{frames_of}
@@ -31,6 +31,19 @@ noted_of kept = noted_by kept.from kept.content
 -- the event of a text that is one frame, if it brings one
 abbrev pub noted_in : List ℕ → Option Noted
 noted_in frame = option_and_then noted_of (kept_of (fields_of frame))
+
+-- what is kept is a message: no command, and none of the journal's own
+abbrev pub is_message : Content → Bool
+is_message contents.Message = true
+is_message content = false
+
+-- a frame keeps its message, and nothing else
+abbrev pub keeps_message : List ℕ → Bool
+keeps_message frame = option_map_or (λ (kept : Kept). is_message kept.content) (kept_of (fields_of frame)) false
+
+-- a text is one such frame
+abbrev pub IsPlain : List ℕ → Type 0
+IsPlain text = IsFrame text × (keeps_message text ≡ true)
 
 -- a text is one frame, and brings no event
 abbrev pub IsQuiet : List ℕ → Type 0

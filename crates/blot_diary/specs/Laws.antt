@@ -29,7 +29,7 @@ abbrev event_of : Option Kept → Option Event
 event_of kept = option_map (λ noted. noted.event) (option_and_then noted_of kept)
 
 -- what a message without a fault keeps
-abbrev kept_from : Message → Content → Kept
+abbrev pub kept_from : Message → Content → Kept
 kept_from message content = record { from = message.head.sender; to = message.head.target; number = message.head.number; dup = message.head.dup; content = content }
 
 submitted : (said : Result Message FieldFault) (items : List Item) (command : Command) → decoded items ≡ said → brought_by said ≡ Some command

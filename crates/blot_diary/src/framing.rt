@@ -6,7 +6,7 @@ ghost use Rattle.blot_diary.specs.Laws.{counts_frames, spells_frames};
 ghost use Rattle.blot_diary.specs.Numbering.{pair_behind};
 
 use crate::own::event_of_line;
-use crate::{Diary, Numbers, asked_record, is_quiet, numbers_record, wrapped_record};
+use crate::{Diary, Numbers, asked_record, is_plain, numbers_record, wrapped_record};
 use blot_desk::Event;
 use blot_fields::SEQUENCE_MAX;
 use blot_gateway::{FrameKeeper, RecordHead};
@@ -26,7 +26,7 @@ impl<D: Device + Drop> FrameKeeper for Diary<D> {
     }
 
     fn keeps_plain(alloc: Global, text: &[u8]) -> Result<bool, NoMemory> {
-        is_quiet(alloc, text)
+        is_plain(alloc, text)
     }
 
     fn wrapped_record(

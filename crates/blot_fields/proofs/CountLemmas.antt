@@ -1,11 +1,10 @@
 -- The groups of an allocation are as long as their counts say, and so no longer than a list may be.
 use Rattle.std.proofs.Common.{◌≡◌, ℕ, ℤ, ◌≤◌, ◌+◌, Bool, true, false, List, [], ◌∷◌, length, filter, take, drop, Option, Result, Ok, refl, sym, ap, ◌∙◌, suc, arith, length-append}
-use Rattle.std.specs.Prelude.{if◌then◌else◌, ◌&&◌, ◌==◌, not, IfOk}
-use Rattle.std.proofs.lemmas.Bool.{eqb-true}
+use Rattle.std.specs.Prelude.{if◌then◌else◌, IfOk}
 use Rattle.std.proofs.lemmas.List.{length-map, take-append-drop}
 use Rattle.std.proofs.lemmas.List.Elements.{filter-append}
 use Rattle.std.proofs.lemmas.List.Sums.{length-filter}
-use Rattle.std.specs.List.{list_any, position_or_len}
+use Rattle.std.specs.List.{position_or_len}
 use Rattle.blot_tag.specs.Fields.{TagValue}
 use Rattle.blot_tag.specs.Results.{◌>>=◌}
 use Rattle.blot_types.specs.Making.{Made, Makes, IsShort}
@@ -14,7 +13,7 @@ use Rattle.blot_fields.specs.declared.allocation.AllocationLine.{AllocationLine}
 use Rattle.blot_fields.specs.declared.allocation.TheConstants.{ENTRIES_MAX}
 use Rattle.blot_fields.specs.declared.fault.Wrong.{Wrong}
 use Rattle.blot_fields.specs.Forms.{text_form}
-use Rattle.blot_fields.specs.Groups.{bears, before, behind, count_of, are_executions, are_lines, is_of_line, ids_of, line_of, lines_in, each_line_of}
+use Rattle.blot_fields.specs.Groups.{bears, before, behind, count_of, ids_of, line_of, lines_in, each_line_of}
 use Rattle.blot_fields.specs.Rows.{at, values}
 use Rattle.blot_fields.proofs.GroupLemmas.{bound}
 
@@ -67,26 +66,18 @@ count-drop tag place fields =
     let rest = length-filter (bears tag) (drop place fields) in
     omega (arith, whole, all, rest)
 
-and-left : (a b : Bool) → (a && b) ≡ true → a ≡ true
-and-left true b is = refl
-and-left false b is = absurd cc
-
 -- the executions are as many as their count says
 pub executions_short : (count : ℕ) (fields : List TagValue) (result : Result (Made (List ℕ)) Wrong)
-    → count ≤ ENTRIES_MAX → are_executions count fields ≡ true → Makes result (ids_of (values 17 fields)) → IfOk result IsShort
-executions_short count fields result low are makes =
-    let same = eqb-true (count_of 17 fields) count (and-left (count_of 17 fields == count) (count_of 17 (behind 124 fields) == count) are) in
+    → count ≤ ENTRIES_MAX → count_of 17 fields ≡ count → Makes result (ids_of (values 17 fields)) → IfOk result IsShort
+executions_short count fields result low same makes =
     makes_short result (ids_of (values 17 fields)) (λ ids is.
     let as_long = ids-length (values 17 fields) ids is ∙ values-length 17 fields ∙ same in
     omega (arith, as_long)) makes
 
 -- so are the lines
 pub lines_short : (count : ℕ) (average : Option ℤ) (fields : List TagValue) (result : Result (Made AllocationLine) Wrong)
-    → count ≤ ENTRIES_MAX → are_lines count fields ≡ true → Makes result (each_line_of average (lines_in (behind 78 fields))) → IfOk result IsShort
-lines_short count average fields result low are makes =
-    let first = and-left (count_of 79 fields == count) (not (list_any is_of_line (before 78 fields)))
-    (and-left ((count_of 79 fields == count) && not (list_any is_of_line (before 78 fields))) (not (list_any is_of_line (before 79 (behind 78 fields)))) are) in
-    let same = eqb-true (count_of 79 fields) count first in
+    → count ≤ ENTRIES_MAX → count_of 79 fields ≡ count → Makes result (each_line_of average (lines_in (behind 78 fields))) → IfOk result IsShort
+lines_short count average fields result low same makes =
     let all_behind = count-drop 79 (position_or_len (bears 78) fields + 1) fields in
     makes_short result (each_line_of average (lines_in (behind 78 fields))) (λ lines is.
     let as_long = lines-length average (lines_in (behind 78 fields)) lines is ∙ begun-length (behind 78 fields) ∙ length-filter (bears 79) (behind 78 fields) in

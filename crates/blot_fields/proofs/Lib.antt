@@ -3,6 +3,7 @@ pub mod IndexLemmas
 pub mod WalkLemmas
 pub mod AllocationLemmas
 pub mod LineLemmas
+pub mod LookLemmas
 pub mod TableLemmas
 pub mod GroupLemmas
 pub mod CountLemmas

@@ -43,10 +43,10 @@ resumed average None rest = each_line_of average (lines_in rest)
 resumed average (Some draft) rest = with_line (line_from average (known draft (before 79 rest))) (each_line_of average (lines_in rest))
 
 -- what stands before a tag, where the first field has it, or hasn't
-before-has : (tag : ℕ) (field : TagValue) (fields : List TagValue) → (field.tag == tag) ≡ true → before tag (field ∷ fields) ≡ []
+pub before-has : (tag : ℕ) (field : TagValue) (fields : List TagValue) → (field.tag == tag) ≡ true → before tag (field ∷ fields) ≡ []
 before-has tag field fields has = rw has refl
 
-before-not : (tag : ℕ) (field : TagValue) (fields : List TagValue) → (field.tag == tag) ≡ false → before tag (field ∷ fields) ≡ field ∷ before tag fields
+pub before-not : (tag : ℕ) (field : TagValue) (fields : List TagValue) → (field.tag == tag) ≡ false → before tag (field ∷ fields) ≡ field ∷ before tag fields
 before-not tag field fields other =
     let count : ℕ = prefix_len (λ x. not (bears tag x)) fields in
     let one_more : 1 + count ≡ suc count = omega arith in

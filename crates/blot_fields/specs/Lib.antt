@@ -3,6 +3,7 @@ pub mod Rows
 pub mod Forms
 pub mod Kinds
 pub mod Groups
+pub mod Looks
 pub mod Drafts
 pub mod Allocations
 pub mod Messages

@@ -7,12 +7,13 @@ ghost use Rattle.blot_fields.specs.Drafts.{draft_of, next_draft, Pushes, NextLin
 ghost use Rattle.blot_fields.specs.Allocations.{allocation_of, terms_of};
 ghost use Rattle.blot_fields.specs.Faults.{Gives};
 ghost use Rattle.blot_fields.specs.Groups.{average_of, executions_of, lines_of, ids_of, each_line_of, lines_in};
+ghost use Rattle.blot_fields.specs.Looks.{IsLook};
 ghost use Rattle.blot_fields.specs.Rows.{values};
 
 use crate::drafts::LineDraft;
 use crate::fault::{Flaw, Refusal, Wrong};
 use crate::forms::Form;
-use crate::groups::{are_executions, are_lines, behind, some_line_lacks_price};
+use crate::groups::{Look, behind, look_over};
 use crate::index::FieldIndex;
 use crate::kinds::AllocType;
 use crate::rows::{at, needed, number, there};
@@ -115,10 +116,11 @@ fn terms_of<'a>(alloc: Global, fields: &FieldIndex<'a, '_>) -> Result<Allocation
     let sign = needed::<Sign>(fields, 54)?;
     let symbol = needed::<Text>(fields, 55)?;
     let block = needed::<Qty>(fields, 53)?;
-    let average = average_of(fields)?;
+    let look = look_over(fields.walk());
+    let average = average_of(look, fields)?;
     let day = needed::<Day>(fields, 75)?;
-    let executions = executions_of(alloc, fields)?;
-    let lines = lines_of(alloc, &average, fields)?;
+    let executions = executions_of(alloc, look, fields)?;
+    let lines = lines_of(alloc, look, &average, fields)?;
     Ok(AllocationTerms {
         sign,
         symbol,
@@ -131,10 +133,11 @@ fn terms_of<'a>(alloc: Global, fields: &FieldIndex<'a, '_>) -> Result<Allocation
 
 // AvgPx, whose value is read only where some line has no AllocPrice.
 #[tactic(auto, unfolding(crate::specs::Groups::average_of))]
-fn average_of(fields: &FieldIndex) -> Result<Option<Price>, Wrong>
+fn average_of(look: Look, fields: &FieldIndex) -> Result<Option<Price>, Wrong>
+    requires { IsLook look fields.now }
     ensures { result ≡ average_of fields.now }
 {
-    if some_line_lacks_price(fields) {
+    if look.some_line_lacks_price() {
         return Ok(Some(needed::<Price>(fields, 6)?));
     }
     there(fields, 6)?;
@@ -143,12 +146,17 @@ fn average_of(fields: &FieldIndex) -> Result<Option<Price>, Wrong>
 
 // NoExecs and the executions.
 #[tactic(auto, unfolding(crate::specs::Groups::executions_of))]
-fn executions_of<'a>(alloc: Global, fields: &FieldIndex<'a, '_>) -> Result<Making<Text<'a>>, Wrong>
+fn executions_of<'a>(
+    alloc: Global,
+    look: Look,
+    fields: &FieldIndex<'a, '_>,
+) -> Result<Making<Text<'a>>, Wrong>
+    requires { IsLook look fields.now }
     ensures made { Makes result (executions_of fields.now) }
     ensures few { IfOk result IsShort }
 {
     let count = number(fields, 124, 1, ENTRIES_MAX)?;
-    if !are_executions(count, fields) {
+    if !look.are_executions(count) {
         return Err(Wrong::new(124, Flaw::IncorrectGroupCount));
     }
     ids_of(alloc, fields)
@@ -158,14 +166,16 @@ fn executions_of<'a>(alloc: Global, fields: &FieldIndex<'a, '_>) -> Result<Makin
 #[tactic(auto, unfolding(crate::specs::Groups::lines_of))]
 fn lines_of<'a>(
     alloc: Global,
+    look: Look,
     average: &Option<Price>,
     fields: &FieldIndex<'a, '_>,
 ) -> Result<Making<AllocationLine<'a>>, Wrong>
+    requires { IsLook look fields.now }
     ensures made { Makes result (lines_of average.now fields.now) }
     ensures few { IfOk result IsShort }
 {
     let count = number(fields, 78, 1, ENTRIES_MAX)?;
-    if !are_lines(count, fields) {
+    if !look.are_lines(count) {
         return Err(Wrong::new(78, Flaw::IncorrectGroupCount));
     }
     each_line_of(alloc, average, behind(78, fields.walk()))

@@ -88,17 +88,6 @@ few-more : {W : Type 0} (does : W → Did → W → Type 0) (a b : W) (unread le
 few-more does a b unread left count read most one within =
     subst (λ n. n ≤ most) (sym (length-append one.reads (read ∷ []) ∙ ap (λ k. k + 1) one.many)) within
 
--- the ending of a read isn't the one of the bound
-pub not-late : {W : Type 0} (does : W → Did → W → Type 0) (before : W) (unread : List ℕ) (after : W) (left : List ℕ) (end : Ended)
-    → FeedsLast does before unread after left end → end ≡ ended.TooLong → ⊥
-not-late does before unread after left ended.TooLong feeds is = absurd feeds.ends
-not-late does before unread after left ended.NoGreeting feeds is = absurd feeds.ends
-not-late does before unread after left ended.WriteFault feeds is = absurd feeds.ends
-not-late does before unread after left (ended.Closed reason) feeds is = absurd feeds.ends
-not-late does before unread after left ended.End feeds is = absurd cc
-not-late does before unread after left ended.ReadFault feeds is = absurd cc
-not-late does before unread after left ended.NoMemory feeds is = absurd cc
-
 pub greets-last : {W : Type 0} (does : W → Did → W → Type 0) (own : List ℕ) (most : ℕ) (end : Ended) (a b c : W) (unread left middle next : List ℕ) (count : ℕ) → middle ≡ rest_of left
     → Reads does a unread count b left → frames_of left ≡ [] → FeedsLast does b middle c next end → count + 1 ≤ most → Greeted does own most (Err end) a unread c next
 greets-last does own most ended.End a b c unread left middle next count same one none feeds within =

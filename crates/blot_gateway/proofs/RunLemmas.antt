@@ -21,7 +21,7 @@ use Rattle.blot_gateway.specs.Wires.Notice.{Handed}
 use Rattle.blot_gateway.specs.Wires.Did.{Gave}
 use Rattle.blot_gateway.specs.Wires.Read.{AtEnd, Failed}
 use Rattle.blot_gateway.specs.declared.parties.Parties.{Parties}
-use Rattle.blot_gateway.specs.Serving.{Due, EndsWith, parties, Happens, InTurn, Runs, Ends, GoesOn, HasLast, Stops, Cause, IsFront, Wrote, close_in, due_by, moment_by, is_served, has_memory, seen_by, told_by, told_in, texts_of, written_in}
+use Rattle.blot_gateway.specs.Serving.{Due, EndsWith, parties, Happens, InTurn, Runs, Ends, GoesOn, HasLast, Stops, Cause, IsFront, Wrote, close_in, due_by, moment_by, is_served, has_memory, seen_reply, told_by, told_in, texts_of, written_in}
 use Rattle.blot_gateway.specs.Serving.Due.{Fed, Came, Passed}
 use Rattle.blot_gateway.specs.Serving.Turn.{Reads, Calls}
 use Rattle.blot_gateway.specs.Sending.{Called, StopsAt, Halted, Comes, Submitted, SubmittedLast}
@@ -58,7 +58,7 @@ tick-call state idle =
     record { moment = λ _ _. refl; due_is = λ _ _. refl; told = λ _ _. refl; handed_is = λ _ _. refl; served = λ _ _. refl; memory_is = λ _ _. refl; meets = λ _ _. idle; nothing = λ _. refl }
 
 pub reply-call : (answered : Answered) (state : State) → IsAwaiting state
-    → IsCall (Reply (seen_by answered.answer)) state [] (answered.command ∷ []) (λ _ _. Handed answered ∷ [])
+    → IsCall (Reply (seen_reply answered.answer)) state [] (answered.command ∷ []) (λ _ _. Handed answered ∷ [])
 reply-call answered state awaiting =
     record { moment = λ _ _. refl; due_is = λ _ _. refl; told = λ _ _. refl; handed_is = λ _ _. refl; served = λ _ _. refl; memory_is = λ _ _. refl; meets = λ _ _. awaiting; nothing = λ _. refl }
 
@@ -232,14 +232,14 @@ runs-pair does ticks takes command text a b c more idle awaiting comes submitted
     let is = frame-call text a.session idle in
     let told = reply-call answered b.session awaiting in
     let one = Frame text called.now true in
-    let two = Reply (seen_by submitted.answer) reply.now true in
+    let two = Reply (seen_reply submitted.answer) reply.now true in
     record {
       calls = one ∷ two ∷ [];
       dids = called.writes.dids ++ reply.writes.dids;
       notices = word_in a.session one ++ Handed answered ∷ [];
       happens = happens-on does ticks takes a b c (one ∷ []) (two ∷ []) called.writes.dids reply.writes.dids (word_in a.session one) (Handed answered ∷ [])
           (happens-one does ticks takes (Frame text) called.now true a b (Came text ∷ []) [] _ called.writes.dids is called.session called.ticked comes.heard called.writes.steps)
-          (happens-one does ticks takes (Reply (seen_by submitted.answer)) reply.now true b c [] (command ∷ []) _ reply.writes.dids told reply.session reply.ticked
+          (happens-one does ticks takes (Reply (seen_reply submitted.answer)) reply.now true b c [] (command ∷ []) _ reply.writes.dids told reply.session reply.ticked
           (steps-one takes (Handed answered) b.sink c.sink submitted.taken) reply.writes.steps);
       in_turn = in-turn-on (λ written sent. written ≡ sent) a.session b.session (one ∷ []) (two ∷ []) called.writes.dids reply.writes.dids (Came text ∷ more) more more [] []
           (λ _ _ _ _ first second. appended first second) called.session
@@ -261,8 +261,8 @@ ends-pair does ticks takes stop command text a b c more idle awaiting comes subm
     let is = frame-call text a.session idle in
     let told = reply-call answered b.session awaiting in
     let one = Frame text called.now true in
-    let two = Reply (seen_by submitted.answer) reply.now reply.memory in
-    let broken = halted-broke does ticks stop (Reply (seen_by submitted.answer)) b.wire b.clock b.session c.wire c.clock c.session [] (command ∷ []) _ told reply in
+    let two = Reply (seen_reply submitted.answer) reply.now reply.memory in
+    let broken = halted-broke does ticks stop (Reply (seen_reply submitted.answer)) b.wire b.clock b.session c.wire c.clock c.session [] (command ∷ []) _ told reply in
     let goes = goes-one a.session one called.stays refl in
     record {
       calls = one ∷ two ∷ [];
@@ -271,7 +271,7 @@ ends-pair does ticks takes stop command text a b c more idle awaiting comes subm
       left = more;
       happens = happens-on does ticks takes a b c (one ∷ []) (two ∷ []) called.writes.dids broken.dids (word_in a.session one) (Handed answered ∷ [])
           (happens-one does ticks takes (Frame text) called.now true a b (Came text ∷ []) [] _ called.writes.dids is called.session called.ticked comes.heard called.writes.steps)
-          (happens-one does ticks takes (Reply (seen_by submitted.answer)) reply.now reply.memory b c [] (command ∷ []) _ broken.dids told reply.session reply.ticked
+          (happens-one does ticks takes (Reply (seen_reply submitted.answer)) reply.now reply.memory b c [] (command ∷ []) _ broken.dids told reply.session reply.ticked
           (steps-one takes (Handed answered) b.sink c.sink submitted.taken) broken.steps);
       in_turn = in-turn-on (Wrote (ended_by stop)) a.session b.session (one ∷ []) (two ∷ []) called.writes.dids broken.dids (Came text ∷ more) more more [] []
           (wrote-behind (ended_by stop)) called.session

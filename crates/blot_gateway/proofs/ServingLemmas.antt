@@ -15,7 +15,7 @@ use Rattle.blot_gateway.specs.Endings.{ended_by}
 use Rattle.blot_gateway.specs.Wires.{Read, Did, Notice, Counts}
 use Rattle.blot_gateway.specs.Wires.Read.{AtEnd, Failed}
 use Rattle.blot_gateway.specs.Wires.Did.{Gave}
-use Rattle.blot_gateway.specs.Progress.{CountsStop, Handles}
+use Rattle.blot_gateway.specs.Progress.{Handles}
 use Rattle.blot_gateway.specs.declared.parties.Parties.{Parties}
 use Rattle.blot_gateway.specs.Serving.{Due, parties, Runs, Ends, EndsWithin, IsCounted, due_behind, due_fed, due_of}
 use Rattle.blot_gateway.specs.Serving.Due.{Fed, Came, Passed}
@@ -83,11 +83,6 @@ pub ended-short : (stop : Stop) → ended_by stop ≢ ended.TooLong
 ended-short (stops.Closed reason) is = absurd cc
 ended-short stops.WriteFault is = absurd cc
 ended-short stops.NoMemory is = absurd cc
-
-pub ended-counted : (stop : Stop) (before after : ℕ) → before ≤ after → CountsStop before after stop → IsCounted before after (ended_by stop)
-ended-counted (stops.Closed reason) before after some rose = some
-ended-counted stops.WriteFault before after some rose = rose refl
-ended-counted stops.NoMemory before after some rose = some
 
 pub counts-behind : (before mid after : ℕ) → before ≤ mid → Counts mid after → Counts before after
 counts-behind before mid after one two = record {

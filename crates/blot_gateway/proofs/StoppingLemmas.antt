@@ -1,5 +1,5 @@
 -- A session that is served until its watch ends the day.
-use Rattle.std.proofs.Common.{◌≡◌, ℕ, ◌≤◌, List, [], ◌++◌, map, subst, arith}
+use Rattle.std.proofs.Common.{◌≡◌, ℕ, List, [], ◌++◌, map, subst}
 use Rattle.std.specs.Prelude.{ℤ}
 use Rattle.blot_tag.specs.Walking.{frames_of, rest_of}
 use Rattle.blot_gateway.specs.declared.parties.Parties.{Parties}
@@ -9,13 +9,6 @@ use Rattle.blot_gateway.specs.Serving.Due.{Came}
 use Rattle.blot_gateway.specs.Stopping.{GoesOnFor}
 use Rattle.blot_gateway.specs.Wires.{Did, Notice}
 use Rattle.blot_gateway.proofs.CallLemmas.{runs-on}
-use Rattle.blot_gateway.proofs.ServingLemmas.{Serves}
-
--- so many reads are no more than that many
-pub goes-on-for : {W C S : Type 0} (does : W → Did → W → Type 0) (ticks : C → ℤ → C → Type 0) (takes : S → Notice → S → Type 0)
-    (most : ℕ) (a b : Parties W C S) (unread rest : List ℕ) (count : ℕ) → count ≤ most → Serves does ticks takes a unread count b rest
-    → GoesOnFor does ticks takes most a (due_behind unread) b rest
-goes-on-for does ticks takes most a b unread rest count few one = record { reads = one.reads; few = omega (arith, few, one.many); runs = one.runs }
 
 -- the frames of what the reader held come before the reads
 pub goes-on-behind : {W C S : Type 0} (does : W → Did → W → Type 0) (ticks : C → ℤ → C → Type 0) (takes : S → Notice → S → Type 0)

@@ -1,4 +1,5 @@
 pub mod AtOnce
+pub mod Counting
 pub mod Endings
 pub mod Greeting
 pub mod Hearing

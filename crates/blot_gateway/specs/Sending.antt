@@ -14,7 +14,7 @@ use Rattle.blot_gateway.specs.Hearing.{word_in}
 use Rattle.blot_gateway.specs.Wires.{Did, Notice, Steps, reads_of, written_of}
 use Rattle.blot_gateway.specs.Wires.Notice.{Handed}
 use Rattle.blot_gateway.specs.declared.parties.Parties.{Parties}
-use Rattle.blot_gateway.specs.Serving.{IsFront, close_in, seen_by}
+use Rattle.blot_gateway.specs.Serving.{IsFront, close_in, seen_reply}
 
 -- a wire takes just these bytes
 pub record Writes {W : Type 0} (does : W → Did → W → Type 0) (before : W) (text : List ℕ) (after : W) : Type 0 where
@@ -78,11 +78,11 @@ pub record Submitted {W C S : Type 0} (does : W → Did → W → Type 0) (ticks
     (command : Command) (before after : Parties W C S) : Type 0 where
   pub answer : Result DeskReply DeskFault
   pub taken : takes before.sink (Handed (record { command = command; answer = answer })) after.sink
-  pub called : Called does ticks None (Reply (seen_by answer)) before.wire before.clock before.session after.wire after.clock after.session
+  pub called : Called does ticks None (Reply (seen_reply answer)) before.wire before.clock before.session after.wire after.clock after.session
 
 -- and that stops it
 pub record SubmittedLast {W C S : Type 0} (does : W → Did → W → Type 0) (ticks : C → ℤ → C → Type 0) (takes : S → Notice → S → Type 0)
     (command : Command) (before after : Parties W C S) (stop : Stop) : Type 0 where
   pub answer : Result DeskReply DeskFault
   pub taken : takes before.sink (Handed (record { command = command; answer = answer })) after.sink
-  pub halted : Halted does ticks (Reply (seen_by answer)) before.wire before.clock before.session after.wire after.clock after.session stop
+  pub halted : Halted does ticks (Reply (seen_reply answer)) before.wire before.clock before.session after.wire after.clock after.session stop

@@ -70,14 +70,14 @@ abbrev pub moments_of : List Call → List ℤ
 moments_of calls = flat_map moment_by calls
 
 -- what a session is told of a sink's answer
-abbrev pub seen_by : Result DeskReply DeskFault → Result SeenReply NotTaken
-seen_by (Ok (replies.Accepted number)) = Ok seen.Accepted
-seen_by (Ok (replies.Refused refused)) = Ok (seen.Refused (refused_number refused))
-seen_by answer = Err (record {})
+abbrev pub seen_reply : Result DeskReply DeskFault → Result SeenReply NotTaken
+seen_reply (Ok (replies.Accepted number)) = Ok seen.Accepted
+seen_reply (Ok (replies.Refused refused)) = Ok (seen.Refused (refused_number refused))
+seen_reply answer = Err (record {})
 
 -- what passes between a session and its sink: the session is told how a command was answered, or the sink what a frame came to
 abbrev pub told_by : Notice → Result SeenReply NotTaken ⊎ (List ℕ × Heard)
-told_by (Handed answered) = inl (seen_by answered.answer)
+told_by (Handed answered) = inl (seen_reply answered.answer)
 told_by (HeardOf text heard) = inr (text, heard)
 
 -- in a call of the session

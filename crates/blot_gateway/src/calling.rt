@@ -9,7 +9,7 @@ ghost use Rattle.blot_session.specs.States.{awaited_of, closed, IsIdle, IsAwaiti
 ghost use Rattle.blot_gateway.specs.Progress.{CountsStop, Handles, HandlesLast};
 ghost use Rattle.blot_gateway.specs.Sending.{Called, Comes, ComesLast, Halted, Submitted, SubmittedLast};
 ghost use Rattle.blot_gateway.specs.Hearing.{heard, is_renumbered, word_in};
-ghost use Rattle.blot_gateway.specs.Serving.{parties, seen_by};
+ghost use Rattle.blot_gateway.specs.Serving.{parties, seen_reply};
 ghost use Rattle.blot_gateway.specs.Serving.Due.{Came};
 ghost use Rattle.blot_gateway.specs.Wires.{Steps};
 
@@ -64,7 +64,7 @@ impl<W: Wire, C: Clock, S: FrameSink> Parties<W, C, S> {
             &mut self.wire,
             &mut self.clock,
             &mut self.session,
-            seen_by(&answer),
+            seen_reply(&answer),
         )
     }
 }
@@ -234,8 +234,8 @@ fn tell<W: Wire, C: Clock>(
 }
 
 /// What a session is told of the answer to a command that it delivered.
-pub fn seen_by(answer: &Result<Reply, DeskFault>) -> Result<SeenReply, NotTaken>
-    ensures { result ≡ seen_by answer.now }
+pub fn seen_reply(answer: &Result<Reply, DeskFault>) -> Result<SeenReply, NotTaken>
+    ensures { result ≡ seen_reply answer.now }
 {
     match answer {
         Ok(Reply::Accepted(_)) => Ok(SeenReply::Accepted),

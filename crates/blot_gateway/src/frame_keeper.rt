@@ -10,6 +10,7 @@ ghost use Rattle.blot_fields.specs.Bringing.{brought};
 ghost use Rattle.blot_fields.specs.Commands.{command_of};
 ghost use Rattle.blot_fields.specs.Decoding.{decoded};
 ghost use Rattle.blot_fields.specs.declared.message.Message.{Message};
+ghost use Rattle.blot_gateway.specs.Counting.{CountsItself};
 
 use blot_desk::{Event, Keeper, NoKeeper};
 use blot_tag::Frame;
@@ -41,9 +42,9 @@ pub trait FrameKeeper: Keeper {
     fn is_kept() -> bool
         ensures { result ≡ false → Self.IsKept → ⊥ };
 
-    /// Whether a frame that brought no event is kept as it is.
+    /// Whether a message without a command is kept as it is. It counts by its own number then.
     fn keeps_plain(alloc: Global, text: &[u8]) -> Result<bool, NoMemory>
-        ensures { IfOk result (λ kept. kept ≡ true → Self.spells_none text.now) };
+        ensures { IfOk result (λ kept. kept ≡ true → CountsItself Self.spells_none Self.numbers_after text.now) };
 
     /// The record of a frame that isn't kept as it is: one that has it inside. None where it doesn't fit.
     fn wrapped_record(

@@ -1,6 +1,6 @@
 //! Live connections. A wire is greeted, and then one session is served over it: what the wire gives comes to the session frame by
 //! frame, what the session sends is written, what it delivers goes to a sink. Wire, clock and sink are the caller's. Wires of a
-//! desk are served at once, each with a seat. `seen_by` is for those who give frames to a session without a wire; `MemoryWire`,
+//! desk are served at once, each with a seat. `seen_reply` is for those who give frames to a session without a wire; `MemoryWire`,
 //! `ListClock` and `ListSink` serve tests.
 #![tactic(auto)]
 
@@ -27,7 +27,7 @@ mod wire;
 mod writing;
 
 pub use at_once::serve;
-pub use calling::seen_by;
+pub use calling::seen_reply;
 pub use connection::turned_by;
 pub use ended::{Ended, READS_MAX};
 pub use epoch::first_moment;

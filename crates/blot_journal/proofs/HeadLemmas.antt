@@ -24,10 +24,6 @@ head_whole second size file head = record {
   room = omega (arith, ap (λ (b : Bool). size_in b file) head.switch, head.size_is, head.room);
 }
 
--- and a whole file has one
-pub whole_head : (file : List ℕ) → IsWhole file → HasHead (is_second file) (size_in (is_second file) file) file
-whole_head file whole = record { switch = refl; size_is = refl; signed = whole.journal.signed; room = whole.room }
-
 pub same_text : (a b c : List ℕ) → SameText a b → SameText b c → SameText a c
 same_text a b c ab bc = record { says = bc.says ∙ ab.says; whole = λ w. bc.whole (ab.whole w) }
 

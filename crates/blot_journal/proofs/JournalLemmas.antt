@@ -1,11 +1,9 @@
 -- What an open journal keeps.
 use Rattle.std.proofs.Common.{◌≡◌, ℕ, zero, suc, ◌+◌, ◌-◌, ◌<◌, ◌≤◌, Bool, List, length, take, drop, refl, sym, ◌∙◌, ap, subst, arith, length-drop}
 use Rattle.std.proofs.lemmas.List.{drop-drop, drop-take, length-take-le, take-take}
-use Rattle.blot_journal.specs.Device.{LeavesOnly}
 use Rattle.blot_journal.specs.File.{HasHead, Stands, text_of}
 use Rattle.blot_journal.specs.Journal.{IsOpen}
 use Rattle.blot_journal.proofs.HeadLemmas.{head_whole, text_is}
-use Rattle.blot_journal.proofs.MomentLemmas.{started}
 
 pub positive : (n : ℕ) → (n ≡ 0 → ⊥) → 0 < n
 positive zero not = absurd (not refl)
@@ -35,10 +33,3 @@ pub open_stands : {D : Type 0} (seen : D → List ℕ) (may_leave : D → List �
     → (file : List ℕ) → may_leave device file → Stands (text_of (seen device)) file
 open_stands seen may_leave device second size waiting is file left =
     subst (Stands (text_of (seen device))) (sym (is.durable file left)) (record { says = refl; whole = head_whole second size (seen device) is.head })
-
--- and a run of calls that hasn't touched the file begins so
-pub open_started : {D : Type 0} (seen : D → List ℕ) (may_leave : D → List ℕ → Type 0) (moment : D → ℕ) (left_since : D → ℕ → List ℕ → Type 0) (device : D) (second : Bool) (size waiting : ℕ)
-    → ((file : List ℕ) → left_since device (moment device) file → may_leave device file)
-    → IsOpen seen may_leave device second size waiting → LeavesOnly moment left_since device device (Stands (text_of (seen device)))
-open_started seen may_leave moment left_since device second size waiting only is =
-    started moment left_since device _ (λ file left. open_stands seen may_leave device second size waiting is file (only file left))

@@ -1,5 +1,5 @@
 -- Listed peers, taken from the front.
-use Rattle.std.proofs.Common.{◌≡◌, ◌↔◌, ℕ, ◌+◌, ◌<◌, Bool, true, false, is_some, IsSomeAnd, List, [], ◌∷◌, ◌++◌, Some, length, get_or, take, drop, cond, Option, ◌||◌, if◌then◌else◌, refl, ap, sym, subst, ◌∙◌}
+use Rattle.std.proofs.Common.{◌≡◌, ◌↔◌, ℕ, ◌+◌, ◌<◌, Bool, true, false, is_some, IsSomeAnd, List, [], ◌∷◌, ◌++◌, Some, length, get_or, take, drop, cond, Option, if◌then◌else◌, refl, ap, sym, subst, ◌∙◌}
 use Rattle.std.specs.Cmp.Lexicographic.{nat_list_eq_equiv}
 use Rattle.std.specs.List.{AllByRecursion, IsDistinct, list_any}
 use Rattle.std.specs.Map.{lookup, set_value}
@@ -21,15 +21,6 @@ pub up-to : (listed : List Listed) (index : ℕ) (it : Listed) → index < lengt
 up-to listed index it within is = take_more listed index it within ∙ ap (λ last. take index listed ++ last ∷ []) (sym is)
 
 -- ---- who they are
-
-pub names-more : (listed : List Listed) (index : ℕ) (it : Listed) → index < length listed → it ≡ get_or listed index it
-    → peers_of (take index listed) ++ it.peer ∷ [] ≡ peers_of (take (index + 1) listed)
-names-more listed index it within is = sym (map-append (λ listed. listed.peer) (take index listed) (it ∷ [])) ∙ ap peers_of (sym (up-to listed index it within is))
-
--- a peer is the next of them, or among those after it
-pub among-next : (listed : List Listed) (index : ℕ) (it : Listed) (peer : List ℕ) → index < length listed → it ≡ get_or listed index it
-    → list_any (same_text peer) (peers_of (drop index listed)) ≡ (same_text peer it.peer || list_any (same_text peer) (peers_of (drop (index + 1) listed)))
-among-next listed index it peer within is = ap (λ rest. list_any (same_text peer) (peers_of rest)) (next-of listed index it within is)
 
 none_pass : {X : Type 0} (p : X → Bool) (xs : List X) → list_any p xs ≡ false → AllByRecursion (λ x. p x ≡ false) xs
 none_pass p [] none = tt

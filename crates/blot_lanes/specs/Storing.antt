@@ -6,16 +6,16 @@ use Rattle.blot_gateway.specs.Storing.{Stored, Storing, StoringDoes}
 use Rattle.blot_gateway.specs.Storing.Stored.{Put, Synced}
 use Rattle.blot_gateway.specs.Wires.{Did}
 
--- where events are kept, a message that is put spells none, and a sync leaves nothing that isn't durable
+-- where events are kept, a message that is put counts itself, and a sync leaves nothing that isn't durable
 abbrev pub StoresAt : {K : Type 0} → Type 0 → (List ℕ → Type 0) → (K → List Event) → (K → ℕ) → Stored → Type 0
-StoresAt IsKept spells_none events durable (Put text) = IsKept → spells_none text
-StoresAt IsKept spells_none events durable Synced = IsKept → IsSynced events durable
+StoresAt IsKept counts events durable (Put text) = IsKept → counts text
+StoresAt IsKept counts events durable Synced = IsKept → IsSynced events durable
 
 -- what a wire over a store at a desk does: each read and each write comes directly after a sync, and a message is put before it is written
 abbrev pub KeepsAt :
     {W K : Type 0} → (W → Did → W → Type 0) → Type 0 → (List ℕ → Type 0) → (K → List Event) → (K → ℕ)
     → Storing W ⊤ → Did → Storing W ⊤ → Type 0
-KeepsAt does IsKept spells_none events durable = StoringDoes does (λ before stored after. StoresAt IsKept spells_none events durable stored)
+KeepsAt does IsKept counts events durable = StoringDoes does (λ before stored after. StoresAt IsKept counts events durable stored)
 
 -- how many of its reads and writes failed, by those of its wire
 abbrev pub kept_failures : {W : Type 0} → (W → ℕ) → Storing W ⊤ → ℕ

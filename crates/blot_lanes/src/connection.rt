@@ -1,5 +1,6 @@
 //! One connection of an open day, whole.
 ghost use Rattle.std.specs.Prelude.{◌≡◌};
+ghost use Rattle.blot_gateway.specs.Counting.{CountsItself};
 ghost use Rattle.blot_lanes.specs.Lanes.{ServesConnection};
 ghost use Rattle.blot_lanes.specs.Storing.{KeepsAt, kept_failures, over_store};
 
@@ -63,7 +64,7 @@ pub fn serve_connection<
     wire: W,
     clock: C,
 ) -> Ended
-    ensures { ServesConnection (KeepsAt W.does K.IsKept K.spells_none K.events K.durable) C.ticks (kept_failures W.failures)
+    ensures { ServesConnection (KeepsAt W.does K.IsKept (CountsItself K.spells_none K.numbers_after) K.events K.durable) C.ticks (kept_failures W.failures)
         peers.now (over_store wire) clock result }
 {
     let notes = PeerNotes::new(peers.own());

@@ -1,6 +1,7 @@
 //! Where the messages of a connection are kept.
 ghost use Rattle.std.specs.Prelude.{◌≡◌, IsOk, OnOk, true};
 ghost use Rattle.blot_desk.specs.Keeping.{IsSynced};
+ghost use Rattle.blot_gateway.specs.Counting.{CountsItself};
 
 use blot_desk::{Desk, KeepFault};
 use blot_gateway::{Clock, FrameKeeper, Heard, MessageStore, RecordHead, StoreFault};
@@ -194,7 +195,7 @@ impl<'a, R: Wait + time::Clock, L: Ledger, K: FrameKeeper> PeerStore<'a, R, L, K
 impl<'a, R: Wait, L: Ledger, K: FrameKeeper> PeerStore<'a, R, L, K> {
     // Keeps a frame as it is.
     fn keep_plain(&self, text: &[u8]) -> Result<(), StoreFault>
-        ensures { OnOk result (K.spells_none text.now) }
+        ensures { OnOk result (CountsItself K.spells_none K.numbers_after text.now) }
     {
         match K::keeps_plain(self.alloc, text) {
             Ok(true) => stored(self.desk.note(self.rt, text)),
@@ -204,10 +205,11 @@ impl<'a, R: Wait, L: Ledger, K: FrameKeeper> PeerStore<'a, R, L, K> {
 }
 
 impl<'a, R: Wait, L: Ledger, K: FrameKeeper> MessageStore for PeerStore<'a, R, L, K> {
+    ghost use Rattle.blot_gateway.specs.Counting.{CountsItself};
     ghost use Rattle.blot_lanes.specs.Storing.{StoresAt};
 
-    // What is put spells no event, and after a sync nothing is there that isn't durable.
-    ghost keeps = { λ before stored after. StoresAt K.IsKept K.spells_none K.events K.durable stored };
+    // What is put counts itself, and after a sync nothing is there that isn't durable.
+    ghost keeps = { λ before stored after. StoresAt K.IsKept (CountsItself K.spells_none K.numbers_after) K.events K.durable stored };
 
     fn put(&mut self, text: &[u8]) -> Result<(), StoreFault> {
         if !K::is_kept() {

@@ -150,7 +150,7 @@ lt-nat_cmp m n test =
     ]
 
 -- whether each number of entries is above one
-abbrev are_above : ℕ → List (ℕ × Held) → Bool
+abbrev pub are_above : ℕ → List (ℕ × Held) → Bool
 are_above n entries = below_all nat_cmp n entries
 
 -- nothing stands under a number that is not above one below all of them

@@ -1,10 +1,9 @@
 -- The slots of an order book and the fills by number that they stand for.
-use Rattle.std.proofs.Common.{◌≡◌, ℕ, zero, suc, ◌+◌, ◌-◌, ◌<◌, ◌≤◌, List, [], ◌∷◌, ◌++◌, length, get_or, set, replicate, map, Option, Some, None, Bool, true, false, refl, sym, ap, ◌∙◌, arith, inl, inr}
+use Rattle.std.proofs.Common.{◌≡◌, ℕ, zero, suc, ◌+◌, ◌-◌, ◌<◌, ◌≤◌, List, [], ◌∷◌, ◌++◌, length, get_or, set, replicate, map, Option, Some, None, true, false, refl, sym, ap, ◌∙◌, arith, inl, inr}
 use Rattle.std.specs.Prelude.{◌==◌, nat_lt, IsSome, if◌then◌else◌}
 use Rattle.std.specs.Bool.{passes}
 use Rattle.std.specs.Cmp.{nat_cmp_total, unsigned_tied}
 use Rattle.std.specs.FinMap as finite
-use Rattle.std.specs.FinMap.Entries.{below_all}
 use Rattle.std.specs.List.{filter_map}
 use Rattle.std.specs.Option.{option_and_then}
 use Rattle.std.specs.Ordering.{nat_cmp, eq_by_cmp, is_lt}
@@ -16,13 +15,9 @@ use Rattle.blot_order.specs.declared.held.Held.{Held}
 use Rattle.blot_order.specs.declared.held.Held.TheVariants.{Kept, Put}
 use Rattle.blot_order.specs.Fills.{Fills, fill_put, fill_kept, put_at, kept_at, fills_put}
 use Rattle.blot_order.specs.Slots.{held_from, held_by, kept_under, slot_at, put_under, fills_in_slots, reaching}
-use Rattle.blot_order.proofs.FillLemmas.{get-insert}
+use Rattle.blot_order.proofs.FillLemmas.{get-insert, are_above}
 
 -- ---- what the slots stand for, number by number
-
--- whether each number of entries is above one
-abbrev are_above : ℕ → List (ℕ × Held) → Bool
-are_above n entries = below_all nat_cmp n entries
 
 lt_by_cmp : (m n : ℕ) → m < n → is_lt (nat_cmp m n) ≡ true
 lt_by_cmp m n less = rw (lt-ltb m n less) refl

@@ -1,5 +1,5 @@
 -- What the fills of an order that are put come to, as they come and go.
-use Rattle.std.specs.Prelude.{◌≤◌, ◌^◌, ℤ, pos, neg_ℤ, ◌+ℤ◌, ◌-ℤ◌, ◌*ℤ◌, ◌≤ℤ◌, ◌<ℤ◌}
+use Rattle.std.specs.Prelude.{◌≤◌, ◌^◌, ℤ, pos, neg_ℤ, ◌+ℤ◌, ◌-ℤ◌, ◌*ℤ◌, ◌≤ℤ◌}
 use Rattle.std.specs.Int.{int_max}
 use Rattle.blot_types.specs.declared.fill.Fill.{Fill}
 use Rattle.blot_types.specs.declared.lines.OrderLine.{OrderLine}
@@ -26,10 +26,6 @@ line_with totals last = record {
   symbol = last.symbol;
   sign = last.sign;
 }
-
--- a sum fits in the 128 bits of an `i128`
-abbrev pub FitsSum : ℤ → Type 0
-FitsSum amount = (neg_ℤ (pos (2 ^ 127)) ≤ℤ amount) × (amount <ℤ pos (2 ^ 127))
 
 -- a fill is at most 10^16 units of quantity and 10^32 of value
 pub record Fits (fill : Fill) : Type 0 where

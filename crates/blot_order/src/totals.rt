@@ -1,11 +1,10 @@
 //! What the fills of an order that are put come to.
-ghost use Rattle.std.specs.Prelude.{◌≡◌, pos, ◌+ℤ◌, ◌-ℤ◌, ◌≤ℤ◌};
-ghost use Rattle.std.specs.Int.{int_max};
-ghost use Rattle.blot_order.specs.Totals.{no_fills, with_one, without_one, line_with, Fits, FitsSum, AreSmall};
+ghost use Rattle.std.specs.Prelude.{◌≡◌, pos, ◌≤ℤ◌};
+ghost use Rattle.blot_order.specs.Totals.{no_fills, with_one, without_one, line_with, Fits, AreSmall};
 
 use crate::held::HeldFill;
-use blot_decimal::{QtySum, Value};
-use blot_types::OrderLine;
+use blot_decimal::{QtySum, Value, minus, plus};
+use blot_types::{OrderLine, leaves_of};
 
 /// What the fills of an order that are put come to.
 #[derive(Clone, Copy)]
@@ -54,34 +53,10 @@ impl Totals {
     {
         OrderLine {
             cum: QtySum::from_units(self.cum),
-            leaves: QtySum::from_units(left_of(last.size().units(), self.cum)),
+            leaves: QtySum::from_units(leaves_of(last.size().units(), self.cum)),
             value: Value::from_units(self.value),
             symbol: last.symbol(),
             sign: last.sign(),
         }
     }
-}
-
-// What is left of a size, never below 0.
-fn left_of(size: i128, cum: i128) -> i128
-    requires { pos 0 ≤ℤ cum }
-    ensures { result ≡ int_max (pos 0) (size -ℤ cum) }
-{
-    if cum < size { size - cum } else { 0 }
-}
-
-// A sum with one more amount.
-fn plus(sum: i128, amount: i128) -> i128
-    requires { FitsSum (sum +ℤ amount) }
-    ensures { result ≡ sum +ℤ amount }
-{
-    sum + amount
-}
-
-// A sum with an amount taken away.
-fn minus(sum: i128, amount: i128) -> i128
-    requires { FitsSum (sum -ℤ amount) }
-    ensures { result ≡ sum -ℤ amount }
-{
-    sum - amount
 }

@@ -8,6 +8,7 @@ use Rattle.std.proofs.lemmas.Bool.{and_parts, cases_Bool, cases_lt, le-leb, leb-
 use Rattle.std.proofs.lemmas.List.{append-nil, get_or_append_left, get_or_push, length_push, reverse-append, reverse-reverse}
 use Rattle.std.proofs.lemmas.List.Elements.{All-append, All-cons, All-get_or, All-head, All-nil, All-tail, filter_map-append}
 use Rattle.blot_types.proofs.StayLemmas.{filter-reverse}
+use Rattle.blot_types.proofs.NeedLemmas.{and-true}
 use Rattle.blot_places.specs.declared.slots.Slot.{Slot}
 use Rattle.blot_places.specs.Slots.{is_above, is_below, is_live_at, is_up_to, items, live, live_item, live_items, newest_live, numbers_fall, places_by}
 use Rattle.blot_places.proofs.ShownLemmas.{falling-parts}
@@ -220,12 +221,8 @@ module _ {T : Type 0} where
   first-live all [] = refl
   first-live all (place ∷ places) = one-more all place places (slice_get all place) refl (first-live all places)
 
-and-any : (b : Bool) → (b && true) ≡ b
-and-any true = refl
-and-any false = refl
-
 find-any : {T : Type 0} (p : T → Bool) (xs : List T) → find any (filter p xs) ≡ find p xs
-find-any p xs = find-kept any p xs ∙ ap (λ test. find test xs) (λ i x. and-any (p x) i)
+find-any p xs = find-kept any p xs ∙ ap (λ test. find test xs) (λ i x. and-true (p x) i)
 
 -- ---- above a number, and below it
 
@@ -274,7 +271,7 @@ module _ {T : Type 0} (number_of : T → ℕ) (n : ℕ) (test : T → Bool) (slo
   pub oldest-above : newest_live slots (filter past stack) ≡ find (λ x. is_above_n x && test x) (reverse (live (reverse slots)))
   oldest-above =
       first-live slots (filter past stack) ∙ find-above any
-      ∙ ap (λ passes. find passes (reverse (live (reverse slots)))) (λ i x. is_above_n x && and-any (test x) i)
+      ∙ ap (λ passes. find passes (reverse (live (reverse slots)))) (λ i x. is_above_n x && and-true (test x) i)
 
   -- the newest live item below it
   pub newest-below : newest_live slots (reverse (filter (is_below number_of n slots) stack)) ≡ find test (filter (λ x. nat_lt (number_of x) n) (live (reverse slots)))

@@ -2,11 +2,12 @@
 use Rattle.std.proofs.Common.{◌≡◌, ℕ, ◌+◌, ◌*◌, ◌^◌, ◌<◌, ◌≤◌, pos, ◌+ℤ◌, ◌-ℤ◌, ◌≤ℤ◌, arith, Bool, true, false, List, refl, sym, ap, subst, ◌∙◌}
 use Rattle.std.specs.Prelude.{ℤ, unsigned_abs, if◌then◌else◌}
 use Rattle.std.proofs.lemmas.Int.{ints}
+use Rattle.blot_decimal.specs.Sums.{FitsSum}
 use Rattle.blot_types.specs.declared.part.Part.{Part}
 use Rattle.blot_types.specs.Position.{is_at, IsSmall}
 use Rattle.blot_position.specs.declared.sums.Sums.{Sums}
 use Rattle.blot_position.specs.Positions.{Cells, sums_at, same_position, with_part, without_part}
-use Rattle.blot_position.specs.Sums.{with_one, without_one, FitsSum, HasRoom, HasPart}
+use Rattle.blot_position.specs.Sums.{with_one, without_one, HasRoom, HasPart}
 use Rattle.blot_position.proofs.PositionLemmas.{sums_at-with_part, sums_at-without_part, same_position-refl}
 use Rattle.blot_position.specs.Carried.{amount_at, Carries}
 

@@ -1,5 +1,6 @@
 -- What the parts of a position come to.
-use Rattle.std.specs.Prelude.{◌+◌, ◌-◌, ◌^◌, ◌<◌, ◌==◌, ℤ, pos, neg_ℤ, ◌+ℤ◌, ◌-ℤ◌, ◌≤ℤ◌, ◌<ℤ◌, Option, Some, None, if◌then◌else◌}
+use Rattle.std.specs.Prelude.{◌+◌, ◌-◌, ◌<◌, ◌==◌, ℤ, pos, ◌+ℤ◌, ◌-ℤ◌, Option, Some, None, if◌then◌else◌}
+use Rattle.blot_decimal.specs.Sums.{FitsSum}
 use Rattle.blot_types.specs.declared.lines.PositionLine.{PositionLine}
 use Rattle.blot_position.specs.declared.sums.Sums.{Sums}
 use Rattle.blot_position.specs.declared.TheConstants.{PARTS_MAX}
@@ -19,10 +20,6 @@ without_one qty value sums = record { parts = sums.parts - 1; qty = sums.qty -�
 -- the line of a position with these sums; none without a part
 abbrev pub line_by : Sums → Option PositionLine
 line_by sums = if sums.parts == 0 then None else Some (record { qty = sums.qty; value = sums.value })
-
--- a sum fits in the 128 bits of an `i128`
-abbrev pub FitsSum : ℤ → Type 0
-FitsSum amount = (neg_ℤ (pos (2 ^ 127)) ≤ℤ amount) × (amount <ℤ pos (2 ^ 127))
 
 -- there is room for one more part: there are fewer than PARTS_MAX, and no sum leaves an `i128`
 pub record HasRoom (sums : Sums) (qty value : ℤ) : Type 0 where

@@ -1,8 +1,8 @@
 //! What the parts of a position come to.
-ghost use Rattle.std.specs.Prelude.{◌≡◌, ◌+ℤ◌, ◌-ℤ◌};
-ghost use Rattle.blot_position.specs.Sums.{no_parts, with_one, without_one, line_by, FitsSum, HasRoom, HasPart};
+ghost use Rattle.std.specs.Prelude.{◌≡◌};
+ghost use Rattle.blot_position.specs.Sums.{no_parts, with_one, without_one, line_by, HasRoom, HasPart};
 
-use blot_decimal::{QtySum, Value};
+use blot_decimal::{QtySum, Value, minus, plus};
 use blot_types::PositionLine;
 
 /// What the parts of a position come to. A contract sees the positions as the finite map from account and
@@ -73,20 +73,4 @@ impl Sums {
             value: self.value,
         })
     }
-}
-
-// A sum with one more amount.
-fn plus(sum: i128, amount: i128) -> i128
-    requires { FitsSum (sum +ℤ amount) }
-    ensures { result ≡ sum +ℤ amount }
-{
-    sum + amount
-}
-
-// A sum with an amount taken away.
-fn minus(sum: i128, amount: i128) -> i128
-    requires { FitsSum (sum -ℤ amount) }
-    ensures { result ≡ sum -ℤ amount }
-{
-    sum - amount
 }

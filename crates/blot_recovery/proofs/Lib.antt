@@ -1,7 +1,7 @@
 mod TestLemmas
 mod FrameLemmas
 mod PartyLemmas
-mod TakingLemmas
+pub mod TakingLemmas
 mod WalkLemmas
 mod OpeningLemmas
 mod OperatorLemmas

@@ -8,7 +8,6 @@ use Rattle.blot_journal.specs.Journal.{Open}
 use Rattle.blot_journal.specs.Recovery.{IsCutBehind, IsLeft, IsOrWas, trimmed}
 use Rattle.blot_journal.specs.declared.journal.JournalFault.{JournalFault}
 use Rattle.blot_journal.specs.declared.journal.JournalFault.TheVariants as writing
-use Rattle.blot_journal.specs.declared.recovery.RecoveryFault.{RecoveryFault}
 use Rattle.blot_journal.specs.declared.recovery.RecoveryFault.TheVariants as reading
 use Rattle.blot_diary.specs.declared.kept.Content.TheVariants.{Beginning}
 use Rattle.blot_diary.specs.declared.kept.Kept.{Kept}
@@ -56,12 +55,6 @@ write-fault found writing.Broken full broken = broken refl
 
 -- ---- a disk that failed
 
-pub file-cause : (fault : RecoveryFault) (before now : ℕ) → (fault ≡ reading.Failed → before < now) → is_of_disk (File fault) ≡ true → before < now
-file-cause reading.NoMemory before now failed is = cc
-file-cause reading.Failed before now failed is = failed refl
-file-cause reading.NoJournal before now failed is = cc
-file-cause (reading.Damaged end) before now failed is = cc
-
 pub write-cause : (fault : JournalFault) (before mid now : ℕ) → before ≡ 0 → (fault ≡ writing.Failed → mid < now) → is_of_disk (Write fault) ≡ true → before < now
 write-cause writing.NoMemory before mid now none failed is = cc
 write-cause writing.Failed before mid now none failed is = omega (arith, none, failed refl)
@@ -85,12 +78,6 @@ empty-or (byte ∷ text) = inr (λ none. absurd (empty-not byte text none))
     empty-not : (byte : ℕ) (text : List ℕ) → byte ∷ text ≡ [] → ⊥
     empty-not byte text none = omega (arith, ap length none)
 
--- what was read is as it was
-pub read-same : {D : Type 0} (seen : D → List ℕ) (moment : D → ℕ) (left_since : D → ℕ → List ℕ → Type 0) (old new : Open D) → IsOrWasRead (WasRead seen moment left_since) old new
-    → seen new.device ≡ seen old.device
-read-same seen moment left_since old new (inl same) = ap (λ journal. seen journal.device) same
-read-same seen moment left_since old new (inr read) = read.seen_is
-
 -- the file that is opened, once what stood behind its text is cut off
 pub opened-file : (old mid new : List ℕ) → ((text_of old ≡ [] → ⊥) → mid ≡ old) → new ≡ trimmed mid → text_of new ≡ text_of mid → IsOpened old new
 opened-file old mid new same is text =
@@ -113,13 +100,6 @@ module _ {D : Type 0} (moment : D → ℕ) (left_since : D → ℕ → List ℕ 
   is-or-weaker : (old new : D) (P Q : List ℕ → Type 0) → IsOrLeaves moment left_since old new P → ((file : List ℕ) → P file → Q file) → IsOrLeaves moment left_since old new Q
   is-or-weaker old new P Q (inl same) so = inl same
   is-or-weaker old new P Q (inr leaves) so = inr (weaker old new P Q leaves so)
-
-  -- a journal that was read
-  pub read-moments : (own : List ℕ) (day : ℤ) (seen : D → List ℕ) (old new : Open D) → IsOrWasRead (WasRead seen moment left_since) old new
-      → IsOrLeaves moment left_since old.device new.device (SameOrBegun own day (seen old.device))
-  read-moments own day seen old new (inl same) = inl (ap (λ (journal : Open D). journal.device) same)
-  read-moments own day seen old new (inr read) =
-      is-or-weaker old.device new.device (λ file. file ≡ seen old.device) (SameOrBegun own day (seen old.device)) (inr read.leaves) (λ file is. inl is)
 
   -- one whose text was begun
   pub begun-moments : (own : List ℕ) (day : ℤ) (seen text : List ℕ) (old new : D) → text_of seen ≡ [] → IsBeginning own day text

@@ -5,7 +5,7 @@ use Rattle.std.proofs.Math.ListN.{set}
 use Rattle.std.proofs.Math.Seq.{map-set_same}
 use Rattle.std.proofs.lemmas.Bool.{cases_order, false≢true}
 use Rattle.std.proofs.lemmas.Grind.{get_or-set_at}
-use Rattle.std.proofs.lemmas.List.{get_or-map, get_or-set_other, length-map, length-set, map-append, take_all}
+use Rattle.std.proofs.lemmas.List.{get_or-map, get_or-set_other, length-map, length-set, map-append}
 use Rattle.std.proofs.lemmas.List.Elements.{All-push}
 use Rattle.std.proofs.lemmas.Option.{get_or_from_slice_get}
 use Rattle.blot_types.specs.Keys.{same_text}
@@ -44,7 +44,7 @@ none-of p (x ∷ xs) (suc k) d none less = none-of p xs k d (rest (p x) (list_an
     rest false b is = is
 
 -- where the rest follows, so do both
-either-none : (a b c : Bool) → (b ≡ false → c ≡ false) → (a || b) ≡ false → (a || c) ≡ false
+pub either-none : (a b c : Bool) → (b ≡ false → c ≡ false) → (a || b) ≡ false → (a || c) ≡ false
 either-none true b c rest is = absurd (false≢true (sym is))
 either-none false b c rest is = rest is
 
@@ -62,12 +62,6 @@ none-next (operator ∷ operators) name zero found less is differ none =
     ap (λ test. test || false) (not_same name operator.name (λ same. are_other found.name name differ (ap (λ (operator : KeptOperator _). operator.name) (sym is) ∙ sym same)))
 none-next (operator ∷ operators) name (suc at) found less is differ none =
     either-none (same_text name operator.name) _ _ (none-next operators name at found (omega (arith, less)) is differ) none
-
--- where none of all does
-pub none-all : {L : Type 0} (operators : List (KeptOperator L)) (name : List ℕ) (at : ℕ) → length operators ≡ at
-    → list_any (same_text name) (take at (operator_names operators)) ≡ false → list_any (same_text name) (operator_names operators) ≡ false
-none-all operators name at is none =
-    sym (ap (list_any (same_text name)) (take_all at (operator_names operators) (omega (arith, length-names operators, is)))) ∙ none
 
 -- a name that isn't one of some differs from one of them
 pub differs : (names : List (List ℕ)) (at : ℕ) (name other : List ℕ) → at < length names → slice_get names at ≡ Some name → list_any (same_text other) names ≡ false
@@ -240,10 +234,6 @@ seat-put old new operator seat name is more fewer = record {
   each = λ named text all has. all-more (HasSeat named text) (operator_names old.named.items) (operator_names new.named.items) operator.name
       (ap operator_names more ∙ map-append (λ operator. operator.name) old.named.items (operator ∷ [])) all (subst (HasSeat named text) (sym is) has);
 }
-
--- who has one already keeps it
-pub seat-same : {L : Type 0} (name : List ℕ) (operators : KeptOperators L) → GivesSeat name operators operators
-seat-same name operators = record { total = refl; each = λ named text all has. all }
 
 -- and so it is where that operator's event is taken
 pub seat-set : {L : Type 0} (name : List ℕ) (old mid new : KeptOperators L) (at : ℕ) (operator is : KeptOperator L) → is ≡ get_or mid.named.items at is → operator.name ≡ is.name

@@ -21,12 +21,13 @@ use Rattle.blot_recovery.specs.declared.taking.Taking.{Taking}
 use Rattle.blot_recovery.specs.Faults.{BeginsOtherwise, HasNoFrame, HasRefused, IsFaultOf, IsWanted}
 use Rattle.blot_recovery.specs.Parties.{HasSeat, operator_names}
 use Rattle.blot_recovery.specs.Refusals.{AsksWithoutSeat, BeginsIts, HasNoSeat, IsDamage, IsMisplaced, IsOfNoParty, IsOfUnlisted, IsOneTooMany, IsRecoverFault, RefusesFrame, RefusesKept, RefusesNext, StandsSoFar, other_of}
-use Rattle.blot_recovery.specs.Taking.{AreInPlace, IsAskedBy, IsInPlace, IsOfParty, IsOfPeer, TakesUpAll, begun_on, names_of, stands_by, stands_for}
+use Rattle.blot_recovery.specs.Taking.{AreInPlace, IsAskedBy, IsInPlace, IsOfParty, TakesUpAll, begun_on, names_of, stands_by, stands_for}
 use Rattle.blot_recovery.specs.Walking.{IsFaultIn, IsTakenBy, RefusesBehind}
 use Rattle.blot_recovery.proofs.FrameLemmas.{frames_of-nil, whole-nil}
-use Rattle.blot_recovery.proofs.TakingLemmas.{beginning_of-nil}
+use Rattle.blot_recovery.proofs.TakingLemmas.{beginning_of-nil, either-false}
 use Rattle.blot_recovery.proofs.TestLemmas.{are_other, both-true, is_same, not_same}
 use Rattle.blot_recovery.proofs.WalkLemmas.{no-frame-nil}
+use Rattle.blot_recovery.proofs.OperatorLemmas.{either-none}
 
 -- ---- faults in other words
 
@@ -217,10 +218,6 @@ stands-other : (own peer : List ℕ) (kept : Kept) → (peer ≡ own → ⊥) �
 stands-other own peer kept foreign is =
     other-by own peer kept foreign (stands-one kept.content (same_text kept.from peer && same_text kept.to own) (same_text kept.from own && same_text kept.to peer) is)
 
-either-false : (a b : Bool) → (a || b) ≡ false → (a ≡ false) × (b ≡ false)
-either-false true b is = absurd (false≢true (sym is))
-either-false false b is = (refl, is)
-
 -- who isn't among some names is none of them
 pub listed-not : (names : List (List ℕ)) (at : ℕ) (name other : List ℕ) → slice_get names at ≡ Some name → list_any (same_text other) names ≡ false → name ≡ other → ⊥
 listed-not [] zero name other listed none is = absurd cc
@@ -241,20 +238,6 @@ may-stand contents.Unclear received sent is = absurd (false≢true is)
 may-stand contents.Message received sent is = refl
 
 module _ {L : Type 0} (taking : Taking L) (kept : Kept) where
-  never-stands : stands_by kept.content true true ≡ false → IsOfPeer taking.own (names_of taking.peers.items) kept → ⊥
-  never-stands never of =
-      false≢true (sym never ∙ may-stand kept.content (same_text kept.from of.peer && same_text kept.to taking.own) (same_text kept.from taking.own && same_text kept.to of.peer) of.stands)
-
-  -- neither a beginning nor what is unclear is one of a party
-  pub nobodys : stands_by kept.content true true ≡ false → ((name : List ℕ) → IsAskedBy name kept.content → ⊥) → IsMisplaced taking kept
-  nobodys never unasked apart (inl by) = unasked by.0 by.1.asked
-  nobodys never unasked apart (inr of) = never-stands never of
-
-  -- an operator's event that isn't from the blotter to itself
-  pub not-own : stands_by kept.content true true ≡ false → ((kept.from ≡ taking.own) × (kept.to ≡ taking.own) → ⊥) → IsMisplaced taking kept
-  not-own never not apart (inl by) = not (by.1.from_is, by.1.to_is)
-  not-own never not apart (inr of) = never-stands never of
-
   -- a frame of the blotter's to itself, or one that doesn't stand for the party that it names
   pub not-theirs : ((name : List ℕ) → IsAskedBy name kept.content → ⊥) → (other_of taking.own kept ≡ taking.own) ⊎ (stands_for taking.own (other_of taking.own kept) kept ≡ false)
       → IsMisplaced taking kept
@@ -284,10 +267,6 @@ module _ {L : Type 0} (taking : Taking L) (kept : Kept) where
           (record { other_is = sym is; unlisted = none; foreign = are_other other taking.own differ })
 
 -- ---- names of peers that a look passes over
-
-either-none : (a b c : Bool) → (b ≡ false → c ≡ false) → (a || b) ≡ false → (a || c) ≡ false
-either-none true b c rest is = absurd (false≢true (sym is))
-either-none false b c rest is = rest is
 
 pub none-next : {L : Type 0} (peers : List (KeptPeer L)) (name : List ℕ) (at : ℕ) (found : KeptPeer L) → at < length peers → get_or peers at found ≡ found
     → same_text found.peer name ≡ false → list_any (same_text name) (take at (names_of peers)) ≡ false → list_any (same_text name) (take (suc at) (names_of peers)) ≡ false

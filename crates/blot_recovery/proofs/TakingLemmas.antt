@@ -40,7 +40,7 @@ use Rattle.blot_recovery.proofs.TestLemmas.{are_other, is_same, same-itself}
 
 -- ---- a list of peers
 
-either-false : (a b : Bool) → (a || b) ≡ false → (a ≡ false) × (b ≡ false)
+pub either-false : (a b : Bool) → (a || b) ≡ false → (a ≡ false) × (b ≡ false)
 either-false true b is = absurd (false≢true (sym is))
 either-false false b is = (refl, is)
 
@@ -343,7 +343,7 @@ peer-taken old new at name peer text more kept last within found stands up own o
 
 -- ---- seats that are taken from a list one by one
 
-is-first : {X : Type 0} (old new : List X) (given : Option X) (x : X) → given ≡ Some x → old ≡ option_to_list given ++ new → old ≡ x ∷ new
+pub is-first : {X : Type 0} (old new : List X) (given : Option X) (x : X) → given ≡ Some x → old ≡ option_to_list given ++ new → old ≡ x ∷ new
 is-first old new given x is items = items ∙ ap (λ it. option_to_list it ++ new) is
 
 pub first-holds : {X : Type 0} (P : X → Type 0) (old new : List X) (given : Option X) (x : X) → given ≡ Some x → old ≡ option_to_list given ++ new → All P old → P x
@@ -353,12 +353,3 @@ pub rest-hold : {X : Type 0} (P : X → Type 0) (old new : List X) (given : Opti
 rest-hold P old new given x is items all =
     let of_all = subst (λ it. All P it) (is-first old new given x is items) all in
     λ k d less. of_all (suc k) d (omega (arith, less))
-
-all-last : {X : Type 0} (P : X → Type 0) (front : List X) (x : X) → All P (front ++ x ∷ []) → P x
-all-last P [] x all = all 0 x (omega arith)
-all-last P (y ∷ front) x all = all-last P front x (λ k d less. all (suc k) d (omega (arith, less)))
-
--- the last one
-pub last-holds : {X : Type 0} (P : X → Type 0) (all front : List X) (given : Option X) (x : X) → given ≡ Some x → all ≡ front ++ option_to_list given → All P all → P x
-last-holds P all front given x is items holds =
-    all-last P front x (subst (All P) (items ∙ ap (λ it. front ++ option_to_list it) is) holds)

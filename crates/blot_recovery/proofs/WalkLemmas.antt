@@ -8,11 +8,11 @@ use Rattle.blot_tag.specs.Looking.{look_of}
 use Rattle.blot_tag.proofs.FrameLemmas.{look_of-frame, look_of-neither, look_of-not_garbled, look_of-ok, look_of-prefix}
 use Rattle.blot_tag.proofs.PlaceLemmas.{passed-within}
 use Rattle.blot_tag.specs.Joined.{HasLastFrame, IsWhole}
-use Rattle.blot_tag.specs.Reading.{Advances, FindsNone, GarbledBefore, Reading, TakesFirst, counted}
+use Rattle.blot_tag.specs.Reading.{Advances, GarbledBefore, Reading, TakesFirst, counted}
 use Rattle.blot_diary.specs.declared.kept.Beginning.{Beginning}
 use Rattle.blot_recovery.specs.declared.fault.RecoverFault.{RecoverFault}
 use Rattle.blot_recovery.specs.declared.fault.RecoverFault.TheVariants.{NoMemory, Unreadable, Another, Unlisted, Damaged}
-use Rattle.blot_recovery.specs.Faults.{HasRefused, IsFaultOf, IsOfNoText}
+use Rattle.blot_recovery.specs.Faults.{HasRefused}
 use Rattle.blot_recovery.specs.Moments.{IsOrWasRead}
 use Rattle.blot_recovery.specs.Walking.{IsFaultIn, IsTakenBy, IsTakenTo, RefusesBehind}
 use Rattle.blot_recovery.proofs.FrameLemmas.{whole-nil}
@@ -44,15 +44,6 @@ module _ {T : Type 0} (After : T → List ℕ → T → Type 0) (first : T) wher
       let none : left ≡ [] = nothing left (omega (arith, end, so.place_is, ap length so.joined, length-append so.before left)) in
       let all : so.before ≡ text = sym (so.joined ∙ ap (λ left. so.before ++ left) none ∙ append-nil so.before) in
       (subst IsWhole all so.whole, subst (λ text. After first text now) all so.after)
-
--- a fault that isn't the text's
-pub fault-elsewhere : (IsOther : Beginning → Type 0) (Stands : List ℕ → Type 0) (Refuses : List ℕ → List ℕ → RecoverFault → Type 0) (text : List ℕ) (fault : RecoverFault)
-    → IsOfNoText fault → IsFaultOf IsOther Stands Refuses text fault
-fault-elsewhere IsOther Stands Refuses text NoMemory of = tt
-fault-elsewhere IsOther Stands Refuses text Unreadable of = tt
-fault-elsewhere IsOther Stands Refuses text (Another found) of = absurd of
-fault-elsewhere IsOther Stands Refuses text (Unlisted peer) of = absurd of
-fault-elsewhere IsOther Stands Refuses text (Damaged at) of = absurd of
 
 module _ {T : Type 0} (After : T → List ℕ → T → Type 0) (IsOther : T → List ℕ → Beginning → Type 0) (Refuses : T → List ℕ → RecoverFault → Type 0) (first : T) (text : List ℕ) where
   refused : (frame behind : List ℕ) (place : ℕ) (now : T) (fault : RecoverFault) → IsFrame frame → Refuses now frame fault → IsTakenTo After first text (frame ++ behind) place now
@@ -152,11 +143,6 @@ pub clean-frame : (old new : Reading) (frame : List ℕ) → TakesFirst old fram
 clean-frame old new frame taken before after =
     let none : taken.passed ≡ 0 = omega (arith, taken.skipped, before, after) in
     ap (λ n. drop n old.unread) (sym none) ∙ taken.bytes
-
-pub clean-none : (old new : Reading) → FindsNone old new → old.skipped ≡ 0 → new.skipped ≡ 0 → old.unread ≡ new.unread
-clean-none old new found before after =
-    let none : found.passed ≡ 0 = omega (arith, found.skipped, before, after) in
-    ap (λ n. drop n old.unread) (sym none) ∙ found.bytes
 
 -- ---- the next frame, if there is one
 

@@ -25,6 +25,8 @@ use Rattle.blot_position.proofs.PositionLemmas.{has_cell-with_part, same_positio
 use Rattle.blot_report.specs.Day.{day_parts_of}
 use Rattle.blot_report.specs.Lines.{position_key}
 use Rattle.blot_command.specs.Standings.{standing_of}
+use Rattle.blot_command.proofs.PositionLineLemmas.{line-of}
+use Rattle.blot_command.proofs.AllocNeedLemmas.{or-turned}
 use Rattle.blot_report.specs.Standings.{between, moves_among, part_on, parts_among, parts_between, terms_among, terms_on}
 use Rattle.blot_report.specs.Sums.{with_sums, AddsSums, LeavesHalf, MadeOf, ShowsParts}
 use Rattle.blot_report.proofs.ListLemmas.{any-mapped, flat-append}
@@ -173,12 +175,6 @@ ones : (parts : List Part) → total (λ part. pos 1) parts ≡ pos (length part
 ones [] = refl
 ones (part ∷ parts) = omega (arith, ints, total-cons (λ (p : Part). pos 1) part parts, ones parts)
 
-line-of : (parts : List Part) (sums : Sums) → pos sums.parts ≡ pos (length parts) → sums.qty ≡ total (λ p. p.qty) parts → sums.value ≡ total (λ p. p.value) parts → line_by sums ≡ position_by parts
-line-of [] sums count qty value = let none : sums.parts ≡ 0 = omega (arith, ints, count) in rw (eq-eqb sums.parts 0 none) refl
-line-of (part ∷ parts) sums count qty value =
-    let some : (sums.parts == 0) ≡ false = ne_eqb sums.parts 0 (λ none. omega (arith, ints, count, none)) in
-    rw some (λ k. Some (record { qty = qty k; value = value k }))
-
 -- sums are those of parts
 record SumUp (parts : List Part) (sums : Sums) : Type 0 where
   count : pos sums.parts ≡ pos (length parts)
@@ -245,12 +241,6 @@ shows-both first second both own others cells one two adds are = record {
 
 -- ---- the parts of the entries before a place and from it on
 
-turned : (a b c d : Bool) → ((a || b) || (c || d)) ≡ ((a || c) || (b || d))
-turned true b c d = refl
-turned false true true d = refl
-turned false true false d = refl
-turned false false c d = refl
-
 cut : (list : List Entry) (middle : ℕ) → list ≡ between list 0 middle ++ between list middle (length list)
 cut list middle = sym (ap (λ back. take middle list ++ drop middle back) (take_all (length list) list (omega arith)) ∙ take-append-drop middle list)
 
@@ -274,7 +264,7 @@ parts-cut list day middle =
           ∙ omega (arith, ints, total-append f (a ++ b) (c ++ d), total-append f a b, total-append f c d, total-append f a c, total-append f b d);
       any = λ p.
           let any = list_any-append p in
-          ap (list_any p) whole ∙ any (a ++ b) (c ++ d) ∙ (λ i. any a b i || any c d i) ∙ turned (list_any p a) (list_any p b) (list_any p c) (list_any p d)
+          ap (list_any p) whole ∙ any (a ++ b) (c ++ d) ∙ (λ i. any a b i || any c d i) ∙ or-turned (list_any p a) (list_any p b) (list_any p c) (list_any p d)
           ∙ sym (λ i. any a c i || any b d i);
     }
 

@@ -16,7 +16,8 @@ use Rattle.blot_command.specs.Standings.{standing_of}
 use Rattle.blot_report.specs.Standings.{between, moves_among, part_on, parts_among, terms_among, terms_on}
 use Rattle.blot_report.proofs.StandingLemmas.{flat-mapped, parts-told, terms-told}
 use Rattle.blot_report.proofs.ListLemmas.{behind, between-few, between-none, flat-more, found-few, flat_found-more, more, All-between, all-mapped}
-use Rattle.blot_report.proofs.WeightLemmas.{Books, IsLight, books-on, few-entries, light-front, light-with}
+use Rattle.blot_command.proofs.ReadyLemmas.{length-book}
+use Rattle.blot_report.proofs.WeightLemmas.{Books, IsLight, books-on, light-front, light-with}
 
 -- ---- the moves of lines
 
@@ -55,7 +56,7 @@ light-told list day first after place book small fit =
     let terms = found-few (λ e. terms_on day (standing_of list e) e) (between list first place) in
     let some = between-few list first after in
     let others = between-few list first place in
-    let entries = few-entries list book in
+    let entries = length-book list book in
     light-with (parts_among list day (between list first after)) (terms_among list day (between list first place)) small (omega (arith, fills, some, entries)) fit
     (books-told list day first place book) (omega (arith, terms, others, entries))
 

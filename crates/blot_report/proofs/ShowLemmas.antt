@@ -12,6 +12,7 @@ use Rattle.blot_types.specs.declared.part.Part.{Part}
 use Rattle.blot_types.specs.declared.lines.PositionLine.{PositionLine}
 use Rattle.blot_types.specs.Keys.{same_order, same_text, position_cmp}
 use Rattle.blot_types.proofs.KeyLemmas.{position_cmp-exact}
+use Rattle.blot_types.proofs.AcceptLemmas.{or-false}
 use Rattle.blot_types.specs.Order.{line_of, fills_of}
 use Rattle.blot_types.specs.Position.{is_at, position_by}
 use Rattle.blot_position.proofs.PositionLemmas.{same_position-true}
@@ -28,13 +29,9 @@ use Rattle.blot_report.specs.Lines.{order_cmp, orders_among, order_rows, positio
 
 -- ---- what is among keys
 
-or-parts : (a b : Bool) → (a || b) ≡ false → (a ≡ false) × (b ≡ false)
-or-parts true b none = cc
-or-parts false b none = (refl, none)
-
 filter-none : {A : Type 0} (p : A → Bool) (xs : List A) → list_any p xs ≡ false → filter p xs ≡ []
 filter-none p [] none = refl
-filter-none p (x ∷ xs) none = (let parts = or-parts (p x) (list_any p xs) none in rw parts.0 (filter-none p xs parts.1))
+filter-none p (x ∷ xs) none = (let parts = or-false (p x) (list_any p xs) none in rw parts.0 (filter-none p xs parts.1))
 
 -- ---- what is found among rows
 

@@ -17,7 +17,6 @@ use Rattle.blot_types.specs.Position.{moves_of, IsSmall, TermsFit}
 use Rattle.blot_types.specs.Refusals.{booked}
 use Rattle.blot_types.proofs.BookedLemmas.{BooksBlock, books_blocks}
 use Rattle.blot_types.proofs.ChangeLemmas.{allocations_in}
-use Rattle.blot_types.proofs.LegalLemmas.{length_numbered}
 use Rattle.blot_command.proofs.ReachLemmas.{sizes}
 use Rattle.blot_command.proofs.WeightLemmas.{are_booked}
 use Rattle.blot_report.specs.Day.{is_allocated_on, allocations_on}
@@ -100,7 +99,3 @@ pub books-on : (list : List Entry) (day : Option ℤ) → is_book list ≡ true 
 books-on list day book =
     All-filter (is_allocated_on day) BooksBlock (live_allocations list)
     (All-filter (λ a. is_none (ended_in (instructions_of list) a.key)) BooksBlock (allocations_in list) (books_blocks list (and_parts _ _ book).1))
-
--- the entries of a book are few
-pub few-entries : (list : List Entry) → is_book list ≡ true → length list ≤ EVENTS_MAX + 1
-few-entries list book = length_numbered list (and_parts _ _ book).0

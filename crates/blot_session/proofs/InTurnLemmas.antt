@@ -23,9 +23,10 @@ use Rattle.blot_session.specs.declared.state.State.{State}
 use Rattle.blot_session.specs.Calls.{Outcome, GivesCommand, ending, is_spent, carried_out, outcome_of, on_frame, on_reply, reply_row_by}
 use Rattle.blot_session.specs.InTurn.{is_about_fill, is_on, is_report_in_turn, delivering, is_of_report, is_taken, is_report_taken}
 use Rattle.blot_session.specs.Rows.{is_from_peer, report_row, body_row, expected_row, number_row, message_row, peer_row, head_row, on_row, frame_row_by, reply_row}
-use Rattle.blot_session.specs.States.{awaiting, heard, changed, counted, answered, awaited_of, awaited_by, IsAwaiting, IsState}
+use Rattle.blot_session.specs.States.{awaiting, heard, counted, answered, awaited_of, IsAwaiting, IsState}
 use Rattle.blot_session.specs.Table.{acts, delivers, silent}
 use Rattle.blot_session.proofs.RowLemmas.{message}
+use Rattle.blot_session.proofs.StateLemmas.{answered-idle}
 
 -- ---- the row
 
@@ -180,11 +181,6 @@ report_counted state reply now is =
     ∙ cond_both (is_spent state row) _ _ (λ (outcome : Outcome). outcome ≡ carried_out row None now)
     (λ y. absurd (false≢true (sym (silent-unspent state (counted (answered state))) ∙ y)))
     (λ n. refl))
-
-answered-idle : (link : Link) → awaited_by (changed (λ live. record live { awaited = None }) link) ≡ None
-answered-idle links.Waiting = refl
-answered-idle (links.On live) = refl
-answered-idle links.Closed = refl
 
 pub counted_state : (state : State) → IsState state → IsAwaiting state → IsState (counted (answered state))
 counted_state state within awaiting =

@@ -9,4 +9,4 @@ mod Rows
 mod RunLemmas
 pub mod SendingLemmas
 mod StateLemmas
-mod TextLemmas
+pub mod TextLemmas

@@ -29,7 +29,7 @@ use Rattle.blot_session.proofs.StateLemmas.{spoken-awaited, steps-grow, unspent-
 
 -- ---- what is sent changes no expected number, and nothing that is awaited
 
-behind_all-expected : (messages : List Outbound) (state : State) (now : ℤ) → (behind_all state messages now).expected ≡ state.expected
+pub behind_all-expected : (messages : List Outbound) (state : State) (now : ℤ) → (behind_all state messages now).expected ≡ state.expected
 behind_all-expected [] state now = refl
 behind_all-expected (message ∷ messages) state now = behind_all-expected messages (behind state message now) now
 
@@ -234,7 +234,7 @@ record Settled (state : State) (reply : Result SeenReply NotTaken) (next : Outco
   pub not_taken : (fault : NotTaken) → reply ≡ Err fault → next.state.expected ≡ state.expected
   pub idle : IsIdle next.state
 
-unspent : (state : State) (row : Row) → state.next ≤ LAST_NUMBER → is_spent state row ≡ false
+pub unspent : (state : State) (row : Row) → state.next ≤ LAST_NUMBER → is_spent state row ≡ false
 unspent state row low = elim (cases_Bool (nat_lt LAST_NUMBER state.next)) [
   | inl y ↦ absurd (omega (arith, low, ltb-true LAST_NUMBER state.next y))
   | inr n ↦ ap (λ past. past && acts row) n

@@ -2,7 +2,7 @@
 use Rattle.std.proofs.Common.{◌≡◌, ℕ, ◌+◌, ◌≤◌, Bool, true, false, List, [], ◌∷◌, ◌++◌, Option, Some, None, Result, Ok, Err, refl, sym, ap, subst, ◌∙◌, inl, inr, arith}
 use Rattle.std.specs.Prelude.{◌≢◌, ◌⊎◌, ◌==◌, ℤ, nat_lt, ◌&&◌, is_some, if◌then◌else◌}
 use Rattle.std.specs.List.{list_all}
-use Rattle.std.proofs.lemmas.Bool.{cases_Bool, cond-false, cond_both, false≢true, ltb-true}
+use Rattle.std.proofs.lemmas.Bool.{cond-false, cond_both, false≢true}
 use Rattle.blot_fields.specs.declared.admin.Admin.TheVariants as admin
 use Rattle.blot_fields.specs.declared.fault.FieldFault.{FieldFault}
 use Rattle.blot_fields.specs.declared.head.Head.{Head}
@@ -35,7 +35,7 @@ use Rattle.blot_session.specs.Sending.{CountUp, all_sent, is_of_connection, numb
 use Rattle.blot_session.specs.States.{IsAwaiting, IsIdle, awaited_by, awaited_of, changed, closed, phase_by, phase_of}
 use Rattle.blot_session.specs.Table.{acts, messages_of, silent}
 use Rattle.blot_session.proofs.RowLemmas.{is_delivery, frame-moves}
-use Rattle.blot_session.proofs.RunLemmas.{behind_all-awaited}
+use Rattle.blot_session.proofs.RunLemmas.{behind_all-awaited, unspent, behind_all-expected}
 use Rattle.blot_session.proofs.StateLemmas.{Rests, Settles, idle-none, settles, steps-grow, stop-rests, tick-rests, unspent-last}
 
 -- ---- a call of a connection
@@ -86,10 +86,6 @@ counts ((AllocationAck id reply) ∷ messages) next = (refl, counts messages (ne
 behind_all-next : (messages : List Outbound) (state : State) (now : ℤ) → (behind_all state messages now).next ≡ next_from state.next messages
 behind_all-next [] state now = refl
 behind_all-next (message ∷ messages) state now = behind_all-next messages (behind state message now) now
-
-behind_all-expected : (messages : List Outbound) (state : State) (now : ℤ) → (behind_all state messages now).expected ≡ state.expected
-behind_all-expected [] state now = refl
-behind_all-expected (message ∷ messages) state now = behind_all-expected messages (behind state message now) now
 
 spoken-phase : (now : ℤ) (link : Link) → phase_by (changed (λ live. record live { sent = now }) link) ≡ phase_by link
 spoken-phase now links.Waiting = refl
@@ -348,12 +344,6 @@ declined-shut : (state : State) (found : Option Awaited) (fault : NotTaken) → 
 unfolding reply_row
 declined-shut state (Some awaited) fault is = refl
 declined-shut state None fault is = absurd (false≢true is)
-
-unspent : (state : State) (row : Row) → state.next ≤ LAST_NUMBER → is_spent state row ≡ false
-unspent state row low = elim (cases_Bool (nat_lt LAST_NUMBER state.next)) [
-  | inl y ↦ absurd (omega (arith, low, ltb-true LAST_NUMBER state.next y))
-  | inr n ↦ ap (λ past. past && acts row) n
-]
 
 -- ---- a call
 

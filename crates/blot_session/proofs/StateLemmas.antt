@@ -270,7 +270,7 @@ pub record Settles (state : State) (reply : Result SeenReply NotTaken) (row : Ro
   pub idle : IsIdle row.state
   pub end : is_delivery row.end ≡ false
 
-answered-idle : (link : Link) → awaited_by (changed (λ live. record live { awaited = None }) link) ≡ None
+pub answered-idle : (link : Link) → awaited_by (changed (λ live. record live { awaited = None }) link) ≡ None
 answered-idle links.Waiting = refl
 answered-idle (links.On live) = refl
 answered-idle links.Closed = refl

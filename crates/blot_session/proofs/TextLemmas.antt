@@ -1,6 +1,6 @@
 -- What a session writes is short and printable: no field is refused.
-use Rattle.std.proofs.Common.{◌≡◌, ℕ, ◌+◌, ◌^◌, ◌<◌, ◌≤◌, true, false, not, ◌&&◌, leb, List, [], ◌∷◌, ◌++◌, zero, suc, ◌/◌, ◌%◌, length, None, refl, ap, subst, ◌∙◌, arith, append_assoc, length-append, inl, inr, lit<, rules, get_or}
-use Rattle.std.specs.Prelude.{nat_lt, codes, ℤ, fold}
+use Rattle.std.proofs.Common.{◌≡◌, ℕ, ◌+◌, ◌^◌, ◌<◌, ◌≤◌, true, false, not, ◌&&◌, leb, List, [], ◌∷◌, ◌++◌, zero, suc, ◌/◌, ◌%◌, length, None, refl, ap, subst, ◌∙◌, arith, append_assoc, length-append, inl, inr, lit<, get_or}
+use Rattle.std.specs.Prelude.{nat_lt, codes, ℤ}
 use Rattle.std.specs.Char.{is_ascii_digit}
 use Rattle.std.specs.Fmt.{decimal}
 use Rattle.std.specs.List.{list_all}
@@ -10,8 +10,7 @@ use Rattle.std.proofs.lemmas.List.{append-nil}
 use Rattle.std.proofs.lemmas.List.Concat.{flat_map-append}
 use Rattle.std.proofs.lemmas.List.Folds.{list_all-append, list_any_none}
 use Rattle.std.proofs.lemmas.List.Sums.{AllPass-from_list_all, list_all-from_AllPass}
-use Rattle.std.proofs.lemmas.Str.Parse.{IsNumeralModel, numerals_by_fold}
-use Rattle.blot_tag.specs.Bytes.{is_soh, number_of, with_digit}
+use Rattle.blot_tag.specs.Bytes.{is_soh}
 use Rattle.blot_tag.specs.FieldText.{field_text}
 use Rattle.blot_tag.specs.Fields.{TagValue}
 use Rattle.blot_tag.specs.Writing.{Written, IsWriteFault, begun, body_of, kind_field, with_field, refusal_of, is_data_tag, is_own_tag, has_soh}
@@ -22,12 +21,13 @@ use Rattle.blot_time.specs.Clock.{clock_text}
 use Rattle.blot_time.specs.Day.{day_text}
 use Rattle.blot_time.specs.Digits.{padded}
 use Rattle.blot_time.specs.Moment.{moment_text, utc_day, since_midnight}
+use Rattle.blot_tag.proofs.FieldTextLemmas.{numeral}
 use Rattle.blot_types.specs.Text.{printable, is_text}
 use Rattle.blot_session.specs.Outbound.{field, is_plain_tag}
 
 -- ---- a text has no SOH
 
-printable-soh : (byte : ℕ) → printable byte ≡ true → is_soh byte ≡ false
+pub printable-soh : (byte : ℕ) → printable byte ≡ true → is_soh byte ≡ false
 printable-soh byte is =
     let low = leb-true 0x20 byte (and_parts (leb 0x20 byte) (leb byte 0x7E) is).0 in
     ne_eqb byte 1 (λ same. omega (arith, same))
@@ -125,9 +125,6 @@ digit-printable byte is =
     let low = leb-true 48 byte parts.0 in
     let high = leb-true byte 57 parts.1 in
     printable-between byte (omega (arith, low)) (omega (arith, high))
-
-numeral : IsNumeralModel (λ digits. list_all is_ascii_digit digits ≡ true) number_of
-numeral = numerals_by_fold _ (search rules) (fold with_digit) (search rules)
 
 pub decimal_is_text : (n : ℕ) → n < 2 ^ 64 → is_text (decimal n) ≡ true
 decimal_is_text n small =

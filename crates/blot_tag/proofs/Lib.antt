@@ -1,7 +1,7 @@
 -- What the proofs of the functions share.
 mod ByteLemmas
 mod FieldLemmas
-mod FieldTextLemmas
+pub mod FieldTextLemmas
 mod MatchLemmas
 mod SizeLemmas
 mod StepLemmas

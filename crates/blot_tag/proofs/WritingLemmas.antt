@@ -17,7 +17,7 @@ use Rattle.blot_tag.specs.FieldText.{field_text, fields_text}
 use Rattle.blot_tag.specs.Frames.{head, three_digits, trailer_of, front_of, IsBodyLength, IsBody, IsFrame}
 use Rattle.blot_tag.specs.Results.{◌>>=◌}
 use Rattle.blot_tag.specs.Walking.{walk_of, takes}
-use Rattle.blot_tag.specs.Writing.{Written, kind_field, body_of, front_text, frame_of, begin_field, length_field, check_sum_field, frame_fields, begun, with_field, refusal_of, last_of, last_field, is_data_tag, has_soh, IsLengthOf, MayFollow, first_value, written_of, Follows, EachFollows, IsWritten, IsBodyText}
+use Rattle.blot_tag.specs.Writing.{Written, kind_field, body_of, front_text, frame_of, begin_field, length_field, check_sum_field, frame_fields, begun, with_field, refusal_of, last_of, last_field, is_data_tag, has_soh, IsLengthOf, MayFollow, value_of_first, written_of, Follows, EachFollows, IsWritten, IsBodyText}
 use Rattle.blot_tag.specs.declared.look.TheConstants.{SIZE_MAX}
 use Rattle.blot_tag.specs.declared.field.SplitFault.{SplitFault}
 use Rattle.blot_tag.proofs.FieldLemmas.{items_behind-nil, items_behind-of}
@@ -219,7 +219,7 @@ written_of-body written is =
     ap fields_before_fault (fields_of-written first written.fields [] (lit≤ tt) (lit< tt) is.plain is.follow)
     ∙ fields_before_fault-map (first ∷ (written.fields ++ last ∷ [])) in
     let count : length (first ∷ (written.fields ++ last ∷ [])) - 2 ≡ length written.fields = omega (arith, length_push written.fields last) in
-    ap (λ fields. record { kind = first_value fields; fields = take (length fields - 2) (drop 1 fields) }) found
+    ap (λ fields. record { kind = value_of_first fields; fields = take (length fields - 2) (drop 1 fields) }) found
     ∙ ap (λ n. record { kind = written.kind; fields = take n (written.fields ++ last ∷ []) }) count
     ∙ ap (λ fields. record { kind = written.kind; fields = fields }) (take_at written.fields (last ∷ []) (length written.fields) refl)
 

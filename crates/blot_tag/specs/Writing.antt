@@ -105,15 +105,15 @@ IsWriteFault (Some refusal) fault = fault ≡ refusal
 IsWriteFault None fault = fault ≡ NoMemory
 
 -- the value of the first of some fields
-abbrev pub first_value : List TagValue → List ℕ
-first_value [] = []
-first_value (field ∷ fields) = field.value
+abbrev pub value_of_first : List TagValue → List ℕ
+value_of_first [] = []
+value_of_first (field ∷ fields) = field.value
 
 -- the message whose body this is: its fields, as a frame's are found
 unfoldable pub written_of : List ℕ → Written
 written_of body =
     let fields = fields_before_fault (fields_of (body ++ trailer_of [])) in
-    record { kind = first_value fields; fields = take (length fields - 2) (drop 1 fields) }
+    record { kind = value_of_first fields; fields = take (length fields - 2) (drop 1 fields) }
 
 -- a field stands well after the field `before`: it is read again as it was put
 pub record Follows (before field : TagValue) : Type 0 where

@@ -4,7 +4,7 @@ use Rattle.std.specs.Cmp.Lexicographic.{bytes_decides}
 use Rattle.std.specs.List.{All}
 use Rattle.std.specs.Map.{lookup, set_value}
 use Rattle.std.proofs.lemmas.Bool.{cases_Bool}
-use Rattle.std.proofs.lemmas.List.{append-nil, append_assoc}
+use Rattle.std.proofs.lemmas.List.{append_assoc}
 use Rattle.std.proofs.lemmas.List.Elements.{All-cons, All-head, All-nil, All-tail}
 use Rattle.indexmap.specs.IndexMap.{insert_entry}
 use Rattle.blot_types.specs.Keys.{same_text}
@@ -107,15 +107,6 @@ all-last P [] x all = all 0 x (omega arith)
 all-last P (y ∷ front) x all = all-last P front x (λ k d less. all (suc k) d (omega (arith, less)))
 
 -- ---- more seats
-
-pub grows-none : (seats : List (List Receipt)) → Grows seats seats
-grows-none seats = record { more = []; grown = sym (append-nil seats) }
-
-pub grows-on : (before between after : List (List Receipt)) (seat : List Receipt) → Grows before between → after ≡ between ++ seat ∷ [] → Grows before after
-grows-on before between after seat grows is = record {
-  more = grows.more ++ seat ∷ [];
-  grown = is ∙ ap (λ seats. seats ++ seat ∷ []) grows.grown ∙ append_assoc before grows.more (seat ∷ []);
-}
 
 pub grows-both : (before between after : List (List Receipt)) → Grows before between → Grows between after → Grows before after
 grows-both before between after first second = record {

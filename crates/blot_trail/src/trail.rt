@@ -7,8 +7,9 @@ ghost use Rattle.blot_trail.specs.Making.{behind_bytes, behind_line, finished, l
 ghost use Rattle.blot_trail.specs.TrailText.{IsToldOf, action_text, times, word_sum, word_sums};
 
 use crate::word::Word;
-use crate::wording::{put_became, put_bytes, put_head, put_number, put_sender, put_sent, put_sum};
+use crate::wording::{put_became, put_bytes, put_head, put_sender, put_sent, put_sum};
 use blot_capture::Became;
+use blot_console::put_number;
 use blot_fields::{FieldFault, Message};
 use blot_session::Action;
 use blot_tag::Frame;

@@ -4,12 +4,12 @@ ghost use Rattle.blot_tag.specs.Fields.{fields_of};
 ghost use Rattle.blot_tag.specs.Views.{text_of};
 ghost use Rattle.blot_fields.specs.Numbers.{head_in};
 ghost use Rattle.blot_fields.specs.Sender.{sender_of};
-ghost use Rattle.blot_console.specs.Replies.{told, number_text};
+ghost use Rattle.blot_console.specs.Replies.{told};
 ghost use Rattle.blot_trail.specs.TrailText.{IsToldOf};
 ghost use Rattle.blot_trail.specs.TrailText.{became_text, bytes_text, head_text, id_by, id_tag_of, met_text, sent_text, shown_byte, sum_text, word_or_dash};
 
 use blot_capture::Became;
-use blot_console::{Answer, answer_text};
+use blot_console::{Answer, answer_text, put_number, put_word};
 use blot_fields::{FieldFault, Message, first_text, head_in, sender_of};
 use blot_session::Met;
 use blot_tag::Frame;
@@ -108,15 +108,6 @@ pub(crate) fn put_became(alloc: Global, text: &mut Vec<u8>, became: &Became) -> 
     }
 }
 
-/// Adds a tab and a number at the end of a text.
-pub(crate) fn put_number(alloc: Global, text: &mut Vec<u8>, number: u64) -> Result<(), NoMemory>
-    ensures { OnOk result (text.new.items ≡ text.old.items ++ number_text number) }
-{
-    let word = format!(in alloc; "\t{number}")?;
-    text.extend_from_slice(word.as_bytes())?;
-    Ok(())
-}
-
 // Adds at the end of a text what a session made of a message, to the end of its line.
 fn put_met(alloc: Global, text: &mut Vec<u8>, met: Met) -> Result<(), NoMemory>
     ensures { OnOk result (text.new.items ≡ text.old.items ++ met_text met) }
@@ -144,15 +135,6 @@ fn put_met(alloc: Global, text: &mut Vec<u8>, met: Met) -> Result<(), NoMemory>
         }
     }
     text.push(b'\n')?;
-    Ok(())
-}
-
-// Adds a tab and a word at the end of a text.
-fn put_word(text: &mut Vec<u8>, word: &[u8]) -> Result<(), NoMemory>
-    ensures { OnOk result (text.new.items ≡ text.old.items ++ told word.now) }
-{
-    text.push(b'\t')?;
-    text.extend_from_slice(word)?;
     Ok(())
 }
 

@@ -41,7 +41,7 @@ same_root : (found : Option ExecKey) (root : ExecKey) (others : List ExecKey) �
 same_root None root others = refl
 same_root (Some other) root others = refl
 
-or-false : (a b : Bool) → (a || b) ≡ false → (a ≡ false) × (b ≡ false)
+pub or-false : (a b : Bool) → (a || b) ≡ false → (a ≡ false) × (b ≡ false)
 or-false true b none = cc
 or-false false b none = (refl, none)
 
@@ -69,7 +69,7 @@ among-append (key ∷ front) back root =
 roots-append : (links : List Link) (front back : List ExecKey) → roots_in links (front ++ back) ≡ roots_in links front ++ roots_in links back
 roots-append links front back = filter_map-append (root_in links) front back
 
-not_true : (b : Bool) → not b ≡ true → b ≡ false
+pub not_true : (b : Bool) → not b ≡ true → b ≡ false
 not_true true is = cc
 not_true false is = refl
 

@@ -4,7 +4,7 @@ use Rattle.std.specs.Prelude.{Bool, ◌&&◌, not, find, is_none, All}
 use Rattle.std.specs.List.{list_any}
 use Rattle.std.specs.Option.{option_map, option_map_or}
 use Rattle.std.proofs.lemmas.Bool.{cases_Bool, and_parts, and_from, and_left, not_from_false}
-use Rattle.std.proofs.lemmas.List.Elements.{All-nil, All-cons, All-head, All-tail, All-weaker}
+use Rattle.std.proofs.lemmas.List.Elements.{All-cons, All-head, All-tail, All-weaker}
 use Rattle.blot_types.specs.declared.allocation.AllocRole.{AllocRole}
 use Rattle.blot_types.specs.declared.allocation.AllocRole.TheVariants.{Allocates, Replaces, Cancels}
 use Rattle.blot_types.specs.declared.allocation.Instruction.{Instruction}
@@ -15,10 +15,11 @@ use Rattle.blot_types.proofs.AcceptLemmas.{unmapped}
 use Rattle.blot_types.proofs.ChainLemmas.{clash, differing, none_is}
 use Rattle.blot_types.proofs.InstructionLemmas.{follows, unknown_reference}
 use Rattle.blot_types.proofs.KeyLemmas.{same_alloc-true, same_alloc-refl, same_alloc-sym}
-use Rattle.blot_types.proofs.LiveLemmas.{find-none}
+use Rattle.blot_types.proofs.LawLemmas.{find-none}
 use Rattle.blot_types.proofs.AcceptOutLemmas.{unfound}
 use Rattle.blot_types.proofs.StayLemmas.{mapped-none}
 use Rattle.blot_types.proofs.VersionLemmas.{find-skip, any-none, none-any}
+use Rattle.blot_types.proofs.CorrectLemmas.{All-pairs}
 
 -- ---- plain lists
 
@@ -53,11 +54,6 @@ find-middle p (x ∷ xs) ys y here none =
       | inl first ↦ clash (rw first at none)
       | inr passed ↦ find-middle p xs ys y here (rw passed at none)
     ]
-
-All-both : {A : Type 0} (q r : A → Type 0) (xs : List A) → All q xs → All r xs → All (λ x. q x × r x) xs
-All-both q r [] first second = All-nil (λ x. q x × r x)
-All-both q r (x ∷ xs) first second =
-    All-cons (λ y. q y × r y) x xs (All-head q x xs first, All-head r x xs second) (All-both q r xs (All-tail q x xs first) (All-tail r x xs second))
 
 -- ---- keys and allocations
 
@@ -107,7 +103,7 @@ pub holder-out : (later front : List Instruction) (j : Instruction) (reference :
 holder-out later front j reference root none lost =
     let whole = later ++ j ∷ front in
     let rest = later ++ front in
-    let both = All-both (λ i. holds_beside whole reference root i ≡ false) (λ i. regains j root i ≡ false) whole
+    let both = All-pairs (λ i. holds_beside whole reference root i ≡ false) (λ i. regains j root i ≡ false) whole
     (unfound (holds_beside whole reference root) whole (unmapped (λ (i : Instruction). i.number) _ none)) (any-none (regains j root) whole lost) in
     mapped-none (λ (i : Instruction). i.number) _
     (find-none (holds_beside rest reference root) rest
@@ -128,7 +124,7 @@ holder-out later front j reference root none lost =
     ]) rest (All-less (λ i. (holds_beside whole reference root i ≡ false) × (regains j root i ≡ false)) later front j both)))
 
 -- what j ended is ended by it alone
-ends-refers : (key : AllocKey) (role : AllocRole) → ends key role ≡ true → reference_of role ≡ Some key
+pub ends-refers : (key : AllocKey) (role : AllocRole) → ends key role ≡ true → reference_of role ≡ Some key
 ends-refers key Allocates ended = cc
 ends-refers key (Replaces reference) ended = ap Some (same_alloc-true reference key ended)
 ends-refers key (Cancels reference) ended = ap Some (same_alloc-true reference key ended)

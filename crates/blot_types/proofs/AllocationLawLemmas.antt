@@ -19,7 +19,7 @@ use Rattle.blot_types.specs.Legal.{is_book}
 use Rattle.blot_types.specs.Order.{total}
 use Rattle.blot_types.specs.Position.{signed, from_house, part_of_line, moves_of_line, moves_of, part_of, parts_of, is_at, position_by}
 use Rattle.blot_types.specs.Survivors.{survivors}
-use Rattle.blot_types.proofs.AcceptLemmas.{instructed}
+use Rattle.blot_types.proofs.AcceptLemmas.{instructed, not_true}
 use Rattle.blot_types.proofs.InstructionLemmas.{named_once}
 use Rattle.blot_types.proofs.LawLemmas.{book_parts}
 use Rattle.blot_types.proofs.StandLemmas.{and-true, and-false}
@@ -44,10 +44,6 @@ total-next f p x xs =
     ]
 
 -- ---- each part is of one account
-
-not_true : (b : Bool) → not b ≡ true → b ≡ false
-not_true true is = cc
-not_true false is = refl
 
 not_here : (account first : List ℕ) (accounts : List (List ℕ)) → list_any (same_text account) (first ∷ accounts) ≡ false → (same_text account first ≡ false) × (list_any (same_text account) accounts ≡ false)
 not_here account first accounts none =

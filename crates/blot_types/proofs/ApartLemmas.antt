@@ -55,7 +55,7 @@ abbrev standing_number : List Link → ExecKey → Option ℕ
 standing_number links root = if is_none (bust_in links root) then current_in links root else None
 
 -- the number of a version, if there is one
-abbrev number_of : Option Version → Option ℕ
+abbrev pub number_of : Option Version → Option ℕ
 number_of found = option_map (λ version. version.number) found
 
 -- the version of a number

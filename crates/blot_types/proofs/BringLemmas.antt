@@ -28,7 +28,8 @@ use Rattle.blot_types.proofs.ChainLemmas.{differing}
 use Rattle.blot_types.proofs.ChangeLemmas.{is_named_root, allocations_in, allocations-push, named-held}
 use Rattle.blot_types.proofs.InstructionLemmas.{Follows, follows, ends-reference}
 use Rattle.blot_types.proofs.KeyLemmas.{same_alloc-true, same_alloc-refl, same_exec-true, same_exec-refl}
-use Rattle.blot_types.proofs.LiveLemmas.{turned, IsOfInstruction, of_instruction, IsTaken, all_taken, none_keyed, find-none, has_alloc_key, live-more, total-ended}
+use Rattle.blot_types.proofs.LawLemmas.{find-none}
+use Rattle.blot_types.proofs.LiveLemmas.{turned, IsOfInstruction, of_instruction, IsTaken, all_taken, none_keyed, has_alloc_key, live-more, total-ended}
 use Rattle.blot_types.proofs.NamedLemmas.{keyed-live, named-more, named-less}
 use Rattle.blot_types.proofs.StandLemmas.{and-true, and-false}
 use Rattle.blot_types.proofs.SumLemmas.{total-append, total-cons}

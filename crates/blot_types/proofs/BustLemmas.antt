@@ -7,7 +7,6 @@ use Rattle.std.proofs.lemmas.List.{reverse-append, reverse-reverse, append_assoc
 use Rattle.std.proofs.lemmas.List.Elements.{All-weaker, filter_map-append}
 use Rattle.blot_types.specs.declared.command.Bust.{Bust}
 use Rattle.blot_types.specs.declared.command.Command.{Command}
-use Rattle.blot_types.specs.declared.command.Command.TheVariants.{Bust as BustCommand}
 use Rattle.blot_types.specs.declared.command.Entry.{Entry}
 use Rattle.blot_types.specs.declared.keys.ExecKey.{ExecKey}
 use Rattle.blot_types.specs.declared.link.Link.{Link}
@@ -16,15 +15,12 @@ use Rattle.blot_types.specs.Chains.{root_in, current_in}
 use Rattle.blot_types.specs.Legal.{rises_in, refusal_in, legal_in, is_book, least_needing}
 use Rattle.blot_types.specs.Refusals.{listed_by, exec_references, version_in, current_fill, unknown_exec}
 use Rattle.blot_types.specs.Survivors.{links_in, version_of}
-use Rattle.blot_types.proofs.LawLemmas.{book_parts}
+use Rattle.blot_types.proofs.LawLemmas.{book_parts, bust_under}
 use Rattle.blot_types.specs.Withdrawal.{needed_in, IsBustUnneeded}
 use Rattle.blot_types.proofs.AcceptOutLemmas.{accepts, accepted, accepts-out, rootless-other, shaped, listed}
 use Rattle.blot_types.proofs.NeedLemmas.{blocked_in, IsStep, turned, found-first}
 use Rattle.blot_types.proofs.ChainOutLemmas.{bust-key}
 use Rattle.blot_types.proofs.LinkOutLemmas.{GoneLink, links-whole, chained-whole, root-gone, current-gone, answers-gone, uses-gone, IsOther, ShapeStays, AnyKey}
-
-abbrev pub as_entry : ℕ → Bust → Entry
-as_entry number bust = record { number = number; command = BustCommand bust }
 
 abbrev pub as_link : ℕ → Bust → Link
 as_link number bust = record { number = number; key = bust.key; role = Busts bust.reference }
@@ -34,15 +30,15 @@ then-agree f g None same = refl
 then-agree f g (Some a) same = same a
 
 -- it brings no version
-version_in-gone : (later front : List Entry) (number : ℕ) (bust : Bust) (n : ℕ) → version_in (later ++ front) n ≡ version_in (later ++ as_entry number bust ∷ front) n
+version_in-gone : (later front : List Entry) (number : ℕ) (bust : Bust) (n : ℕ) → version_in (later ++ front) n ≡ version_in (later ++ bust_under number bust ∷ front) n
 version_in-gone later front number bust n =
     ap (λ versions. find (λ v. v.number == n) versions)
-    (filter_map-append version_of later front ∙ sym (filter_map-append version_of later (as_entry number bust ∷ front)))
+    (filter_map-append version_of later front ∙ sym (filter_map-append version_of later (bust_under number bust ∷ front)))
 
-fill-gone : (later front : List Entry) (number : ℕ) (bust : Bust) (key : ExecKey) → GoneLink later front (as_entry number bust) (as_link number bust) → IsOther (as_link number bust) key
-    → current_fill (later ++ front) key ≡ current_fill (later ++ as_entry number bust ∷ front) key
+fill-gone : (later front : List Entry) (number : ℕ) (bust : Bust) (key : ExecKey) → GoneLink later front (bust_under number bust) (as_link number bust) → IsOther (as_link number bust) key
+    → current_fill (later ++ front) key ≡ current_fill (later ++ bust_under number bust ∷ front) key
 fill-gone later front number bust key gone other =
-    let k = as_entry number bust in
+    let k = bust_under number bust in
     let entries = later ++ k ∷ front in
     let others = later ++ front in
     let root = root_in (links_in entries) key in
@@ -52,21 +48,21 @@ fill-gone later front number bust key gone other =
     ∙ ap (option_map (λ version. version.fill)) (then-agree (version_in others) (version_in entries) (option_and_then (current_in (links_in entries)) root) (version_in-gone later front number bust))
 
 -- a Bust's own key has no root, so nothing refers to it
-pub rootless-bust : (later front : List Entry) (number : ℕ) (bust : Bust) → GoneLink later front (as_entry number bust) (as_link number bust) → root_in (links_in (later ++ as_entry number bust ∷ front)) bust.key ≡ None
+pub rootless-bust : (later front : List Entry) (number : ℕ) (bust : Bust) → GoneLink later front (bust_under number bust) (as_link number bust) → root_in (links_in (later ++ bust_under number bust ∷ front)) bust.key ≡ None
 rootless-bust later front number bust gone =
-    ap (λ ls. root_in ls bust.key) (links-whole later front (as_entry number bust) (as_link number bust) refl)
-    ∙ bust-key (links_in later) (links_in front) (as_link number bust) (chained-whole later front (as_entry number bust) (as_link number bust) gone) (λ root. refl)
+    ap (λ ls. root_in ls bust.key) (links-whole later front (bust_under number bust) (as_link number bust) refl)
+    ∙ bust-key (links_in later) (links_in front) (as_link number bust) (chained-whole later front (bust_under number bust) (as_link number bust) gone) (λ root. refl)
 
-refers-other : (later front : List Entry) (number : ℕ) (bust : Bust) (command : Command) → GoneLink later front (as_entry number bust) (as_link number bust)
-    → unknown_exec (later ++ as_entry number bust ∷ front) command ≡ None → All (IsOther (as_link number bust)) (exec_references command)
+refers-other : (later front : List Entry) (number : ℕ) (bust : Bust) (command : Command) → GoneLink later front (bust_under number bust) (as_link number bust)
+    → unknown_exec (later ++ bust_under number bust ∷ front) command ≡ None → All (IsOther (as_link number bust)) (exec_references command)
 refers-other later front number bust command gone rooted =
-    rootless-other (later ++ as_entry number bust ∷ front) bust.key command (rootless-bust later front number bust gone) rooted
+    rootless-other (later ++ bust_under number bust ∷ front) bust.key command (rootless-bust later front number bust gone) rooted
 
 -- what is accepted with it is accepted without it
-pub accepted-unbusted : (later front : List Entry) (number : ℕ) (bust : Bust) (command : Command) → legal_in (later ++ as_entry number bust ∷ front) ≡ true → legal_in (later ++ front) ≡ true
-    → refusal_in (later ++ as_entry number bust ∷ front) command ≡ None → refusal_in (later ++ front) command ≡ None
+pub accepted-unbusted : (later front : List Entry) (number : ℕ) (bust : Bust) (command : Command) → legal_in (later ++ bust_under number bust ∷ front) ≡ true → legal_in (later ++ front) ≡ true
+    → refusal_in (later ++ bust_under number bust ∷ front) command ≡ None → refusal_in (later ++ front) command ≡ None
 accepted-unbusted later front number bust command legal out is =
-    let k = as_entry number bust in
+    let k = bust_under number bust in
     let l = as_link number bust in
     let entries = later ++ k ∷ front in
     let others = later ++ front in
@@ -78,10 +74,10 @@ accepted-unbusted later front number bust command legal out is =
     (accepts-out (IsOther l) (ShapeStays entries others) AnyKey entries others command (answers-gone later front k l gone)
     (uses-gone later front k l gone command refers shapes) whole)
 
-pub bust-step : (number : ℕ) (bust : Bust) → IsStep (as_entry number bust)
+pub bust-step : (number : ℕ) (bust : Bust) → IsStep (bust_under number bust)
 bust-step number bust = λ later front command legal rise out is. ap is_none (accepted-unbusted later front number bust command legal out is)
 
-unneeded : (number : ℕ) (bust : Bust) (entries : List Entry) → needed_in (as_entry number bust) entries ≡ None
+unneeded : (number : ℕ) (bust : Bust) (entries : List Entry) → needed_in (bust_under number bust) entries ≡ None
 unneeded number bust [] = refl
 unneeded number bust (entry ∷ earlier) =
     let none : (nat_lt number entry.number && false) ≡ false = and_right (nat_lt number entry.number) false refl in
@@ -97,7 +93,7 @@ reverse-middle front back k =
 pub bust_unneeded : (list : List Entry) → IsTrue (is_book list) → IsBustUnneeded list
 bust_unneeded list book front back number bust is =
     let parts = book_parts list book in
-    let k = as_entry number bust in
+    let k = bust_under number bust in
     let later = reverse back in
     let earlier = reverse front in
     let whole : reverse list ≡ later ++ k ∷ earlier = ap reverse is ∙ reverse-middle front back k in

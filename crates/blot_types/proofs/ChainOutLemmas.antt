@@ -57,7 +57,7 @@ own-other links others gone key (Corrects reference) same fresh accepted =
     same reference (rooted-other others gone reference chain.0 fresh chain.1.root_is)
 own-other links others gone key (Busts reference) same fresh accepted = refl
 
-busts-other : (links others : List Link) (gone root : ExecKey) (role : Role) → SameRoots links others gone → taker_in others gone ≡ None → reference_refusal others role ≡ None → busts others root role ≡ busts links root role
+pub busts-other : (links others : List Link) (gone root : ExecKey) (role : Role) → SameRoots links others gone → taker_in others gone ≡ None → reference_refusal others role ≡ None → busts others root role ≡ busts links root role
 busts-other links others gone root Begins same fresh accepted = refl
 busts-other links others gone root (Corrects reference) same fresh accepted = refl
 busts-other links others gone root (Busts reference) same fresh accepted =

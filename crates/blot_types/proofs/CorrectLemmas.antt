@@ -344,7 +344,7 @@ wanted-block wanted block lines none =
 one-qty : {m n : ℕ} → pos m ≡ pos n → m ≡ n
 one-qty e = cc
 
-All-pairs : {A : Type 0} (q r : A → Type 0) (xs : List A) → All q xs → All r xs → All (λ x. q x × r x) xs
+pub All-pairs : {A : Type 0} (q r : A → Type 0) (xs : List A) → All q xs → All r xs → All (λ x. q x × r x) xs
 All-pairs q r [] first second = All-nil (λ x. q x × r x)
 All-pairs q r (x ∷ xs) first second =
     All-cons (λ y. q y × r y) x xs (All-head q x xs first, All-head r x xs second) (All-pairs q r xs (All-tail q x xs first) (All-tail r x xs second))

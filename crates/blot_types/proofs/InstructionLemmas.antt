@@ -40,7 +40,7 @@ filter-unfound p (x ∷ xs) none =
       | inr fails ↦ rw fails (filter-unfound p xs (rw fails at none))
     ]
 
-no_number : {X : Type 0} (f : X → ℕ) (found : Option X) → option_map f found ≡ None → found ≡ None
+pub no_number : {X : Type 0} (f : X → ℕ) (found : Option X) → option_map f found ≡ None → found ≡ None
 no_number f None none = refl
 no_number f (Some x) none = cc
 
@@ -93,7 +93,7 @@ follows earlier key role roots may =
 -- ---- a chain is named once
 
 -- a chain that an instruction names is held by no other live allocation
-named-free :
+pub named-free :
     (earlier : List Instruction) (reference : Option AllocKey) (root : ExecKey) (roots : List ExecKey)
     → list_all (λ r. is_none (other_holder_in earlier reference r)) roots ≡ true → list_any (λ named. same_exec named root) roots ≡ true
     → other_holder_in earlier reference root ≡ None

@@ -92,7 +92,7 @@ brought-one number (Some version) each = All-cons (λ v. v.number ≡ number) ve
 brought-number : (entry : Entry) → All (λ version. version.number ≡ entry.number) (versions_of (entry ∷ []))
 brought-number entry = brought-one entry.number (version_of entry) (version-number entry)
 
-find-none : {X : Type 0} (p : X → Bool) (xs : List X) → All (λ x. p x ≡ false) xs → find p xs ≡ None
+pub find-none : {X : Type 0} (p : X → Bool) (xs : List X) → All (λ x. p x ≡ false) xs → find p xs ≡ None
 find-none p [] none = refl
 find-none p (x ∷ xs) none =
     rw (All-head (λ y. p y ≡ false) x xs none) (find-none p xs (All-tail (λ y. p y ≡ false) x xs none))
@@ -282,7 +282,7 @@ links_of-append : (front back : List Entry) → links_of (front ++ back) ≡ lin
 links_of-append front back = ap links_in (reverse-append front back) ∙ filter_map-append link_of (reverse back) (reverse front)
 
 -- a Bust under a number
-abbrev bust_under : ℕ → Bust → Entry
+abbrev pub bust_under : ℕ → Bust → Entry
 bust_under number bust = record { number = number; command = BustCommand bust }
 
 -- it brings no version

@@ -6,7 +6,7 @@ use Rattle.std.specs.Option.{option_or}
 use Rattle.std.proofs.lemmas.Bool.{cases_Bool, and_parts}
 use Rattle.std.proofs.lemmas.Int.{ints}
 use Rattle.std.proofs.lemmas.List.{reverse-reverse, reverse-append, append-nil}
-use Rattle.std.proofs.lemmas.List.Elements.{All-nil, All-cons, All-head, All-tail, All-append, All-weaker, filter-append, filter_map-append}
+use Rattle.std.proofs.lemmas.List.Elements.{All-nil, All-cons, All-append, All-weaker, filter-append, filter_map-append}
 use Rattle.std.proofs.lemmas.List.Folds.{find-append}
 use Rattle.blot_types.specs.declared.allocation.Instruction.{Instruction}
 use Rattle.blot_types.specs.declared.command.Command.{Command}
@@ -25,7 +25,7 @@ use Rattle.blot_types.proofs.ChainLemmas.{differing, none_is}
 use Rattle.blot_types.proofs.ChangeLemmas.{allocations_in, allocations-push}
 use Rattle.blot_types.proofs.InstructionLemmas.{follows}
 use Rattle.blot_types.proofs.KeyLemmas.{same_alloc-true, same_alloc-refl}
-use Rattle.blot_types.proofs.LawLemmas.{filter-none}
+use Rattle.blot_types.proofs.LawLemmas.{filter-none, find-none}
 use Rattle.blot_types.proofs.NamedLemmas.{own-unended}
 use Rattle.blot_types.proofs.StandLemmas.{and-true, and-false}
 use Rattle.blot_types.proofs.SumLemmas.{total-filter}
@@ -33,7 +33,7 @@ use Rattle.blot_types.proofs.SurvivorLemmas.{filter-and}
 
 -- ---- lists
 
-or-nothing : {A : Type 0} (o : Option A) → option_or o None ≡ o
+pub or-nothing : {A : Type 0} (o : Option A) → option_or o None ≡ o
 or-nothing None = refl
 or-nothing (Some a) = refl
 
@@ -108,10 +108,6 @@ none_keyed instructions key allocations fresh taken =
           absurd (differing is none)
       | inr other ↦ other
     ]) allocations taken
-
-pub find-none : {X : Type 0} (p : X → Bool) (xs : List X) → All (λ x. p x ≡ false) xs → find p xs ≡ None
-find-none p [] none = refl
-find-none p (x ∷ xs) none = rw (All-head (λ y. p y ≡ false) x xs none) (find-none p xs (All-tail (λ y. p y ≡ false) x xs none))
 
 one_or_none : {X : Type 0} (p : X → Bool) (found : Option X) → filter p (cons_option found []) ≡ cons_option (find p (cons_option found [])) []
 one_or_none p None = refl

@@ -15,6 +15,7 @@ use Rattle.blot_types.proofs.ChangeLemmas.{named-held}
 use Rattle.blot_types.proofs.InstructionLemmas.{Follows, follows, holds-step, ends-reference, unknown_reference, unended, named_once}
 use Rattle.blot_types.proofs.KeyLemmas.{same_alloc-true, same_alloc-sym}
 use Rattle.blot_types.proofs.StandLemmas.{and-true, and-false}
+use Rattle.blot_types.proofs.SurvivorLemmas.{find-passes}
 
 -- ---- lists
 
@@ -63,14 +64,6 @@ any-agree-all p q [] agree = refl
 any-agree-all p q (x ∷ xs) agree =
     let here : p x ≡ q x = All-head (λ y. p y ≡ q y) x xs agree in
     rw (here, any-agree-all p q xs (All-tail (λ y. p y ≡ q y) x xs agree)) refl
-
-find-true : {X : Type 0} (p : X → Bool) (xs : List X) (x : X) → find p xs ≡ Some x → p x ≡ true
-find-true p [] x found = cc
-find-true p (y ∷ ys) x found =
-    elim (cases_Bool (p y)) [
-      | inl here ↦ (let same : Some y ≡ Some x = rw here at found in let one : y ≡ x = cc in ap p (sym one) ∙ here)
-      | inr passed ↦ find-true p ys x (rw passed at found)
-    ]
 
 -- ---- the new instruction itself
 
@@ -156,7 +149,7 @@ named-less instructions key t root instructed live found =
     let holds = holds_in instructions root in
     let keyed : Instruction → Bool = λ j. same_alloc key j.key in
     let stands = keyed-live instructions key t instructed live found in
-    let own : is_keyed key t ≡ true = find-true (is_keyed key) instructions t found in
+    let own : is_keyed key t ≡ true = find-passes (is_keyed key) instructions t found in
     let all_same = keyed-same key instructions t instructed found in
     elim (cases_Bool (is_among t.roots root)) [
       | inl named ↦

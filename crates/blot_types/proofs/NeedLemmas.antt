@@ -25,7 +25,7 @@ blocked_in k (entry ∷ earlier) =
 some-none : {m : ℕ} → Some m ≡ None → ⊥
 some-none e = cc
 
-and-true : (b : Bool) → (b && true) ≡ b
+pub and-true : (b : Bool) → (b && true) ≡ b
 and-true true = refl
 and-true false = refl
 

@@ -27,6 +27,7 @@ use Rattle.blot_types.proofs.LawLemmas.{filter-none, all, alone, stands-number, 
 use Rattle.blot_types.proofs.StandLemmas.{and-false}
 use Rattle.blot_types.proofs.SumLemmas.{total-map, total-filter, total-agree, total-same}
 use Rattle.blot_types.proofs.SurvivorLemmas.{IsCurrent, filter-and, find-passes, current-found}
+use Rattle.blot_types.proofs.AcceptLemmas.{not_true}
 
 -- ---- how large a part is
 
@@ -47,10 +48,6 @@ filter-passes p (x ∷ xs) =
       | inl passes ↦ rw passes (All-cons (λ y. p y ≡ true) x (filter p xs) passes (filter-passes p xs))
       | inr fails ↦ rw fails (filter-passes p xs)
     ]
-
-not_true : (b : Bool) → not b ≡ true → b ≡ false
-not_true true is = cc
-not_true false is = refl
 
 -- ---- the version that stands of a chain
 

@@ -18,10 +18,7 @@ use Rattle.blot_types.specs.Order.{cum_of}
 use Rattle.blot_types.specs.Refusals.{current_fill, booked, mismatch}
 use Rattle.blot_types.proofs.AcceptOutLemmas.{accepts}
 use Rattle.blot_types.proofs.ChainLemmas.{none_is}
-
--- the lines of an allocation book what its block is
-abbrev pub BooksItsBlock : Allocation → Type 0
-BooksItsBlock allocation = booked allocation.terms.lines ≡ pos allocation.terms.block
+use Rattle.blot_types.proofs.BookedLemmas.{BooksBlock}
 
 matched : (wanted block lines : ℤ) → mismatch wanted block lines ≡ None → lines ≡ block
 matched wanted block lines none =
@@ -36,17 +33,17 @@ matched wanted block lines none =
 
 books_found :
     (wanted : Terms → ℤ) (found : Option Allocation)
-    → option_and_then (λ terms. mismatch (wanted terms) (pos terms.block) (booked terms.lines)) (option_map (λ a. a.terms) found) ≡ None → IfSome found BooksItsBlock
+    → option_and_then (λ terms. mismatch (wanted terms) (pos terms.block) (booked terms.lines)) (option_map (λ a. a.terms) found) ≡ None → IfSome found BooksBlock
 books_found wanted None none = tt
 books_found wanted (Some a) none = matched (wanted a.terms) (pos a.terms.block) (booked a.terms.lines) none
 
-accepted_books : (entries : List Entry) (command : Command) → refusal_in entries command ≡ None → IfSome (allocation_of command) BooksItsBlock
+accepted_books : (entries : List Entry) (command : Command) → refusal_in entries command ≡ None → IfSome (allocation_of command) BooksBlock
 accepted_books entries command accepted =
     books_found (λ terms. cum_of (filter_map (current_fill entries) terms.execs)) (allocation_of command) (accepts entries command accepted).adding
 
 -- so do all those of a legal list
 abbrev pub EntryBooks : Entry → Type 0
-EntryBooks entry = IfSome (allocation_of entry.command) BooksItsBlock
+EntryBooks entry = IfSome (allocation_of entry.command) BooksBlock
 
 all_book_in : (entries : List Entry) → legal_in entries ≡ true → All EntryBooks (reverse entries)
 all_book_in [] legal = All-nil EntryBooks

@@ -380,7 +380,7 @@ pub replaced-by_entry :
 replaced-by_entry list entry number legal rise accepted replaced = replaced-link list entry (link_of entry) number refl legal rise accepted replaced
 
 -- no more executions stand than there are entries
-length-option : {X : Type 0} (o : Option X) (xs : List X) (n : ℕ) → length xs ≤ n → length (cons_option o xs) ≤ n + 1
+pub length-option : {X : Type 0} (o : Option X) (xs : List X) (n : ℕ) → length xs ≤ n → length (cons_option o xs) ≤ n + 1
 length-option None xs n short = omega (arith, short)
 length-option (Some x) xs n short = omega (arith, short)
 

@@ -1,26 +1,14 @@
 -- What busts a chain, once the Bust of another chain is taken out of the middle.
-use Rattle.std.proofs.Common.{◌≡◌, true, false, List, [], ◌∷◌, ◌++◌, None, refl, ap}
+use Rattle.std.proofs.Common.{◌≡◌, true, false, List, [], ◌∷◌, ◌++◌, None, refl}
 use Rattle.std.specs.Prelude.{is_none}
 use Rattle.std.proofs.lemmas.Bool.{and_parts}
 use Rattle.blot_types.specs.declared.keys.ExecKey.{ExecKey}
 use Rattle.blot_types.specs.declared.link.Link.{Link}
-use Rattle.blot_types.specs.declared.link.Role.{Role}
-use Rattle.blot_types.specs.declared.link.Role.TheVariants.{Begins, Corrects, Busts}
-use Rattle.blot_types.specs.Chains.{taker_in, root_in, is_root, busts, bust_in, link_refusal, reference_refusal, is_chained}
-use Rattle.blot_types.proofs.ChainLemmas.{none_is, accepted_key, accepted_root}
-use Rattle.blot_types.proofs.ChainOutLemmas.{SameRoots, key-out, rooted-other, root-out}
+use Rattle.blot_types.specs.Chains.{busts, bust_in, link_refusal, reference_refusal, is_chained}
+use Rattle.blot_types.proofs.ChainLemmas.{none_is, accepted_key}
+use Rattle.blot_types.proofs.ChainOutLemmas.{key-out, root-out, busts-other}
 
 -- ---- Busts
-
--- what an accepted link busts is the same without the one that goes
-busts-same :
-    (links others : List Link) (gone root : ExecKey) (role : Role) → SameRoots links others gone → taker_in others gone ≡ None → reference_refusal others role ≡ None
-    → busts others root role ≡ busts links root role
-busts-same links others gone root Begins same fresh accepted = refl
-busts-same links others gone root (Corrects reference) same fresh accepted = refl
-busts-same links others gone root (Busts reference) same fresh accepted =
-    let chain = accepted_root others reference (root_in others reference) accepted in
-    ap (is_root root) (same reference (rooted-other others gone reference chain.0 fresh chain.1.root_is))
 
 -- the newest of the links, in the whole list and without the one that goes
 record Newest (later front : List Link) (k link : Link) : Type 0 where
@@ -39,7 +27,7 @@ newest later front k link whole out =
       whole = wholes.1;
       out = outs.1;
       accepted = (accepted_key (later ++ k ∷ front) link.key link.role (none_is _ wholes.0)).1;
-      same = λ root. busts-same (later ++ k ∷ front) (later ++ front) k.key root link.role (root-out later front k wholes.1 outs.1) fresh accepted;
+      same = λ root. busts-other (later ++ k ∷ front) (later ++ front) k.key root link.role (root-out later front k wholes.1 outs.1) fresh accepted;
     }
 
 -- the others are busted by what busted them

@@ -21,7 +21,7 @@ pub use command::{AllocCancel, AllocNew, AllocReplace, Bust, Command, Correct, E
 pub use fill::{Fill, Sign};
 pub use items::Items;
 pub use keys::{AllocKey, ExecKey, OrderKey, PositionKey};
-pub use lines::{OrderLine, PositionLine, Version};
+pub use lines::{OrderLine, PositionLine, Version, leaves_of};
 pub use link::{Link, Role};
 pub use making::Making;
 pub use numbered::{Numbered, lesser};

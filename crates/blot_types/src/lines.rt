@@ -81,8 +81,8 @@ fn value_with(value: i128, fill: &Fill) -> i128
     value + fill.qty.times(fill.price).units()
 }
 
-// What is left of a size, never below 0.
-fn leaves_of(size: i128, cum: i128) -> i128
+/// What is left of a size, never below 0, both in units of 10^-6.
+pub fn leaves_of(size: i128, cum: i128) -> i128
     requires { pos 0 ≤ℤ cum }
     ensures { result ≡ int_max (pos 0) (size -ℤ cum) }
 {

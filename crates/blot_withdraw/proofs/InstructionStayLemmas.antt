@@ -6,8 +6,6 @@ use Rattle.std.specs.List.{cons_option}
 use Rattle.std.specs.Option.{option_map, option_map_or}
 use Rattle.std.proofs.lemmas.Bool.{cases_Bool, and_parts, not-true}
 use Rattle.std.proofs.lemmas.List.Elements.{All-nil, All-cons, All-head, All-tail, All-weaker}
-use Rattle.blot_types.specs.declared.allocation.AllocRole.{AllocRole}
-use Rattle.blot_types.specs.declared.allocation.AllocRole.TheVariants.{Allocates, Replaces, Cancels}
 use Rattle.blot_types.specs.declared.allocation.Instruction.{Instruction}
 use Rattle.blot_types.specs.declared.command.Command.{Command}
 use Rattle.blot_types.specs.declared.command.Command.TheVariants.{Trade, Correct, Bust, AllocNew, AllocReplace, AllocCancel, Withdraw}
@@ -23,7 +21,9 @@ use Rattle.blot_types.specs.Survivors.{links_in}
 use Rattle.blot_types.proofs.AcceptLemmas.{unmapped}
 use Rattle.blot_types.proofs.KeyLemmas.{same_alloc-true}
 use Rattle.blot_withdraw.proofs.SpareLemmas.{Spares, spares-newest, roots-spared}
-use Rattle.blot_types.proofs.StayLemmas.{mapped-none, filter_map-agree, unfound-among, find-stays, any-stays}
+use Rattle.blot_types.proofs.StayLemmas.{mapped-none, unfound-among, find-stays, any-stays}
+use Rattle.blot_types.proofs.LinkOutLemmas.{same-instruction}
+use Rattle.blot_types.proofs.AllocOutLemmas.{ends-refers}
 use Rattle.blot_withdraw.proofs.Split.{Split, IsFree}
 
 abbrev pub instruction_stays : Split → Instruction → Bool
@@ -48,21 +48,6 @@ referring links number (AllocNew new) i is = ap (λ o. option_map_or (λ j. refe
 referring links number (AllocReplace replace) i is = ap (λ o. option_map_or (λ j. reference_of j.role) o None) is
 referring links number (AllocCancel cancel) i is = ap (λ o. option_map_or (λ j. reference_of j.role) o None) is
 referring links number (Withdraw withdrawn) i is = ap (λ o. option_map_or (λ j. reference_of j.role) o None) is
-
--- the same instruction, where the executions that it lists have the same roots
-same-instruction :
-    (links others : List Link) (number : ℕ) (command : Command) → All (λ key. root_in others key ≡ root_in links key) (listed_by command)
-    → instruction_by others number command ≡ instruction_by links number command
-same-instruction links others number (Trade trade) same = refl
-same-instruction links others number (Correct correct) same = refl
-same-instruction links others number (Bust bust) same = refl
-same-instruction links others number (AllocNew new) same =
-    ap (λ roots. Some (record { number = number; key = new.key; role = Allocates; roots = roots })) (filter_map-agree (root_in others) (root_in links) new.terms.execs same)
-same-instruction links others number (AllocReplace replace) same =
-    ap (λ roots. Some (record { number = number; key = replace.key; role = Replaces replace.reference; roots = roots }))
-    (filter_map-agree (root_in others) (root_in links) replace.terms.execs same)
-same-instruction links others number (AllocCancel cancel) same = refl
-same-instruction links others number (Withdraw withdrawn) same = refl
 
 one-more :
     (split : Split) (entry : Entry) (earlier : List Entry) (found : Option Instruction) → instruction_by (links_in earlier) entry.number entry.command ≡ found
@@ -138,11 +123,6 @@ unended-stays split instructions key none =
     mapped-none (λ i. i.number) _
     (unfound-among (λ i. ends key i.role) (λ i. ends key i.role) (instruction_stays split) instructions (λ i stays is. is) (unmapped (λ i. i.number) _ none))
 
-ends-reference : (key : AllocKey) (role : AllocRole) → ends key role ≡ true → reference_of role ≡ Some key
-ends-reference key Allocates ended = cc
-ends-reference key (Replaces reference) ended = ap Some (same_alloc-true reference key ended)
-ends-reference key (Cancels reference) ended = ap Some (same_alloc-true reference key ended)
-
 -- what ended it stays with it
 ended-stays :
     (split : Split) (instructions : List Instruction) (key : AllocKey) → All (IsTied split) instructions → split.drops key ≡ false
@@ -151,7 +131,7 @@ ended-stays split instructions key tied stays =
     ap (option_map (λ i. i.number))
     (find-stays (λ i. ends key i.role) (instruction_stays split) instructions
     (All-weaker (IsTied split) (λ i. ends key i.role ≡ true → instruction_stays split i ≡ true)
-    (λ i with_it ended. ap not (with_it key (ends-reference key i.role ended) ∙ stays)) instructions tied))
+    (λ i with_it ended. ap not (with_it key (ends-refers key i.role ended) ∙ stays)) instructions tied))
 
 holds-stays :
     (split : Split) (instructions : List Instruction) (reference : Option AllocKey) (root : ExecKey) (i : Instruction) → All (IsTied split) instructions → instruction_stays split i ≡ true

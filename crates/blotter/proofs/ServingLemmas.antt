@@ -10,7 +10,6 @@ use Rattle.blot_desk.specs.Keeping.{kept_events}
 use Rattle.blot_gateway.specs.AtOnce.{AddsSubmits, EachAdds, are_submits}
 use Rattle.blot_gateway.proofs.AtOnceLemmas.{adds-none, adds-on, each-adds}
 use Rattle.blot_stream.proofs.ResultLemmas.{ok-says, on-ok}
-use Rattle.blot_operator.specs.OpenDay.{EndsOf}
 use Rattle.blot_operator.specs.Dialogue.{HeardOf, TellsOf, open_ways, seat_ways}
 use Rattle.blot_operator.specs.Seats.{Named}
 use Rattle.blot_rounds.proofs.RoundLemmas.{as-many}
@@ -85,10 +84,6 @@ tells-all answered input first last before after empty is all =
 -- an input that is left so
 pub at-end : {R : Type 0} (remaining : R → Option (List ℕ)) (left last : R) → IsAtEnd (remaining left) → left ≡ last → IsAtEnd (remaining last)
 at-end remaining left last ended same = subst (λ found. IsAtEnd (remaining found)) same ended
-
--- the same of an open day's
-pub ends-so : {R : Type 0} (remaining : R → Option (List ℕ)) (known : Option (List ℕ)) (left last : R) → EndsOf true known (remaining left) → left ≡ last → EndsOf true known (remaining last)
-ends-so remaining known left last ends same = subst (λ found. EndsOf true known (remaining found)) same ends
 
 -- a day that is served, of its rounds, its lines and its report, which leave the output so
 pub is-served : {W : Type 0} (contents : W → Option (List ℕ)) (round : List (List Receipt) → List (List Receipt) → Type 0) (rounds : ℕ) (input : Option (List ℕ))

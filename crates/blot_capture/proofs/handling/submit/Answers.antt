@@ -1,7 +1,7 @@
 use Rattle.std.proofs.Common.{[], ◌∷◌, Ok, sym, ap, subst, ◌∙◌}
 use Rattle.std.proofs.lemmas.Result.{err_from_is_err_and}
 use Rattle.blot_session.specs.Calls.{on_reply}
-use Rattle.blot_gateway.specs.Serving.{seen_by}
+use Rattle.blot_gateway.specs.Serving.{seen_reply}
 use Rattle.blot_capture.specs.Replay.{Stopped}
 use Rattle.blot_capture.proofs.DeskLemmas.{stopped-submitted}
 use Rattle.blot_capture.proofs.SessionLemmas.{replied}
@@ -10,14 +10,14 @@ use Rattle.blot_capture.proofs.handling.submit.Goals as goal
 pub returns-in_ok-told-in-Ok-clause-session : goal.returns-in_ok-told-in-Ok-clause-session
 returns-in_ok-told-in-Ok-clause-session g c =
     let reply = rw c.in-Ok.is at c.submit-answer.ensures.reply in
-    let seen = c.seen_by.ensures ∙ ap seen_by c.in-Ok.is in
+    let seen = c.seen_reply.ensures ∙ ap seen_reply c.in-Ok.is in
     c.in_ok-told-in-Ok.ensures.session
-    ∙ replied (g.D.TakesCommands.journal_of c.args.desk.now).book c.args.command.now c.in-Ok.reply c.seen_by.result c.args.session.now c.args.now reply seen
+    ∙ replied (g.D.TakesCommands.journal_of c.args.desk.now).book c.args.command.now c.in-Ok.reply c.seen_reply.result c.args.session.now c.args.now reply seen
 
 pub returns-in_ok-told-in-Ok-clause-handled : goal.returns-in_ok-told-in-Ok-clause-handled
 returns-in_ok-told-in-Ok-clause-handled g c =
     let reply = rw c.in-Ok.is at c.submit-answer.ensures.reply in
-    let seen = c.seen_by.ensures ∙ ap seen_by (c.in-Ok.is ∙ ap (λ r. Ok r) reply) in
+    let seen = c.seen_reply.ensures ∙ ap seen_reply (c.in-Ok.is ∙ ap (λ r. Ok r) reply) in
     (reply, c.in_ok-told-in-Ok.ensures.wanted ∙ ap (λ told. (on_reply c.args.session.now told c.args.now).actions) seen)
 
 pub returns-in_err-told-in-Ok-clause-err : goal.returns-in_err-told-in-Ok-clause-err

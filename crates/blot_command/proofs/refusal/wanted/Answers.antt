@@ -16,15 +16,15 @@ loop-key-preserved c =
     let high = c.loop-key.invariant.high in
     elim c.match-current_fill.branch [
       | in-Some w ↦
-          let fill : cum_of (cons_option (current_fill (reverse (entries_in c.args.slots.now)) c.key-item.result) []) ≡ pos w.in-Some.fill.qty =
-          ap (λ found. cum_of (cons_option found [])) (sym c.current_fill.ensures ∙ w.in-Some.is) ∙ one_fill w.in-Some.fill in
+          let fill : cum_of (cons_option (current_fill (reverse (entries_in c.args.slots.now)) c.key-item.result) []) ≡ pos w.in-Some.fill.now.qty =
+          ap (λ found. cum_of (cons_option found [])) (sym w.in-Some.ensures) ∙ one_fill w.in-Some.fill.now in
           let is = w.sum-is in
           let size = w.units.ensures in
           let units = w.from-sum.ensures in
           record { sum = omega (arith, ints, more, fill, is, before, size.value, size.range, units, high); low = omega (arith, ints, is, low, before, size.range, units, high); high = omega (arith, ints, is, high, before, size.range, units) }
       | in_default w ↦
           let none : cum_of (cons_option (current_fill (reverse (entries_in c.args.slots.now)) c.key-item.result) []) ≡ pos 0 =
-          ap (λ found. cum_of (cons_option found [])) (sym c.current_fill.ensures ∙ w.in_default.is) in
+          ap (λ found. cum_of (cons_option found [])) (sym w.in_default.ensures) in
           let is = w.sum-is in
           record { sum = omega (arith, ints, more, none, is, before); low = omega (arith, ints, is, low, before); high = omega (arith, ints, is, high, before) }
     ]

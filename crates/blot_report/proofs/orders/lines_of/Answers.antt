@@ -11,7 +11,7 @@ use Rattle.blot_command.specs.Standings.{standing_of}
 use Rattle.blot_report.specs.Standings.{entries_in, fill_on}
 use Rattle.blot_report.proofs.OrderLemmas.{HoldsFirst, holds-all, holds-more, holds-none, holds-on}
 use Rattle.blot_report.proofs.StandingLemmas.{as-many, fills-told}
-use Rattle.blot_report.proofs.WeightLemmas.{few-entries}
+use Rattle.blot_command.proofs.ReadyLemmas.{length-book}
 use Rattle.blot_report.proofs.orders.lines_of.Goals as goal
 use Rattle.blot_report.proofs.orders.lines_of.Goals.{in-Some+in_ok-add_fill, in_default}
 
@@ -20,7 +20,7 @@ loop-place-init c = holds-none _ c.new-lines.result.entries (entries_in c.args.t
 
 pub add_fill-requires : goal.add_fill-requires
 add_fill-requires c =
-    let few = few-entries (entries_in c.args.told.now) c.requires.book in
+    let few = length-book (entries_in c.args.told.now) c.requires.book in
     IsWithin-weaker c.loop-place.place EVENTS_MAX _ (omega (arith, few, as-many c.args.told.now, c.loop-place-test.true)) (c.loop-place.invariant.few c.in-Some.fill.now.order)
 
 pub loop-place-preserved : goal.loop-place-preserved

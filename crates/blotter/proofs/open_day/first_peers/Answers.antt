@@ -3,7 +3,8 @@ use Rattle.std.specs.Option.{option_to_list}
 use Rattle.std.proofs.lemmas.List.{map_more}
 use Rattle.blot_gateway.specs.AtOnce.{are_submits}
 use Rattle.blotter.specs.Serving.{begins_as}
-use Rattle.blotter.proofs.SeatLemmas.{first-holds, one-begins, rest-hold}
+use Rattle.blot_recovery.proofs.TakingLemmas.{rest-hold, first-holds}
+use Rattle.blotter.proofs.SeatLemmas.{one-begins}
 use Rattle.blotter.proofs.open_day.first_peers.Goals as goal
 
 pub new-seat-requires : goal.new-seat-requires

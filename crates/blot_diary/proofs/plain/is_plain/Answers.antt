@@ -2,12 +2,13 @@ use Rattle.std.proofs.Common.{Some, ap, sym, subst, ◌∙◌}
 use Rattle.std.specs.Prelude.{◌++◌, IfSome}
 use Rattle.std.specs.Option.{option_map}
 use Rattle.std.proofs.lemmas.Bool.{false≢true}
+use Rattle.std.proofs.lemmas.Result.{IfOk-weaker}
 use Rattle.blot_tag.specs.Frames.{IsFrame}
 use Rattle.blot_tag.specs.Reading.{Reading}
 use Rattle.blot_tag.specs.Views.{text_of}
-use Rattle.blot_diary.specs.Events.{noted_in}
-use Rattle.blot_diary.proofs.OneLemmas.{differs, first-alone, quiet_when}
-use Rattle.blot_diary.proofs.quiet.is_quiet.Goals as goal
+use Rattle.blot_diary.specs.Events.{keeps_message}
+use Rattle.blot_diary.proofs.OneLemmas.{differs, first-alone, plain_when}
+use Rattle.blot_diary.proofs.plain.is_plain.Goals as goal
 
 pub returns-in_default : goal.returns-in_default
 returns-in_default c =
@@ -29,5 +30,6 @@ returns c =
     let valid : IsFrame (text_of c.in-Some.frame) = subst (λ found. IfSome found (λ frame. IsFrame (text_of frame))) c.in-Some.is
     c.in_ok-frame.ensures.valid in
     let same = c.text.ensures.text in
-    quiet_when c.args.text.now c.text.result.now c.in_ok-noted_in.field-0 c.is_none.result c.if-ne.ensures (subst IsFrame (sym same) valid)
-    (c.in_ok-noted_in.ensures ∙ ap noted_in (sym same)) c.is_none.ensures
+    IfOk-weaker c.keeps_message.result _ _
+    (λ plain is. plain_when c.args.text.now c.text.result.now plain c.if-ne.ensures (subst IsFrame (sym same) valid) (is ∙ ap keeps_message (sym same)))
+    c.keeps_message.ensures
