@@ -85,6 +85,7 @@ FAULTS = [
     ('its Trade changed', WHOLE.replace('32=100', '32=101', 1), ['BRKA'], f'is damaged at byte {plain.HEAD + len(LOGON)}'),
     ('of another day', kept(frame('UD', 'MO', 'MO', 1, '75=20240108|')), ['BRKA'], 'is the journal of MO, 20240108'),
     ('of another blotter', kept(frame('UD', 'MX', 'MX', 1, '75=20240105|')), ['BRKA'], 'is the journal of MX, 20240105'),
+    ('its first frame goes to a peer', kept(frame('UD', 'MO', 'BRKA', 1, '75=20240105|')), ['BRKA'], f'is damaged at byte {plain.HEAD}'),
     ('a second beginning', kept(BEGUN + BEGUN), ['BRKA'], f'is damaged at byte {plain.HEAD + len(BEGUN)}'),
 ]
 

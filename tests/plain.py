@@ -1145,6 +1145,8 @@ def journal_fault(file, own, dated, peers):
         named = first(fields_of(piece)[0], 75, day)
         if offset == 0 and (kept[0].sender != own or dated not in (None, named)):
             return f'is the journal of {kept[0].sender}, {named}'
+        if offset == 0 and peers is not None and kept[0].target != own:
+            return damage
         wrong = stands(*kept, own, peers) if offset and peers is not None else None
         if wrong:
             return damage if wrong == 'damage' else wrong
