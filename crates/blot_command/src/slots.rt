@@ -3,14 +3,14 @@ ghost use Rattle.std.specs.Prelude.{◌≡◌, ◌≤◌, find, length, reverse,
 ghost use Rattle.std.specs.List.{last_or};
 ghost use Rattle.std.specs.Option.{option_copied, option_map};
 ghost use Rattle.blot_places.specs.Slots.{AreBelow, NoneBelow, marked};
-ghost use Rattle.blot_types.specs.Survivors.{version_of, versions_of};
+ghost use Rattle.blot_types.specs.Survivors.{versions_of};
 ghost use Rattle.blot_command.specs.Book.{has_number, entry_number};
 ghost use Rattle.blot_command.specs.Shown.{fill_numbered, version_numbered};
 ghost use Rattle.blot_command.specs.Slots.{AreNumbered, IsLeft, entries_in};
 
 use crate::BoxedEntry;
 use blot_places::Remembered;
-use blot_types::{Command, Entry, Fill, Version};
+use blot_types::{Entry, Fill, Version};
 use std::marker::Model;
 
 /// The slot of an entry. The entry is there, or it was taken out of the list; then the slot has its number alone. A contract
@@ -117,22 +117,7 @@ pub(crate) fn fill_numbered(slots: &[EntrySlot], number: u64) -> Option<&Fill>
     requires { AreNumbered slots.now }
     ensures { option_copied result ≡ fill_numbered number (versions_of (entries_in slots.now)) }
 {
-    fill_of(entry_numbered(slots, number)?)
-}
-
-// The fill of the version that an entry brings, if it brings one.
-fn fill_of(entry: &Entry) -> Option<&Fill>
-    ensures { option_copied result ≡ option_map (λ version. version.fill) (version_of entry.now) }
-{
-    match &entry.command {
-        Command::Trade(trade) => Some(&trade.fill),
-        Command::Correct(correct) => Some(&correct.fill),
-        Command::Bust(_)
-        | Command::AllocNew(_)
-        | Command::AllocReplace(_)
-        | Command::AllocCancel(_)
-        | Command::Withdraw(_) => None,
-    }
+    entry_numbered(slots, number)?.fill()
 }
 
 /// The number of the last entry that is there. An empty slot after it is passed over.

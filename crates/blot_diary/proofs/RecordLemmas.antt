@@ -21,9 +21,12 @@ use Rattle.blot_diary.specs.Kinds.{kind_of}
 use Rattle.blot_diary.specs.Own.{asked_by, beginning_by, event_of_line, next_form, numbers_by}
 use Rattle.blot_diary.specs.Records.{asked_message, beginning_message, keeps, numbers_message, wrapped_message}
 use Rattle.blot_diary.specs.Writing.{fits, written}
-use Rattle.blot_diary.proofs.HeaderLemmas.{IsHeaded, IsReadable, decoded-plain}
+use Rattle.blot_session.specs.Outbound.{IsShort}
+use Rattle.blot_session.proofs.HeaderLemmas.{IsReadable}
+use Rattle.blot_session.proofs.ShortLemmas.{is_number-decimal, number_of-decimal, short_day, short_decimal, short_moment, short_text}
+use Rattle.blot_diary.proofs.HeaderLemmas.{IsHeaded, decoded-plain}
 use Rattle.blot_diary.proofs.OneLemmas.{frame_some}
-use Rattle.blot_diary.proofs.ShortLemmas.{IsShort, fits-short, is_number-decimal, number_of-decimal, short_day, short_decimal, short_moment, short_text}
+use Rattle.blot_diary.proofs.ShortLemmas.{fits-short}
 
 -- what is read of a message
 abbrev items_of : Written → List Item

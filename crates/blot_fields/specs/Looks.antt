@@ -9,7 +9,7 @@ use Rattle.blot_fields.specs.Groups.{bears, before, behind, count_of, is_of_line
 abbrev pub begins_line : Look → TagValue → Bool
 begins_line look field = look.is_behind_lines && bears 79 field
 
--- what is seen with one field more
+-- what is seen with one field more: the step of that walk, and no more than that. What its end means is IsLook
 abbrev pub look_with : Look → TagValue → Look
 look_with look field = record {
   executions = look.executions + (if bears 17 field then 1 else 0);

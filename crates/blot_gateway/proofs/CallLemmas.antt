@@ -1,7 +1,8 @@
 -- Calls, one after the other.
-use Rattle.std.proofs.Common.{◌≡◌, ℕ, Bool, true, ◌&&◌, List, [], ◌∷◌, ◌++◌, map, None, refl, sym, ap, subst, ◌∙◌, inl, inr, append_assoc}
+use Rattle.std.proofs.Common.{◌≡◌, ℕ, List, [], ◌∷◌, ◌++◌, map, None, refl, sym, ap, subst, ◌∙◌, inl, inr, append_assoc}
 use Rattle.std.specs.Prelude.{ℤ}
 use Rattle.std.specs.List.{flat_map, list_all}
+use Rattle.std.proofs.lemmas.Bool.{and_from}
 use Rattle.std.proofs.lemmas.List.{map-append}
 use Rattle.std.proofs.lemmas.List.Concat.{flat_map-append}
 use Rattle.std.proofs.lemmas.List.Folds.{list_all-append}
@@ -15,11 +16,6 @@ use Rattle.blot_gateway.specs.Wires.{Read, Did, Notice, Steps, command_in, comma
 use Rattle.blot_gateway.specs.declared.parties.Parties.{Parties}
 use Rattle.blot_gateway.specs.Serving.{Due, Turn, Happens, InTurn, Runs, Ends, GoesOn, HasLast, Stops, EndsWith, Cause, Wrote, call_in, did_in, due_in, reads_behind, written_in, texts_of, close_in, closed_by, moment_by, moments_of, is_served, has_memory, told_by, told_in, told_of}
 use Rattle.blot_gateway.proofs.SendingLemmas.{steps-on}
-
--- ---- two facts at once
-
-both : (a b : Bool) → a ≡ true → b ≡ true → (a && b) ≡ true
-both a b one two = rw (one, two) refl
 
 pub appended : {A : Type 0} {a b c d : List A} → a ≡ b → c ≡ d → a ++ c ≡ b ++ d
 appended one two = cc
@@ -68,7 +64,7 @@ pub goes-on : (first second : List Call) (state : State) → GoesOn state first 
 goes-on first second state one two =
     record {
       stays = ap close_in (actions-on first second state) ∙ close-on (actions_of state first) (actions_of (behind_calls state first) second) one.stays ∙ two.stays;
-      memory = list_all-append has_memory first second ∙ both (list_all has_memory first) (list_all has_memory second) one.memory two.memory;
+      memory = list_all-append has_memory first second ∙ and_from (list_all has_memory first) (list_all has_memory second) one.memory two.memory;
     }
 
 pub goes-nowhere : (state : State) → GoesOn state []
@@ -139,7 +135,7 @@ pub happens-on : {W C S : Type 0} (does : W → Did → W → Type 0) (ticks : C
 happens-on does ticks takes a b c calls calls_b dids dids_b notices notices_b one two =
     record {
       session = two.session ∙ ap (λ (state : State). behind_calls state calls_b) one.session ∙ sym (behind-on calls calls_b a.session);
-      served = list_all-append is_served calls calls_b ∙ both (list_all is_served calls) (list_all is_served calls_b) one.served two.served;
+      served = list_all-append is_served calls calls_b ∙ and_from (list_all is_served calls) (list_all is_served calls_b) one.served two.served;
       met = met-on calls calls_b a.session one.met (subst (λ state. AreMet state calls_b) one.session two.met);
       clock = subst (λ moments. Steps ticks a.clock moments c.clock) (sym (flat_map-append moment_by calls calls_b))
           (steps-on ticks (moments_of calls) (moments_of calls_b) a.clock b.clock c.clock one.clock two.clock);

@@ -1,11 +1,11 @@
 -- What is kept of a session says the truth of its numbers.
 use Rattle.std.proofs.Common.{◌≡◌, ℕ, ◌+◌, ◌<◌, ◌≤◌, Bool, true, false, List, [], ◌∷◌, ◌++◌, map, Option, Some, None, Ok, Err, refl, sym, ap, subst, ◌∙◌, inl, inr, arith}
-use Rattle.std.specs.Prelude.{◌≢◌, ◌⊎◌, ◌==◌, nat_lt, not, is_some, ℤ, ◌&&◌, ◌||◌, if◌then◌else◌}
+use Rattle.std.specs.Prelude.{◌≢◌, ◌⊎◌, ◌==◌, All, nat_lt, not, is_some, ℤ, ◌&&◌, ◌||◌, if◌then◌else◌}
 use Rattle.std.specs.List.{Contains, flat_map, list_all}
-use Rattle.std.proofs.lemmas.Bool.{cases_Bool, cond-false, cond-true, cond_both, eqb-true, false≢true}
+use Rattle.std.proofs.lemmas.Bool.{and_parts, cases_Bool, cond-false, cond-true, cond_both, eqb-true, false≢true}
 use Rattle.std.proofs.lemmas.List.{append-nil}
 use Rattle.std.proofs.lemmas.List.Concat.{flat_map-append}
-use Rattle.std.proofs.lemmas.List.Elements.{Contains-append_right}
+use Rattle.std.proofs.lemmas.List.Elements.{All-append, All-cons, All-nil, All-weaker, Contains-append_right}
 use Rattle.std.proofs.lemmas.List.Sums.{fold-append}
 use Rattle.blot_session.specs.declared.action.Action.{Action}
 use Rattle.blot_session.specs.declared.action.Action.TheVariants.{Close, Deliver, Send}
@@ -20,7 +20,7 @@ use Rattle.blot_session.proofs.SendingLemmas.{IsUnspent, MovesNumbers, closed_id
 use Rattle.blot_gateway.specs.declared.calling.Before.{Before}
 use Rattle.blot_gateway.specs.declared.wire.Heard.{Heard}
 use Rattle.blot_gateway.specs.Hearing.{before_frame, heard, heard_by, is_on, is_renumbered, word_of}
-use Rattle.blot_gateway.specs.Numbers.{AllBelow, AreKept, Entry, KeepsNumbers, entries_in, entries_of, expected_after, expected_by, kept_by, next_after, next_by, sent_number, sent_numbers}
+use Rattle.blot_gateway.specs.Numbers.{AreKept, Entry, KeepsNumbers, entries_in, entries_of, expected_after, expected_by, kept_by, next_after, next_by, sent_number, sent_numbers}
 use Rattle.blot_gateway.specs.Numbers.Entry.{Taken, Numbers, Sent}
 use Rattle.blot_gateway.specs.Serving.{told_by, told_in}
 
@@ -39,13 +39,8 @@ cut (x ∷ first) second (y ∷ front) back is =
       | inr there ↦ inr (there.0, ((let same = there.1.0 in cc), there.1.1))
     ]
 
-below-on : (numbers more : List ℕ) (next : ℕ) → AllBelow next numbers → AllBelow next more → AllBelow next (numbers ++ more)
-below-on [] more next one two = two
-below-on (number ∷ numbers) more next one two = (one.0, below-on numbers more next one.1 two)
-
-below-higher : (numbers : List ℕ) (low high : ℕ) → low ≤ high → AllBelow low numbers → AllBelow high numbers
-below-higher [] low high rises all = tt
-below-higher (number ∷ numbers) low high rises all = (let first = all.0 in omega (arith, rises, first), below-higher numbers low high rises all.1)
+abbrev AllBelow : ℕ → List ℕ → Type 0
+AllBelow next numbers = All (λ number. number < next) numbers
 
 -- ---- what is sent
 
@@ -57,7 +52,7 @@ record SendsWell (next start : ℕ) (front : List Entry) : Type 0 where
   pub same : (expected : ℕ) → expected_by expected front ≡ expected
 
 sends-none : (next start : ℕ) → next ≤ start → SendsWell next start []
-sends-none next start low = record { low = low; above = tt; same = λ expected. refl }
+sends-none next start low = record { low = low; above = All-nil _; same = λ expected. refl }
 
 sent-front : (numbers : List ℕ) (next start last : ℕ) (front back : List Entry) → next ≤ start → CountUp next numbers last → map Sent numbers ≡ front ++ back → SendsWell next start front
 sent-front numbers next start last [] back low counts is = sends-none next start low
@@ -71,7 +66,7 @@ sent-front (number ∷ numbers) next start last (entry ∷ front) back low count
     let start_is : number + 1 ≡ next + 1 = ap (λ n. n + 1) here in
     subst (λ entry. SendsWell next start (entry ∷ front)) first
     (subst (λ begun. SendsWell next start (Sent begun ∷ front)) (sym here)
-    (record { low = omega (arith, least); above = (omega (arith, least), well.above); same = λ expected. well.same expected }))
+    (record { low = omega (arith, least); above = All-cons (λ sent. sent < next_by (next + 1) front) next (sent_numbers front) (omega (arith, least)) well.above; same = λ expected. well.same expected }))
 
 sent-end : (numbers : List ℕ) (next start last : ℕ) → (start ≡ next) ⊎ (start ≡ last) → CountUp next numbers last → next_by start (map Sent numbers) ≡ last
 sent-end [] next start last (inl is) counts = is ∙ sym counts
@@ -117,7 +112,7 @@ record Fronts (state after : State) (front : List Entry) : Type 0 where
 first-front : (state after : State) (first : Entry) (start : ℕ) (numbers : List ℕ) (front mid : List Entry) → state.next ≤ start → next_after state.next first ≡ start
     → sent_number first ≡ [] → expected_after state.expected first ≡ after.expected → state.expected ≤ after.expected → CountUp state.next numbers after.next
     → first ∷ map Sent numbers ≡ front ++ mid → Fronts state after front
-first-front state after first start numbers [] mid low begins sends leaves grows counts is = record { expected = grows; low = omega arith; above = tt }
+first-front state after first start numbers [] mid low begins sends leaves grows counts is = record { expected = grows; low = omega arith; above = All-nil _ }
 first-front state after first start numbers (entry ∷ front) mid low begins sends leaves grows counts is =
     let same : first ≡ entry = cc in
     let behind : map Sent numbers ≡ front ++ mid = cc in
@@ -262,50 +257,33 @@ closed-entries state WaitAgain shut of met moves = absurd (false≢true of)
 
 -- ---- the law
 
-first-true : (a b : Bool) → (a && b) ≡ true → a ≡ true
-first-true true b is = refl
-first-true false b is = is
-
-second-true : (a b : Bool) → (a && b) ≡ true → b ≡ true
-second-true true b is = is
-second-true false b is = absurd (false≢true is)
-
 -- where the expected number isn't above this one, nothing has to be kept of a command under it or under a later one
 abbrev AllFrom : ℕ → List Numbered → Type 0
-AllFrom number [] = Unit {0}
-AllFrom number (it ∷ more) = (number ≤ it.number) × AllFrom number more
-
-from-lower : (low high : ℕ) (delivered : List Numbered) → low ≤ high → AllFrom high delivered → AllFrom low delivered
-from-lower low high [] below all = tt
-from-lower low high (it ∷ more) below all = (let first = all.0 in omega (arith, below, first), from-lower low high more below all.1)
-
-from-on : (number : ℕ) (delivered more : List Numbered) → AllFrom number delivered → AllFrom number more → AllFrom number (delivered ++ more)
-from-on number [] more one two = two
-from-on number (it ∷ delivered) more one two = (one.0, from-on number delivered more one.1 two)
+AllFrom number delivered = All (λ it. number ≤ it.number) delivered
 
 delivered-from : (number : ℕ) (actions : List Action) → AllFrom number (delivered_by number actions)
-delivered-from number [] = tt
+delivered-from number [] = All-nil _
 delivered-from number (Send bytes ∷ actions) = delivered-from number actions
-delivered-from number (Deliver command ∷ actions) = (omega arith, delivered-from number actions)
+delivered-from number (Deliver command ∷ actions) = All-cons (λ it. number ≤ it.number) _ (delivered_by number actions) (omega arith) (delivered-from number actions)
 delivered-from number (Close reason ∷ actions) = delivered-from number actions
 
 kept-none : (front : List Entry) (expected number : ℕ) (delivered : List Numbered) → expected ≤ number → AllFrom number delivered → AreKept front expected delivered
-kept-none front expected number [] low all = tt
-kept-none front expected number (it ∷ more) low all = (λ below. absurd (let first = all.0 in omega (arith, low, first, below)), kept-none front expected number more low all.1)
+kept-none front expected number delivered low all =
+    All-weaker (λ it. number ≤ it.number) (λ it. it.number < expected → Contains front (Taken it.number)) (λ it first below. absurd (omega (arith, low, first, below))) delivered all
 
 kept-on : (front : List Entry) (expected : ℕ) (delivered more : List Numbered) → AreKept front expected delivered → AreKept front expected more → AreKept front expected (delivered ++ more)
-kept-on front expected [] more one two = two
-kept-on front expected (it ∷ delivered) more one two = (one.0, kept-on front expected delivered more one.1 two)
+kept-on front expected = All-append (λ it. it.number < expected → Contains front (Taken it.number))
 
 kept-behind : (first front : List Entry) (expected : ℕ) (delivered : List Numbered) → AreKept front expected delivered → AreKept (first ++ front) expected delivered
-kept-behind first front expected [] kept = tt
-kept-behind first front expected (it ∷ more) kept =
-    (λ below. Contains-append_right first front (Taken it.number) (kept.0 below), kept-behind first front expected more kept.1)
+kept-behind first front expected =
+    All-weaker (λ it. it.number < expected → Contains front (Taken it.number)) (λ it. it.number < expected → Contains (first ++ front) (Taken it.number))
+    (λ it kept below. Contains-append_right first front (Taken it.number) (kept below))
 
 kept-one : (front : List Entry) (expected number : ℕ) (actions : List Action) → (number < expected → Contains front (Taken number)) → AreKept front expected (delivered_by number actions)
-kept-one front expected number [] kept = tt
+kept-one front expected number [] kept = All-nil _
 kept-one front expected number (Send bytes ∷ actions) kept = kept-one front expected number actions kept
-kept-one front expected number (Deliver command ∷ actions) kept = (kept, kept-one front expected number actions kept)
+kept-one front expected number (Deliver command ∷ actions) kept =
+    All-cons (λ it. it.number < expected → Contains front (Taken it.number)) _ (delivered_by number actions) kept (kept-one front expected number actions kept)
 kept-one front expected number (Close reason ∷ actions) kept = kept-one front expected number actions kept
 
 -- the law, at a session that may await a reply: then the command that awaits it counts too
@@ -324,13 +302,13 @@ law-none : (state : State) → Law state []
 law-none state =
     record {
       numbers = record {
-        taken = λ front back is. tt;
-        above = λ front back is. subst (λ found. AllBelow (next_by state.next found) (sent_numbers found)) (sym (no-front front back is)) tt;
+        taken = λ front back is. All-nil _;
+        above = λ front back is. subst (λ found. AllBelow (next_by state.next found) (sent_numbers found)) (sym (no-front front back is)) (All-nil _);
         low = λ front back is. subst (λ found. state.next ≤ next_by state.next found) (sym (no-front front back is)) (omega arith);
         expected = refl;
         next = refl;
       };
-      late = tt;
+      late = All-nil _;
       awaited = λ awaits front back is below. absurd
           (let same = ap (expected_by state.expected) (no-front front back is) in omega (arith, same, below));
       shut = λ is. refl;
@@ -378,7 +356,7 @@ taken-on state call calls moves keeps later front back is =
           let most = keeps.front front here.0 here.1 in
           kept-on front (expected_by state.expected front) delivered more
           (elim (moves.delivers state.expected) [
-            | inl none ↦ subst (AreKept front (expected_by state.expected front)) (sym none) tt
+            | inl none ↦ subst (AreKept front (expected_by state.expected front)) (sym none) (All-nil _)
             | inr some ↦
                 let same = (moves.awaits some).0 in
                 kept-one front (expected_by state.expected front) state.expected given.actions (λ below. absurd (omega (arith, most, same, below)))
@@ -391,7 +369,7 @@ taken-on state call calls moves keeps later front back is =
           (subst (λ expected. AreKept (entries ++ rest) expected (delivered ++ more)) (sym on)
           (kept-on (entries ++ rest) (expected_by given.state.expected rest) delivered more
           (elim (moves.delivers state.expected) [
-            | inl none ↦ subst (AreKept (entries ++ rest) (expected_by given.state.expected rest)) (sym none) tt
+            | inl none ↦ subst (AreKept (entries ++ rest) (expected_by given.state.expected rest)) (sym none) (All-nil _)
             | inr some ↦
                 let same = (moves.awaits some).0 in
                 kept-one (entries ++ rest) (expected_by given.state.expected rest) state.expected given.actions
@@ -415,8 +393,9 @@ above-on state call calls keeps later front back is =
           subst (λ found. AllBelow (next_by state.next found) (sent_numbers found)) (sym there.1.0)
           (subst (λ next. AllBelow next (sent_numbers (entries ++ rest))) (sym on)
           (subst (AllBelow (next_by given.state.next rest)) (sym (flat_map-append sent_number entries rest))
-          (below-on (sent_numbers entries) (sent_numbers rest) (next_by given.state.next rest)
-          (below-higher (sent_numbers entries) given.state.next (next_by given.state.next rest) (later.numbers.low rest back there.1.1) first)
+          (All-append (λ number. number < next_by given.state.next rest) (sent_numbers entries) (sent_numbers rest)
+          (All-weaker (λ number. number < given.state.next) (λ number. number < next_by given.state.next rest)
+          (λ number below. (let least = later.numbers.low rest back there.1.1 in omega (arith, below, least))) (sent_numbers entries) first)
           (later.numbers.above rest back there.1.1))))
     ]
 
@@ -438,18 +417,20 @@ late-on : (state : State) (call : Call) (calls : List Call) → MovesNumbers sta
     → AllFrom state.expected (delivered_of state (call ∷ calls))
 late-on state call calls moves later =
     let given = outcome state call in
-    from-on state.expected (delivered_by state.expected given.actions) (delivered_of given.state calls) (delivered-from state.expected given.actions)
-    (from-lower state.expected given.state.expected (delivered_of given.state calls) moves.grows later.late)
+    All-append (λ it. state.expected ≤ it.number) (delivered_by state.expected given.actions) (delivered_of given.state calls) (delivered-from state.expected given.actions)
+    (All-weaker (λ it. given.state.expected ≤ it.number) (λ it. state.expected ≤ it.number) (λ it first. (let grows = moves.grows in omega (arith, grows, first)))
+    (delivered_of given.state calls) later.late)
 
 law : (calls : List Call) (state : State) → (IsAwaiting state → IsUnspent state) → AreMet state calls → HasNoReset calls → list_all is_of_connection calls ≡ true → Law state calls
 law [] state low met kept of = law-none state
 law (call ∷ calls) state low met kept of =
     let given = outcome state call in
     let entries = entries_in state call in
-    let here = first-true (is_of_connection call) (list_all is_of_connection calls) of in
+    let both : (is_of_connection call ≡ true) × (list_all is_of_connection calls ≡ true) = and_parts (is_of_connection call) (list_all is_of_connection calls) of in
+    let here = both.0 in
     let moves = moves-numbers state call met.0 kept.0 here low in
     let keeps = call-keeps state call here moves in
-    let later = law calls given.state (λ awaits. (moves.awaits awaits).1) met.1 kept.1 (second-true (is_of_connection call) (list_all is_of_connection calls) of) in
+    let later = law calls given.state (λ awaits. (moves.awaits awaits).1) met.1 kept.1 both.1 in
     record {
       numbers = record {
         taken = taken-on state call calls moves keeps later;

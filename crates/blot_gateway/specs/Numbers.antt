@@ -1,5 +1,5 @@
 -- What bears on a session's two numbers over the calls of a connection, and what it says of them. Source: this project's rule.
-use Rattle.std.specs.Prelude.{◌≡◌, ◌<◌, ◌≤◌, ◌⊎◌, ℕ, ◌+◌, true, List, [], ◌∷◌, ◌++◌, map, Result, Ok, Err, if◌then◌else◌}
+use Rattle.std.specs.Prelude.{◌≡◌, ◌<◌, ◌≤◌, ◌⊎◌, All, ℕ, ◌+◌, true, List, [], ◌∷◌, ◌++◌, map, Result, Ok, Err, if◌then◌else◌}
 use Rattle.std.specs.List.{Contains, flat_map, fold, list_all}
 use Rattle.std.proofs.Common.{inl, inr}
 use Rattle.blot_session.specs.declared.replies.NotTaken.{NotTaken}
@@ -68,20 +68,14 @@ entries_of state (call ∷ calls) = entries_in state call ++ entries_of (outcome
 
 -- each of these commands that was delivered under a number below this one is among the entries as taken
 abbrev pub AreKept : List Entry → ℕ → List Numbered → Type 0
-AreKept entries expected [] = Unit {0}
-AreKept entries expected (it ∷ more) = (it.number < expected → Contains entries (Taken it.number)) × AreKept entries expected more
-
--- each number is below this one
-abbrev pub AllBelow : ℕ → List ℕ → Type 0
-AllBelow next [] = Unit {0}
-AllBelow next (number ∷ numbers) = (number < next) × AllBelow next numbers
+AreKept entries expected delivered = All (λ it. it.number < expected → Contains entries (Taken it.number)) delivered
 
 -- what is kept agrees with the session. In each beginning of it a command that was delivered under a number below the one that is expected by it is
 -- kept as taken, and the next number is above each that was sent, and no lower than it was at first; and all of it gives the session's numbers
 pub record KeepsNumbers (state : State) (calls : List Call) : Type 0 where
   pub taken : (front back : List Entry) → entries_of state calls ≡ front ++ back
       → AreKept front (expected_by state.expected front) (delivered_of state calls)
-  pub above : (front back : List Entry) → entries_of state calls ≡ front ++ back → AllBelow (next_by state.next front) (sent_numbers front)
+  pub above : (front back : List Entry) → entries_of state calls ≡ front ++ back → All (λ number. number < next_by state.next front) (sent_numbers front)
   pub low : (front back : List Entry) → entries_of state calls ≡ front ++ back → state.next ≤ next_by state.next front
   pub expected : expected_by state.expected (entries_of state calls) ≡ (behind_calls state calls).expected
   pub next : next_by state.next (entries_of state calls) ≡ (behind_calls state calls).next

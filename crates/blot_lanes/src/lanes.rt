@@ -180,15 +180,23 @@ where
     }
 
     // Serves a connection. One that is gone already can't be set up. Where the journal can't be written any more, the day ends, which is logged.
+    // The socket goes last: that may take two seconds.
     fn serve(&self, stream: N::Stream, address: SocketAddr) {
         self.is_failing.store(false, SeqCst);
-        let Ok(socket) = Socket::new(stream) else {
+        let Ok(mut socket) = Socket::new(self.rt, stream) else {
             log_stranger(self.rt, address, Ended::ReadFault);
             return;
         };
         let clock = SystemClock::new(self.rt);
         serve_connection(
-            self.rt, self.alloc, self.peers, self.desk, self.door, address, socket, clock,
+            self.rt,
+            self.alloc,
+            self.peers,
+            self.desk,
+            self.door,
+            address,
+            &mut socket,
+            clock,
         );
         if self.desk.sync(self.rt).is_err() && !self.door.is_closed() {
             error!(self.rt; "the journal can't be written, so the day ends");

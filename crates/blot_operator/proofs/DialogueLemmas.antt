@@ -1,6 +1,6 @@
 -- What is told of lines at a desk of any kind, as the bytes of an input come.
 use Rattle.std.proofs.Common.{◌≡◌, ◌≢◌, ℕ, ◌+◌, Bool, true, false, List, [], ◌∷◌, ◌++◌, length, take, Option, Some, None, Result, Ok, Err, refl, sym, ap, ◌∙◌, subst, inl, inr, arith}
-use Rattle.std.specs.Prelude.{◌==◌, nat_le, IfOk, OnErr, if◌then◌else◌}
+use Rattle.std.specs.Prelude.{◌==◌, nat_le, IfOk, if◌then◌else◌}
 use Rattle.std.specs.Io.KnownBytes.{Appends}
 use Rattle.std.specs.List.{list_any}
 use Rattle.std.proofs.KnownBytes.{Appends-nil, Appends-trans, Keeps-refl}
@@ -25,10 +25,6 @@ use Rattle.blot_operator.specs.OpenDay.{closes_by, day_ask_by, heard_by}
 use Rattle.blot_operator.specs.Operating.{asked_by, with_key}
 use Rattle.blot_operator.proofs.LineLemmas.{last_line, onto, lines_of-append, lines_of-ended, lines_of-last, split_of-end, split_of-more, kept-nil, kept-none, kept-byte, lines_of-begun}
 use Rattle.blot_operator.proofs.OpenDayLemmas.{heard-all, heard-last, heard-close, still-open, closed-in, day_ask-kept, closes-kept}
-
-pub OnErr-always : {T E P : Type 0} (result : Result T E) → P → OnErr result P
-OnErr-always (Ok value) p = tt
-OnErr-always (Err fault) p = p
 
 -- ---- one line
 

@@ -36,21 +36,6 @@ module _ {T : Type 0} where
   pub lifted_on : (slot : Slot T) (earlier : List (Slot T)) → slot.is_live ≡ true → lifted (slot ∷ earlier) ≡ lifted earlier
   lifted_on slot earlier is = ap (λ b. items (cond (not b) (slot ∷ out earlier) (out earlier))) is
 
-  -- where no slot is lifted, the newest is live
-  pub unlifted_live : (slot : Slot T) (earlier : List (Slot T)) → lifted (slot ∷ earlier) ≡ [] → slot.is_live ≡ true
-  unlifted_live slot earlier none =
-      elim (cases_Bool slot.is_live) [
-        | inl is ↦ is
-        | inr not ↦ let some : slot.item ∷ lifted earlier ≡ [] = sym (lifted_here slot earlier not) ∙ none in cc
-      ]
-
-  -- and then the live items are all
-  pub unlifted-items : (slots : List (Slot T)) → lifted slots ≡ [] → live slots ≡ items slots
-  unlifted-items [] none = refl
-  unlifted-items (slot ∷ earlier) none =
-      let is : slot.is_live ≡ true = unlifted_live slot earlier none in
-      live_here slot earlier is ∙ ap (λ behind. slot.item ∷ behind) (unlifted-items earlier (sym (lifted_on slot earlier is) ∙ none))
-
   pub places_here : (test : T → Bool) (slot : Slot T) (earlier : List (Slot T)) → test slot.item ≡ true → places_by test (slot ∷ earlier) ≡ length earlier ∷ places_by test earlier
   places_here test slot earlier is = ap (λ b. cond b (length earlier ∷ places_by test earlier) (places_by test earlier)) is
 

@@ -18,7 +18,7 @@ use Rattle.blot_recovery.specs.declared.parties.KeptOperator.{KeptOperator}
 use Rattle.blot_recovery.specs.Parties.{AreDifferent, AreKeptOperators, GivesSeat, HasSeat, IsFirst, IsKeptOperator, operator_names}
 use Rattle.blot_recovery.specs.Taking.{IsAskedBy, KeepsLast, stands_for}
 use Rattle.blot_recovery.proofs.PartyLemmas.{operator-asked, operator-begun, operator-comes, operator-other, unheard-asked, unheard-begun, unheard-first, unheard-other}
-use Rattle.blot_recovery.proofs.TestLemmas.{are_other, not_same}
+use Rattle.blot_recovery.proofs.TestLemmas.{are_other, none-of, not_same}
 
 -- ---- names
 
@@ -28,20 +28,6 @@ length-names operators = length-map operators (λ operator. operator.name)
 named : {L : Type 0} (operators : List (KeptOperator L)) (k : ℕ) (d : KeptOperator L) (e : List ℕ) → k < length operators
     → get_or (operator_names operators) k e ≡ (get_or operators k d).name
 named {L = L} operators k d e less = get_or-map (λ (operator : KeptOperator L). operator.name) operators k d e less
-
--- where none passes a test, one doesn't
-none-of : {X : Type 0} (p : X → Bool) (xs : List X) (k : ℕ) (d : X) → list_any p xs ≡ false → k < length xs → p (get_or xs k d) ≡ false
-none-of p [] k d none less = absurd (omega (arith, less))
-none-of p (x ∷ xs) zero d none less = first (p x) (list_any p xs) none
-  where
-    first : (a b : Bool) → (a || b) ≡ false → a ≡ false
-    first true b is = absurd (false≢true (sym is))
-    first false b is = refl
-none-of p (x ∷ xs) (suc k) d none less = none-of p xs k d (rest (p x) (list_any p xs) none) (omega (arith, less))
-  where
-    rest : (a b : Bool) → (a || b) ≡ false → b ≡ false
-    rest true b is = absurd (false≢true (sym is))
-    rest false b is = is
 
 -- where the rest follows, so do both
 pub either-none : (a b c : Bool) → (b ≡ false → c ≡ false) → (a || b) ≡ false → (a || c) ≡ false

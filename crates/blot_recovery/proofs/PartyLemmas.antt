@@ -2,7 +2,7 @@
 use Rattle.std.proofs.Common.{◌≡◌, ◌⊎◌, inl, inr, ℕ, ◌+◌, ◌≤◌, Bool, true, false, ◌&&◌, ◌||◌, not, List, [], ◌∷◌, Option, Some, refl, sym, ap, subst, ◌∙◌, cond, arith}
 use Rattle.std.specs.Prelude.{ℤ, fold, if◌then◌else◌}
 use Rattle.std.specs.List.{cons_option, filter, list_all}
-use Rattle.std.proofs.lemmas.Bool.{false≢true}
+use Rattle.std.proofs.lemmas.Bool.{and_from, and_parts, false≢true}
 use Rattle.std.proofs.lemmas.List.Folds.{list_all-append}
 use Rattle.blot_types.specs.Keys.{same_text}
 use Rattle.blot_fields.specs.declared.TheConstants.{SEQUENCE_MAX}
@@ -24,7 +24,7 @@ use Rattle.blot_gateway.specs.AtOnce.{are_submits, is_submit}
 use Rattle.blot_recovery.specs.Parties.{IsKeptOperator, IsKeptPeer, IsUnheard, brought_by, events_told, is_operator, is_peer, operator_record_after, operator_record_by, operator_records_of, peer_record_after, peer_record_by, peer_records_of}
 use Rattle.blot_recovery.specs.Taking.{IsAskedBy, KeepsLast, event_noted, stands_by, stands_for, with_event}
 use Rattle.blot_recovery.proofs.FrameLemmas.{brought-nil, brought-others, brought-theirs, frames_of-nil, numbers_of-last, operator_records_of-last, peer_records_of-last}
-use Rattle.blot_recovery.proofs.TestLemmas.{both-true, is_same, middle-false, not_same, same-itself}
+use Rattle.blot_recovery.proofs.TestLemmas.{is_same, middle-false, not_same, same-itself}
 
 -- ---- the events
 
@@ -237,11 +237,11 @@ Ends own peer from to = ((from ≡ peer) × (to ≡ own)) ⊎ ((from ≡ own) ×
 
 ends-received : (own peer from to : List ℕ) → (same_text from peer && same_text to own) ≡ true → Ends own peer from to
 ends-received own peer from to is =
-    let both = both-true (same_text from peer) (same_text to own) is in inl (is_same from peer both.0, is_same to own both.1)
+    let both = and_parts (same_text from peer) (same_text to own) is in inl (is_same from peer both.0, is_same to own both.1)
 
 ends-sent : (own peer from to : List ℕ) → (same_text from own && same_text to peer) ≡ true → Ends own peer from to
 ends-sent own peer from to is =
-    let both = both-true (same_text from own) (same_text to peer) is in inr (is_same from own both.0, is_same to peer both.1)
+    let both = and_parts (same_text from own) (same_text to peer) is in inr (is_same from own both.0, is_same to peer both.1)
 
 ends-either : (own peer from to : List ℕ) (received sent : Bool) → (received ≡ true → Ends own peer from to) → (sent ≡ true → Ends own peer from to)
     → (received || sent) ≡ true → Ends own peer from to
@@ -274,15 +274,11 @@ submits-told : (receipts : List Receipt) → are_submits receipts ≡ list_all i
 submits-told [] = refl
 submits-told (receipt ∷ receipts) = ap (λ rest. is_submit receipt.event && rest) (submits-told receipts)
 
-two-true : (a b : Bool) → a ≡ true → b ≡ true → (a && b) ≡ true
-two-true true b first second = second
-two-true false b first second = absurd (false≢true first)
-
 submits-last : (before after : List Receipt) (noted : Option Noted) → events_told after ≡ with_event (events_told before) noted → are_submits before ≡ true
     → list_all is_submit (cons_option (event_noted noted) []) ≡ true → are_submits after ≡ true
 submits-last before after noted told submits one =
     submits-told after ∙ ap (list_all is_submit) told ∙ list_all-append is_submit (events_told before) (cons_option (event_noted noted) [])
-    ∙ two-true _ _ (sym (submits-told before) ∙ submits) one
+    ∙ and_from _ _ (sym (submits-told before) ∙ submits) one
 
 -- ---- the parties
 
@@ -323,7 +319,7 @@ module _ (text more : List ℕ) (kept : Kept) (last : KeepsLast text kept more) 
       record {
         events = told ∙ ap (λ events. with_event events (noted_of kept)) holds.events
             ∙ sym (brought-theirs text more kept last (is_peer old.peer)
-            (theirs old.peer kept.from kept.content received sent (λ is. (both-true (same_text kept.from old.peer) (same_text kept.to own) is).0) stands))
+            (theirs old.peer kept.from kept.content received sent (λ is. (and_parts (same_text kept.from old.peer) (same_text kept.to own) is).0) stands))
             ∙ ap (λ (name : List ℕ). brought_by (is_peer name) more) (sym name);
         submits = submits-last old.seat new.seat (noted_of kept) told holds.submits (one-submit kept.from kept.content received sent stands);
         numbers_are = numbers ∙ ap (λ before. numbers_after own old.peer before kept) holds.numbers_are ∙ sym (numbers_of-last text more kept last own old.peer)

@@ -2,7 +2,7 @@
 use Rattle.std.proofs.Common.{◌≡◌, ◌⊎◌, inl, inr, ℕ, zero, suc, ◌<◌, Bool, true, false, ◌&&◌, ◌||◌, List, [], ◌∷◌, drop, get_or, length, take, Option, Some, None, refl, sym, ap, subst, ◌∙◌, arith}
 use Rattle.std.specs.Prelude.{ℤ, IfSome, IsSome, option_map, if◌then◌else◌}
 use Rattle.std.specs.List.{All, list_any, slice_get}
-use Rattle.std.proofs.lemmas.Bool.{false≢true}
+use Rattle.std.proofs.lemmas.Bool.{and_parts, false≢true, or_parts}
 use Rattle.std.proofs.lemmas.List.{length-map}
 use Rattle.blot_types.specs.Keys.{same_text}
 use Rattle.blot_tag.specs.Fields.{fields_of}
@@ -24,8 +24,8 @@ use Rattle.blot_recovery.specs.Refusals.{AsksWithoutSeat, BeginsIts, HasNoSeat, 
 use Rattle.blot_recovery.specs.Taking.{AreInPlace, IsAskedBy, IsInPlace, IsOfParty, TakesUpAll, begun_on, names_of, stands_by, stands_for}
 use Rattle.blot_recovery.specs.Walking.{IsFaultIn, IsTakenBy, RefusesBehind}
 use Rattle.blot_recovery.proofs.FrameLemmas.{frames_of-nil, whole-nil}
-use Rattle.blot_recovery.proofs.TakingLemmas.{beginning_of-nil, either-false}
-use Rattle.blot_recovery.proofs.TestLemmas.{are_other, both-true, is_same, not_same}
+use Rattle.blot_recovery.proofs.TakingLemmas.{beginning_of-nil}
+use Rattle.blot_recovery.proofs.TestLemmas.{are_other, is_same, not_same}
 use Rattle.blot_recovery.proofs.WalkLemmas.{no-frame-nil}
 use Rattle.blot_recovery.proofs.OperatorLemmas.{either-none}
 
@@ -208,10 +208,10 @@ stands-one contents.Message false sent is = inr is
 other-by : (own peer : List ℕ) (kept : Kept) → (peer ≡ own → ⊥)
     → ((same_text kept.from peer && same_text kept.to own) ≡ true) ⊎ ((same_text kept.from own && same_text kept.to peer) ≡ true) → other_of own kept ≡ peer
 other-by own peer kept foreign (inl received) =
-    let from : kept.from ≡ peer = is_same kept.from peer (both-true (same_text kept.from peer) (same_text kept.to own) received).0 in
+    let from : kept.from ≡ peer = is_same kept.from peer (and_parts (same_text kept.from peer) (same_text kept.to own) received).0 in
     ap (λ test. if test then kept.to else kept.from) (not_same kept.from own (λ is. foreign (sym from ∙ is))) ∙ from
 other-by own peer kept foreign (inr sent) =
-    let both = both-true (same_text kept.from own) (same_text kept.to peer) sent in
+    let both = and_parts (same_text kept.from own) (same_text kept.to peer) sent in
     ap (λ test. if test then kept.to else kept.from) both.0 ∙ is_same kept.to peer both.1
 
 stands-other : (own peer : List ℕ) (kept : Kept) → (peer ≡ own → ⊥) → stands_for own peer kept ≡ true → other_of own kept ≡ peer
@@ -224,9 +224,9 @@ listed-not [] zero name other listed none is = absurd cc
 listed-not [] (suc at) name other listed none is = absurd cc
 listed-not (first ∷ names) zero name other listed none is =
     let same : first ≡ name = cc in
-    are_other other first (either-false (same_text other first) (list_any (same_text other) names) none).0 (sym (same ∙ is))
+    are_other other first (or_parts (same_text other first) (list_any (same_text other) names) none).0 (sym (same ∙ is))
 listed-not (first ∷ names) (suc at) name other listed none is =
-    listed-not names at name other listed (either-false (same_text other first) (list_any (same_text other) names) none).1 is
+    listed-not names at name other listed (or_parts (same_text other first) (list_any (same_text other) names) none).1 is
 
 may-stand : (content : Content) (received sent : Bool) → stands_by content received sent ≡ true → stands_by content true true ≡ true
 may-stand (contents.Command command) received sent is = refl

@@ -1,12 +1,12 @@
 -- The frames of a journal, taken up one by one.
-use Rattle.std.proofs.Common.{◌≡◌, ◌⊎◌, inl, inr, ℕ, zero, suc, ◌+◌, ◌<◌, Bool, true, false, ◌||◌, List, [], ◌∷◌, ◌++◌, drop, length, get_or, Option, Some, None, refl, sym, ap, subst, ◌∙◌, arith}
+use Rattle.std.proofs.Common.{◌≡◌, ◌⊎◌, inl, inr, ℕ, zero, suc, ◌+◌, ◌<◌, true, ◌||◌, List, [], ◌∷◌, ◌++◌, drop, length, get_or, Option, Some, None, refl, sym, ap, subst, ◌∙◌, arith}
 use Rattle.std.specs.Prelude.{ℤ, IfSome, IsSome, option_map}
 use Rattle.std.specs.Bool.{Decides}
 use Rattle.std.specs.List.{All, list_any, slice_get}
 use Rattle.std.specs.Option.{option_and_then, option_to_list}
 use Rattle.std.proofs.Math.ListN.{set}
 use Rattle.std.proofs.Math.Seq.{map-set_same}
-use Rattle.std.proofs.lemmas.Bool.{cases_order, false≢true}
+use Rattle.std.proofs.lemmas.Bool.{cases_order, or_right}
 use Rattle.std.proofs.lemmas.Grind.{get_or-set_at}
 use Rattle.std.proofs.lemmas.List.{append-nil, get_or-map, get_or-set_other, length-map, length-set}
 use Rattle.std.proofs.lemmas.List.Elements.{All-push}
@@ -36,22 +36,12 @@ use Rattle.blot_recovery.specs.Taking.{AreApart, AreInPlace, AsksSame, HasTaken,
 use Rattle.blot_recovery.proofs.FrameLemmas.{brought-last, brought-theirs, desk_events-last, desk_events-nil, frames_of-nil, keeps_last}
 use Rattle.blot_recovery.proofs.OperatorLemmas.{operators-begun, operators-other}
 use Rattle.blot_recovery.proofs.PartyLemmas.{asked as asked-theirs, is-beginning, peer-asked, peer-begun, peer-other}
-use Rattle.blot_recovery.proofs.TestLemmas.{are_other, is_same, same-itself}
+use Rattle.blot_recovery.proofs.TestLemmas.{are_other, is_same, none-of, same-itself}
 
 -- ---- a list of peers
 
-pub either-false : (a b : Bool) → (a || b) ≡ false → (a ≡ false) × (b ≡ false)
-either-false true b is = absurd (false≢true (sym is))
-either-false false b is = (refl, is)
-
 length-names : {L : Type 0} (peers : List (KeptPeer L)) → length (names_of peers) ≡ length peers
 length-names peers = length-map peers (λ peer. peer.peer)
-
--- none of them passes a test that some don't
-none-of : {X : Type 0} (p : X → Bool) (xs : List X) (k : ℕ) (d : X) → list_any p xs ≡ false → k < length xs → p (get_or xs k d) ≡ false
-none-of p [] k d none less = absurd (omega (arith, less))
-none-of p (x ∷ xs) zero d none less = (either-false (p x) (list_any p xs) none).0
-none-of p (x ∷ xs) (suc k) d none less = none-of p xs k d (either-false (p x) (list_any p xs) none).1 (omega (arith, less))
 
 decides : (a b : List ℕ) → Decides (same_text a b) (a ≡ b)
 decides a b = (is_same a b, λ is. ap (same_text a) (sym is) ∙ same-itself a)
@@ -278,11 +268,7 @@ beginning_of-nil = ap (λ frames. option_and_then begun_by (option_and_then (λ 
 is-one : (names : List (List ℕ)) (k : ℕ) (d : List ℕ) → k < length names → list_any (same_text (get_or names k d)) names ≡ true
 is-one [] k d less = absurd (omega (arith, less))
 is-one (name ∷ names) zero d less = ap (λ test. test || list_any (same_text name) names) (same-itself name)
-is-one (name ∷ names) (suc k) d less = also (same_text (get_or names k d) name) (list_any (same_text (get_or names k d)) names) (is-one names k d (omega (arith, less)))
-  where
-    also : (a b : Bool) → b ≡ true → (a || b) ≡ true
-    also true b is = refl
-    also false b is = is
+is-one (name ∷ names) (suc k) d less = or_right (same_text (get_or names k d) name) (list_any (same_text (get_or names k d)) names) (is-one names k d (omega (arith, less)))
 
 all-seated : (names : List (List ℕ)) → All (HasSeat names []) names
 all-seated names = λ k d less. inl (is-one names k d less)

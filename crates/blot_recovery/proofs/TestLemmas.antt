@@ -1,9 +1,10 @@
 -- Tests of texts, and results.
-use Rattle.std.proofs.Common.{◌≡◌, ℕ, Bool, true, false, ◌&&◌, List, Result, Ok, Err, refl, sym, ap, subst, ◌∙◌}
+use Rattle.std.proofs.Common.{◌≡◌, ℕ, zero, suc, ◌<◌, Bool, true, false, ◌&&◌, List, [], ◌∷◌, length, get_or, arith, Result, Ok, Err, refl, sym, ap, subst, ◌∙◌}
 use Rattle.std.specs.Prelude.{IfErr, OnOk}
+use Rattle.std.specs.List.{list_any}
 use Rattle.std.specs.Result.{IsErrAnd}
 use Rattle.std.specs.Cmp.Lexicographic.{same_text as text_same}
-use Rattle.std.proofs.lemmas.Bool.{false≢true}
+use Rattle.std.proofs.lemmas.Bool.{false≢true, or_parts}
 use Rattle.std.proofs.lemmas.Cmp.{nat_list_eq_equiv}
 use Rattle.blot_types.specs.Keys.{same_text}
 
@@ -25,9 +26,11 @@ not_same a b differ = by (same_text a b) refl
 pub are_other : (a b : List ℕ) → same_text a b ≡ false → a ≡ b → ⊥
 are_other a b is same = false≢true (sym is ∙ ap (same_text a) (sym same) ∙ same-itself a)
 
-pub both-true : (a b : Bool) → (a && b) ≡ true → (a ≡ true) × (b ≡ true)
-both-true true b is = (refl, is)
-both-true false b is = absurd (false≢true is)
+-- where none of some passes a test, one doesn't
+pub none-of : {X : Type 0} (p : X → Bool) (xs : List X) (k : ℕ) (d : X) → list_any p xs ≡ false → k < length xs → p (get_or xs k d) ≡ false
+none-of p [] k d none less = absurd (omega (arith, less))
+none-of p (x ∷ xs) zero d none less = (or_parts (p x) (list_any p xs) none).0
+none-of p (x ∷ xs) (suc k) d none less = none-of p xs k d (or_parts (p x) (list_any p xs) none).1 (omega (arith, less))
 
 pub middle-false : (a b c : Bool) → b ≡ false → (a && b && c) ≡ false
 middle-false true true c is = absurd (false≢true (sym is))

@@ -14,7 +14,7 @@ use Rattle.blot_sockets.specs.declared.system_clock.SystemClock.{SystemClock}
 -- a round is served: for each seat there is a connection and a clock, each connection was served at its clock until it ended, with its
 -- seat as the sink, and those are the seats after the round
 pub record ServesRound (R : Type 0) {S : Type 0} (remaining contents : S → Option (List ℕ)) (own : List ℕ) (before after : List (List Receipt)) : Type 0 where
-  pub wires : List (Socket S)
+  pub wires : List (Socket R S)
   pub clocks : List (SystemClock R)
   pub endings : List (Ended × List Receipt)
   pub served : EachServed (SocketDoes remaining contents) ClockTicks (λ socket. socket.faults) own wires clocks before endings

@@ -79,7 +79,7 @@ where
 {
     // Room for the seats after the round, and for one more, the operator's, at the end of the day.
     let mut served = Vec::with_capacity(alloc, seats.len().saturating_add(1))?;
-    let wires = accept_all(alloc, listener, seats.len())?;
+    let wires = accept_all(rt, alloc, listener, seats.len())?;
     let clocks = clocks_of(rt, alloc, seats.len())?;
     let waiting = mem::replace(seats, Vec::new(alloc));
     match serve(rt, alloc, wires, clocks, slots, desk, waiting, &OpenGate) {
@@ -97,33 +97,36 @@ where
 }
 
 // So many connections, as they come.
-fn accept_all<N>(
+fn accept_all<'a, R, N>(
+    clock: &'a R,
     alloc: Global,
     listener: &N,
     count: usize,
-) -> Result<Vec<Socket<N::Stream>>, ServeFault>
+) -> Result<Vec<Socket<'a, R, N::Stream>>, ServeFault>
 where
+    R: Clock,
     N: OpenListener,
-    N::Stream: OpenStream,
+    N::Stream: Read + OpenStream,
     ensures { IfOk result (λ wires. vec_len wires ≡ count) }
 {
     let mut wires = Vec::new(alloc);
     for _ in 0..count {
-        let wire = accept(listener)?;
+        let wire = accept(clock, listener)?;
         wires.push(wire)?;
     }
     Ok(wires)
 }
 
 // The next connection. A connection that is gone already is passed over.
-fn accept<N>(listener: &N) -> Result<Socket<N::Stream>, ServeFault>
+fn accept<'a, R, N>(clock: &'a R, listener: &N) -> Result<Socket<'a, R, N::Stream>, ServeFault>
 where
+    R: Clock,
     N: OpenListener,
-    N::Stream: OpenStream,
+    N::Stream: Read + OpenStream,
 {
     for _ in 0..u64::MAX {
         let fault = match listener.accept() {
-            Ok((stream, _)) => match Socket::new(stream) {
+            Ok((stream, _)) => match Socket::new(clock, stream) {
                 Ok(socket) => return Ok(socket),
                 Err(error) => setting_fault(error.kind()),
             },

@@ -6,7 +6,10 @@ pub mod OneLemmas
 mod OwnLemmas
 mod RowLemmas
 mod Rows
+mod BearingLemmas
 mod RunLemmas
 pub mod SendingLemmas
 mod StateLemmas
+pub mod ShortLemmas
+pub mod HeaderLemmas
 pub mod TextLemmas

@@ -2,7 +2,8 @@
 use Rattle.std.proofs.Common.{◌≡◌, ℕ, ◌<◌, ◌==◌, Bool, true, false, List, Option, Some, None, Result, Ok, Err, refl, sym, subst, arith, inl, inr}
 use Rattle.std.specs.Prelude.{nat_lt, nat_le, codes, ℤ, not, ◌&&◌, MatchOption}
 use Rattle.std.specs.Option.{option_map_or}
-use Rattle.std.proofs.lemmas.Bool.{cond_both, eqb-false, ltb-false, ltb-true}
+use Rattle.std.proofs.lemmas.Bool.{and_parts, cond_both, eqb-false, ltb-false, ltb-true}
+use Rattle.std.proofs.lemmas.Option.{same_Some}
 use Rattle.blot_fields.specs.declared.admin.Admin.{Admin}
 use Rattle.blot_fields.specs.declared.admin.Admin.TheVariants as admin
 use Rattle.blot_fields.specs.declared.fault.FieldFault.{FieldFault}
@@ -24,7 +25,7 @@ use Rattle.blot_session.specs.Calls.{is_spent}
 use Rattle.blot_session.specs.Met.{IsAbove, IsOfNumber, is_before_number, is_late, met_by_end, met_of, passed_by}
 use Rattle.blot_session.specs.Rows.{logon_row, low_logon_row, first_logon_row, waiting_logon_row, waiting_body_row, waiting_row, is_from_peer, resend_row, gap_fill_row, admin_row, report_row, other_row, body_row, expected_row, high_body_row, high_row, low_row, number_row, reset_row, logout_row, message_row, peer_row, comp_id_row, head_row, on_row_by, on_row, frame_row_by, frame_row}
 use Rattle.blot_session.specs.States.{heard, is_leaving, restarted}
-use Rattle.blot_session.proofs.RowLemmas.{message, some_same}
+use Rattle.blot_session.proofs.RowLemmas.{message}
 
 -- what a row makes of a message is true of its number, if what becomes of one that isn't answered is
 abbrev Tells : State → Result Message FieldFault → Row → Type 0
@@ -207,7 +208,7 @@ peer-tells : (s state : State) (head : Head) (said : Result Message FieldFault) 
     → Tells s said (peer_row state head said now)
 unfolding peer_row
 peer-tells s state head (Ok m) now is same =
-    subst (λ h. Tells s (Ok m) (message_row state h m.body (Ok m) now)) (some_same m.head head is) (message-tells s state m.head m.body now same)
+    subst (λ h. Tells s (Ok m) (message_row state h m.body (Ok m) now)) (same_Some m.head head is) (message-tells s state m.head m.body now same)
 peer-tells s state head (Err fault) now is same = number-tells s state head (Err fault) is same
 
 head-tells : (s state : State) (head : Head) (said : Result Message FieldFault) (now : ℤ) → head_in said ≡ Some head → state.expected ≡ s.expected
@@ -237,11 +238,7 @@ late : (s : State) (said : Result Message FieldFault) (found : Option Head) → 
     → option_map_or (λ head. nat_lt head.number s.expected) found false && not (is_before_number said) ≡ true
     → MatchOption found ⊥ (λ (head : Head). head.number < s.expected)
 late s said None is holds = absurd cc
-late s said (Some head) is holds = ltb-true head.number s.expected (first-true (nat_lt head.number s.expected) (not (is_before_number said)) holds)
-  where
-    first-true : (a b : Bool) → a && b ≡ true → a ≡ true
-    first-true true b holds = refl
-    first-true false b holds = absurd cc
+late s said (Some head) is holds = ltb-true head.number s.expected (and_parts (nat_lt head.number s.expected) (not (is_before_number said)) holds).0
 
 passed-tells : (s : State) (said : Result Message FieldFault) → IsOfNumber s said (passed_by s said)
 passed-tells s said =

@@ -1,8 +1,9 @@
 -- How each row of the table moves the numbers, and what it delivers.
 use Rattle.std.proofs.Common.{◌≡◌, ◌⊎◌, ℕ, ◌+◌, ◌≤◌, ◌==◌, Bool, true, false, List, Option, Some, None, Result, Ok, Err, refl, sym, ap, subst, ◌∙◌, arith, inl, inr}
-use Rattle.std.specs.Prelude.{nat_lt, nat_le, codes, ℤ, is_some, unwrap_or}
+use Rattle.std.specs.Prelude.{nat_lt, nat_le, codes, ℤ, is_some}
 use Rattle.std.specs.Option.{option_map}
 use Rattle.std.proofs.lemmas.Bool.{cond_both, ltb-false, leb-false, eqb-true}
+use Rattle.std.proofs.lemmas.Option.{same_Some}
 use Rattle.blot_fields.specs.declared.admin.Admin.{Admin}
 use Rattle.blot_fields.specs.declared.admin.Admin.TheVariants as admin
 use Rattle.blot_fields.specs.declared.fault.FieldFault.{FieldFault}
@@ -142,15 +143,12 @@ body-moves s live head (bodies.Allocation allocation) idle bears =
     inr (record { of_peer = refl; next_same = refl; awaits = refl; sends = refl; end = refl; same = refl; bears = ap Some bears; command = λ peer. refl })
 body-moves s live head bodies.Other idle bears = other-moves s live head head.number head.kind idle bears
 
-pub some_same : {A : Type 0} (a b : A) → Some a ≡ Some b → a ≡ b
-some_same a b same = ap (λ found. unwrap_or found a) same
-
 expected-moves : (s : State) (live : Live) (head : Head) (said : Result Message FieldFault) → live.awaited ≡ None → head_in said ≡ Some head → head.number ≡ s.expected
     → Moves s.peer s.next s.expected said (expected_row (with_live s live) head said)
 unfolding expected_row
 expected-moves s live head (Ok m) idle is bears =
-    subst (λ h. Moves s.peer s.next s.expected (Ok m) (body_row (with_live s live) h m.body)) (some_same m.head head is)
-    (body-moves s live m.head m.body idle (ap (λ h. h.number) (some_same m.head head is) ∙ bears))
+    subst (λ h. Moves s.peer s.next s.expected (Ok m) (body_row (with_live s live) h m.body)) (same_Some m.head head is)
+    (body-moves s live m.head m.body idle (ap (λ h. h.number) (same_Some m.head head is) ∙ bears))
 expected-moves s live head (Err fault) idle is bears =
     inl (record { of_peer = refl; next_same = refl; idle = idle; end = refl; number = inr (inl (refl, subst (λ found. option_map (λ h. h.number) found ≡ Some s.expected) (sym is) (ap Some bears))) })
 
@@ -265,7 +263,7 @@ peer-moves : (s : State) (live : Live) (head : Head) (said : Result Message Fiel
     → FrameMoves s.peer s.next s.expected said (peer_row (with_live s live) head said now)
 unfolding peer_row
 peer-moves s live head (Ok m) now idle is =
-    subst (λ h. FrameMoves s.peer s.next s.expected (Ok m) (message_row (with_live s live) h m.body (Ok m) now)) (some_same m.head head is)
+    subst (λ h. FrameMoves s.peer s.next s.expected (Ok m) (message_row (with_live s live) h m.body (Ok m) now)) (same_Some m.head head is)
     (message-moves s live m.head m.body now idle)
 peer-moves s live head (Err fault) now idle is = inl (number-moves s live head (Err fault) idle is)
 

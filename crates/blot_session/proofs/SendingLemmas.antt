@@ -1,8 +1,8 @@
 -- What a call does to the two numbers of a session.
 use Rattle.std.proofs.Common.{◌≡◌, ℕ, ◌+◌, ◌≤◌, Bool, true, false, List, [], ◌∷◌, ◌++◌, Option, Some, None, Result, Ok, Err, refl, sym, ap, subst, ◌∙◌, inl, inr, arith}
-use Rattle.std.specs.Prelude.{◌≢◌, ◌⊎◌, ◌==◌, ℤ, nat_lt, ◌&&◌, is_some, if◌then◌else◌}
+use Rattle.std.specs.Prelude.{◌≢◌, ◌⊎◌, ◌==◌, ℤ, nat_lt, is_some, if◌then◌else◌}
 use Rattle.std.specs.List.{list_all}
-use Rattle.std.proofs.lemmas.Bool.{cond-false, cond_both, false≢true}
+use Rattle.std.proofs.lemmas.Bool.{and_parts, cond-false, cond_both, false≢true}
 use Rattle.blot_fields.specs.declared.admin.Admin.TheVariants as admin
 use Rattle.blot_fields.specs.declared.fault.FieldFault.{FieldFault}
 use Rattle.blot_fields.specs.declared.head.Head.{Head}
@@ -419,20 +419,11 @@ counts-up : (calls : List Call) (state : State) → (IsAwaiting state → IsUnsp
     → CountUp state.next (all_sent state calls) (behind_calls state calls).next
 counts-up [] state low met kept of = refl
 counts-up (call ∷ calls) state low met kept of =
-    let here : is_of_connection call ≡ true = first-true (is_of_connection call) (list_all is_of_connection calls) of in
-    let later : list_all is_of_connection calls ≡ true = second-true (is_of_connection call) (list_all is_of_connection calls) of in
-    let moves = moves-numbers state call met.0 kept.0 here low in
+    let parts : (is_of_connection call ≡ true) × (list_all is_of_connection calls ≡ true) = and_parts (is_of_connection call) (list_all is_of_connection calls) of in
+    let moves = moves-numbers state call met.0 kept.0 parts.0 low in
     let next = (outcome state call).state in
     count-on state.next next.next (behind_calls next calls).next (numbers_sent state call) (all_sent next calls) moves.sent
-    (counts-up calls next (λ awaits. (moves.awaits awaits).1) met.1 kept.1 later)
-  where
-    first-true : (a b : Bool) → (a && b) ≡ true → a ≡ true
-    first-true true b is = refl
-    first-true false b is = is
-
-    second-true : (a b : Bool) → (a && b) ≡ true → b ≡ true
-    second-true true b is = is
-    second-true false b is = absurd (false≢true is)
+    (counts-up calls next (λ awaits. (moves.awaits awaits).1) met.1 kept.1 parts.1)
 
 pub counted_up : (state : State) (calls : List Call) → IsIdle state → AreMet state calls → HasNoReset calls → list_all is_of_connection calls ≡ true
     → CountUp state.next (all_sent state calls) (behind_calls state calls).next

@@ -1,9 +1,9 @@
 -- The messages that a session sends (FIX 4.4 volume 2, "Administrative messages" and "Business Message Reject"; volume 5,
 -- "Allocation Instruction Ack").
-use Rattle.std.specs.Prelude.{ℕ, ◌+◌, ◌==◌, nat_lt, ◌&&◌, Bool, true, false, not, ℤ, List, [], ◌∷◌, ◌++◌, codes, Option, Some, None, if◌then◌else◌}
+use Rattle.std.specs.Prelude.{◌≡◌, ◌<◌, ◌≤◌, ℕ, ◌+◌, ◌==◌, nat_lt, ◌&&◌, All, Bool, true, false, not, ℤ, List, [], ◌∷◌, ◌++◌, length, codes, Option, Some, None, if◌then◌else◌}
 use Rattle.std.specs.Fmt.{decimal}
 use Rattle.blot_tag.specs.Fields.{TagValue}
-use Rattle.blot_tag.specs.Writing.{Written, frame_of, is_data_tag, is_own_tag}
+use Rattle.blot_tag.specs.Writing.{Written, frame_of, has_soh, is_data_tag, is_own_tag}
 use Rattle.blot_time.specs.Moment.{moment_text}
 use Rattle.blot_types.specs.Told.{reject_code}
 use Rattle.blot_session.specs.declared.outbound.Outbound.{Outbound}
@@ -116,3 +116,13 @@ with_fields written fields = record { kind = written.kind; fields = written.fiel
 -- a tag that a message has after its kind, and that isn't data
 abbrev pub is_plain_tag : ℕ → Bool
 is_plain_tag tag = nat_lt 0 tag && nat_lt tag 1000 && not (is_own_tag tag) && not (is_data_tag tag)
+
+-- a value that a field may have: 1 to 64 bytes, and no SOH
+pub record IsShort (value : List ℕ) : Type 0 where
+  pub some : 0 < length value
+  pub few : length value ≤ 64
+  pub plain : has_soh value ≡ false
+
+-- all values of some fields are
+abbrev pub AreShort : List TagValue → Type 0
+AreShort fields = All (λ field. IsShort field.value) fields

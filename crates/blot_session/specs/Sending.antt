@@ -1,7 +1,15 @@
 -- The numbers under which a session sends its messages.
-use Rattle.std.specs.Prelude.{◌≡◌, ℕ, ◌+◌, Bool, true, false, List, [], ◌∷◌, ◌++◌, if◌then◌else◌}
+use Rattle.std.specs.Prelude.{◌≡◌, ◌≤◌, ℕ, ◌+◌, Bool, true, false, List, [], ◌∷◌, ◌++◌, Option, Some, None, if◌then◌else◌}
+use Rattle.std.specs.List.{flat_map}
+use Rattle.blot_fields.specs.declared.head.Head.{Head}
+use Rattle.blot_fields.specs.Numbers.{head_in}
+use Rattle.blot_session.specs.declared.action.Action.{Action}
+use Rattle.blot_session.specs.declared.action.Action.TheVariants.{Send}
+use Rattle.blot_session.specs.declared.carrying.TheConstants.{LAST_NUMBER}
 use Rattle.blot_session.specs.declared.outbound.Outbound.{Outbound}
 use Rattle.blot_session.specs.declared.row.Row.{Row}
+use Rattle.blot_session.specs.declared.row.Sends.{Sends}
+use Rattle.blot_session.specs.declared.row.Sends.TheVariants.{Nothing}
 use Rattle.blot_session.specs.declared.state.State.{State}
 use Rattle.blot_session.specs.Calls.{is_spent, row_of_reply}
 use Rattle.blot_session.specs.Outbound.{is_gap_fill, next_behind, number_of}
@@ -35,6 +43,25 @@ numbers_sent state call = []
 abbrev pub all_sent : State → List Call → List ℕ
 all_sent state [] = []
 all_sent state (call ∷ calls) = numbers_sent state call ++ all_sent (outcome state call).state calls
+
+-- the number of a message with this header, as a reader finds it; none of one that is marked as sent before
+abbrev pub number_by : Option Head → List ℕ
+number_by (Some head) = if head.dup then [] else head.number ∷ []
+number_by None = []
+
+-- of what an action sends
+abbrev pub number_borne : Action → List ℕ
+number_borne (Send bytes) = number_by (head_in (said_by bytes))
+number_borne action = []
+
+-- of what some actions send
+abbrev pub numbers_borne : List Action → List ℕ
+numbers_borne actions = flat_map number_borne actions
+
+-- what a row sends leaves room for its numbers, which begin with this one
+abbrev pub CanSend : Sends → ℕ → Type 0
+CanSend Nothing next = Unit {0}
+CanSend sends next = (1 ≤ next) × (next ≤ LAST_NUMBER)
 
 -- numbers count up from the first to before the last
 abbrev pub CountUp : ℕ → List ℕ → ℕ → Type 0

@@ -3,6 +3,7 @@ ghost use Rattle.std.specs.Prelude.{◌≡◌, ◌≤◌, ◌+◌, ◌++◌, ◌
 ghost use Rattle.blot_fields.specs.declared.TheConstants.{SEQUENCE_MAX};
 ghost use Rattle.blot_session.specs.Calls.{Gives, behind, behind_all, sent, ending, carried_out, is_spent, outcome_of, spent};
 ghost use Rattle.blot_session.specs.Outbound.{text_of};
+ghost use Rattle.blot_session.specs.Sending.{CanSend, number_used, numbers_borne, numbers_by, numbers_from};
 ghost use Rattle.blot_session.specs.States.{IsState};
 ghost use Rattle.blot_session.specs.Table.{Fits, messages_of};
 ghost use Rattle.blot_session.specs.declared.action.Action.TheVariants.{Send};
@@ -36,6 +37,7 @@ pub(crate) fn take_row(
     requires fits { Fits state.next row }
     ensures outcome { IfOk result (λ done. Gives (outcome_of state row command now) done.0 done.1) }
     ensures state { IfOk result (λ done. IsState done.0) }
+    ensures bears { IfOk result (λ done. numbers_borne done.1.items ≡ numbers_by state row) }
 {
     if is_spent(&state, &row) {
         let (state, actions) = spent(alloc, state)?;
@@ -75,7 +77,8 @@ pub(crate) fn is_spent(state: &State, row: &Row) -> bool
 
 /// The connection ends, since the numbers to send are used up. No number changes.
 pub(crate) fn spent(alloc: Global, state: State) -> Result<Outcome, NoMemory>
-    ensures { IfOk result (λ done. Gives (spent state) done.0 done.1) }
+    ensures outcome { IfOk result (λ done. Gives (spent state) done.0 done.1) }
+    ensures bears { IfOk result (λ done. numbers_borne done.1.items ≡ []) }
 {
     let mut actions = Vec::new(alloc);
     actions.push(Action::Close(CloseReason::Spent))?;
@@ -89,8 +92,9 @@ pub(crate) fn carry_out(
     command: Option<Command>,
     now: Moment,
 ) -> Result<Outcome, NoMemory>
-    requires { row.state.next ≤ SEQUENCE_MAX + 1 }
-    ensures { IfOk result (λ done. Gives (carried_out row command now) done.0 done.1) }
+    requires { CanSend row.sends row.state.next }
+    ensures outcome { IfOk result (λ done. Gives (carried_out row command now) done.0 done.1) }
+    ensures bears { IfOk result (λ done. numbers_borne done.1.items ≡ numbers_from row.state.next (messages_of row.sends)) }
 {
     let Row { sends, end, state } = row;
     let mut actions = Vec::new(alloc);
@@ -107,9 +111,10 @@ fn send_all(
     sends: Sends,
     now: Moment,
 ) -> Result<State, NoMemory>
-    requires { state.next ≤ SEQUENCE_MAX + 1 }
+    requires { CanSend sends state.next }
     ensures state { IfOk result (λ behind. behind ≡ behind_all state (messages_of sends) now) }
     ensures actions { OnOk result (actions.new.items ≡ actions.old.items ++ sent state (messages_of sends) now) }
+    ensures bears { OnOk result (numbers_borne actions.new.items ≡ numbers_borne actions.old.items ++ numbers_from state.next (messages_of sends)) }
 {
     match sends {
         Sends::Nothing => Ok(state),
@@ -129,9 +134,11 @@ fn send(
     message: &Outbound,
     now: Moment,
 ) -> Result<State, NoMemory>
-    requires { state.next ≤ SEQUENCE_MAX + 2 }
+    requires low { 1 ≤ state.next }
+    requires high { state.next ≤ SEQUENCE_MAX }
     ensures state { IfOk result (λ next. next ≡ behind state message.now now) }
     ensures actions { OnOk result (actions.new.items ≡ actions.old.items ++ Send (text_of state message.now now) ∷ []) }
+    ensures bears { OnOk result (numbers_borne actions.new.items ≡ numbers_borne actions.old.items ++ number_used message.now state.next) }
 {
     let text = text_of(alloc, &state, message, now)?;
     actions.push(Action::Send(Bytes::new(text)))?;
@@ -144,7 +151,8 @@ fn send(
 
 // Adds how a call ends, after its sends.
 fn push_end(actions: &mut Vec<Action>, end: End, command: Option<Command>) -> Result<(), NoMemory>
-    ensures { OnOk result (actions.new.items ≡ actions.old.items ++ ending end command) }
+    ensures actions { OnOk result (actions.new.items ≡ actions.old.items ++ ending end command) }
+    ensures bears { OnOk result (numbers_borne actions.new.items ≡ numbers_borne actions.old.items) }
 {
     match (end, command) {
         (End::Delivers, Some(command)) => actions.push(Action::Deliver(command))?,

@@ -10,8 +10,9 @@ ghost use Rattle.blot_session.specs.declared.state.State.{State};
 ghost use Rattle.blot_session.specs.Calls.{Awaits, DeliversAlone, Gives, GivesCommand, command_said, on_frame, on_tick, on_stop, on_reply, row_of_reply};
 ghost use Rattle.blot_session.specs.InTurn.{is_report_said};
 ghost use Rattle.blot_session.specs.Met.{IsOfNumber, met_of};
+ghost use Rattle.blot_session.specs.Runs.Call.{Frame as FrameCall, Reply as ReplyCall, Stop as StopCall, Tick as TickCall};
 ghost use Rattle.blot_session.specs.Runs.{Call, AreBorne, AreMet, DeliversOwn, HasNoReset, IsInOrder, behind_calls, said_by};
-ghost use Rattle.blot_session.specs.Sending.{CountUp, all_sent, is_of_connection};
+ghost use Rattle.blot_session.specs.Sending.{CountUp, all_sent, is_of_connection, numbers_borne, numbers_sent};
 ghost use Rattle.blot_session.specs.States.{awaited_of, fresh, resumed, waiting_again, closed, phase_of, IsIdle, IsAwaiting, IsState};
 
 use crate::carrying::{go_on, take_row};
@@ -184,6 +185,9 @@ impl Session {
 
         // It is the command that the frame brings by itself: its own sender's.
         ensures own { IfOk result (λ actions. DeliversOwn (text_of frame.now) actions.items) }
+
+        // What is to be sent bears the numbers that the session counts.
+        ensures bears { IfOk result (λ actions. numbers_borne actions.items ≡ numbers_sent self.old (FrameCall (text_of frame.now) now true)) }
     {
         take_frame(alloc, &mut self.state, frame, now)
     }
@@ -204,6 +208,7 @@ impl Session {
         ensures awaits { IfOk result (λ actions. Awaits self.new actions.items) }
         ensures alone { IfOk result (λ actions. DeliversAlone actions.items) }
         ensures own { (text : List ℕ) → said.now ≡ said_by text → IfOk result (λ actions. DeliversOwn text actions.items) }
+        ensures bears { (text : List ℕ) → said.now ≡ said_by text → IfOk result (λ actions. numbers_borne actions.items ≡ numbers_sent self.old (FrameCall text now true)) }
     {
         take_said(alloc, &mut self.state, said, now)
     }
@@ -237,6 +242,9 @@ impl Session {
         ensures peer { self.new.peer ≡ self.old.peer }
         ensures awaits { IfOk result (λ actions. Awaits self.new actions.items) }
         ensures idle { IsIdle self.new }
+
+        // What is to be sent bears the numbers that the session counts.
+        ensures bears { IfOk result (λ actions. numbers_borne actions.items ≡ numbers_sent self.old (TickCall now true)) }
     {
         let closed = self.state.closed();
         let row = tick_row(self.state, now);
@@ -257,6 +265,9 @@ impl Session {
         ensures peer { self.new.peer ≡ self.old.peer }
         ensures awaits { IfOk result (λ actions. Awaits self.new actions.items) }
         ensures idle { IsIdle self.new }
+
+        // What is to be sent bears the numbers that the session counts.
+        ensures bears { IfOk result (λ actions. numbers_borne actions.items ≡ numbers_sent self.old (StopCall now true)) }
     {
         let closed = self.state.closed();
         let row = stop_row(self.state);
@@ -281,6 +292,9 @@ impl Session {
         ensures peer { self.new.peer ≡ self.old.peer }
         ensures awaits { IfOk result (λ actions. Awaits self.new actions.items) }
         ensures idle { IsIdle self.new }
+
+        // What is to be sent bears the numbers that the session counts.
+        ensures bears { IfOk result (λ actions. numbers_borne actions.items ≡ numbers_sent self.old (ReplyCall reply now true)) }
     {
         take_reply(alloc, &mut self.state, reply, now)
     }

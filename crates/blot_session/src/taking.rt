@@ -4,7 +4,9 @@ ghost use Rattle.std.specs.Prelude.{◌≡◌, IfOk, OnErr};
 ghost use Rattle.blot_tag.specs.Views.{text_of};
 ghost use Rattle.blot_fields.specs.Numbers.{IsNumbered};
 ghost use Rattle.blot_session.specs.Calls.{Gives, command_said, ending, on_frame, on_reply, row_of_reply};
+ghost use Rattle.blot_session.specs.Rows.{frame_row};
 ghost use Rattle.blot_session.specs.Runs.{said_by};
+ghost use Rattle.blot_session.specs.Sending.{numbers_borne, numbers_by};
 ghost use Rattle.blot_session.specs.States.{closed, IsIdle, IsAwaiting, IsState};
 
 use crate::carrying::{Outcome, go_on, take_row};
@@ -32,6 +34,7 @@ pub(crate) fn take_frame(
     ensures ok { IfOk result (Gives (on_frame state.old (said_by (text_of frame.now)) now) state.new) }
     ensures err { OnErr result (state.new ≡ closed state.old) }
     ensures state { IsState state.new }
+    ensures bears { IfOk result (λ actions. numbers_borne actions.items ≡ numbers_by state.old (frame_row state.old (said_by (text_of frame.now)) now)) }
 {
     let said = decode(alloc, frame);
     if is_out_of_memory(&said) {
@@ -54,6 +57,7 @@ pub(crate) fn take_reply(
     ensures ok { IfOk result (Gives (on_reply state.old reply now) state.new) }
     ensures err { OnErr result (state.new ≡ closed (row_of_reply state.old reply).state) }
     ensures state { IsState state.new }
+    ensures bears { IfOk result (λ actions. numbers_borne actions.items ≡ numbers_by state.old (row_of_reply state.old reply)) }
 {
     if is_report_taken(state, &reply) {
         count(state);
@@ -75,6 +79,7 @@ pub(crate) fn take_said(
     ensures ok { IfOk result (Gives (on_frame state.old said.now now) state.new) }
     ensures err { OnErr result (state.new ≡ closed state.old) }
     ensures state { IsState state.new }
+    ensures bears { IfOk result (λ actions. numbers_borne actions.items ≡ numbers_by state.old (frame_row state.old said.now now)) }
 {
     if take_report(state, said, now) {
         return hand_on(alloc, state, said);
@@ -96,6 +101,7 @@ fn take_by_row(
     ensures ok { IfOk result (Gives (on_frame state.old said.now now) state.new) }
     ensures err { OnErr result (state.new ≡ closed state.old) }
     ensures state { IsState state.new }
+    ensures bears { IfOk result (λ actions. numbers_borne actions.items ≡ numbers_by state.old (frame_row state.old said.now now)) }
 {
     let closed = state.closed();
     let outcome = take_message(alloc, *state, said, now);
@@ -115,6 +121,7 @@ fn take_message(
     requires numbers { IsNumbered said.now }
     ensures outcome { IfOk result (λ done. Gives (on_frame state said.now now) done.0 done.1) }
     ensures state { IfOk result (λ done. IsState done.0) }
+    ensures bears { IfOk result (λ done. numbers_borne done.1.items ≡ numbers_by state (frame_row state said.now now)) }
 {
     let row = frame_row(state, said, now);
     let command = command_delivered(alloc, &row, said, &state)?;
@@ -149,6 +156,7 @@ fn reply_by_row(
     ensures ok { IfOk result (Gives (on_reply state.old reply now) state.new) }
     ensures err { OnErr result (state.new ≡ closed (row_of_reply state.old reply).state) }
     ensures state { IsState state.new }
+    ensures bears { IfOk result (λ actions. numbers_borne actions.items ≡ numbers_by state.old (row_of_reply state.old reply)) }
 {
     let row = row_of_reply(*state, reply);
     let closed = row.state.closed();

@@ -20,7 +20,7 @@ Conveys remaining contents before (Took bytes) after = Appends (contents before)
 Conveys remaining contents before Refused after = Keeps (contents before) (contents after)
 
 -- a connection does what its stream conveys
-abbrev pub SocketDoes : {S : Type 0} → (S → Option (List ℕ)) → (S → Option (List ℕ)) → Socket S → Did → Socket S → Type 0
+abbrev pub SocketDoes : {R S : Type 0} → (S → Option (List ℕ)) → (S → Option (List ℕ)) → Socket R S → Did → Socket R S → Type 0
 SocketDoes remaining contents before did after = Conveys remaining contents before.stream did after.stream
 
 -- a clock tells what is then its last moment

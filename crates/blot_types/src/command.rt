@@ -281,4 +281,19 @@ impl Entry {
             fill,
         })
     }
+
+    /// The fill of that version, where it stands.
+    pub fn fill(&self) -> Option<&Fill>
+        ensures { option_copied result ≡ option_map (λ version. version.fill) (version_of self.now) }
+    {
+        match &self.command {
+            Command::Trade(trade) => Some(&trade.fill),
+            Command::Correct(correct) => Some(&correct.fill),
+            Command::Bust(_)
+            | Command::AllocNew(_)
+            | Command::AllocReplace(_)
+            | Command::AllocCancel(_)
+            | Command::Withdraw(_) => None,
+        }
+    }
 }

@@ -94,7 +94,7 @@ past m list (step ∷ earlier) (suc count) = past m (m.before list step.inverse)
 abbrev pub book_with : {S L C I R : Type 0} → Meaning S L C I R → Stack S C I → C → Book L C I
 book_with m stack command = apply_of m (book_of m stack) command
 
--- and with a count of steps undone
+-- the book of a stack with a count of its steps undone, newest first
 abbrev pub book_rewound : {S L C I R : Type 0} → Meaning S L C I R → ℕ → Stack S C I → Book L C I
 book_rewound m count stack = rewound m count (book_of m stack)
 

@@ -17,6 +17,6 @@ returns-in_err-entry_numbered c =
 pub returns : goal.returns
 returns c =
     let list = entries_in c.args.slots.now in
-    c.fill_of.ensures
+    c.fill.ensures
     ∙ ap (λ entry. option_map (λ (version : Version). version.fill) (option_and_then version_of entry)) c.in_ok-entry_numbered.ensures
     ∙ fill-by_number c.args.number list (rise list (entries_rise c.args.slots.now c.requires))

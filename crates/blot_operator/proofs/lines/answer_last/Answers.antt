@@ -1,6 +1,7 @@
 use Rattle.std.proofs.Common.{sym}
 use Rattle.blot_operator.proofs.LineLemmas.{nothing, something}
-use Rattle.blot_operator.proofs.DialogueLemmas.{OnErr-always, HasTold-last, HasTold-done, StopsAmong-last}
+use Rattle.blot_stream.proofs.ResultLemmas.{err-always}
+use Rattle.blot_operator.proofs.DialogueLemmas.{HasTold-last, HasTold-done, StopsAmong-last}
 use Rattle.blot_operator.proofs.lines.answer_last.Goals as goal
 
 pub returns-then-is_empty-clause-ok : goal.returns-then-is_empty-clause-ok
@@ -13,5 +14,5 @@ returns-clause-ok g c = λ start bytes before has.
 
 pub returns-in_err-answer_line-clause-err : goal.returns-in_err-answer_line-clause-err
 returns-in_err-answer_line-clause-err g c =
-    OnErr-always c.from_residual.result (λ start bytes before has.
+    err-always c.from_residual.result (λ start bytes before has.
     StopsAmong-last start bytes _ _ _ before _ _ (something c.args.line.now (sym c.if-is_empty.ensures)) has c.in_err-answer_line.ensures.err)

@@ -2,7 +2,7 @@ use Rattle.std.proofs.Common.{◌≡◌, ℕ, ◌+◌, ◌<◌, List, [], ◌∷
 use Rattle.std.proofs.lemmas.List.{append-nil, take_all, take_more, take-append-drop}
 use Rattle.blot_operator.specs.Lines.{lines_of}
 use Rattle.blot_operator.specs.Dialogue.{Closes, HasTold, StopsAmong}
-use Rattle.blot_operator.proofs.DialogueLemmas.{OnErr-always}
+use Rattle.blot_stream.proofs.ResultLemmas.{err-always}
 use Rattle.blot_operator.proofs.lines.answer_piece.Goals as goal
 
 -- one more byte of a piece that stands after a front
@@ -43,7 +43,7 @@ pub returns-in_err-closed-clause-err : goal.returns-in_err-closed-clause-err
 returns-in_err-closed-clause-err g c =
     let piece = c.args.piece.now in
     let index = c.loop-byte.byte-index in
-    OnErr-always c.from_residual.result (λ start bytes more before has.
+    err-always c.from_residual.result (λ start bytes more before has.
     subst (λ all. StopsAmong g.D.Operated.ways start (lines_of all) c.take_byte.new.state before (g.W.Write.contents c.take_byte.new.output))
     (whole bytes piece more index c.loop-byte-test.true)
     (c.in_err-closed.ensures.err start (bytes ++ take index piece) (drop (index + 1) piece ++ more) before

@@ -1,7 +1,8 @@
 use Rattle.blot_stream.specs.Texts.{AppendsOf}
 use Rattle.blot_capture.specs.Replay.{captured_by}
 use Rattle.blot_operator.specs.Operating.{answers_of}
-use Rattle.blotter_main.proofs.ResultLemmas.{on-ok, led-to}
+use Rattle.blot_stream.proofs.ResultLemmas.{on-ok}
+use Rattle.blotter_main.proofs.ResultLemmas.{led-to}
 use Rattle.blotter_main.proofs.running.keep_desk.Goals as goal
 
 pub returns-clause-told : goal.returns-clause-told
