@@ -4,7 +4,7 @@ use crate::erasure::{fault_of, offer};
 use crate::keys::{exec, order, text};
 use crate::words::Filled::Bought;
 use crate::words::Step::{Allocates, Busts, Cancels, Corrects, Replaces, Trades};
-use crate::words::{Booked, Step, command};
+use crate::words::{Booked, FIFTY_OF_E2, Step, command};
 use Answer::{Fails, Leaves};
 use blot_command::Tables;
 use blot_decimal::{QtySum, Value};
@@ -23,15 +23,7 @@ const FIFTY: i128 = 50_000_000;
 // 50 at 11, in units of 10^-14.
 const FIFTY_AT_11: i128 = 55_000_000_000_000_000;
 
-// 50 of E2 at 11, all to B.
-const FIFTY_OF_E2: Booked = Booked {
-    sign: Sign::Buy,
-    execs: &[b"E2"],
-    block: b"50",
-    lines: &[[b"B", b"50", b"11"]],
-};
-
-// 40 of E2, likewise.
+// 40 of E2 at 11, all to B.
 const FORTY_OF_E2: Booked = Booked {
     sign: Sign::Buy,
     execs: &[b"E2"],

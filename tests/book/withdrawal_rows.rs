@@ -2,7 +2,7 @@
 
 use crate::words::Filled::Bought;
 use crate::words::Step::{Allocates, Busts, Cancels, Corrects, Replaces, Trades};
-use crate::words::{Booked, Step, command};
+use crate::words::{Booked, FIFTY_OF_E2, Step, command};
 use blot_command::{Tables, Undoable};
 use blot_model::blocked_of;
 use blot_types::{Entry, Sign};
@@ -17,15 +17,7 @@ struct Row {
     needed_by: &'static [Option<u64>],
 }
 
-// 50 of E2 at 11, all to B.
-const FIFTY_OF_E2: Booked = Booked {
-    sign: Sign::Buy,
-    execs: &[b"E2"],
-    block: b"50",
-    lines: &[[b"B", b"50", b"11"]],
-};
-
-// 80 of E1 at 10, likewise.
+// 80 of E1 at 10, all to B.
 const EIGHTY_OF_E1: Booked = Booked {
     sign: Sign::Buy,
     execs: &[b"E1"],

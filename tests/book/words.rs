@@ -29,6 +29,14 @@ pub struct Booked {
     pub lines: &'static [[&'static [u8]; 3]],
 }
 
+/// 50 of E2 at 11, all to B.
+pub const FIFTY_OF_E2: Booked = Booked {
+    sign: Sign::Buy,
+    execs: &[b"E2"],
+    block: b"50",
+    lines: &[[b"B", b"50", b"11"]],
+};
+
 /// A command in words: the execution or the allocation that it takes up, then the one that it refers to, then
 /// what it brings; or the number of the entry that it takes out.
 pub enum Step {

@@ -4,7 +4,7 @@ use crate::expect::{expect, text};
 use crate::frames::{frame, stream};
 use blot_desk::Event;
 use blot_diary::{
-    Kept, Noted, Numbers, Party, asked_record, beginning_record, is_plain, numbers_record,
+    Kept, Noted, Party, SequenceNumbers, asked_record, beginning_record, is_plain, numbers_record,
     read_kept, wrapped_record,
 };
 use blot_tag::Reader;
@@ -131,7 +131,7 @@ fn word_of(noted: &Option<Noted>) -> &'static str {
 fn a_journal_frame_by_frame(rt: HostRuntime) -> Result<(), Fail> {
     let alloc = rt.alloc();
     let (own, peer) = (text(b"MO")?, text(b"BRKA")?);
-    let mut numbers = Numbers::first();
+    let mut numbers = SequenceNumbers::first();
     for (body, word, expected, next) in ROWS {
         let kept = kept_of(alloc, body)?.ok_or("nothing is kept")?;
         numbers = numbers.after(&own, &peer, &kept);
@@ -174,7 +174,7 @@ fn writes_the_beginning_of_a_journal(rt: HostRuntime) -> Result<(), Fail> {
 
 #[test]
 fn writes_the_numbers_of_a_peer(rt: HostRuntime) -> Result<(), Fail> {
-    let numbers = Numbers {
+    let numbers = SequenceNumbers {
         expected: 2,
         next: 1_000_000_000,
     };

@@ -1,18 +1,15 @@
 -- What the newest instruction of a key, and the newest that names a chain, tell of the definitions.
-use Rattle.std.proofs.Common.{◌≡◌, ◌≤◌, Bool, true, false, ◌&&◌, cond, List, [], ◌∷◌, length, Option, Some, None, refl, sym, ap, subst, ◌∙◌, arith, inl, inr}
-use Rattle.std.specs.Prelude.{not, filter, find}
+use Rattle.std.proofs.Common.{◌≡◌, ◌≤◌, Bool, true, false, ◌&&◌, cond, List, [], ◌∷◌, length, Option, Some, None, refl, sym, ap, subst, ◌∙◌, arith, inl, inr, not, filter, find, option_and_then, option_map}
 use Rattle.std.specs.List.{list_any}
-use Rattle.std.specs.Option.{option_and_then, option_map, option_map_or}
-use Rattle.std.proofs.lemmas.Bool.{cases_Bool, and_parts}
+use Rattle.std.specs.Option.{option_map_or}
+use Rattle.std.proofs.lemmas.Bool.{cases_Bool, and_parts, and_right}
 use Rattle.blot_places.proofs.SlotLemmas.{find_here, find_on}
-use Rattle.blot_types.specs.declared.allocation.Instruction.{Instruction}
-use Rattle.blot_types.specs.declared.keys.AllocKey.{AllocKey}
-use Rattle.blot_types.specs.declared.keys.ExecKey.{ExecKey}
+use Rattle.blot_types.specs.declared.{allocation.Instruction.Instruction, keys.AllocKey.AllocKey, keys.ExecKey.ExecKey}
 use Rattle.blot_types.specs.Instructions.{alloc_taker_in, brings_allocation, ends, holds_beside, holds_in, is_allocation_in, is_allocation_of, is_instructed, is_keyed, is_live_in, is_reference, may_follow, names, other_holder_in, reference_of}
 use Rattle.blot_types.proofs.ChainLemmas.{differing}
 use Rattle.blot_types.proofs.InstructionLemmas.{Follows, ends-reference, filter-unfound, follows, holds-step, live-step, named_once, named-free, no_number}
-use Rattle.blot_types.proofs.StandLemmas.{and-true}
 use Rattle.blot_types.proofs.KeyLemmas.{same_alloc-true}
+use Rattle.blot_types.proofs.GeneralLemmas.{and-true}
 
 -- ---- lists
 
@@ -123,10 +120,6 @@ held-behind i earlier root it named =
     (λ j. holds-step i earlier root j ∙ ap (λ test. holds_in earlier root j && not test) (ends-reference j.key i.role))
     ∙ no_number (λ x. x.number) _ (named-free earlier reference root i.roots it.unnamed named)
 
-unnamed : (a b : Bool) → b ≡ false → (a && b) ≡ false
-unnamed true b none = none
-unnamed false b none = refl
-
 -- what was found among the earlier ones, seen after one instruction more
 step : (i : Instruction) (earlier : List Instruction) (root : ExecKey) (found : Option Instruction) → option_map_or (names root) found true ≡ true
     → if_passes (holds_in (i ∷ earlier) root) (if_passes (is_live_in earlier) found) ≡ if_passes (is_live_in (i ∷ earlier)) found
@@ -167,7 +160,7 @@ holder-newest (i ∷ earlier) root instructed =
           ∙ sym (find-stronger (holds_in earlier root) (holds_in (i ∷ earlier) root) earlier
           (λ j held. (and_parts (holds_in earlier root j) (not (ends j.key i.role)) (sym (holds-step i earlier root j) ∙ held)).0)
           (named_once earlier parts.1 root))
-          ∙ sym (find_on (holds_in (i ∷ earlier) root) i earlier (unnamed (live i) (names root i) other))
+          ∙ sym (find_on (holds_in (i ∷ earlier) root) i earlier (and_right (live i) (names root i) other))
     ]
 
 -- ---- the holder other than the one referred to

@@ -1,8 +1,7 @@
 -- What the allocations keep with one instruction more, one less, and one lifted out or put back; and what their look-ups find.
-use Rattle.std.proofs.Common.{◌≡◌, ℕ, ◌<◌, Bool, true, List, [], ◌∷◌, ◌++◌, reverse, Option, Some, None, refl, sym, ap, subst, ◌∙◌, arith, inl, inr}
-use Rattle.std.specs.Prelude.{find, IsSome}
+use Rattle.std.proofs.Common.{◌≡◌, ℕ, ◌<◌, Bool, true, List, [], ◌∷◌, ◌++◌, reverse, Option, Some, None, refl, sym, ap, subst, ◌∙◌, arith, inl, inr, find, IsSome, ltb-true}
 use Rattle.std.specs.List.{list_all}
-use Rattle.std.proofs.lemmas.Bool.{cases_Bool, and_parts, and_from, ltb-true}
+use Rattle.std.proofs.lemmas.Bool.{cases_Bool, and_parts, and_from}
 use Rattle.std.proofs.lemmas.List.{reverse-append}
 use Rattle.blot_places.specs.declared.slots.Slot.{Slot}
 use Rattle.blot_places.specs.Places.{places_in}
@@ -11,10 +10,7 @@ use Rattle.blot_places.specs.Slots.{is_above, items, lifted, live, marked, newes
 use Rattle.blot_places.proofs.MarkLemmas.{above-both, above-side, at-apart, falling-side, items-marked, places-marked}
 use Rattle.blot_places.proofs.ShownLemmas.{falling-parts, put_back-lifted}
 use Rattle.blot_places.proofs.SlotLemmas.{lifted_here, lifted_on, live_here, live_on, newest_live-find}
-use Rattle.blot_types.specs.declared.allocation.AllocRole.{AllocRole}
-use Rattle.blot_types.specs.declared.allocation.Instruction.{Instruction}
-use Rattle.blot_types.specs.declared.keys.AllocKey.{AllocKey}
-use Rattle.blot_types.specs.declared.keys.ExecKey.{ExecKey}
+use Rattle.blot_types.specs.declared.{allocation.AllocRole.AllocRole, allocation.Instruction.Instruction, keys.AllocKey.AllocKey, keys.ExecKey.ExecKey}
 use Rattle.blot_types.specs.Instructions.{are_apart, ends, holds_in, is_above_instructions, is_instructed, is_keyed, is_live_in, may_follow, names}
 use Rattle.blot_types.specs.Keys.{same_alloc, same_exec}
 use Rattle.blot_types.proofs.InstructionLemmas.{follows}

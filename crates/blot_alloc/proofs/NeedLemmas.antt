@@ -1,27 +1,24 @@
 -- The first instruction that needs another, and the first that lists a root.
-use Rattle.std.proofs.Common.{◌≡◌, ℕ, ◌+◌, ◌<◌, Bool, true, false, cond, ◌&&◌, ◌||◌, List, [], ◌∷◌, get_or, length, reverse, take, Option, Some, None, refl, sym, ap, subst, ◌∙◌, inl, inr, arith}
-use Rattle.std.specs.Prelude.{All, find, nat_eq, nat_lt}
-use Rattle.std.specs.Option.{option_and_then, option_map, option_map_or, option_or}
-use Rattle.std.proofs.lemmas.Bool.{and_parts, cases_Bool, eqb-true, ltb-true}
+use Rattle.std.proofs.Common.{◌≡◌, ℕ, ◌+◌, ◌<◌, Bool, true, false, cond, ◌&&◌, ◌||◌, List, [], ◌∷◌, get_or, length, reverse, take, Option, Some, None, refl, sym, ap, subst, ◌∙◌, inl, inr, arith, All, find, nat_eq, nat_lt, option_and_then, option_map, eqb-true, ltb-true}
+use Rattle.std.specs.Option.{option_map_or, option_or}
+use Rattle.std.proofs.lemmas.Bool.{and_parts, cases_Bool}
 use Rattle.std.proofs.lemmas.List.{reverse-reverse}
 use Rattle.std.proofs.lemmas.List.Elements.{All-cons, All-nil}
 use Rattle.std.proofs.lemmas.List.Folds.{list_any_more}
 use Rattle.std.proofs.lemmas.Option.{same_Some}
-use Rattle.blot_types.specs.declared.allocation.AllocRole.{AllocRole}
-use Rattle.blot_types.specs.declared.allocation.Instruction.{Instruction}
-use Rattle.blot_types.specs.declared.keys.AllocKey.{AllocKey}
-use Rattle.blot_types.specs.declared.keys.ExecKey.{ExecKey}
+use Rattle.blot_types.specs.declared.{allocation.AllocRole.AllocRole, allocation.Instruction.Instruction, keys.AllocKey.AllocKey, keys.ExecKey.ExecKey}
 use Rattle.blot_types.specs.Instructions.{ended_in, ended_roots, ends, first_instruction, first_naming, first_needing_instruction, is_instructed, is_keyed, may_follow, names, names_any, needs_instruction, reference_of}
 use Rattle.blot_types.specs.Keys.{same_exec}
 use Rattle.blot_types.specs.Numbers.{lesser}
 use Rattle.blot_types.proofs.AllocOutLemmas.{ends-other, live-reference}
 use Rattle.blot_types.proofs.InstructionLemmas.{follows, unended}
+use Rattle.blot_types.proofs.GeneralLemmas.{and-false, or-none}
 use Rattle.blot_places.specs.declared.slots.Slot.{Slot}
 use Rattle.blot_places.specs.Places.{places_in}
 use Rattle.blot_places.specs.Shown.{Shown, item_at, shown_of}
 use Rattle.blot_places.specs.Slots.{is_above, live, numbers_fall, places_by}
 use Rattle.blot_places.proofs.AroundLemmas.{oldest-above, parted-above}
-use Rattle.blot_places.proofs.FirstLemmas.{first-either, first-more, first-none, first_by, none-and}
+use Rattle.blot_places.proofs.FirstLemmas.{first-either, first-more, first-none, first_by}
 use Rattle.blot_places.proofs.MarkLemmas.{falling-side}
 use Rattle.blot_places.proofs.ShownLemmas.{at-here, at-number, at-on, falling-parts}
 use Rattle.blot_alloc.specs.declared.index.Index.{Index}
@@ -61,7 +58,7 @@ first-of_two p q n instructions fall =
 
 all-fail : (n : ℕ) (instructions : List Instruction) → All (λ x. (nat_lt n (number_of x) && false) ≡ false) instructions
 all-fail n [] = All-nil (λ x. (nat_lt n (number_of x) && false) ≡ false)
-all-fail n (i ∷ earlier) = All-cons (λ x. (nat_lt n (number_of x) && false) ≡ false) i earlier (none-and (nat_lt n (number_of i))) (all-fail n earlier)
+all-fail n (i ∷ earlier) = All-cons (λ x. (nat_lt n (number_of x) && false) ≡ false) i earlier (and-false (nat_lt n (number_of i))) (all-fail n earlier)
 
 pub none-asked : (n : ℕ) (instructions : List Instruction) → first_instruction (λ i. false) n instructions ≡ None
 none-asked n instructions = first-none number_of (λ x. nat_lt n (number_of x) && false) instructions (all-fail n instructions)
@@ -127,7 +124,7 @@ ended-own i earlier n instructed fall its =
     let other : ends i.key i.role ≡ false = ends-other [] earlier i instructed in
     let none : ended_in earlier i.key ≡ None = unended earlier i.key parts.1 (follows earlier i.key i.role i.roots parts.0).fresh in
     let test : Instruction → Bool = λ x. nat_lt n (number_of x) && ends i.key x.role in
-    let fails : test i ≡ false = ap (λ b. nat_lt n (number_of i) && b) other ∙ none-and (nat_lt n (number_of i)) in
+    let fails : test i ≡ false = ap (λ b. nat_lt n (number_of i) && b) other ∙ and-false (nat_lt n (number_of i)) in
     ap (λ b. option_map number_of (cond b (Some i) (find (λ x. ends i.key x.role) earlier))) other ∙ none
     ∙ sym (first-more number_of test i earlier
     ∙ ap (λ b. option_or (first_by number_of test earlier) (cond b (Some (number_of i)) None)) fails
@@ -139,10 +136,6 @@ its-number n (i ∷ earlier) k found = elim (cases_Bool (nat_eq (number_of i) n)
   | inl here ↦ ap number_of (sym (same_Some i k (sym (at-here number_of n i earlier here) ∙ found))) ∙ eqb-true _ _ here
   | inr other ↦ its-number n earlier k (sym (at-on number_of n i earlier other) ∙ found)
 ]
-
-pub or-none : (found : Option ℕ) → option_or found None ≡ found
-or-none None = refl
-or-none (Some n) = refl
 
 pub ended-after :
     (instructions : List Instruction) (n : ℕ) (k : Instruction) → is_instructed instructions ≡ true → numbers_fall number_of instructions ≡ true
@@ -170,7 +163,7 @@ ended-after (i ∷ earlier) n k instructed fall found =
             | inr not_ended ↦
                 ap (λ b. option_map number_of (cond b (Some i) (find (λ x. ends k.key x.role) earlier))) not_ended ∙ rest
                 ∙ sym (first-more number_of test i earlier
-                ∙ ap (λ b. option_or (first_by number_of test earlier) (cond b (Some (number_of i)) None)) (ap (λ b. nat_lt n (number_of i) && b) not_ended ∙ none-and (nat_lt n (number_of i)))
+                ∙ ap (λ b. option_or (first_by number_of test earlier) (cond b (Some (number_of i)) None)) (ap (λ b. nat_lt n (number_of i) && b) not_ended ∙ and-false (nat_lt n (number_of i)))
                 ∙ or-none (first_by number_of test earlier))
           ]
     ]

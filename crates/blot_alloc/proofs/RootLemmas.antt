@@ -1,8 +1,6 @@
 -- One place more, or one less, under each of some roots.
-use Rattle.std.proofs.Common.{◌≡◌, ℕ, ◌<◌, ◌+◌, true, false, List, [], ◌∷◌, ◌++◌, drop, take, length, get_or, sym, ap, subst, ◌∙◌, inl, inr, if◌then◌else◌}
-use Rattle.std.specs.Prelude.{not}
-use Rattle.std.specs.List.{All}
-use Rattle.std.proofs.lemmas.Bool.{cases_Bool, and_parts}
+use Rattle.std.proofs.Common.{◌≡◌, ℕ, ◌<◌, ◌+◌, true, false, List, [], ◌∷◌, ◌++◌, drop, take, length, get_or, sym, ap, subst, ◌∙◌, inl, inr, if◌then◌else◌, not, All}
+use Rattle.std.proofs.lemmas.Bool.{cases_Bool, and_parts, or_parts}
 use Rattle.std.proofs.Math.Seq.{take-length}
 use Rattle.std.proofs.lemmas.List.{at_drop_more, take_more}
 use Rattle.std.proofs.lemmas.List.Elements.{All-nil, All-cons, All-head, All-push, All-tail}
@@ -11,7 +9,6 @@ use Rattle.blot_types.specs.declared.keys.ExecKey.{ExecKey}
 use Rattle.blot_types.specs.Instructions.{are_apart}
 use Rattle.blot_types.specs.Keys.{is_among, same_exec}
 use Rattle.blot_types.proofs.KeyLemmas.{same_exec-true, same_exec-sym}
-use Rattle.blot_types.proofs.AcceptLemmas.{or-false}
 
 -- what was done, with the change under each of the rest, is the change under each of the roots
 abbrev pub ChangeEach : (List ℕ → List ℕ) → List ExecKey → List ExecKey → (ExecKey → List ℕ) → (ExecKey → List ℕ) → Type 0
@@ -58,7 +55,7 @@ pub room-rest :
     → All (HasRoom same_exec next) rest
 room-rest root [] now next absent kept room = All-nil (HasRoom same_exec next)
 room-rest root (first ∷ rest) now next absent kept room =
-    let tests : (same_exec first root ≡ false) × (is_among rest root ≡ false) = or-false (same_exec first root) (is_among rest root) absent in
+    let tests : (same_exec first root ≡ false) × (is_among rest root ≡ false) = or_parts (same_exec first root) (is_among rest root) absent in
     let Roomy = HasRoom same_exec now in
     let others = All-tail Roomy root (first ∷ rest) room in
     All-cons (HasRoom same_exec next) first rest (kept first (same_exec-sym root first ∙ tests.0) (All-head Roomy first rest others))

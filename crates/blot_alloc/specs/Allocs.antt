@@ -1,11 +1,7 @@
 -- What a contract sees of the allocations, newest first: one instruction more and one less, one lifted out and put back.
-use Rattle.std.specs.Prelude.{◌≡◌, ℕ, Bool, true, List, ◌∷◌, Option, find}
-use Rattle.std.specs.Option.{option_map}
+use Rattle.std.specs.Prelude.{◌≡◌, ℕ, Bool, true, List, ◌∷◌, Option, find, option_map}
 use Rattle.blot_places.specs.Shown.{Shown, item_at, lifted_out as item_lifted_out, put_back as item_put_back}
-use Rattle.blot_types.specs.declared.allocation.AllocRole.{AllocRole}
-use Rattle.blot_types.specs.declared.allocation.Instruction.{Instruction}
-use Rattle.blot_types.specs.declared.keys.AllocKey.{AllocKey}
-use Rattle.blot_types.specs.declared.keys.ExecKey.{ExecKey}
+use Rattle.blot_types.specs.declared.{allocation.AllocRole.AllocRole, allocation.Instruction.Instruction, keys.AllocKey.AllocKey, keys.ExecKey.ExecKey}
 use Rattle.blot_types.specs.Instructions.{ended_roots, ends, first_instruction, is_above_instructions, is_keyed, names_any}
 
 -- the roots of the chains that the instruction which takes up a key lists

@@ -1,14 +1,10 @@
 -- Where the instructions that take up a key, that end the allocation of a key, and that name the chain of a root are.
-use Rattle.std.specs.Prelude.{◌≡◌, ℕ, reverse, List, Option, IfSome}
-use Rattle.std.specs.List.{All}
+use Rattle.std.specs.Prelude.{◌≡◌, ℕ, reverse, List, Option, IfSome, All}
 use Rattle.std.specs.List.Sorted.{IsPartitionedBy}
 use Rattle.blot_places.specs.declared.slots.Slot.{Slot}
 use Rattle.blot_places.specs.Places.{HasRoom, Stacks, places_in}
 use Rattle.blot_places.specs.Slots.{is_up_to, newest_live, places_above, places_by}
-use Rattle.blot_types.specs.declared.allocation.AllocRole.{AllocRole}
-use Rattle.blot_types.specs.declared.allocation.Instruction.{Instruction}
-use Rattle.blot_types.specs.declared.keys.AllocKey.{AllocKey}
-use Rattle.blot_types.specs.declared.keys.ExecKey.{ExecKey}
+use Rattle.blot_types.specs.declared.{allocation.AllocRole.AllocRole, allocation.Instruction.Instruction, keys.AllocKey.AllocKey, keys.ExecKey.ExecKey}
 use Rattle.blot_types.specs.Instructions.{is_keyed, names, reference_of}
 use Rattle.blot_types.specs.Keys.{same_alloc, same_exec}
 use Rattle.blot_alloc.specs.declared.index.Index.{Index}

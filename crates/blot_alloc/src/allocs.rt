@@ -1,6 +1,5 @@
 //! The instructions on allocations: added, taken back, asked.
-ghost use Rattle.std.specs.Prelude.{◌≡◌, ◌≤◌, [], length, filter, find, IsSome, IsTrue, OnOk, OnErr};
-ghost use Rattle.std.specs.Option.{option_copied, option_map};
+ghost use Rattle.std.specs.Prelude.{◌≡◌, ◌≤◌, [], length, filter, find, IsSome, IsTrue, OnOk, OnErr, option_copied, option_map};
 ghost use Rattle.blot_types.specs.declared.allocation.AllocRole.TheVariants.{Allocates, Replaces, Cancels};
 ghost use Rattle.blot_types.specs.Instructions.{alloc_taker_in, is_keyed, is_allocation_in, ended_in, is_live_in, holds_in, holder_in, other_holder_in, may_follow, is_above_instructions, is_instructed, first_instruction, first_naming, first_needing_instruction, names_any};
 ghost use Rattle.blot_places.specs.Slots.{numbers_fall};

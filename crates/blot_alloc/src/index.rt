@@ -1,7 +1,6 @@
 //! Where the instructions that take up a key, that end the allocation of a key, and that name the chain of a
 //! root are.
-ghost use Rattle.std.specs.Prelude.{◌≡◌, [], IfSome, IsTrue, OnOk};
-ghost use Rattle.std.specs.Option.{option_map};
+ghost use Rattle.std.specs.Prelude.{◌≡◌, [], IfSome, IsTrue, OnOk, option_map};
 ghost use Rattle.blot_places.specs.Indexed.{NamesOneLess, NamesOneMore, NamesSame};
 ghost use Rattle.blot_places.specs.Places.{HasRoom, PutsPlace, SamePlaces, TakesPlace};
 ghost use Rattle.blot_types.specs.Instructions.{are_apart, ends, reference_of};

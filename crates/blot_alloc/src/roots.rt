@@ -1,6 +1,5 @@
 //! One place under each of some roots.
-ghost use Rattle.std.specs.Prelude.{IsTrue, OnOk};
-ghost use Rattle.std.specs.List.{All};
+ghost use Rattle.std.specs.Prelude.{IsTrue, OnOk, All};
 ghost use Rattle.blot_places.specs.Places.{HasRoom, PutsPlace, SamePlaces, TakesPlace};
 ghost use Rattle.blot_types.specs.Instructions.{are_apart};
 ghost use Rattle.blot_types.specs.Keys.{is_among, same_exec};

@@ -1,11 +1,10 @@
 -- The lines of an answer, and turns, one after the other.
-use Rattle.std.proofs.Common.{◌≡◌, ℕ, Bool, true, false, List, [], ◌∷◌, ◌++◌, map, Option, Some, None, Result, Ok, Err, refl, sym, ap, subst, ◌∙◌}
-use Rattle.std.specs.Prelude.{◌&&◌, not, IfSome, IsErrAnd}
-use Rattle.std.specs.List.{flat_map, list_all}
+use Rattle.std.proofs.Common.{◌≡◌, ℕ, Bool, true, false, List, [], ◌∷◌, ◌++◌, map, Option, Some, None, Result, Ok, Err, refl, sym, ap, subst, ◌∙◌, ◌&&◌, not, IfSome, IsErrAnd, flat_map, append_assoc, append-nil}
+use Rattle.std.specs.List.{list_all}
 use Rattle.std.specs.Io.KnownBytes.{Appends, Consumes, IsAtEnd}
 use Rattle.std.proofs.KnownBytes.{Appends-kept, Appends-nil, Appends-trans, Consumes-nil, Consumes-trans, prepend_known-nil}
-use Rattle.std.proofs.lemmas.Bool.{and_from, and_parts}
-use Rattle.std.proofs.lemmas.List.{append_assoc, append-nil, map-append}
+use Rattle.std.proofs.lemmas.Bool.{and_from, and_parts, not-true}
+use Rattle.std.proofs.lemmas.List.{map-append}
 use Rattle.std.proofs.lemmas.List.Folds.{list_all-append}
 use Rattle.std.proofs.lemmas.Grind.{flat_map-append}
 use Rattle.blot_stream.specs.Texts.{AppendsFront, AppendsFrontOf, AppendsOf}
@@ -30,16 +29,12 @@ never_first : (lines : List (List ℕ)) → first_behind false lines ≡ false
 never_first [] = refl
 never_first (line ∷ lines) = refl
 
-not_true : (b : Bool) → not b ≡ true → b ≡ false
-not_true true is = absurd cc
-not_true false is = refl
-
 whole : (asked : List ℕ) (is_first : Bool) (lines : List (List ℕ)) (line : List ℕ) → goes_on asked is_first lines ≡ true
     → is_complete asked (first_behind is_first lines) line ≡ true → is_answer_from asked is_first (lines ++ line ∷ []) ≡ true
 whole asked is_first [] line on last = rw last refl
 whole asked is_first (first ∷ lines) line on last =
     let on = and_parts (not (is_complete asked is_first first)) _ on in
-    rw (not_true _ on.0) (whole asked false lines line on.1 (ap (λ is_first. is_complete asked is_first line) (never_first lines) ∙ last))
+    rw (not-true _ on.0) (whole asked false lines line on.1 (ap (λ is_first. is_complete asked is_first line) (never_first lines) ∙ last))
 
 goes_on-push : (asked : List ℕ) (is_first : Bool) (lines : List (List ℕ)) (line : List ℕ) → goes_on asked is_first lines ≡ true
     → is_complete asked (first_behind is_first lines) line ≡ false → goes_on asked is_first (lines ++ line ∷ []) ≡ true

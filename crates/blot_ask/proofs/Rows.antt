@@ -1,5 +1,5 @@
 -- The definitions, computed on worked lines.
-use Rattle.std.specs.Prelude.{◌≡◌, ◌∷◌, [], true, false, codes, refl}
+use Rattle.std.proofs.Common.{◌≡◌, ◌∷◌, [], true, false, codes, refl}
 use Rattle.blot_ask.specs.Answers.{ends_list, is_answer, is_complete, is_list}
 use Rattle.blot_ask.specs.Typed.{mark_of, typed}
 

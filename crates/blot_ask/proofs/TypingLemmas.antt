@@ -1,11 +1,8 @@
 -- A typed line, byte by byte.
-use Rattle.std.proofs.Common.{◌≡◌, ℕ, Bool, true, false, not, List, [], ◌∷◌, ◌++◌, Result, Ok, Err, refl, sym, ap, ◌∙◌}
-use Rattle.std.specs.Prelude.{IfOk, ◌==◌}
+use Rattle.std.proofs.Common.{◌≡◌, ℕ, Bool, true, false, not, List, [], ◌∷◌, ◌++◌, Result, Ok, Err, refl, sym, ap, ◌∙◌, IfOk, ◌==◌, append_assoc, append-nil}
 use Rattle.std.specs.List.{list_any, onto_first, slice_split}
-use Rattle.std.proofs.lemmas.List.{append_assoc, append-nil}
-use Rattle.blot_ask.specs.declared.typing.Mark.{Mark}
+use Rattle.blot_ask.specs.declared.{typing.Mark.Mark, typing.Place.Place}
 use Rattle.blot_ask.specs.declared.typing.Mark.TheVariants.{Letter, Quote, Gap}
-use Rattle.blot_ask.specs.declared.typing.Place.{Place}
 use Rattle.blot_ask.specs.declared.typing.Place.TheVariants.{First, Within, Behind}
 use Rattle.blot_ask.specs.Typed.{is_gap, is_quoted_behind, mark_of, marks_of, typed, with_tabs, words_of}
 use Rattle.blot_ask.specs.Typing.{added, behind, comes_to, tab_at}

@@ -1,6 +1,6 @@
 -- A conversation of a client: a name is said first, and then each line is asked and answered before the next. Source: this project's rule.
-use Rattle.std.specs.Prelude.{◌≡◌, ℕ, Bool, true, false, List, [], ◌∷◌, ◌++◌, map, codes, Option, Some, IfSome, if◌then◌else◌, ⊤}
-use Rattle.std.specs.List.{flat_map, list_all}
+use Rattle.std.specs.Prelude.{◌≡◌, ℕ, Bool, true, false, List, [], ◌∷◌, ◌++◌, map, codes, Option, Some, IfSome, if◌then◌else◌, ⊤, flat_map}
+use Rattle.std.specs.List.{list_all}
 use Rattle.std.specs.Io.KnownBytes.{Appends, Consumes, IsAtEnd, Keeps}
 use Rattle.blot_ask.specs.declared.fault.AskFault.{AskFault}
 use Rattle.blot_ask.specs.declared.fault.AskFault.TheVariants.{Taken, Full, Strange}

@@ -1,6 +1,6 @@
 -- The lines of a text, and the texts of lines. Source: this project's rule.
-use Rattle.std.specs.Prelude.{◌≡◌, ℕ, Bool, true, false, ◌==◌, List, [], ◌∷◌, ◌++◌, Option, Some, IfSome, if◌then◌else◌}
-use Rattle.std.specs.List.{flat_map, list_all, list_any}
+use Rattle.std.specs.Prelude.{◌≡◌, ℕ, Bool, true, false, ◌==◌, List, [], ◌∷◌, ◌++◌, Option, Some, IfSome, if◌then◌else◌, flat_map}
+use Rattle.std.specs.List.{list_all, list_any}
 use Rattle.std.specs.Io.KnownBytes.{Consumes, IsAtEnd, prepend_known}
 
 -- a byte before lines: it begins the first of them, or is a line of its own where there is none

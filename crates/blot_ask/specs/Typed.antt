@@ -1,6 +1,6 @@
 -- What a typed line asks: a line whose words are divided by tabs. Source: this project's rule.
-use Rattle.std.specs.Prelude.{ℕ, Bool, true, false, not, ◌&&◌, ◌==◌, List, [], ◌∷◌, map, if◌then◌else◌}
-use Rattle.std.specs.List.{filter, join_by, list_any, slice_split}
+use Rattle.std.specs.Prelude.{ℕ, Bool, true, false, not, ◌&&◌, ◌==◌, List, [], ◌∷◌, map, if◌then◌else◌, filter}
+use Rattle.std.specs.List.{join_by, list_any, slice_split}
 use Rattle.blot_ask.specs.declared.typing.Mark.{Mark}
 use Rattle.blot_ask.specs.declared.typing.Mark.TheVariants.{Letter, Quote, Gap}
 

@@ -1,10 +1,8 @@
 -- A typed line as its bytes come: the text so far, and what is yet added to it. Source: this project's rule.
-use Rattle.std.specs.Prelude.{◌≡◌, ℕ, Bool, List, [], ◌∷◌, ◌++◌, map}
-use Rattle.std.specs.List.{filter, flat_map, slice_split}
-use Rattle.blot_ask.specs.declared.typing.Mark.{Mark}
-use Rattle.blot_ask.specs.declared.typing.Place.{Place}
+use Rattle.std.specs.Prelude.{◌≡◌, ℕ, Bool, List, [], ◌∷◌, ◌++◌, map, filter, flat_map}
+use Rattle.std.specs.List.{slice_split}
+use Rattle.blot_ask.specs.declared.{typing.Mark.Mark, typing.Place.Place, typing.Typing.Typing}
 use Rattle.blot_ask.specs.declared.typing.Place.TheVariants.{First, Within, Behind}
-use Rattle.blot_ask.specs.declared.typing.Typing.{Typing}
 use Rattle.blot_ask.specs.Typed.{is_gap, is_word, letters_of, marks_of, with_tabs}
 
 -- the words of pieces, each behind a tab

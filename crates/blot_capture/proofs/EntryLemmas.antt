@@ -1,19 +1,14 @@
 -- What a capture delivers are entries: no message of a broker takes an entry out of the list.
-use Rattle.std.proofs.Common.{◌≡◌, ℕ, Bool, true, false, List, [], ◌∷◌, map, Option, Some, None, Result, Ok, Err, refl, sym, ap, subst, ◌∙◌}
-use Rattle.std.specs.Prelude.{ℤ, is_some, if◌then◌else◌}
-use Rattle.std.specs.List.{All}
-use Rattle.std.specs.Option.{option_and_then, option_map_or}
+use Rattle.std.proofs.Common.{◌≡◌, ℕ, Bool, true, false, List, [], ◌∷◌, map, Option, Some, None, Result, Ok, Err, refl, sym, ap, subst, ◌∙◌, ℤ, is_some, if◌then◌else◌, All, option_and_then}
+use Rattle.std.specs.Option.{option_map_or}
 use Rattle.std.proofs.lemmas.List.Elements.{All-nil, All-cons, All-append}
 use Rattle.std.proofs.lemmas.Option.{same_Some}
 use Rattle.blot_types.specs.declared.command.Command.{Command}
 use Rattle.blot_types.specs.Refusals.{withdrawn_by}
 use Rattle.blot_fields.specs.declared.allocation.Allocation.{Allocation}
 use Rattle.blot_fields.specs.declared.allocation.Allocation.TheVariants as allocations
-use Rattle.blot_fields.specs.declared.fault.FieldFault.{FieldFault}
-use Rattle.blot_fields.specs.declared.message.Body.{Body}
+use Rattle.blot_fields.specs.declared.{fault.FieldFault.FieldFault, message.Body.Body, message.Message.Message, report.Report.Report}
 use Rattle.blot_fields.specs.declared.message.Body.TheVariants as bodies
-use Rattle.blot_fields.specs.declared.message.Message.{Message}
-use Rattle.blot_fields.specs.declared.report.Report.{Report}
 use Rattle.blot_fields.specs.declared.report.Report.TheVariants as reports
 use Rattle.blot_fields.specs.Commands.{command_of_allocation, command_of_body, command_of_report}
 use Rattle.blot_fields.specs.Sender.{sender_of}

@@ -1,17 +1,16 @@
 -- The session of a peer, among those that are out and in the table.
-use Rattle.std.proofs.Common.{◌≡◌, ℕ, ◌+◌, ◌<◌, true, false, List, [], ◌∷◌, ◌++◌, length, take, Option, Some, None, Result, Ok, Err, refl, sym, ap, subst, ◌∙◌, inl, inr, arith, zero, suc, slice_index_or, slice_set}
-use Rattle.std.specs.Prelude.{is_some, if◌then◌else◌, IfOk, IsTrue, MatchOption}
+use Rattle.std.proofs.Common.{◌≡◌, ℕ, ◌+◌, ◌<◌, true, false, List, [], ◌∷◌, ◌++◌, length, take, Option, Some, None, Result, Ok, Err, refl, sym, ap, subst, ◌∙◌, inl, inr, arith, zero, suc, slice_index_or, slice_set, is_some, if◌then◌else◌, IfOk, IsTrue, MatchOption, option_and_then, length-append, take_at}
 use Rattle.std.specs.Cmp.Lexicographic.{bytes_decides}
 use Rattle.std.specs.List.{list_any}
-use Rattle.std.specs.Option.{option_map_or, option_or, option_and_then}
+use Rattle.std.specs.Option.{option_map_or, option_or}
 use Rattle.std.proofs.lemmas.Bool.{cases_Bool}
-use Rattle.std.proofs.lemmas.List.{length-append, take_at}
 use Rattle.std.proofs.lemmas.List.Folds.{find-append}
 use Rattle.blot_tag.specs.Fields.{fields_of}
 use Rattle.blot_fields.specs.First.{first_value, text_in}
 use Rattle.blot_fields.specs.Sender.{sender_of}
 use Rattle.blot_types.specs.Keys.{same_text}
 use Rattle.blot_types.specs.Text.{is_text}
+use Rattle.blot_types.proofs.GeneralLemmas.{or-none}
 use Rattle.blot_session.specs.declared.state.State.{State}
 use Rattle.blot_session.specs.Runs.{behind_calls}
 use Rattle.blot_slots.specs.Slots.{Slots, slot_of, with_slot, all_in, answer_of}
@@ -109,10 +108,6 @@ among-set peer other (first ∷ sessions) (suc place) changed within none here s
 -- functions that agree everywhere are one
 everywhere : (f g : Sessions) → ((peer : List ℕ) → f peer ≡ g peer) → f ≡ g
 everywhere f g same = λ i peer. same peer i
-
-or-none : {A : Type 0} (found : Option A) → option_or found None ≡ found
-or-none None = refl
-or-none (Some x) = refl
 
 -- at the start
 pub sessions-first : (own : List ℕ) (peers : List (List ℕ)) → session_in [] (all_in own peers) ≡ first_sessions own peers

@@ -1,31 +1,21 @@
 -- What a frame comes to at its session.
-use Rattle.std.proofs.Common.{◌≡◌, ℕ, Bool, true, false, List, [], ◌∷◌, ◌++◌, map, Option, Some, None, Result, Ok, Err, refl, sym, ap, subst, ◌∙◌, inl, inr}
-use Rattle.std.specs.Prelude.{ℤ, pos, is_some, IfOk, if◌then◌else◌}
-use Rattle.std.specs.Option.{option_map, option_map_or}
+use Rattle.std.proofs.Common.{◌≡◌, ℕ, Bool, true, false, List, [], ◌∷◌, ◌++◌, map, Option, Some, None, Result, Ok, Err, refl, sym, ap, subst, ◌∙◌, inl, inr, ℤ, pos, is_some, IfOk, if◌then◌else◌, option_map, append-nil}
+use Rattle.std.specs.Option.{option_map_or}
 use Rattle.std.specs.Result.{result_unwrap_or}
 use Rattle.std.proofs.lemmas.Bool.{and_parts, cond_both, cases_Bool, false≢true}
-use Rattle.std.proofs.lemmas.List.{append-nil}
 use Rattle.blot_time.specs.Moment.{moment_of}
 use Rattle.blot_time.specs.declared.fault.TimeFault.{TimeFault}
-use Rattle.blot_types.specs.declared.command.Command.{Command}
-use Rattle.blot_types.specs.declared.refused.Refused.{Refused as Refusal}
+use Rattle.blot_types.specs.declared.{command.Command.Command, refused.Refused.Refused as Refusal}
 use Rattle.blot_types.specs.Legal.{refusal_of}
-use Rattle.blot_types.specs.Told.{refused_number}
-use Rattle.blot_desk.specs.declared.event.Event.TheVariants.{Submit}
-use Rattle.blot_desk.specs.declared.event.Reply.{Reply as DeskReply}
-use Rattle.blot_desk.specs.Desk.{DeskBook, Journal, step_of, submit_by}
-use Rattle.blot_session.specs.declared.action.Action.{Action}
+use Rattle.blot_types.specs.RefusalNames.{refused_number}
+use Rattle.blot_desk.specs.declared.{event.Event.TheVariants.Submit, event.Reply.Reply as DeskReply}
+use Rattle.blot_desk.specs.Desk.{DeskBook, DeskState, step_of, submit_by}
+use Rattle.blot_session.specs.declared.{action.Action.Action, replies.NotTaken.NotTaken, replies.SeenReply.SeenReply, state.Awaited.Awaited, state.State.State, met.Met.Met}
 use Rattle.blot_session.specs.declared.action.Action.TheVariants.{Send, Deliver, Close}
-use Rattle.blot_session.specs.declared.replies.NotTaken.{NotTaken}
-use Rattle.blot_session.specs.declared.replies.SeenReply.{SeenReply}
 use Rattle.blot_session.specs.declared.replies.SeenReply.TheVariants.{Accepted, Refused}
-use Rattle.blot_session.specs.declared.state.Awaited.{Awaited}
 use Rattle.blot_session.specs.declared.state.Awaited.TheVariants as awaits
-use Rattle.blot_session.specs.declared.state.State.{State}
-use Rattle.blot_session.specs.Calls.{GivesCommand, Outcome, Awaits, command_said, is_spent, outcome_of, reply_row_by, on_frame, on_reply}
-use Rattle.blot_fields.specs.declared.fault.FieldFault.{FieldFault}
-use Rattle.blot_fields.specs.declared.message.Message.{Message}
-use Rattle.blot_session.specs.declared.met.Met.{Met}
+use Rattle.blot_session.specs.Calls.{GivesCommand, Outcome, Awaits, command_said, delivery_of, is_spent, outcome_of, reply_row_by, on_frame, on_reply}
+use Rattle.blot_fields.specs.declared.{fault.FieldFault.FieldFault, message.Message.Message}
 use Rattle.blot_session.specs.Met.{met_of}
 use Rattle.blot_session.specs.InTurn.{is_report_said}
 use Rattle.blot_session.specs.Rows.{reply_row}
@@ -36,7 +26,7 @@ use Rattle.blot_session.proofs.ActionLemmas.{delivered-none}
 use Rattle.blot_session.proofs.OneLemmas.{AtMostOne, one-frame}
 use Rattle.blot_capture.specs.Capture.{frame_call, reply_calls, waiting_calls, behind_frame, behind_reply, calls_of, taken_by, moment_at, is_closed_phase}
 use Rattle.blot_capture.specs.declared.handled.Handled.{Handled}
-use Rattle.blot_capture.specs.Handling.{IsHandled, IsHandledBy, delivered_in, delivery_of, report_actions, is_fill_said}
+use Rattle.blot_capture.specs.Handling.{IsHandled, IsHandledBy, delivered_in, report_actions, is_fill_said}
 use Rattle.blot_capture.specs.Trace.{actions_after, became_of}
 
 -- ---- what is delivered
@@ -127,15 +117,11 @@ given-after before between text said now after same is says =
     is ∙ ap (λ state. on_frame state said now) same ∙ ap (λ said. on_frame before said now) says
 
 -- of what is one, its command is delivered
-given-command : (given : Outcome) (after : State) (command : Option Command) → GivesCommand given after command → record { state = after; actions = delivery_of command } ≡ given
-given-command given after (Some command) gives = gives.gives
-given-command given after None gives = absurd (false≢true gives.brings)
-
 given-report : (before after : State) (text : List ℕ) (said : Result Message FieldFault) (now : ℤ) → GivesCommand (on_frame before said now) after (command_said said before.peer)
     → after.peer ≡ before.peer → said ≡ said_by text → record { state = after; actions = report_actions said after.peer } ≡ on_frame before (said_by text) now
 given-report before after text said now given same says =
     ap (λ peer. record { state = after; actions = report_actions said peer }) same
-    ∙ given-command (on_frame before said now) after (command_said said before.peer) given ∙ ap (λ said. on_frame before said now) says
+    ∙ given.gives ∙ ap (λ said. on_frame before said now) says
 
 report-brings : (before after : State) (said : Result Message FieldFault) (given : Outcome) → GivesCommand given after (command_said said before.peer)
     → after.peer ≡ before.peer → is_some (command_said said after.peer) ≡ true
@@ -153,35 +139,35 @@ report-takes before after text said now at gives same awaited says =
     (report-awaits after (command_said said after.peer) (report-brings before after said (on_frame before said now) gives same) awaited)
 
 -- and what is said of what it delivers is said of what is taken
-handled-one : (state next : State) (journal : Journal) (text : List ℕ) (actions : List Action) (now : ℤ) (handled : Handled)
+handled-one : (state next : State) (desk : DeskState) (text : List ℕ) (actions : List Action) (now : ℤ) (handled : Handled)
     → now ≡ moment_at text → record { state = next; actions = actions } ≡ on_frame state (said_by text) now → Awaits next actions
-    → ((met : Met) → IsHandled (became_of met journal (delivered_in actions)) (actions_after next journal now actions (delivered_in actions)) (Some met) handled)
-    → IsHandledBy (Some state) journal text handled
-handled-one state next journal text actions now handled at is awaits given =
+    → ((met : Met) → IsHandled (became_of met desk (delivered_in actions)) (actions_after next desk now actions (delivered_in actions)) (Some met) handled)
+    → IsHandledBy (Some state) desk text handled
+handled-one state next desk text actions now handled at is awaits given =
     let gave : record { state = next; actions = actions } ≡ outcome state (frame_call text) = is ∙ ap (on_frame state (said_by text)) at in
     let met = met_of state (said_by text) (moment_at text) in
     let behind = behind_frame state text in
     let all = (outcome state (frame_call text)).actions in
-    subst (λ commands. IsHandled (became_of met journal commands) (actions_after behind journal (moment_at text) all commands) (Some met) handled)
+    subst (λ commands. IsHandled (became_of met desk commands) (actions_after behind desk (moment_at text) all commands) (Some met) handled)
     (sym (frame-takes state next text actions now at is awaits))
-    (subst (λ (given : Outcome). IsHandled (became_of met journal (delivered_in actions)) (actions_after given.state journal (moment_at text) given.actions (delivered_in actions)) (Some met) handled) gave
-    (subst (λ moment. IsHandled (became_of met journal (delivered_in actions)) (actions_after next journal moment actions (delivered_in actions)) (Some met) handled) at (given met)))
+    (subst (λ (given : Outcome). IsHandled (became_of met desk (delivered_in actions)) (actions_after given.state desk (moment_at text) given.actions (delivered_in actions)) (Some met) handled) gave
+    (subst (λ moment. IsHandled (became_of met desk (delivered_in actions)) (actions_after next desk moment actions (delivered_in actions)) (Some met) handled) at (given met)))
 
-pub handled-frame : {E : Type 0} (state next : State) (journal : Journal) (text : List ℕ) (actions : List Action) (now : ℤ) (result : Result Handled E)
+pub handled-frame : {E : Type 0} (state next : State) (desk : DeskState) (text : List ℕ) (actions : List Action) (now : ℤ) (result : Result Handled E)
     → now ≡ moment_at text → record { state = next; actions = actions } ≡ on_frame state (said_by text) now → Awaits next actions
-    → IfOk result (λ handled. (met : Met) → IsHandled (became_of met journal (delivered_in actions)) (actions_after next journal now actions (delivered_in actions)) (Some met) handled)
-    → IfOk result (IsHandledBy (Some state) journal text)
-handled-frame state next journal text actions now (Ok handled) at is awaits given = handled-one state next journal text actions now handled at is awaits given
-handled-frame state next journal text actions now (Err fault) at is awaits given = tt
+    → IfOk result (λ handled. (met : Met) → IsHandled (became_of met desk (delivered_in actions)) (actions_after next desk now actions (delivered_in actions)) (Some met) handled)
+    → IfOk result (IsHandledBy (Some state) desk text)
+handled-frame state next desk text actions now (Ok handled) at is awaits given = handled-one state next desk text actions now handled at is awaits given
+handled-frame state next desk text actions now (Err fault) at is awaits given = tt
 
-pub handled-report : {E : Type 0} (before after : State) (journal : Journal) (text : List ℕ) (said : Result Message FieldFault) (now : ℤ) (result : Result Handled E)
+pub handled-report : {E : Type 0} (before after : State) (desk : DeskState) (text : List ℕ) (said : Result Message FieldFault) (now : ℤ) (result : Result Handled E)
     → now ≡ moment_at text → GivesCommand (on_frame before said now) after (command_said said before.peer) → after.peer ≡ before.peer → is_some (awaited_of after) ≡ true
     → said ≡ said_by text
-    → IfOk result (λ handled. (met : Met) → IsHandled (became_of met journal (delivered_in (report_actions said after.peer)))
-    (actions_after after journal now (report_actions said after.peer) (delivered_in (report_actions said after.peer))) (Some met) handled)
-    → IfOk result (IsHandledBy (Some before) journal text)
-handled-report before after journal text said now result at gives same awaited says given =
-    handled-frame before after journal text (report_actions said after.peer) now result at (given-report before after text said now gives same says)
+    → IfOk result (λ handled. (met : Met) → IsHandled (became_of met desk (delivered_in (report_actions said after.peer)))
+    (actions_after after desk now (report_actions said after.peer) (delivered_in (report_actions said after.peer))) (Some met) handled)
+    → IfOk result (IsHandledBy (Some before) desk text)
+handled-report before after desk text said now result at gives same awaited says given =
+    handled-frame before after desk text (report_actions said after.peer) now result at (given-report before after text said now gives same says)
     (report-awaits after (command_said said after.peer) (report-brings before after said (on_frame before said now) gives same) awaited) given
 
 -- where no reply is awaited, nothing is delivered

@@ -1,8 +1,8 @@
 -- What a capture comes to. Each frame goes to the session of its sender, with its own SendingTime as the moment; each command
 -- that a session takes goes to the desk.
-use Rattle.std.specs.Prelude.{◌≡◌, ℕ, ℤ, pos, Bool, true, false, List, [], ◌∷◌, ◌++◌, map, filter, Option, Some, None, Ok, is_some, if◌then◌else◌}
+use Rattle.std.specs.Prelude.{◌≡◌, ℕ, ℤ, pos, Bool, true, false, List, [], ◌∷◌, ◌++◌, map, filter, Option, Some, None, Ok, is_some, if◌then◌else◌, option_map, option_and_then}
 use Rattle.std.specs.List.{list_any}
-use Rattle.std.specs.Option.{option_map, option_map_or, option_and_then}
+use Rattle.std.specs.Option.{option_map_or}
 use Rattle.std.specs.Result.{result_unwrap_or}
 use Rattle.blot_time.specs.Moment.{moment_of}
 use Rattle.blot_tag.specs.Fields.{Item, fields_of}
@@ -11,10 +11,7 @@ use Rattle.blot_types.specs.declared.command.Command.{Command}
 use Rattle.blot_types.specs.Keys.{same_text}
 use Rattle.blot_fields.specs.First.{first_value}
 use Rattle.blot_fields.specs.Sender.{sender_of}
-use Rattle.blot_session.specs.declared.replies.SeenReply.TheVariants.{Accepted}
-use Rattle.blot_session.specs.declared.state.Phase.{Phase}
-use Rattle.blot_session.specs.declared.state.Phase.TheVariants.{Closed}
-use Rattle.blot_session.specs.declared.state.State.{State}
+use Rattle.blot_session.specs.declared.{replies.SeenReply.TheVariants.Accepted, state.Phase.Phase, state.Phase.TheVariants.Closed, state.State.State}
 use Rattle.blot_session.specs.Runs.{Call, outcome, behind_calls, taken_of}
 use Rattle.blot_session.specs.Runs.Call.{Frame, Reply, WaitAgain}
 use Rattle.blot_session.specs.States.{fresh, phase_of, awaited_of}

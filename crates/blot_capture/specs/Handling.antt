@@ -1,19 +1,14 @@
 -- What a capture's sessions say came of a frame.
-use Rattle.std.specs.Prelude.{◌≡◌, ℕ, Bool, false, List, [], ◌∷◌, map, Option, Some, None, Result, Ok, Err}
-use Rattle.std.specs.Option.{option_map}
-use Rattle.blot_fields.specs.declared.fault.FieldFault.{FieldFault}
-use Rattle.blot_fields.specs.declared.message.Message.{Message}
+use Rattle.std.specs.Prelude.{◌≡◌, ℕ, Bool, false, List, [], ◌∷◌, map, Option, Some, None, Result, Ok, Err, option_map}
+use Rattle.blot_fields.specs.declared.{fault.FieldFault.FieldFault, message.Message.Message}
 use Rattle.blot_types.specs.declared.command.Command.{Command}
-use Rattle.blot_session.specs.declared.action.Action.{Action}
-use Rattle.blot_session.specs.declared.action.Action.TheVariants.{Deliver}
-use Rattle.blot_session.specs.declared.met.Met.{Met}
-use Rattle.blot_session.specs.declared.state.State.{State}
-use Rattle.blot_session.specs.Calls.{command_said}
+use Rattle.blot_session.specs.declared.{action.Action.Action, action.Action.TheVariants.Deliver, met.Met.Met, state.State.State}
+use Rattle.blot_session.specs.Calls.{command_said, delivery_of}
 use Rattle.blot_session.specs.InTurn.{is_about_fill}
 use Rattle.blot_session.specs.Met.{met_of}
 use Rattle.blot_session.specs.Runs.{delivered_by, said_by}
 use Rattle.blot_desk.specs.declared.event.Reply.{Reply}
-use Rattle.blot_desk.specs.Desk.{Journal}
+use Rattle.blot_desk.specs.Desk.{DeskState}
 use Rattle.blot_capture.specs.declared.became.Became.{Became}
 use Rattle.blot_capture.specs.declared.became.Became.TheVariants as became
 use Rattle.blot_capture.specs.declared.handled.Handled.{Handled}
@@ -25,11 +20,6 @@ use Rattle.blot_capture.specs.Trace.{actions_in, became_in, session_for}
 -- the commands that some actions deliver
 abbrev pub delivered_in : List Action → List Command
 delivered_in actions = map (λ numbered. numbered.command) (delivered_by 0 actions)
-
--- the actions of a call that delivers a command and does nothing else
-abbrev pub delivery_of : Option Command → List Action
-delivery_of (Some command) = Deliver command ∷ []
-delivery_of None = []
 
 -- whether a frame says an Execution Report about a fill
 abbrev pub is_fill_said : Result Message FieldFault → Bool
@@ -76,12 +66,12 @@ pub record IsHandled (end : Became) (actions : List Action) (met : Option Met) (
   pub wanted : Wants actions handled
 
 -- it became what this session makes of it; a sender without a session has none
-abbrev pub IsHandledBy : Option State → Journal → List ℕ → Handled → Type 0
-IsHandledBy session journal text = IsHandled (became_in session journal text) (actions_in session journal text) (met_at session text)
+abbrev pub IsHandledBy : Option State → DeskState → List ℕ → Handled → Type 0
+IsHandledBy session desk text = IsHandled (became_in session desk text) (actions_in session desk text) (met_at session text)
 
 -- it became what its sender's session makes of it
 abbrev pub IsHandledIn : Taking → List ℕ → Handled → Type 0
-IsHandledIn taking text = IsHandledBy (session_for taking.sessions text) taking.journal text
+IsHandledIn taking text = IsHandledBy (session_for taking.sessions text) taking.desk text
 
 -- the reply to a command, and what the session wants done about it
 abbrev pub IsReplied : Reply → List Action → Handled → Type 0

@@ -7,7 +7,7 @@ use Rattle.blot_fields.specs.First.{text_in}
 use Rattle.blot_fields.specs.Sender.{sender_of}
 use Rattle.blot_session.specs.declared.state.State.{State}
 use Rattle.blot_slots.specs.Slots.{Slots, slot_of}
-use Rattle.blot_desk.specs.Desk.{Journal}
+use Rattle.blot_desk.specs.Desk.{DeskState}
 use Rattle.blot_capture.specs.Capture.{Sessions}
 use Rattle.blot_capture.specs.Replay.{Taking}
 
@@ -33,8 +33,8 @@ abbrev pub sessions_of : Parts → Sessions
 sessions_of parts = session_in parts.out parts.table
 
 -- they and the desk, as they are
-abbrev pub taking_of : Parts → Journal → Taking
-taking_of parts journal = record { sessions = sessions_of parts; journal = journal }
+abbrev pub taking_of : Parts → DeskState → Taking
+taking_of parts desk = record { sessions = sessions_of parts; desk = desk }
 
 -- the first session of a peer stands at this place
 pub record IsAt (peer : List ℕ) (sessions : List State) (place : ℕ) : Type 0 where

@@ -1,23 +1,16 @@
 -- The walk over a capture, message by message, which an audit trail tells. By the law below the commands that `capture` submits and the
 -- list that `replay` reports on are readings of it too.
-use Rattle.std.specs.Prelude.{◌≡◌, ℕ, ℤ, List, [], ◌∷◌, ◌++◌, map, Option, Some, None, Ok}
-use Rattle.std.specs.List.{flat_map}
-use Rattle.std.specs.Option.{option_and_then}
+use Rattle.std.specs.Prelude.{◌≡◌, ℕ, ℤ, List, [], ◌∷◌, ◌++◌, map, Option, Some, None, Ok, flat_map, option_and_then}
 use Rattle.blot_tag.specs.Fields.{fields_of}
 use Rattle.blot_tag.specs.Places.{Placed, placed_of}
-use Rattle.blot_types.specs.declared.command.Command.{Command}
-use Rattle.blot_types.specs.declared.command.Entry.{Entry}
+use Rattle.blot_types.specs.declared.{command.Command.Command, command.Entry.Entry}
 use Rattle.blot_fields.specs.Sender.{sender_of}
-use Rattle.blot_session.specs.declared.action.Action.{Action}
-use Rattle.blot_session.specs.declared.met.Met.{Met}
-use Rattle.blot_session.specs.declared.state.State.{State}
+use Rattle.blot_session.specs.declared.{action.Action.Action, met.Met.Met, state.State.State}
 use Rattle.blot_session.specs.Calls.{Outcome, on_reply}
 use Rattle.blot_session.specs.Met.{met_of}
 use Rattle.blot_session.specs.Runs.{outcome, said_by}
-use Rattle.blot_desk.specs.declared.event.Event.TheVariants.{Submit}
-use Rattle.blot_desk.specs.declared.event.Reply.{Reply}
-use Rattle.blot_desk.specs.declared.event.Reply.TheVariants.{Accepted}
-use Rattle.blot_desk.specs.Desk.{Journal, empty_journal, run_of, step_of, replies_of}
+use Rattle.blot_desk.specs.declared.{event.Event.TheVariants.Submit, event.Reply.Reply, event.Reply.TheVariants.Accepted}
+use Rattle.blot_desk.specs.Desk.{DeskState, empty_desk, run_of, step_of, replies_of}
 use Rattle.blot_gateway.specs.Serving.{seen_reply}
 use Rattle.blot_capture.specs.declared.became.Became.{Became}
 use Rattle.blot_capture.specs.declared.became.Became.TheVariants as became
@@ -31,38 +24,38 @@ abbrev pub session_for : Sessions → List ℕ → Option State
 session_for sessions text = option_and_then sessions (sender_of (fields_of text))
 
 -- the book's reply to a command
-abbrev pub reply_to : Journal → Command → Reply
-reply_to journal command = (step_of journal.book (Submit command)).reply
+abbrev pub reply_to : DeskState → Command → Reply
+reply_to desk command = (step_of desk.book (Submit command)).reply
 
 -- what a session does that is told the reply to its command
 abbrev pub on_told : State → Reply → ℤ → Outcome
 on_told state reply now = on_reply state (seen_reply (Ok reply)) now
 
 -- what became of a frame: the reply to the command that it brought, or else what its session made of it
-abbrev pub became_of : Met → Journal → List Command → Became
-became_of met journal [] = became.Met met
-became_of met journal (command ∷ commands) = became.Replied (reply_to journal command)
+abbrev pub became_of : Met → DeskState → List Command → Became
+became_of met desk [] = became.Met met
+became_of met desk (command ∷ commands) = became.Replied (reply_to desk command)
 
 -- all that the session wants done: about the frame, and then about the reply
-abbrev pub actions_after : State → Journal → ℤ → List Action → List Command → List Action
-actions_after state journal now actions [] = actions
-actions_after state journal now actions (command ∷ commands) = actions ++ (on_told state (reply_to journal command) now).actions
+abbrev pub actions_after : State → DeskState → ℤ → List Action → List Command → List Action
+actions_after state desk now actions [] = actions
+actions_after state desk now actions (command ∷ commands) = actions ++ (on_told state (reply_to desk command) now).actions
 
-abbrev pub became_at : State → Journal → List ℕ → Became
-became_at state journal text = became_of (met_of state (said_by text) (moment_at text)) journal (taken_by state text)
+abbrev pub became_at : State → DeskState → List ℕ → Became
+became_at state desk text = became_of (met_of state (said_by text) (moment_at text)) desk (taken_by state text)
 
-abbrev pub actions_at : State → Journal → List ℕ → List Action
-actions_at state journal text =
-    actions_after (behind_frame state text) journal (moment_at text) (outcome state (frame_call text)).actions (taken_by state text)
+abbrev pub actions_at : State → DeskState → List ℕ → List Action
+actions_at state desk text =
+    actions_after (behind_frame state text) desk (moment_at text) (outcome state (frame_call text)).actions (taken_by state text)
 
 -- the frame of a sender without a session is passed over
-abbrev pub became_in : Option State → Journal → List ℕ → Became
-became_in None journal text = became.Passed
-became_in (Some state) journal text = became_at state journal text
+abbrev pub became_in : Option State → DeskState → List ℕ → Became
+became_in None desk text = became.Passed
+became_in (Some state) desk text = became_at state desk text
 
-abbrev pub actions_in : Option State → Journal → List ℕ → List Action
-actions_in None journal text = []
-actions_in (Some state) journal text = actions_at state journal text
+abbrev pub actions_in : Option State → DeskState → List ℕ → List Action
+actions_in None desk text = []
+actions_in (Some state) desk text = actions_at state desk text
 
 -- ---- the walk
 
@@ -77,15 +70,15 @@ abbrev pub turn_of : Taking → Placed → Turn
 turn_of taking placed = record {
   placed = placed;
   commands = commands_in taking.sessions placed.text;
-  became = became_in (session_for taking.sessions placed.text) taking.journal placed.text;
-  actions = actions_in (session_for taking.sessions placed.text) taking.journal placed.text;
+  became = became_in (session_for taking.sessions placed.text) taking.desk placed.text;
+  actions = actions_in (session_for taking.sessions placed.text) taking.desk placed.text;
 }
 
 -- the sessions and the desk after a message
 abbrev pub taking_after : Taking → List ℕ → Taking
 taking_after taking text = record {
   sessions = sessions_behind taking.sessions text;
-  journal = submitted taking.journal (commands_in taking.sessions text);
+  desk = submitted taking.desk (commands_in taking.sessions text);
 }
 
 -- some messages, one after the other
@@ -95,7 +88,7 @@ trace_over taking (placed ∷ more) = turn_of taking placed ∷ trace_over (taki
 
 -- no peer was heard of yet, and the desk is empty
 abbrev pub first_taking : List ℕ → List (List ℕ) → Taking
-first_taking own peers = taking_from own peers empty_journal
+first_taking own peers = taking_from own peers empty_desk
 
 -- the messages of a byte stream
 abbrev pub trace_of : List ℕ → List (List ℕ) → List ℕ → List Turn

@@ -55,9 +55,9 @@ pub(crate) fn capture_within<R: Read, D: TakesCommands>(
     reads: u64,
 ) -> Result<(), ReplayFault>
     requires { IsDistinct same_text peers.now }
-    ensures taken { OnOk result (TakenOf (R.remaining input.old) (taking_from own peers.now (D.journal_of desk.old)) (D.journal_of desk.new)) }
+    ensures taken { OnOk result (TakenOf (R.remaining input.old) (taking_from own peers.now (D.desk_of desk.old)) (D.desk_of desk.new)) }
     ensures read_to_the_end { OnOk result (IsAtEnd (R.remaining input.new)) }
-    ensures stopped { IfErr result (StoppedOf (R.remaining input.old) (taking_from own peers.now (D.journal_of desk.old)) (D.journal_of desk.new)) }
+    ensures stopped { IfErr result (StoppedOf (R.remaining input.old) (taking_from own peers.now (D.desk_of desk.old)) (D.desk_of desk.new)) }
     ensures no_write { result ≢ Err ReplayFault.Write }
 {
     match Sessions::new(alloc, own, peers) {
@@ -74,9 +74,9 @@ fn take_all<R: Read, D: TakesCommands>(
     desk: &mut D,
     reads: u64,
 ) -> Result<(), ReplayFault>
-    ensures taken { OnOk result (TakenOf (R.remaining input.old) (taking_of sessions.old (D.journal_of desk.old)) (D.journal_of desk.new)) }
+    ensures taken { OnOk result (TakenOf (R.remaining input.old) (taking_of sessions.old (D.desk_of desk.old)) (D.desk_of desk.new)) }
     ensures read_to_the_end { OnOk result (IsAtEnd (R.remaining input.new)) }
-    ensures stopped { IfErr result (StoppedOf (R.remaining input.old) (taking_of sessions.old (D.journal_of desk.old)) (D.journal_of desk.new)) }
+    ensures stopped { IfErr result (StoppedOf (R.remaining input.old) (taking_of sessions.old (D.desk_of desk.old)) (D.desk_of desk.new)) }
     ensures no_write { result ≢ Err ReplayFault.Write }
 {
     let mut reader = Reader::new(alloc);

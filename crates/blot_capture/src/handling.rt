@@ -41,9 +41,9 @@ pub(crate) fn take_frame<D: TakesCommands>(
     ensures session { OnOk result (session.new ≡ behind_text session.old (text_of frame.now)) }
     ensures peer { session.new.peer ≡ session.old.peer }
     ensures idle { IsIdle session.new }
-    ensures desk { OnOk result (D.journal_of desk.new ≡ submitted (D.journal_of desk.old) (taken_by session.old (text_of frame.now))) }
-    ensures handled { IfOk result (IsHandledBy (Some session.old) (D.journal_of desk.old) (text_of frame.now)) }
-    ensures err { IfErr result (Stopped (D.journal_of desk.old) (D.journal_of desk.new) (taken_by session.old (text_of frame.now))) }
+    ensures desk { OnOk result (D.desk_of desk.new ≡ submitted (D.desk_of desk.old) (taken_by session.old (text_of frame.now))) }
+    ensures handled { IfOk result (IsHandledBy (Some session.old) (D.desk_of desk.old) (text_of frame.now)) }
+    ensures err { IfErr result (Stopped (D.desk_of desk.old) (D.desk_of desk.new) (taken_by session.old (text_of frame.now))) }
     ensures no_write { result ≢ Err ReplayFault.Write }
 {
     let said = decode(alloc, frame);
@@ -75,9 +75,9 @@ fn take_said<D: TakesCommands>(
     ensures session { OnOk result (session.new ≡ behind_reply session.old (text_of frame.now)) }
     ensures peer { session.new.peer ≡ session.old.peer }
     ensures idle { IsIdle session.new }
-    ensures desk { OnOk result (D.journal_of desk.new ≡ submitted (D.journal_of desk.old) (taken_by session.old (text_of frame.now))) }
-    ensures handled { IfOk result (IsHandledBy (Some session.old) (D.journal_of desk.old) (text_of frame.now)) }
-    ensures err { IfErr result (Stopped (D.journal_of desk.old) (D.journal_of desk.new) (taken_by session.old (text_of frame.now))) }
+    ensures desk { OnOk result (D.desk_of desk.new ≡ submitted (D.desk_of desk.old) (taken_by session.old (text_of frame.now))) }
+    ensures handled { IfOk result (IsHandledBy (Some session.old) (D.desk_of desk.old) (text_of frame.now)) }
+    ensures err { IfErr result (Stopped (D.desk_of desk.old) (D.desk_of desk.new) (taken_by session.old (text_of frame.now))) }
     ensures no_write { result ≢ Err ReplayFault.Write }
 {
     let now = sending_by(said, frame);
@@ -103,11 +103,11 @@ fn submit_report<D: TakesCommands>(
     ensures session { OnOk result (session.new ≡ behind_calls session.old (reply_calls session.old now)) }
     ensures peer { session.new.peer ≡ session.old.peer }
     ensures idle { IsIdle session.new }
-    ensures desk { OnOk result (D.journal_of desk.new ≡ submitted (D.journal_of desk.old) (delivered_in (report_actions said.now session.old.peer))) }
-    ensures handled { IfOk result (λ handled. (met : Met) → IsHandled (became_of met (D.journal_of desk.old) (delivered_in (report_actions said.now session.old.peer)))
-        (actions_after session.old (D.journal_of desk.old) now (report_actions said.now session.old.peer) (delivered_in (report_actions said.now session.old.peer)))
+    ensures desk { OnOk result (D.desk_of desk.new ≡ submitted (D.desk_of desk.old) (delivered_in (report_actions said.now session.old.peer))) }
+    ensures handled { IfOk result (λ handled. (met : Met) → IsHandled (became_of met (D.desk_of desk.old) (delivered_in (report_actions said.now session.old.peer)))
+        (actions_after session.old (D.desk_of desk.old) now (report_actions said.now session.old.peer) (delivered_in (report_actions said.now session.old.peer)))
         (Some met) handled) }
-    ensures err { IfErr result (Stopped (D.journal_of desk.old) (D.journal_of desk.new) (delivered_in (report_actions said.now session.old.peer))) }
+    ensures err { IfErr result (Stopped (D.desk_of desk.old) (D.desk_of desk.new) (delivered_in (report_actions said.now session.old.peer))) }
     ensures no_write { result ≢ Err ReplayFault.Write }
 {
     let Ok(message) = said else { unreachable!() };
@@ -133,10 +133,10 @@ fn take_delivered<D: TakesCommands>(
     ensures session { OnOk result (session.new ≡ behind_calls session.old (reply_calls session.old now)) }
     ensures peer { session.new.peer ≡ session.old.peer }
     ensures idle { IsIdle session.new }
-    ensures desk { OnOk result (D.journal_of desk.new ≡ submitted (D.journal_of desk.old) (delivered_in actions.items)) }
-    ensures handled { IfOk result (λ handled. (met : Met) → IsHandled (became_of met (D.journal_of desk.old) (delivered_in actions.items))
-        (actions_after session.old (D.journal_of desk.old) now actions.items (delivered_in actions.items)) (Some met) handled) }
-    ensures err { IfErr result (Stopped (D.journal_of desk.old) (D.journal_of desk.new) (delivered_in actions.items)) }
+    ensures desk { OnOk result (D.desk_of desk.new ≡ submitted (D.desk_of desk.old) (delivered_in actions.items)) }
+    ensures handled { IfOk result (λ handled. (met : Met) → IsHandled (became_of met (D.desk_of desk.old) (delivered_in actions.items))
+        (actions_after session.old (D.desk_of desk.old) now actions.items (delivered_in actions.items)) (Some met) handled) }
+    ensures err { IfErr result (Stopped (D.desk_of desk.old) (D.desk_of desk.new) (delivered_in actions.items)) }
     ensures no_write { result ≢ Err ReplayFault.Write }
 {
     if !session.is_awaiting() {
@@ -164,9 +164,9 @@ fn submit<D: TakesCommands>(
     ensures session { OnOk result (session.new ≡ (on_reply session.old (Ok Accepted) now).state) }
     ensures peer { session.new.peer ≡ session.old.peer }
     ensures idle { IsIdle session.new }
-    ensures desk { OnOk result (D.journal_of desk.new ≡ recorded_of (D.journal_of desk.old) (Submit command.now)) }
-    ensures handled { IfOk result (IsReplied (reply_to (D.journal_of desk.old) command.now) (on_told session.old (reply_to (D.journal_of desk.old) command.now) now).actions) }
-    ensures err { IfErr result (Stopped (D.journal_of desk.old) (D.journal_of desk.new) (command.now ∷ [])) }
+    ensures desk { OnOk result (D.desk_of desk.new ≡ recorded_of (D.desk_of desk.old) (Submit command.now)) }
+    ensures handled { IfOk result (IsReplied (reply_to (D.desk_of desk.old) command.now) (on_told session.old (reply_to (D.desk_of desk.old) command.now) now).actions) }
+    ensures err { IfErr result (Stopped (D.desk_of desk.old) (D.desk_of desk.new) (command.now ∷ [])) }
     ensures no_write { result ≢ Err ReplayFault.Write }
 {
     let answer = desk.submit(command);

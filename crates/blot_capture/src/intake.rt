@@ -22,9 +22,9 @@ pub(crate) fn take_piece<D: TakesCommands>(
     piece: &[u8],
 ) -> Result<(), ReplayFault>
     ensures drained { OnOk result (frames_of reader.new.unread ≡ []) }
-    ensures came { OnOk result (CameOn (taking_of sessions.old (D.journal_of desk.old)) (reader.old.unread ++ piece.now)
-        (taking_of sessions.new (D.journal_of desk.new)) reader.new.unread) }
-    ensures err { IfErr result (StoppedOn (taking_of sessions.old (D.journal_of desk.old)) (reader.old.unread ++ piece.now) (D.journal_of desk.new)) }
+    ensures came { OnOk result (CameOn (taking_of sessions.old (D.desk_of desk.old)) (reader.old.unread ++ piece.now)
+        (taking_of sessions.new (D.desk_of desk.new)) reader.new.unread) }
+    ensures err { IfErr result (StoppedOn (taking_of sessions.old (D.desk_of desk.old)) (reader.old.unread ++ piece.now) (D.desk_of desk.new)) }
     ensures no_write { result ≢ Err ReplayFault.Write }
 {
     match reader.feed(piece) {
@@ -41,9 +41,9 @@ fn take_frames<D: TakesCommands>(
     desk: &mut D,
 ) -> Result<(), ReplayFault>
     ensures drained { OnOk result (frames_of reader.new.unread ≡ []) }
-    ensures came { OnOk result (CameOn (taking_of sessions.old (D.journal_of desk.old)) reader.old.unread
-        (taking_of sessions.new (D.journal_of desk.new)) reader.new.unread) }
-    ensures err { IfErr result (StoppedOn (taking_of sessions.old (D.journal_of desk.old)) reader.old.unread (D.journal_of desk.new)) }
+    ensures came { OnOk result (CameOn (taking_of sessions.old (D.desk_of desk.old)) reader.old.unread
+        (taking_of sessions.new (D.desk_of desk.new)) reader.new.unread) }
+    ensures err { IfErr result (StoppedOn (taking_of sessions.old (D.desk_of desk.old)) reader.old.unread (D.desk_of desk.new)) }
     ensures no_write { result ≢ Err ReplayFault.Write }
 {
     while let Some(frame) = reader.next()? {
@@ -63,8 +63,8 @@ fn take_frame<D: TakesCommands>(
     frame: &Frame,
 ) -> Result<(), ReplayFault>
     ensures sessions { OnOk result (sessions_of sessions.new ≡ sessions_behind (sessions_of sessions.old) (text_of frame.now)) }
-    ensures desk { OnOk result (D.journal_of desk.new ≡ submitted (D.journal_of desk.old) (commands_in (sessions_of sessions.old) (text_of frame.now))) }
-    ensures err { IfErr result (Stopped (D.journal_of desk.old) (D.journal_of desk.new) (commands_in (sessions_of sessions.old) (text_of frame.now))) }
+    ensures desk { OnOk result (D.desk_of desk.new ≡ submitted (D.desk_of desk.old) (commands_in (sessions_of sessions.old) (text_of frame.now))) }
+    ensures err { IfErr result (Stopped (D.desk_of desk.old) (D.desk_of desk.new) (commands_in (sessions_of sessions.old) (text_of frame.now))) }
     ensures no_write { result ≢ Err ReplayFault.Write }
 {
     match sessions.take(alloc, frame, desk) {

@@ -1,7 +1,6 @@
 //! The sessions of a capture's peers.
-ghost use Rattle.std.specs.Prelude.{◌≡◌, ◌≢◌, All, Err, IfOk, IfErr, OnOk, MatchOption, None};
+ghost use Rattle.std.specs.Prelude.{◌≡◌, ◌≢◌, All, Err, IfOk, IfErr, OnOk, MatchOption, None, option_and_then};
 ghost use Rattle.std.specs.List.{IsDistinct};
-ghost use Rattle.std.specs.Option.{option_and_then};
 ghost use Rattle.blot_tag.specs.Views.{text_of};
 ghost use Rattle.blot_types.specs.Keys.{same_text};
 ghost use Rattle.blot_fields.specs.First.{text_in};
@@ -88,9 +87,9 @@ impl Sessions {
         desk: &mut D,
     ) -> Result<Handled, ReplayFault>
         ensures sessions { OnOk result (sessions_of self.new ≡ sessions_behind (sessions_of self.old) (text_of frame.now)) }
-        ensures desk { OnOk result (D.journal_of desk.new ≡ submitted (D.journal_of desk.old) (commands_in (sessions_of self.old) (text_of frame.now))) }
-        ensures handled { IfOk result (IsHandledIn (taking_of self.old (D.journal_of desk.old)) (text_of frame.now)) }
-        ensures err { IfErr result (Stopped (D.journal_of desk.old) (D.journal_of desk.new) (commands_in (sessions_of self.old) (text_of frame.now))) }
+        ensures desk { OnOk result (D.desk_of desk.new ≡ submitted (D.desk_of desk.old) (commands_in (sessions_of self.old) (text_of frame.now))) }
+        ensures handled { IfOk result (IsHandledIn (taking_of self.old (D.desk_of desk.old)) (text_of frame.now)) }
+        ensures err { IfErr result (Stopped (D.desk_of desk.old) (D.desk_of desk.new) (commands_in (sessions_of self.old) (text_of frame.now))) }
         ensures no_write { result ≢ Err ReplayFault.Write }
     {
         match place_for(&mut self.table, &mut self.out, frame) {

@@ -1,42 +1,38 @@
 -- What the look-ups on either side of a number find.
-use Rattle.std.proofs.Common.{◌≡◌, ℕ, ◌<◌, ◌≤◌, Bool, true, false, cond, ◌&&◌, ◌||◌, List, [], ◌∷◌, reverse, Option, Some, None, refl, sym, ap, subst, ◌∙◌, inl, inr, arith}
-use Rattle.std.specs.Prelude.{All, filter, find, nat_eq, nat_lt}
+use Rattle.std.proofs.Common.{◌≡◌, ℕ, ◌<◌, ◌≤◌, Bool, true, false, cond, ◌&&◌, ◌||◌, List, [], ◌∷◌, reverse, Option, Some, None, refl, sym, ap, subst, ◌∙◌, inl, inr, arith, All, filter, find, nat_eq, nat_lt, option_and_then, option_map, eqb-true, lt-ltb, ltb-true}
 use Rattle.std.specs.List.{cons_option}
-use Rattle.std.specs.Option.{option_and_then, option_map, option_or}
-use Rattle.std.proofs.lemmas.Bool.{and_parts, cases_Bool, eqb-true, lt-ltb, ltb-true}
+use Rattle.std.specs.Option.{option_or}
+use Rattle.std.proofs.lemmas.Bool.{and_parts, cases_Bool}
 use Rattle.std.proofs.lemmas.List.{reverse-reverse}
 use Rattle.std.proofs.lemmas.List.Elements.{All-cons, All-nil, All-weaker}
 use Rattle.std.proofs.lemmas.Option.{same_Some}
-use Rattle.blot_types.specs.declared.keys.ExecKey.{ExecKey}
-use Rattle.blot_types.specs.declared.link.Link.{Link}
-use Rattle.blot_types.specs.declared.link.Role.{Role}
+use Rattle.blot_types.specs.declared.{keys.ExecKey.ExecKey, link.Link.Link, link.Role.Role}
 use Rattle.blot_types.specs.declared.link.Role.TheVariants.{Begins, Corrects, Busts}
 use Rattle.blot_types.specs.Chains.{current_in, first_needing_link, first_referring, is_chained, own_root, refers_to, root_in, version_after_in, version_before_in}
 use Rattle.blot_types.specs.Keys.{same_exec}
 use Rattle.blot_types.specs.Numbers.{lesser}
 use Rattle.blot_types.specs.Refusals.{first_of}
-use Rattle.blot_types.proofs.BringLemmas.{found-All}
 use Rattle.blot_types.proofs.ChainLemmas.{accepted_key, clash}
 use Rattle.blot_types.proofs.KeyLemmas.{same_exec-refl, same_exec-sym, same_exec-true}
 use Rattle.blot_places.specs.declared.slots.Slot.{Slot}
 use Rattle.blot_places.specs.Shown.{item_at}
 use Rattle.blot_places.specs.Slots.{is_above, items, live, live_item, live_items, numbers_fall, places_by}
 use Rattle.blot_places.proofs.AroundLemmas.{find-above, newest-below, oldest-above, parted-above, parted-below}
-use Rattle.blot_places.proofs.FirstLemmas.{first-agree, first-either, first-more, first-through, first_by, none-and}
+use Rattle.blot_places.proofs.FirstLemmas.{first-agree, first-either, first-more, first-through, first_by}
 use Rattle.blot_places.proofs.MarkLemmas.{at-all, falling-side}
 use Rattle.blot_places.proofs.ShownLemmas.{at-here, at-on, at-through, falling-parts, none-at}
-use Rattle.blot_chain.specs.declared.index.Index.{Index}
-use Rattle.blot_chain.specs.declared.rooted.Rooted.{Rooted}
+use Rattle.blot_chain.specs.declared.{index.Index.Index, chain_link.ChainLink.ChainLink}
 use Rattle.blot_chain.specs.Cells.{busts_in, versions_in}
 use Rattle.blot_chain.specs.Holds.{HoldsChains}
 use Rattle.blot_chain.specs.Index.{BelowFirst, IsPlaced, UpToFirst, newest_below, number_if_referring, oldest_above, places_after, referring_at}
-use Rattle.blot_types.specs.Standing.{chain_under}
-use Rattle.blot_chain.specs.Rooted.{AreRooted, has_key, is_bust, is_bust_of, is_version, is_version_of, kept_root, link_number, links_in, refers}
+use Rattle.blot_types.specs.StandingVersion.{chain_under}
+use Rattle.blot_types.proofs.GeneralLemmas.{and-false, found-All}
+use Rattle.blot_chain.specs.ChainLinks.{AreRooted, has_key, is_bust, is_bust_of, is_version, is_version_of, kept_root, link_number, links_in, refers}
 use Rattle.blot_chain.specs.Steps.{number_of}
 use Rattle.blot_chain.proofs.ChainLemmas.{chained-parts, find-current, kept_root-own, version-is_root}
 use Rattle.blot_chain.proofs.HoldsLemmas.{rooted-live, vacant}
 
-abbrev link_of : Rooted → Link
+abbrev link_of : ChainLink → Link
 link_of item = item.link
 
 -- ---- the stacks
@@ -51,7 +47,7 @@ busts_under index root = reverse (busts_in same_exec index.cells root)
 stack_is : (places all : List ℕ) → places ≡ all → reverse (reverse places) ≡ all
 stack_is places all is = reverse-reverse places ∙ is
 
-module _ (index : Index) (slots : List (Slot Rooted)) (root : ExecKey) (n : ℕ) (holds : HoldsChains index (reverse slots)) where
+module _ (index : Index) (slots : List (Slot ChainLink)) (root : ExecKey) (n : ℕ) (holds : HoldsChains index (reverse slots)) where
   abbrev versions : List ℕ
   versions = versions_under index root
 
@@ -76,10 +72,10 @@ module _ (index : Index) (slots : List (Slot Rooted)) (root : ExecKey) (n : ℕ)
 -- ---- the last version below a number
 
 module _ (n : ℕ) where
-  abbrev under : Rooted → Bool
+  abbrev under : ChainLink → Bool
   under item = nat_lt (link_number item) n
 
-  all-under : (bound : ℕ) (rooted : List Rooted) → bound ≤ n → is_above link_number bound rooted ≡ true → filter under rooted ≡ rooted
+  all-under : (bound : ℕ) (rooted : List ChainLink) → bound ≤ n → is_above link_number bound rooted ≡ true → filter under rooted ≡ rooted
   all-under bound [] le above = refl
   all-under bound (item ∷ earlier) le above =
       let parts : (nat_lt (link_number item) bound ≡ true) × (is_above link_number bound earlier ≡ true) = and_parts _ _ above in
@@ -88,7 +84,7 @@ module _ (n : ℕ) where
       ap (λ b. cond b (item ∷ filter under earlier) (filter under earlier)) below ∙ ap (λ rest. item ∷ rest) (all-under bound earlier le parts.1)
 
   -- the links below have their roots too
-  rooted-under : (rooted : List Rooted) → AreRooted rooted → numbers_fall link_number rooted ≡ true → AreRooted (filter under rooted)
+  rooted-under : (rooted : List ChainLink) → AreRooted rooted → numbers_fall link_number rooted ≡ true → AreRooted (filter under rooted)
   rooted-under [] are fall = tt
   rooted-under (item ∷ earlier) are fall =
       let falling = falling-parts link_number item earlier fall in
@@ -103,7 +99,7 @@ module _ (n : ℕ) where
             subst AreRooted (sym (ap (λ b. cond b (item ∷ filter under earlier) (filter under earlier)) other)) (rooted-under earlier are.1 falling.1)
       ]
 
-  links-under : (rooted : List Rooted) → links_in (filter under rooted) ≡ filter (λ (link : Link). nat_lt link.number n) (links_in rooted)
+  links-under : (rooted : List ChainLink) → links_in (filter under rooted) ≡ filter (λ (link : Link). nat_lt link.number n) (links_in rooted)
   links-under [] = refl
   links-under (item ∷ earlier) = elim (cases_Bool (under item)) [
     | inl below ↦ rw below (ap (λ rest. item.link ∷ rest) (links-under earlier))
@@ -111,7 +107,7 @@ module _ (n : ℕ) where
   ]
 
 pub before-held :
-    (index : Index) (slots : List (Slot Rooted)) (root : ExecKey) (n : ℕ) → HoldsChains index (reverse slots)
+    (index : Index) (slots : List (Slot ChainLink)) (root : ExecKey) (n : ℕ) → HoldsChains index (reverse slots)
     → option_map link_number (newest_below n slots (versions_under index root)) ≡ version_before_in (links_in (live (reverse slots))) n root
 before-held index slots root n holds =
     let all = live (reverse slots) in
@@ -122,7 +118,7 @@ before-held index slots root n holds =
 -- ---- the first version above a number
 
 after-rooted :
-    (n : ℕ) (root : ExecKey) (rooted : List Rooted) → AreRooted rooted
+    (n : ℕ) (root : ExecKey) (rooted : List ChainLink) → AreRooted rooted
     → first_by link_number (λ item. nat_lt n (link_number item) && is_version_of root item) rooted ≡ version_after_in (links_in rooted) n root
 after-rooted n root [] are = refl
 after-rooted n root (item ∷ earlier) are =
@@ -132,7 +128,7 @@ after-rooted n root (item ∷ earlier) are =
     ∙ ap (λ b. option_or (version_after_in (links_in earlier) n root) (cond (nat_lt n (link_number item) && b) (Some (link_number item)) None)) test
 
 pub after-held :
-    (index : Index) (slots : List (Slot Rooted)) (root : ExecKey) (n : ℕ) → HoldsChains index (reverse slots)
+    (index : Index) (slots : List (Slot ChainLink)) (root : ExecKey) (n : ℕ) → HoldsChains index (reverse slots)
     → option_map link_number (oldest_above n slots (versions_under index root)) ≡ version_after_in (links_in (live (reverse slots))) n root
 after-held index slots root n holds =
     ap (option_map link_number) (oldest-above link_number n (is_version_of root) slots (versions_under index root) (versions_are index slots root n holds))
@@ -141,7 +137,7 @@ after-held index slots root n holds =
 -- ---- the first link that refers to a key
 
 found-more :
-    (key : ExecKey) (found : Option Rooted) (rest : List Rooted) (first : Option ℕ) → first ≡ option_map link_number (find (refers key) rest)
+    (key : ExecKey) (found : Option ChainLink) (rest : List ChainLink) (first : Option ℕ) → first ≡ option_map link_number (find (refers key) rest)
     → option_or (option_and_then (λ item. cond (refers key item) (Some (link_number item)) None) found) first ≡ option_map link_number (find (refers key) (cons_option found rest))
 found-more key None rest first is = is
 found-more key (Some item) rest first is = elim (cases_Bool (refers key item)) [
@@ -150,7 +146,7 @@ found-more key (Some item) rest first is = elim (cases_Bool (refers key item)) [
 ]
 
 referring-found :
-    (slots : List (Slot Rooted)) (key : ExecKey) (places : List ℕ)
+    (slots : List (Slot ChainLink)) (key : ExecKey) (places : List ℕ)
     → first_of (number_if_referring slots key) places ≡ option_map link_number (find (refers key) (live_items slots places))
 referring-found slots key [] = refl
 referring-found slots key (place ∷ places) =
@@ -165,7 +161,7 @@ root-referred links own key root (Busts reference) is referring = ap (root_in li
 
 -- the root of the key of a link that is there
 root-at :
-    (n : ℕ) (rooted : List Rooted) (k : Rooted) → AreRooted rooted → is_chained (links_in rooted) ≡ true → item_at link_number n rooted ≡ Some k
+    (n : ℕ) (rooted : List ChainLink) (k : ChainLink) → AreRooted rooted → is_chained (links_in rooted) ≡ true → item_at link_number n rooted ≡ Some k
     → root_in (links_in rooted) k.link.key ≡ kept_root k
 root-at n [] k are chained found = cc
 root-at n (item ∷ earlier) k are chained found =
@@ -176,7 +172,7 @@ root-at n (item ∷ earlier) k are chained found =
           let own : root_in (item.link ∷ links_in earlier) item.link.key ≡ kept_root item =
           ap (λ b. cond b (own_root (root_in (links_in earlier)) item.link.key item.link.role) (root_in (links_in earlier) item.link.key)) (same_exec-refl item.link.key)
           ∙ sym (kept_root-own (links_in earlier) item.link.key item.link.role item.root are.0) in
-          subst (λ (k : Rooted). root_in (item.link ∷ links_in earlier) k.link.key ≡ kept_root k) same own
+          subst (λ (k : ChainLink). root_in (item.link ∷ links_in earlier) k.link.key ≡ kept_root k) same own
       | inr other ↦
           let behind : item_at link_number n earlier ≡ Some k = sym (at-on link_number n item earlier other) ∙ found in
           let free : find (has_key item.link.key) earlier ≡ None = vacant earlier item.link.key (accepted_key (links_in earlier) item.link.key item.link.role parts.0).0 in
@@ -190,10 +186,10 @@ kept-same true root other is = same_Some other root is
 kept-same false root other is = absurd (clash is)
 
 -- an item above the number that refers to the key has the root
-abbrev IsOfChain : ℕ → ExecKey → ExecKey → Rooted → Type 0
+abbrev IsOfChain : ℕ → ExecKey → ExecKey → ChainLink → Type 0
 IsOfChain n key root item = nat_lt n (link_number item) ≡ true → refers key item ≡ true → item.root ≡ root
 
-none-above : (n : ℕ) (key root : ExecKey) (rooted : List Rooted) → is_above link_number n rooted ≡ true → All (IsOfChain n key root) rooted
+none-above : (n : ℕ) (key root : ExecKey) (rooted : List ChainLink) → is_above link_number n rooted ≡ true → All (IsOfChain n key root) rooted
 none-above n key root [] above = All-nil (IsOfChain n key root)
 none-above n key root (item ∷ earlier) above =
     let parts : (nat_lt (link_number item) n ≡ true) × (is_above link_number n earlier ≡ true) = and_parts _ _ above in
@@ -202,7 +198,7 @@ none-above n key root (item ∷ earlier) above =
     (none-above n key root earlier parts.1)
 
 of_chain :
-    (n : ℕ) (rooted : List Rooted) (k : Rooted) → AreRooted rooted → is_chained (links_in rooted) ≡ true → numbers_fall link_number rooted ≡ true
+    (n : ℕ) (rooted : List ChainLink) (k : ChainLink) → AreRooted rooted → is_chained (links_in rooted) ≡ true → numbers_fall link_number rooted ≡ true
     → item_at link_number n rooted ≡ Some k → All (IsOfChain n k.link.key k.root) rooted
 of_chain n [] k are chained fall found = cc
 of_chain n (item ∷ earlier) k are chained fall found =
@@ -235,7 +231,7 @@ unreferred false clashes = refl
 
 on_stack : (key : ExecKey) (role : Role) (same : Bool) → (refers_to key role ≡ true → same ≡ true)
     → refers_to key role ≡ (((is_version role && same) && refers_to key role) || ((is_bust role && same) && refers_to key role))
-on_stack key Begins same is = sym (ap (λ b. b || (false && false)) (none-and same))
+on_stack key Begins same is = sym (ap (λ b. b || (false && false)) (and-false same))
 on_stack key (Corrects reference) true is = or-none (same_exec reference key)
 on_stack key (Corrects reference) false is = unreferred (same_exec reference key) is
 on_stack key (Busts reference) true is = refl
@@ -246,7 +242,7 @@ and-both true version bust = refl
 and-both false version bust = refl
 
 on_stacks :
-    (n : ℕ) (key root : ExecKey) (item : Rooted) → IsOfChain n key root item
+    (n : ℕ) (key root : ExecKey) (item : ChainLink) → IsOfChain n key root item
     → (nat_lt n (link_number item) && refers key item)
     ≡ ((nat_lt n (link_number item) && (is_version_of root item && refers key item)) || (nat_lt n (link_number item) && (is_bust_of root item && refers key item)))
 on_stacks n key root item is =
@@ -261,16 +257,16 @@ on_stacks n key root item is =
     ]
 
 -- where no link of the number is there, none refers to it
-pub needing-none : (slots : List (Slot Rooted)) (n : ℕ) → item_at link_number n (live (reverse slots)) ≡ None → first_needing_link (links_in (live (reverse slots))) n ≡ None
+pub needing-none : (slots : List (Slot ChainLink)) (n : ℕ) → item_at link_number n (live (reverse slots)) ≡ None → first_needing_link (links_in (live (reverse slots))) n ≡ None
 needing-none slots n none =
     let all = live (reverse slots) in
     ap (λ link. option_and_then (λ (link : Link). first_referring (links_in all) n link.key) link) (at-through link_of number_of n all ∙ ap (option_map link_of) none)
 
-module _ (index : Index) (slots : List (Slot Rooted)) (n : ℕ) (k : Rooted) (holds : HoldsChains index (reverse slots)) (found : item_at link_number n (live (reverse slots)) ≡ Some k) where
-  abbrev all : List Rooted
+module _ (index : Index) (slots : List (Slot ChainLink)) (n : ℕ) (k : ChainLink) (holds : HoldsChains index (reverse slots)) (found : item_at link_number n (live (reverse slots)) ≡ Some k) where
+  abbrev all : List ChainLink
   all = live (reverse slots)
 
-  abbrev among : (Rooted → Bool) → Rooted → Bool
+  abbrev among : (ChainLink → Bool) → ChainLink → Bool
   among test item = nat_lt n (link_number item) && (test item && refers k.link.key item)
 
   falls : numbers_fall link_number all ≡ true

@@ -1,14 +1,12 @@
 -- What one written cell changes under each key.
-use Rattle.std.proofs.Common.{◌≡◌, ℕ, Bool, true, false, cond, ◌&&◌, List, [], Option, Some, None, refl, ap, ◌∙◌, inl, inr, if◌then◌else◌}
-use Rattle.std.specs.Prelude.{unwrap_or}
+use Rattle.std.proofs.Common.{◌≡◌, ℕ, Bool, true, false, cond, ◌&&◌, List, [], Option, Some, None, refl, ap, ◌∙◌, inl, inr, if◌then◌else◌, unwrap_or}
 use Rattle.std.specs.Cmp.{IsEquivalence}
 use Rattle.std.specs.HashMap.Eq.{lookup_congr}
 use Rattle.std.specs.Map.{lookup}
 use Rattle.std.specs.Option.{option_map_or}
 use Rattle.std.proofs.lemmas.Bool.{cases_Bool}
 use Rattle.blot_places.specs.Stack.{Stack}
-use Rattle.blot_chain.specs.declared.cell.Cell.{Cell}
-use Rattle.blot_chain.specs.declared.cell.Part.{Part}
+use Rattle.blot_chain.specs.declared.{cell.Cell.Cell, cell.Relation.Relation}
 use Rattle.blot_chain.specs.Cells.{CellsByKey, HasMore, HasOneLess, HasSame, PutsUnder, SameUnder, TakesUnder, busts_in, has_bust, has_taker, has_version, one_less, one_more, takers_in, versions_in}
 
 more-where : (wanted here : Bool) (place : ℕ) (places : List ℕ) → (if here then one_more wanted place places else places) ≡ one_more (wanted && here) place places
@@ -74,30 +72,30 @@ module _ {K : Type 0} (same : K → K → Bool) where
           | inr apart ↦ rw apart refl
         ]
 
-    pub puts-under : (part : Part) (place : ℕ) → HasMore part place was cell → PutsUnder same part key place old new
-    puts-under part place more = record {
+    pub puts-under : (relation : Relation) (place : ℕ) → HasMore relation place was cell → PutsUnder same relation key place old new
+    puts-under relation place more = record {
       takers = λ other.
-          written-places (λ cell. cell.takers) (one_more (has_taker part) place) (more.takers ∙ ap (one_more (has_taker part) place) had.takers) other
-          ∙ more-where (has_taker part) (same key other) place (takers_in same old other);
+          written-places (λ cell. cell.takers) (one_more (has_taker relation) place) (more.takers ∙ ap (one_more (has_taker relation) place) had.takers) other
+          ∙ more-where (has_taker relation) (same key other) place (takers_in same old other);
       versions = λ other.
-          written-places (λ cell. cell.versions) (one_more (has_version part) place) (more.versions ∙ ap (one_more (has_version part) place) had.versions) other
-          ∙ more-where (has_version part) (same key other) place (versions_in same old other);
+          written-places (λ cell. cell.versions) (one_more (has_version relation) place) (more.versions ∙ ap (one_more (has_version relation) place) had.versions) other
+          ∙ more-where (has_version relation) (same key other) place (versions_in same old other);
       busts = λ other.
-          written-places (λ cell. cell.busts) (one_more (has_bust part) place) (more.busts ∙ ap (one_more (has_bust part) place) had.busts) other
-          ∙ more-where (has_bust part) (same key other) place (busts_in same old other);
+          written-places (λ cell. cell.busts) (one_more (has_bust relation) place) (more.busts ∙ ap (one_more (has_bust relation) place) had.busts) other
+          ∙ more-where (has_bust relation) (same key other) place (busts_in same old other);
     }
 
-    pub takes-under : (part : Part) → HasOneLess part was cell → TakesUnder same part key old new
-    takes-under part less = record {
+    pub takes-under : (relation : Relation) → HasOneLess relation was cell → TakesUnder same relation key old new
+    takes-under relation less = record {
       takers = λ other.
-          written-places (λ cell. cell.takers) (one_less (has_taker part)) (less.takers ∙ ap (one_less (has_taker part)) had.takers) other
-          ∙ less-where (has_taker part) (same key other) (takers_in same old other);
+          written-places (λ cell. cell.takers) (one_less (has_taker relation)) (less.takers ∙ ap (one_less (has_taker relation)) had.takers) other
+          ∙ less-where (has_taker relation) (same key other) (takers_in same old other);
       versions = λ other.
-          written-places (λ cell. cell.versions) (one_less (has_version part)) (less.versions ∙ ap (one_less (has_version part)) had.versions) other
-          ∙ less-where (has_version part) (same key other) (versions_in same old other);
+          written-places (λ cell. cell.versions) (one_less (has_version relation)) (less.versions ∙ ap (one_less (has_version relation)) had.versions) other
+          ∙ less-where (has_version relation) (same key other) (versions_in same old other);
       busts = λ other.
-          written-places (λ cell. cell.busts) (one_less (has_bust part)) (less.busts ∙ ap (one_less (has_bust part)) had.busts) other
-          ∙ less-where (has_bust part) (same key other) (busts_in same old other);
+          written-places (λ cell. cell.busts) (one_less (has_bust relation)) (less.busts ∙ ap (one_less (has_bust relation)) had.busts) other
+          ∙ less-where (has_bust relation) (same key other) (busts_in same old other);
     }
 
     pub same-under : HasSame was cell → SameUnder same old new

@@ -1,21 +1,17 @@
 -- The stored roots are those of the definitions, and a root is the key of one Trade.
-use Rattle.std.proofs.Common.{◌≡◌, ℕ, true, ◌&&◌, List, [], ◌∷◌, Option, Some, None, refl, sym, ap, subst, ◌∙◌, inl, inr}
-use Rattle.std.specs.Prelude.{find, filter, is_none, if◌then◌else◌, IfSome}
-use Rattle.std.specs.Option.{option_map, option_and_then}
+use Rattle.std.proofs.Common.{◌≡◌, ℕ, true, ◌&&◌, List, [], ◌∷◌, Option, Some, None, refl, sym, ap, subst, ◌∙◌, inl, inr, find, filter, is_none, if◌then◌else◌, IfSome, option_map, option_and_then}
 use Rattle.std.proofs.lemmas.Option.{same_Some}
 use Rattle.std.proofs.lemmas.Bool.{cases_Bool, and_parts}
-use Rattle.blot_types.specs.declared.keys.ExecKey.{ExecKey}
-use Rattle.blot_types.specs.declared.link.Link.{Link}
-use Rattle.blot_types.specs.declared.link.Role.{Role}
+use Rattle.blot_types.specs.declared.{keys.ExecKey.ExecKey, link.Link.Link, link.Role.Role}
 use Rattle.blot_types.specs.declared.link.Role.TheVariants.{Begins, Corrects, Busts}
 use Rattle.blot_types.specs.Chains.{takes_up, taker_in, own_root, root_in, is_root, busts, bust_in, current_in, link_refusal, is_chained}
 use Rattle.blot_types.specs.Keys.{same_exec}
 use Rattle.blot_types.specs.Laws.{IsOneTrade}
 use Rattle.blot_types.proofs.ChainLemmas.{accepted_key, none_is}
 use Rattle.blot_types.proofs.KeyLemmas.{same_exec-true, same_exec-refl}
-use Rattle.blot_chain.specs.declared.rooted.Rooted.{Rooted}
-use Rattle.blot_types.specs.Standing.{chain_under}
-use Rattle.blot_chain.specs.Rooted.{is_version, is_bust, has_key, is_version_of, is_bust_of, kept_root, links_in, AreRooted}
+use Rattle.blot_chain.specs.declared.chain_link.ChainLink.{ChainLink}
+use Rattle.blot_types.specs.StandingVersion.{chain_under}
+use Rattle.blot_chain.specs.ChainLinks.{is_version, is_bust, has_key, is_version_of, is_bust_of, kept_root, links_in, AreRooted}
 
 -- One link: what is said of the root beside it is what is said of its role.
 
@@ -43,7 +39,7 @@ bust-busts earlier key (Busts reference) root wanted is = ap (is_root wanted) (s
 -- The list: what is found by the stored roots is what the definitions name.
 
 pub find-root :
-    (items : List Rooted) (key : ExecKey) → AreRooted items
+    (items : List ChainLink) (key : ExecKey) → AreRooted items
     → option_and_then kept_root (find (has_key key) items) ≡ root_in (links_in items) key
 find-root [] key rooted = refl
 find-root (item ∷ earlier) key rooted =
@@ -53,7 +49,7 @@ find-root (item ∷ earlier) key rooted =
     ]
 
 pub find-current :
-    (items : List Rooted) (root : ExecKey) → AreRooted items
+    (items : List ChainLink) (root : ExecKey) → AreRooted items
     → option_map (λ item. item.link.number) (find (is_version_of root) items) ≡ current_in (links_in items) root
 find-current [] root rooted = refl
 find-current (item ∷ earlier) root rooted =
@@ -64,7 +60,7 @@ find-current (item ∷ earlier) root rooted =
     ]
 
 pub find-bust :
-    (items : List Rooted) (root : ExecKey) → AreRooted items
+    (items : List ChainLink) (root : ExecKey) → AreRooted items
     → option_map (λ item. item.link.number) (find (is_bust_of root) items) ≡ bust_in (links_in items) root
 find-bust [] root rooted = refl
 find-bust (item ∷ earlier) root rooted =
@@ -75,7 +71,7 @@ find-bust (item ∷ earlier) root rooted =
     ]
 
 pub find-taker :
-    (items : List Rooted) (key : ExecKey)
+    (items : List ChainLink) (key : ExecKey)
     → option_map (λ item. item.link.number) (find (has_key key) items) ≡ taker_in (links_in items) key
 find-taker [] key = refl
 find-taker (item ∷ earlier) key =

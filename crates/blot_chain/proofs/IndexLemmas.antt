@@ -1,23 +1,19 @@
 -- What is named where the places of one link come and go, and the stack that stands under a key.
-use Rattle.std.proofs.Common.{◌≡◌, ℕ, Bool, true, false, ◌&&◌, List, Option, Some, None, reverse, refl, sym, ap, subst, ◌∙◌}
-use Rattle.std.specs.Prelude.{All, ◌∷◌, length, if◌then◌else◌}
-use Rattle.std.specs.Option.{IsSomeAnd}
+use Rattle.std.proofs.Common.{◌≡◌, ℕ, Bool, true, false, ◌&&◌, List, Option, Some, None, reverse, refl, sym, ap, subst, ◌∙◌, All, ◌∷◌, length, if◌then◌else◌, IsSomeAnd}
 use Rattle.std.proofs.lemmas.List.{reverse-reverse}
 use Rattle.std.proofs.lemmas.List.Elements.{All-cons, All-tail, All-weaker}
 use Rattle.blot_places.specs.declared.slots.Slot.{Slot}
 use Rattle.blot_places.specs.Indexed.{NamesOneLess, NamesOneMore, NamesSame}
 use Rattle.blot_places.specs.Slots.{items, places_by}
-use Rattle.blot_types.specs.declared.keys.ExecKey.{ExecKey}
-use Rattle.blot_types.specs.declared.link.Role.{Role}
+use Rattle.blot_types.specs.declared.{keys.ExecKey.ExecKey, link.Role.Role}
 use Rattle.blot_types.specs.declared.link.Role.TheVariants.{Begins, Corrects, Busts}
 use Rattle.blot_types.specs.Keys.{same_exec}
 use Rattle.blot_types.proofs.KeyLemmas.{same_exec-true}
-use Rattle.blot_chain.specs.declared.cell.Part.TheVariants.{First, Taker}
-use Rattle.blot_chain.specs.declared.index.Index.{Index}
-use Rattle.blot_chain.specs.declared.rooted.Rooted.{Rooted}
-use Rattle.blot_chain.specs.Cells.{CellsByKey, KeepsPlaces, PutsAt, PutsUnder, SameUnder, TakesUnder, busts_in, has_bust, has_taker, has_version, key_at, one_less, one_more, part_in_chain, takers_in, versions_in}
+use Rattle.blot_chain.specs.declared.cell.Relation.TheVariants.{First, Taker}
+use Rattle.blot_chain.specs.declared.{index.Index.Index, chain_link.ChainLink.ChainLink}
+use Rattle.blot_chain.specs.Cells.{CellsByKey, KeepsPlaces, PutsAt, PutsUnder, SameUnder, TakesUnder, busts_in, has_bust, has_taker, has_version, key_at, one_less, one_more, relation_in_chain, takers_in, versions_in}
 use Rattle.blot_chain.specs.Index.{IsIndexed, IsPlaced}
-use Rattle.blot_chain.specs.Rooted.{has_key, is_bust, is_bust_of, is_version, is_version_of}
+use Rattle.blot_chain.specs.ChainLinks.{has_key, is_bust, is_bust_of, is_version, is_version_of}
 use Rattle.blot_chain.specs.RootedLink.{begun}
 
 -- ---- a stack that stands newest first elsewhere
@@ -27,17 +23,17 @@ turned stack places is = sym (reverse-reverse stack) ∙ ap reverse is
 
 -- ---- where a link stands to the key of its root
 
-pub taker-in_chain : (role : Role) → has_taker (part_in_chain role) ≡ false
+pub taker-in_chain : (role : Role) → has_taker (relation_in_chain role) ≡ false
 taker-in_chain Begins = refl
 taker-in_chain (Corrects reference) = refl
 taker-in_chain (Busts reference) = refl
 
-version-in_chain : (role : Role) → has_version (part_in_chain role) ≡ is_version role
+version-in_chain : (role : Role) → has_version (relation_in_chain role) ≡ is_version role
 version-in_chain Begins = refl
 version-in_chain (Corrects reference) = refl
 version-in_chain (Busts reference) = refl
 
-bust-in_chain : (role : Role) → has_bust (part_in_chain role) ≡ is_bust role
+bust-in_chain : (role : Role) → has_bust (relation_in_chain role) ≡ is_bust role
 bust-in_chain Begins = refl
 bust-in_chain (Corrects reference) = refl
 bust-in_chain (Busts reference) = refl
@@ -48,7 +44,7 @@ pub reached-key : (found : Option ExecKey) (key : ExecKey) → IsSomeAnd found (
 reached-key None key is = absurd is
 reached-key (Some there) key is = ap Some (sym (same_exec-true key there is))
 
-all-placed : (old new : CellsByKey ExecKey) (linked : List Rooted) → KeepsPlaces old new → All (IsPlaced old) linked → All (IsPlaced new) linked
+all-placed : (old new : CellsByKey ExecKey) (linked : List ChainLink) → KeepsPlaces old new → All (IsPlaced old) linked → All (IsPlaced new) linked
 all-placed old new linked keeps placed = All-weaker (IsPlaced old) (IsPlaced new) (λ item is. keeps item.place item.link.key is) linked placed
 
 -- ---- the same places
@@ -78,13 +74,13 @@ same-indexed old new stays = λ slots indexed. record {
 
 -- ---- one more
 
-record OneMore (item : Rooted) (place : ℕ) (old new : Index) : Type 0 where
+record OneMore (item : ChainLink) (place : ℕ) (old new : Index) : Type 0 where
   takers : (key : ExecKey) → takers_in same_exec new.cells key ≡ one_more (has_key key item) place (takers_in same_exec old.cells key)
   versions : (root : ExecKey) → versions_in same_exec new.cells root ≡ one_more (is_version_of root item) place (versions_in same_exec old.cells root)
   busts : (root : ExecKey) → busts_in same_exec new.cells root ≡ one_more (is_bust_of root item) place (busts_in same_exec old.cells root)
 
 named-more :
-    (slot : Slot Rooted) (place : ℕ) (old new : Index) → OneMore slot.item place old new → KeepsPlaces old.cells new.cells → IsPlaced old.cells slot.item
+    (slot : Slot ChainLink) (place : ℕ) (old new : Index) → OneMore slot.item place old new → KeepsPlaces old.cells new.cells → IsPlaced old.cells slot.item
     → NamesOneMore IsIndexed slot place old new
 named-more slot place old new more keeps is = λ slots indexed at. record {
   takers = λ key. more.takers key ∙ (λ i. one_more (has_key key slot.item) (at i) (indexed.takers key i));
@@ -96,13 +92,13 @@ named-more slot place old new more keeps is = λ slots indexed at. record {
 
 -- a Trade's, in the cell of its key
 first-more :
-    (number : ℕ) (key : ExecKey) (at : ℕ) (item : Rooted) (place : ℕ) (old new : Index) → item ≡ begun number key at
+    (number : ℕ) (key : ExecKey) (at : ℕ) (item : ChainLink) (place : ℕ) (old new : Index) → item ≡ begun number key at
     → PutsUnder same_exec First key place old.cells new.cells → OneMore item place old new
 first-more number key at item place old new is puts =
-    subst (λ (item : Rooted). OneMore item place old new) (sym is) (record { takers = puts.takers; versions = puts.versions; busts = puts.busts })
+    subst (λ (item : ChainLink). OneMore item place old new) (sym is) (record { takers = puts.takers; versions = puts.versions; busts = puts.busts })
 
 pub first-named :
-    (slot : Slot Rooted) (place : ℕ) (old new : Index) → slot.item ≡ begun slot.item.link.number slot.item.link.key slot.item.place
+    (slot : Slot ChainLink) (place : ℕ) (old new : Index) → slot.item ≡ begun slot.item.link.number slot.item.link.key slot.item.place
     → PutsAt same_exec First slot.item.place place old.cells new.cells → KeepsPlaces old.cells new.cells → IsPlaced old.cells slot.item
     → NamesOneMore IsIndexed slot place old new
 first-named slot place old new begins puts keeps is =
@@ -111,9 +107,9 @@ first-named slot place old new begins puts keeps is =
 
 -- another link's, in the cell of its root and in that of its key
 pub chain-named :
-    (slot : Slot Rooted) (place chain : ℕ) (old roomy rooted new : Index)
+    (slot : Slot ChainLink) (place chain : ℕ) (old roomy rooted new : Index)
     → Stays old roomy → IsPlaced old.cells slot.item → key_at roomy.cells chain ≡ Some slot.item.root
-    → PutsAt same_exec (part_in_chain slot.item.link.role) chain place roomy.cells rooted.cells → KeepsPlaces roomy.cells rooted.cells
+    → PutsAt same_exec (relation_in_chain slot.item.link.role) chain place roomy.cells rooted.cells → KeepsPlaces roomy.cells rooted.cells
     → PutsAt same_exec Taker slot.item.place place rooted.cells new.cells → KeepsPlaces rooted.cells new.cells
     → NamesOneMore IsIndexed slot place old new
 chain-named slot place chain old roomy rooted new stays is at puts_chain keeps_chain puts_taker keeps_taker =
@@ -139,7 +135,7 @@ chain-named slot place chain old roomy rooted new stays is at puts_chain keeps_c
 
 -- ---- one less
 
-record OneLess (item : Rooted) (old new : Index) : Type 0 where
+record OneLess (item : ChainLink) (old new : Index) : Type 0 where
   takers : (key : ExecKey) → takers_in same_exec new.cells key ≡ one_less (has_key key item) (takers_in same_exec old.cells key)
   versions : (root : ExecKey) → versions_in same_exec new.cells root ≡ one_less (is_version_of root item) (versions_in same_exec old.cells root)
   busts : (root : ExecKey) → busts_in same_exec new.cells root ≡ one_less (is_bust_of root item) (busts_in same_exec old.cells root)
@@ -148,7 +144,7 @@ less-more : (wanted : Bool) (place : ℕ) (places : List ℕ) → one_less wante
 less-more true place places = refl
 less-more false place places = refl
 
-named-less : (slot : Slot Rooted) (old new : Index) → OneLess slot.item old new → KeepsPlaces old.cells new.cells → NamesOneLess IsIndexed slot old new
+named-less : (slot : Slot ChainLink) (old new : Index) → OneLess slot.item old new → KeepsPlaces old.cells new.cells → NamesOneLess IsIndexed slot old new
 named-less slot old new less keeps = λ slots indexed. record {
   takers = λ key.
       less.takers key ∙ ap (one_less (has_key key slot.item)) (indexed.takers key) ∙ less-more (has_key key slot.item) (length slots) (places_by (has_key key) slots);
@@ -163,13 +159,13 @@ named-less slot old new less keeps = λ slots indexed. record {
 
 -- a Trade's
 first-less :
-    (number : ℕ) (key : ExecKey) (at : ℕ) (item : Rooted) (old new : Index) → item ≡ begun number key at
+    (number : ℕ) (key : ExecKey) (at : ℕ) (item : ChainLink) (old new : Index) → item ≡ begun number key at
     → TakesUnder same_exec First key old.cells new.cells → OneLess item old new
 first-less number key at item old new is takes =
-    subst (λ (item : Rooted). OneLess item old new) (sym is) (record { takers = takes.takers; versions = takes.versions; busts = takes.busts })
+    subst (λ (item : ChainLink). OneLess item old new) (sym is) (record { takers = takes.takers; versions = takes.versions; busts = takes.busts })
 
 pub first-taken :
-    (slot : Slot Rooted) (key : ExecKey) (old new : Index) → slot.item ≡ begun slot.item.link.number slot.item.link.key slot.item.place → key ≡ slot.item.link.key
+    (slot : Slot ChainLink) (key : ExecKey) (old new : Index) → slot.item ≡ begun slot.item.link.number slot.item.link.key slot.item.place → key ≡ slot.item.link.key
     → TakesUnder same_exec First key old.cells new.cells → KeepsPlaces old.cells new.cells → NamesOneLess IsIndexed slot old new
 first-taken slot key old new begins its takes keeps =
     let item = slot.item in
@@ -178,9 +174,9 @@ first-taken slot key old new begins its takes keeps =
 
 -- another link's
 pub chain-taken :
-    (slot : Slot Rooted) (key : ExecKey) (old mid new : Index) → key ≡ slot.item.link.key
+    (slot : Slot ChainLink) (key : ExecKey) (old mid new : Index) → key ≡ slot.item.link.key
     → TakesUnder same_exec Taker key old.cells mid.cells → KeepsPlaces old.cells mid.cells
-    → TakesUnder same_exec (part_in_chain slot.item.link.role) slot.item.root mid.cells new.cells → KeepsPlaces mid.cells new.cells
+    → TakesUnder same_exec (relation_in_chain slot.item.link.role) slot.item.root mid.cells new.cells → KeepsPlaces mid.cells new.cells
     → NamesOneLess IsIndexed slot old new
 chain-taken slot key old mid new its taker keeps_taker chain keeps_chain =
     let item = slot.item in

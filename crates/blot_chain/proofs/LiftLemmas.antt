@@ -1,9 +1,7 @@
 -- What the chains keep where a link is lifted out, or put back.
+use Rattle.std.proofs.Common.{option_map, option_and_then, All, IsSome, find, not, nat_eq, nat_lt, ◌&&◌, ◌≡◌, ℕ, ◌<◌, Bool, true, false, List, [], ◌∷◌, Option, Some, None, refl, sym, ap, subst, ◌∙◌, inl, inr, arith, eqb-true, le-ltb, ltb-false, ltb-true}
 use Rattle.std.specs.List.{list_all}
-use Rattle.std.specs.Option.{option_map, option_and_then}
-use Rattle.std.specs.Prelude.{All, IsSome, find, not, nat_eq, nat_lt, ◌&&◌}
-use Rattle.std.proofs.Common.{◌≡◌, ℕ, ◌<◌, Bool, true, false, List, [], ◌∷◌, Option, Some, None, refl, sym, ap, subst, ◌∙◌, inl, inr, arith}
-use Rattle.std.proofs.lemmas.Bool.{cases_Bool, and_from, and_parts, eqb-true, le-ltb, ltb-false, ltb-true}
+use Rattle.std.proofs.lemmas.Bool.{cases_Bool, and_from, and_parts}
 use Rattle.std.proofs.lemmas.List.Folds.{list_all-map}
 use Rattle.blot_places.specs.declared.slots.Slot.{Slot}
 use Rattle.blot_places.specs.Shown.{item_at, lifted_out as item_lifted_out, shown_of as items_shown}
@@ -11,30 +9,28 @@ use Rattle.blot_places.specs.Slots.{is_above, items, lifted, live, mark, marked,
 use Rattle.blot_places.proofs.MarkLemmas.{all-side, at-all, at-apart, falling-side, items-marked, mark-at, mark-item, mark-off, marked-below, marked-into, marked-out, places-marked, shown-lifted, shown-put_back}
 use Rattle.blot_places.proofs.ShownLemmas.{above-more, at-below, at-lifted, at-on, at-through, falling-parts, lifted-through, none-at, none-with_some, none-without, put_back-lifted, put_back-through, through}
 use Rattle.blot_places.proofs.SlotLemmas.{lifted_here, lifted_on, live_here, live_on}
-use Rattle.blot_types.specs.declared.keys.ExecKey.{ExecKey}
-use Rattle.blot_types.specs.declared.link.Link.{Link}
-use Rattle.blot_types.specs.declared.link.Role.{Role}
+use Rattle.blot_types.specs.declared.{keys.ExecKey.ExecKey, link.Link.Link, link.Role.Role}
 use Rattle.blot_types.specs.declared.link.Role.TheVariants.{Begins, Corrects, Busts}
 use Rattle.blot_types.specs.Chains.{is_chained}
 use Rattle.blot_types.specs.Keys.{same_exec}
 use Rattle.blot_types.proofs.ChainLemmas.{accepted_key, clash, differing}
 use Rattle.blot_types.proofs.KeyLemmas.{same_exec-sym}
-use Rattle.blot_chain.specs.declared.index.Index.{Index}
-use Rattle.blot_chain.specs.declared.rooted.Rooted.{Rooted}
+use Rattle.blot_types.proofs.GeneralLemmas.{and-not}
+use Rattle.blot_chain.specs.declared.{index.Index.Index, chain_link.ChainLink.ChainLink}
 use Rattle.blot_chain.specs.Holds.{HoldsChains, shown_of}
 use Rattle.blot_chain.specs.Index.{IsIndexed, IsPlaced}
-use Rattle.blot_chain.specs.Rooted.{HaveRoots, NewestLive, has_key, is_bust_of, is_version_of, kept_root, link_number, links_in, slot_chain}
+use Rattle.blot_chain.specs.ChainLinks.{HaveRoots, NewestLive, has_key, is_bust_of, is_version_of, kept_root, link_number, links_in, slot_chain}
 use Rattle.blot_chain.specs.Steps.{CanReturn, is_untaken_above, lifted_out, link_at, number_of, put_back}
 use Rattle.blot_chain.proofs.ChainLemmas.{chained-parts}
 use Rattle.blot_chain.proofs.HoldsLemmas.{vacant}
 
-abbrev link_of : Rooted → Link
+abbrev link_of : ChainLink → Link
 link_of item = item.link
 
 -- ---- what reads the links and roots alone stays
 
 module _ (n : ℕ) (b : Bool) where
-  indexed-marked : (index : Index) (slots : List (Slot Rooted)) → IsIndexed index slots → IsIndexed index (marked link_number n b slots)
+  indexed-marked : (index : Index) (slots : List (Slot ChainLink)) → IsIndexed index slots → IsIndexed index (marked link_number n b slots)
   indexed-marked index slots indexed = record {
     takers = λ key. indexed.takers key ∙ sym (places-marked link_number n b (has_key key) slots);
     versions = λ root. indexed.versions root ∙ sym (places-marked link_number n b (is_version_of root) slots);
@@ -42,37 +38,37 @@ module _ (n : ℕ) (b : Bool) where
     placed = subst (All (IsPlaced index.cells)) (sym (items-marked link_number n b slots)) indexed.placed;
   }
 
-  root-marked : (slots : List (Slot Rooted)) (key : ExecKey) → option_and_then kept_root (find (has_key key) (items (marked link_number n b slots))) ≡ option_and_then kept_root (find (has_key key) (items slots))
+  root-marked : (slots : List (Slot ChainLink)) (key : ExecKey) → option_and_then kept_root (find (has_key key) (items (marked link_number n b slots))) ≡ option_and_then kept_root (find (has_key key) (items slots))
   root-marked slots key = ap (λ rooted. option_and_then kept_root (find (has_key key) rooted)) (items-marked link_number n b slots)
 
-  chain-marked : (earlier : List (Slot Rooted)) (key : ExecKey) (role : Role) → slot_chain (marked link_number n b earlier) key role ≡ slot_chain earlier key role
+  chain-marked : (earlier : List (Slot ChainLink)) (key : ExecKey) (role : Role) → slot_chain (marked link_number n b earlier) key role ≡ slot_chain earlier key role
   chain-marked earlier key Begins = refl
   chain-marked earlier key (Corrects reference) = root-marked earlier reference
   chain-marked earlier key (Busts reference) = root-marked earlier reference
 
-  roots-marked : (slots : List (Slot Rooted)) → HaveRoots slots → HaveRoots (marked link_number n b slots)
+  roots-marked : (slots : List (Slot ChainLink)) → HaveRoots slots → HaveRoots (marked link_number n b slots)
   roots-marked [] roots = tt
   roots-marked (slot ∷ earlier) roots = (
-    subst (λ (item : Rooted). slot_chain (marked link_number n b earlier) item.link.key item.link.role ≡ Some item.root) (sym (mark-item link_number n b slot))
+    subst (λ (item : ChainLink). slot_chain (marked link_number n b earlier) item.link.key item.link.role ≡ Some item.root) (sym (mark-item link_number n b slot))
         (chain-marked earlier slot.item.link.key slot.item.link.role ∙ roots.0),
     roots-marked earlier roots.1,
   )
 
 -- ---- of the slots of a key none but the newest is live
 
-newest-lifted : (n : ℕ) (slots : List (Slot Rooted)) → NewestLive slots → NewestLive (marked link_number n false slots)
+newest-lifted : (n : ℕ) (slots : List (Slot ChainLink)) → NewestLive slots → NewestLive (marked link_number n false slots)
 newest-lifted n [] newest = tt
 newest-lifted n (slot ∷ earlier) newest = (
-  subst (λ (item : Rooted). find (has_key item.link.key) (live (marked link_number n false earlier)) ≡ None) (sym (mark-item link_number n false slot))
+  subst (λ (item : ChainLink). find (has_key item.link.key) (live (marked link_number n false earlier)) ≡ None) (sym (mark-item link_number n false slot))
       (ap (find (has_key slot.item.link.key)) (marked-out link_number n false earlier) ∙ none-without (has_key slot.item.link.key) link_number n (live earlier) newest.0),
   newest-lifted n earlier newest.1,
 )
 
 -- what is of a number has this key
-abbrev HasKeyAt : ℕ → ExecKey → List (Slot Rooted) → Type 0
-HasKeyAt n key slots = (item : Rooted) → item_at link_number n (items slots) ≡ Some item → item.link.key ≡ key
+abbrev HasKeyAt : ℕ → ExecKey → List (Slot ChainLink) → Type 0
+HasKeyAt n key slots = (item : ChainLink) → item_at link_number n (items slots) ≡ Some item → item.link.key ≡ key
 
-key-rest : (n : ℕ) (key : ExecKey) (slot : Slot Rooted) (earlier : List (Slot Rooted)) → numbers_fall link_number (items (slot ∷ earlier)) ≡ true → HasKeyAt n key (slot ∷ earlier) → HasKeyAt n key earlier
+key-rest : (n : ℕ) (key : ExecKey) (slot : Slot ChainLink) (earlier : List (Slot ChainLink)) → numbers_fall link_number (items (slot ∷ earlier)) ≡ true → HasKeyAt n key (slot ∷ earlier) → HasKeyAt n key earlier
 key-rest n key slot earlier fall keys item found =
     elim (cases_Bool (nat_eq (link_number slot.item) n)) [
       | inl is ↦
@@ -81,19 +77,14 @@ key-rest n key slot earlier fall keys item found =
       | inr other ↦ keys item (at-on link_number n slot.item (items earlier) other ∙ found)
     ]
 
-untaken-rest : (n : ℕ) (key : ExecKey) (slot : Slot Rooted) (earlier : List (Slot Rooted)) → is_untaken_above n key (links_in (lifted (slot ∷ earlier))) ≡ true → is_untaken_above n key (links_in (lifted earlier)) ≡ true
+untaken-rest : (n : ℕ) (key : ExecKey) (slot : Slot ChainLink) (earlier : List (Slot ChainLink)) → is_untaken_above n key (links_in (lifted (slot ∷ earlier))) ≡ true → is_untaken_above n key (links_in (lifted earlier)) ≡ true
 untaken-rest n key slot earlier untaken =
     elim (cases_Bool slot.is_live) [
       | inl is ↦ ap (λ rooted. is_untaken_above n key (links_in rooted)) (sym (lifted_on slot earlier is)) ∙ untaken
       | inr off ↦ (and_parts _ _ (ap (λ rooted. is_untaken_above n key (links_in rooted)) (sym (lifted_here slot earlier off)) ∙ untaken)).1
     ]
 
-and-not : (x y : Bool) → x ≡ true → not (x && y) ≡ true → y ≡ false
-and-not true true is fails = sym fails
-and-not true false is fails = refl
-and-not false y is fails = cc
-
-unmarked-number : (n : ℕ) (slot : Slot Rooted) → (mark link_number n true slot).is_live ≡ false → nat_eq (link_number slot.item) n ≡ false
+unmarked-number : (n : ℕ) (slot : Slot ChainLink) → (mark link_number n true slot).is_live ≡ false → nat_eq (link_number slot.item) n ≡ false
 unmarked-number n slot off = elim (cases_Bool (nat_eq (link_number slot.item) n)) [
   | inl it ↦ absurd (differing (mark-at link_number n true slot it) off)
   | inr not_it ↦ not_it
@@ -101,7 +92,7 @@ unmarked-number n slot off = elim (cases_Bool (nat_eq (link_number slot.item) n)
 
 -- where a link comes back, a lifted slot's key stays vacant before it
 vacant-put_back :
-    (n : ℕ) (key : ExecKey) (slot : Slot Rooted) (earlier : List (Slot Rooted)) → numbers_fall link_number (items (slot ∷ earlier)) ≡ true
+    (n : ℕ) (key : ExecKey) (slot : Slot ChainLink) (earlier : List (Slot ChainLink)) → numbers_fall link_number (items (slot ∷ earlier)) ≡ true
     → find (has_key slot.item.link.key) (live earlier) ≡ None → HasKeyAt n key earlier → is_untaken_above n key (links_in (lifted (slot ∷ earlier))) ≡ true
     → slot.is_live ≡ false → find (has_key slot.item.link.key) (live (marked link_number n true earlier)) ≡ None
 vacant-put_back n key slot earlier fall none keys untaken off =
@@ -122,13 +113,13 @@ vacant-put_back n key slot earlier fall none keys untaken off =
     ]
 
 newest-put_back :
-    (n : ℕ) (key : ExecKey) (slots : List (Slot Rooted)) → numbers_fall link_number (items slots) ≡ true → NewestLive slots → HasKeyAt n key slots
+    (n : ℕ) (key : ExecKey) (slots : List (Slot ChainLink)) → numbers_fall link_number (items slots) ≡ true → NewestLive slots → HasKeyAt n key slots
     → is_untaken_above n key (links_in (lifted slots)) ≡ true → is_chained (links_in (live (marked link_number n true slots))) ≡ true
     → NewestLive (marked link_number n true slots)
 newest-put_back n key [] fall newest keys untaken chained = tt
 newest-put_back n key (slot ∷ earlier) fall newest keys untaken chained =
-    let gone : List (Slot Rooted) = marked link_number n true earlier in
-    let first : Slot Rooted = mark link_number n true slot in
+    let gone : List (Slot ChainLink) = marked link_number n true earlier in
+    let first : Slot ChainLink = mark link_number n true slot in
     let falling = falling-parts link_number slot.item (items earlier) fall in
     let others = key-rest n key slot earlier fall keys in
     let rest = λ (legal : is_chained (links_in (live gone)) ≡ true). newest-put_back n key earlier falling.1 newest.1 others (untaken-rest n key slot earlier untaken) legal in
@@ -139,14 +130,14 @@ newest-put_back n key (slot ∷ earlier) fall newest keys untaken chained =
           (vacant (live gone) first.item.link.key (accepted_key (links_in (live gone)) first.item.link.key first.item.link.role parts.0).0, rest parts.1)
       | inr off ↦
           let was : slot.is_live ≡ false = sym (mark-off link_number n true slot (unmarked-number n slot off)) ∙ off in (
-            subst (λ (item : Rooted). find (has_key item.link.key) (live gone) ≡ None) (sym (mark-item link_number n true slot)) (vacant-put_back n key slot earlier fall newest.0 others untaken was),
+            subst (λ (item : ChainLink). find (has_key item.link.key) (live gone) ≡ None) (sym (mark-item link_number n true slot)) (vacant-put_back n key slot earlier fall newest.0 others untaken was),
             rest (ap (λ rooted. is_chained (links_in rooted)) (sym (live_on first gone off)) ∙ chained),
           )
     ]
 
 -- ---- no kept link above a lifted one takes up its key
 
-abbrev is_untaken : ℕ → ExecKey → Rooted → Bool
+abbrev is_untaken : ℕ → ExecKey → ChainLink → Bool
 is_untaken n key item = not (nat_lt n item.link.number && same_exec item.link.key key)
 
 untaken-apart : (above same : Bool) → same ≡ false → not (above && same) ≡ true
@@ -158,7 +149,7 @@ untaken-low : (above same : Bool) → above ≡ false → not (above && same) �
 untaken-low false same is = refl
 untaken-low true same is = cc
 
-untaken-below : (n : ℕ) (key : ExecKey) (rooted : List Rooted) → is_above link_number n rooted ≡ true → list_all (is_untaken n key) rooted ≡ true
+untaken-below : (n : ℕ) (key : ExecKey) (rooted : List ChainLink) → is_above link_number n rooted ≡ true → list_all (is_untaken n key) rooted ≡ true
 untaken-below n key [] below = refl
 untaken-below n key (item ∷ rooted) below =
     let parts : (nat_lt item.link.number n ≡ true) × (is_above link_number n rooted ≡ true) = and_parts _ _ below in
@@ -166,7 +157,7 @@ untaken-below n key (item ∷ rooted) below =
     and_from _ _ (untaken-low (nat_lt n item.link.number) (same_exec item.link.key key) (le-ltb n item.link.number (omega arith))) (untaken-below n key rooted parts.1)
 
 all-untaken :
-    (n : ℕ) (item : Rooted) (slots : List (Slot Rooted)) → numbers_fall link_number (items slots) ≡ true → NewestLive slots → item_at link_number n (live slots) ≡ Some item
+    (n : ℕ) (item : ChainLink) (slots : List (Slot ChainLink)) → numbers_fall link_number (items slots) ≡ true → NewestLive slots → item_at link_number n (live slots) ≡ Some item
     → list_all (is_untaken n item.link.key) (items slots) ≡ true
 all-untaken n item [] fall newest found = refl
 all-untaken n item (slot ∷ earlier) fall newest found =
@@ -189,26 +180,26 @@ all-untaken n item (slot ∷ earlier) fall newest found =
 
 -- ---- the calls
 
-some-item : (found : Option Rooted) → IsSome (option_map link_of found) → (item : Rooted) × (found ≡ Some item)
+some-item : (found : Option ChainLink) → IsSome (option_map link_of found) → (item : ChainLink) × (found ≡ Some item)
 some-item None some = cc
 some-item (Some item) some = (item, refl)
 
-its-link : (found : Option Rooted) (link : Link) → option_map link_of found ≡ Some link → (item : Rooted) × (found ≡ Some item) × (item.link ≡ link)
+its-link : (found : Option ChainLink) (link : Link) → option_map link_of found ≡ Some link → (item : ChainLink) × (found ≡ Some item) × (item.link ≡ link)
 its-link None link is = cc
 its-link (Some item) link is = (item, refl, cc)
 
 -- a listed link stands in a live slot
-listed-item : (n : ℕ) (slots : List (Slot Rooted)) → IsSome (link_at n (shown_of slots).list) → (item : Rooted) × (item_at link_number n (live slots) ≡ Some item)
+listed-item : (n : ℕ) (slots : List (Slot ChainLink)) → IsSome (link_at n (shown_of slots).list) → (item : ChainLink) × (item_at link_number n (live slots) ≡ Some item)
 listed-item n slots some = some-item (item_at link_number n (live slots)) (subst IsSome (at-through link_of number_of n (live slots)) some)
 
-pub shown-lift : (n : ℕ) (slots : List (Slot Rooted)) → numbers_fall link_number (items slots) ≡ true → shown_of (marked link_number n false slots) ≡ lifted_out n (shown_of slots)
+pub shown-lift : (n : ℕ) (slots : List (Slot ChainLink)) → numbers_fall link_number (items slots) ≡ true → shown_of (marked link_number n false slots) ≡ lifted_out n (shown_of slots)
 shown-lift n slots fall = ap (through link_of number_of) (shown-lifted link_number n slots fall) ∙ lifted-through link_of number_of n (items_shown slots)
 
-pub shown-return : (n : ℕ) (slots : List (Slot Rooted)) → numbers_fall link_number (items slots) ≡ true → shown_of (marked link_number n true slots) ≡ put_back n (shown_of slots)
+pub shown-return : (n : ℕ) (slots : List (Slot ChainLink)) → numbers_fall link_number (items slots) ≡ true → shown_of (marked link_number n true slots) ≡ put_back n (shown_of slots)
 shown-return n slots fall = ap (through link_of number_of) (shown-put_back link_number n slots fall) ∙ put_back-through link_of number_of n (items_shown slots)
 
 -- put back, a lifted link stands where it stood
-pub lift-back : (n : ℕ) (slots : List (Slot Rooted)) → numbers_fall link_number (items slots) ≡ true → IsSome (link_at n (shown_of slots).list) → put_back n (lifted_out n (shown_of slots)) ≡ shown_of slots
+pub lift-back : (n : ℕ) (slots : List (Slot ChainLink)) → numbers_fall link_number (items slots) ≡ true → IsSome (link_at n (shown_of slots).list) → put_back n (lifted_out n (shown_of slots)) ≡ shown_of slots
 lift-back n slots fall some =
     let found = listed-item n slots some in
     ap (put_back n) (sym (lifted-through link_of number_of n (items_shown slots)))
@@ -217,12 +208,12 @@ lift-back n slots fall some =
     (put_back-lifted link_number n (items_shown slots) found.0 (falling-side link_number true slots fall) found.1 (at-apart link_number n true slots found.0 fall found.1))
 
 pub lift-kept :
-    (n : ℕ) (slots : List (Slot Rooted)) → numbers_fall link_number (items slots) ≡ true → NewestLive slots → IsSome (link_at n (shown_of slots).list)
+    (n : ℕ) (slots : List (Slot ChainLink)) → numbers_fall link_number (items slots) ≡ true → NewestLive slots → IsSome (link_at n (shown_of slots).list)
     → CanReturn n (shown_of (marked link_number n false slots))
 lift-kept n slots fall newest some =
     let found = listed-item n slots some in
-    let item : Rooted = found.0 in
-    let gone : List (Slot Rooted) = marked link_number n false slots in
+    let item : ChainLink = found.0 in
+    let gone : List (Slot ChainLink) = marked link_number n false slots in
     let kept : item_at link_number n (lifted gone) ≡ Some item =
     ap (λ shown. item_at link_number n shown.kept) (shown-lifted link_number n slots fall)
     ∙ at-lifted link_number n (items_shown slots) item found.1 (at-apart link_number n true slots item fall found.1) in
@@ -236,7 +227,7 @@ lift-kept n slots fall newest some =
     }
 
 pub held-lift :
-    (index : Index) (slots : List (Slot Rooted)) (n : ℕ) → HoldsChains index slots → is_chained (lifted_out n (shown_of slots)).list ≡ true
+    (index : Index) (slots : List (Slot ChainLink)) (n : ℕ) → HoldsChains index slots → is_chained (lifted_out n (shown_of slots)).list ≡ true
     → HoldsChains index (marked link_number n false slots)
 held-lift index slots n holds legal = record {
   fall = ap (numbers_fall link_number) (items-marked link_number n false slots) ∙ holds.fall;
@@ -246,17 +237,17 @@ held-lift index slots n holds legal = record {
   newest = newest-lifted n slots holds.newest;
 }
 
-kept-key : (n : ℕ) (slots : List (Slot Rooted)) → numbers_fall link_number (items slots) ≡ true → (kept : CanReturn n (shown_of slots)) → HasKeyAt n kept.link.key slots
+kept-key : (n : ℕ) (slots : List (Slot ChainLink)) → numbers_fall link_number (items slots) ≡ true → (kept : CanReturn n (shown_of slots)) → HasKeyAt n kept.link.key slots
 kept-key n slots fall kept item found =
     let own = its-link (item_at link_number n (lifted slots)) kept.link (sym (at-through link_of number_of n (lifted slots)) ∙ kept.kept) in
     let same = same_item item own.0 (sym found ∙ at-all link_number n false slots own.0 fall own.1) in
-    ap (λ (item : Rooted). item.link.key) same ∙ ap (λ (link : Link). link.key) own.2
+    ap (λ (item : ChainLink). item.link.key) same ∙ ap (λ (link : Link). link.key) own.2
   where
-    same_item : (a b : Rooted) → Some a ≡ Some b → a ≡ b
+    same_item : (a b : ChainLink) → Some a ≡ Some b → a ≡ b
     same_item a b same = cc
 
 pub held-return :
-    (index : Index) (slots : List (Slot Rooted)) (n : ℕ) → HoldsChains index slots → CanReturn n (shown_of slots) → is_chained (put_back n (shown_of slots)).list ≡ true
+    (index : Index) (slots : List (Slot ChainLink)) (n : ℕ) → HoldsChains index slots → CanReturn n (shown_of slots) → is_chained (put_back n (shown_of slots)).list ≡ true
     → HoldsChains index (marked link_number n true slots)
 held-return index slots n holds kept legal =
     let chained = ap (λ shown. is_chained shown.list) (shown-return n slots holds.fall) ∙ legal in

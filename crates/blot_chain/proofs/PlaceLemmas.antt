@@ -1,19 +1,16 @@
 -- The cells at their places: what stays there where a key's cell is reached, and what a cell that is written changes.
-use Rattle.std.proofs.Common.{◌≡◌, ℕ, zero, suc, ◌+◌, ◌<◌, Bool, true, List, [], ◌∷◌, slice_get, Option, Some, None, refl, sym, ap, subst, ◌∙◌, inl, inr, arith}
-use Rattle.std.specs.Prelude.{unwrap_or}
+use Rattle.std.proofs.Common.{◌≡◌, ℕ, zero, suc, ◌+◌, ◌<◌, Bool, true, List, [], ◌∷◌, slice_get, Option, Some, None, refl, sym, ap, subst, ◌∙◌, inl, inr, arith, unwrap_or, HashMap, option_map, IsSomeAnd}
 use Rattle.std.specs.Cmp.{IsEquivalence}
-use Rattle.std.specs.HashMap.{HashMap, IsUnique, values}
+use Rattle.std.specs.HashMap.{IsUnique, values}
 use Rattle.std.specs.List.{position_or_len}
 use Rattle.std.specs.Map.{keys_of, lookup, values_of}
-use Rattle.std.specs.Option.{option_map, IsSomeAnd}
 use Rattle.std.proofs.lemmas.Bool.{cases_Bool}
 use Rattle.std.proofs.lemmas.Map.Entries.{hash_map_get_place}
 use Rattle.std.proofs.lemmas.Option.{same_Some, slice_get-map}
 use Rattle.indexmap.proofs.CallerLemmas.{updates-with_value_at}
 use Rattle.indexmap.specs.IndexMap.{insert_entry, set_value_at}
 use Rattle.blot_places.specs.Stack.{Stack}
-use Rattle.blot_chain.specs.declared.cell.Cell.{Cell}
-use Rattle.blot_chain.specs.declared.cell.Part.{Part}
+use Rattle.blot_chain.specs.declared.{cell.Cell.Cell, cell.Relation.Relation}
 use Rattle.blot_chain.specs.Cells.{CellsByKey, HasMore, HasSame, HasTakerRoom, KeepsPlaces, KeepsTakerRoom, PutsAt, SameUnder, key_at}
 use Rattle.blot_chain.proofs.CellLemmas.{puts-under, same-under, there-places}
 
@@ -133,12 +130,12 @@ module _ {K S : Type 0} (same : K → K → Bool) (laws : IsEquivalence same) (c
       same_Some there.0 key (sym (slice_get-map (λ entry. entry.0) cells.entries at ∙ ap (option_map (λ entry. entry.0)) there.1) ∙ is) in
       there.1 ∙ λ i. Some (its i, was)
 
-  pub puts-at : (part : Part) (place : ℕ) → HasMore part place was cell → PutsAt same part at place (by_key cells.entries) (by_key new)
-  puts-at part place more key is =
+  pub puts-at : (relation : Relation) (place : ℕ) → HasMore relation place was cell → PutsAt same relation at place (by_key cells.entries) (by_key new)
+  puts-at relation place more key is =
       let there = at-key key is in
       puts-under same laws (by_key cells.entries) (by_key new) key cell was
       (there-places same (by_key cells.entries) key was (sym (hash_map_get_place laws cells at key was unique there)))
-      (λ other. (updates-with_value_at cells at cell laws unique key was there).0 other) part place more
+      (λ other. (updates-with_value_at cells at cell laws unique key was there).0 other) relation place more
 
   pub same-at : HasSame was cell → SameUnder same (by_key cells.entries) (by_key new)
   same-at kept =

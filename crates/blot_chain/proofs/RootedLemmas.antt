@@ -1,25 +1,21 @@
 -- The roots of the live links are those that all slots tell.
-use Rattle.std.proofs.Common.{◌≡◌, true, List, [], ◌∷◌, Option, Some, None, refl, sym, ap, subst, ◌∙◌, inl, inr}
-use Rattle.std.specs.Prelude.{find}
-use Rattle.std.specs.Option.{option_and_then}
+use Rattle.std.proofs.Common.{◌≡◌, true, List, [], ◌∷◌, Option, Some, None, refl, sym, ap, subst, ◌∙◌, inl, inr, find, option_and_then}
 use Rattle.std.proofs.lemmas.Bool.{cases_Bool}
 use Rattle.blot_places.specs.declared.slots.Slot.{Slot}
 use Rattle.blot_places.specs.Slots.{items, live}
 use Rattle.blot_places.proofs.SlotLemmas.{find_here, find_on, live_here, live_on}
-use Rattle.blot_types.specs.declared.keys.ExecKey.{ExecKey}
-use Rattle.blot_types.specs.declared.link.Link.{Link}
-use Rattle.blot_types.specs.declared.link.Role.{Role}
+use Rattle.blot_types.specs.declared.{keys.ExecKey.ExecKey, link.Link.Link, link.Role.Role}
 use Rattle.blot_types.specs.declared.link.Role.TheVariants.{Begins, Corrects, Busts}
 use Rattle.blot_types.specs.Chains.{root_in, link_refusal, chain_refusal, is_chained}
 use Rattle.blot_types.proofs.ChainLemmas.{accepted_key, clash}
 use Rattle.blot_types.proofs.KeyLemmas.{same_exec-true}
-use Rattle.blot_chain.specs.declared.rooted.Rooted.{Rooted}
-use Rattle.blot_types.specs.Standing.{chain_under}
-use Rattle.blot_chain.specs.Rooted.{has_key, kept_root, links_in, AreRooted, slot_root, slot_chain, HaveRoots, NewestLive}
+use Rattle.blot_chain.specs.declared.chain_link.ChainLink.{ChainLink}
+use Rattle.blot_types.specs.StandingVersion.{chain_under}
+use Rattle.blot_chain.specs.ChainLinks.{has_key, kept_root, links_in, AreRooted, slot_root, slot_chain, HaveRoots, NewestLive}
 use Rattle.blot_chain.proofs.ChainLemmas.{find-root, chained-parts}
 
 -- the live slot of a key is the newest of that key
-pub find-newest : (slots : List (Slot Rooted)) (key : ExecKey) (item : Rooted) → NewestLive slots → find (has_key key) (live slots) ≡ Some item → find (has_key key) (items slots) ≡ Some item
+pub find-newest : (slots : List (Slot ChainLink)) (key : ExecKey) (item : ChainLink) → NewestLive slots → find (has_key key) (live slots) ≡ Some item → find (has_key key) (items slots) ≡ Some item
 find-newest [] key item newest found = found
 find-newest (first ∷ earlier) key item newest found =
     elim (cases_Bool first.is_live) [
@@ -41,13 +37,13 @@ find-newest (first ∷ earlier) key item newest found =
           ]
     ]
 
-some-found : (found : Option Rooted) (root : ExecKey) → option_and_then kept_root found ≡ Some root → (item : Rooted) × (found ≡ Some item)
+some-found : (found : Option ChainLink) (root : ExecKey) → option_and_then kept_root found ≡ Some root → (item : ChainLink) × (found ≡ Some item)
 some-found None root is = cc
 some-found (Some item) root is = (item, refl)
 
 -- a root that the live slots tell is told by all slots
 pub root-newest :
-    (slots : List (Slot Rooted)) (key root : ExecKey) → NewestLive slots → AreRooted (live slots) → root_in (links_in (live slots)) key ≡ Some root
+    (slots : List (Slot ChainLink)) (key root : ExecKey) → NewestLive slots → AreRooted (live slots) → root_in (links_in (live slots)) key ≡ Some root
     → slot_root slots key ≡ Some root
 root-newest slots key root newest rooted is =
     let told : option_and_then kept_root (find (has_key key) (live slots)) ≡ Some root = find-root (live slots) key rooted ∙ is in
@@ -60,7 +56,7 @@ found_root links reference (Some root) none = (root, refl)
 
 -- where a reference is accepted, the live slots tell the root that all slots tell
 told-chain :
-    (earlier : List (Slot Rooted)) (key : ExecKey) (role : Role) (root : ExecKey) → NewestLive earlier → AreRooted (live earlier)
+    (earlier : List (Slot ChainLink)) (key : ExecKey) (role : Role) (root : ExecKey) → NewestLive earlier → AreRooted (live earlier)
     → link_refusal (links_in (live earlier)) key role ≡ None → slot_chain earlier key role ≡ Some root
     → chain_under (links_in (live earlier)) key role ≡ Some root
 told-chain earlier key Begins root newest rooted accepted is = is
@@ -75,14 +71,14 @@ told-chain earlier key (Busts reference) root newest rooted accepted is =
 
 -- the other way round
 pub chain-told :
-    (earlier : List (Slot Rooted)) (key : ExecKey) (role : Role) (root : ExecKey) → NewestLive earlier → AreRooted (live earlier)
+    (earlier : List (Slot ChainLink)) (key : ExecKey) (role : Role) (root : ExecKey) → NewestLive earlier → AreRooted (live earlier)
     → chain_under (links_in (live earlier)) key role ≡ Some root → slot_chain earlier key role ≡ Some root
 chain-told earlier key Begins root newest rooted is = is
 chain-told earlier key (Corrects reference) root newest rooted is = root-newest earlier reference root newest rooted is
 chain-told earlier key (Busts reference) root newest rooted is = root-newest earlier reference root newest rooted is
 
 -- beside each live slot stands the root of its chain
-pub live-rooted : (slots : List (Slot Rooted)) → HaveRoots slots → NewestLive slots → is_chained (links_in (live slots)) ≡ true → AreRooted (live slots)
+pub live-rooted : (slots : List (Slot ChainLink)) → HaveRoots slots → NewestLive slots → is_chained (links_in (live slots)) ≡ true → AreRooted (live slots)
 live-rooted [] roots newest chained = tt
 live-rooted (slot ∷ earlier) roots newest chained =
     elim (cases_Bool slot.is_live) [

@@ -1,39 +1,35 @@
 -- What the cell of a key tells: the root of the key, and which version of a root's chain stands.
-use Rattle.std.proofs.Common.{◌≡◌, ℕ, Bool, true, false, ◌&&◌, List, [], reverse, Option, Some, None, refl, sym, ap, ◌∙◌}
-use Rattle.std.specs.Prelude.{is_none, nat_eq, if◌then◌else◌}
+use Rattle.std.proofs.Common.{◌≡◌, ℕ, Bool, true, false, ◌&&◌, List, [], reverse, Option, Some, None, refl, sym, ap, ◌∙◌, is_none, nat_eq, if◌then◌else◌, option_map, option_and_then}
 use Rattle.std.specs.Bool.{then_some}
 use Rattle.std.specs.Map.{lookup}
-use Rattle.std.specs.Option.{option_eq, option_map, option_map_or, option_and_then}
+use Rattle.std.specs.Option.{option_eq, option_map_or}
 use Rattle.std.proofs.lemmas.Option.{same_Some}
 use Rattle.blot_places.specs.declared.slots.Slot.{Slot}
 use Rattle.blot_places.specs.Shown.{Shown}
 use Rattle.blot_places.specs.Slots.{newest_live}
-use Rattle.blot_types.specs.declared.keys.ExecKey.{ExecKey}
-use Rattle.blot_types.specs.declared.link.Link.{Link}
+use Rattle.blot_types.specs.declared.{keys.ExecKey.ExecKey, link.Link.Link}
 use Rattle.blot_types.specs.Chains.{bust_in, current_in, root_in}
 use Rattle.blot_types.specs.Keys.{same_exec}
 use Rattle.blot_types.specs.Survivors.{is_number, stands_under}
-use Rattle.blot_chain.specs.declared.cell.Cell.{Cell}
-use Rattle.blot_chain.specs.declared.index.Index.{Index}
-use Rattle.blot_chain.specs.declared.rooted.Rooted.{Rooted}
+use Rattle.blot_chain.specs.declared.{cell.Cell.Cell, index.Index.Index, chain_link.ChainLink.ChainLink}
 use Rattle.blot_chain.specs.Holds.{HoldsChains, shown_of}
 use Rattle.blot_chain.specs.Index.{standing_at}
-use Rattle.blot_chain.specs.Rooted.{kept_root, link_number}
+use Rattle.blot_chain.specs.ChainLinks.{kept_root, link_number}
 use Rattle.blot_chain.specs.RootedLink.{begun}
 use Rattle.blot_chain.specs.Standing.{standing_root_in, standing_version_in}
 use Rattle.blot_chain.proofs.HoldsLemmas.{bust-held, current-held, root-held, taker-key}
 
 -- ---- by the cell, if the key has one
 
-abbrev number_found : Option Rooted → Option ℕ
+abbrev number_found : Option ChainLink → Option ℕ
 number_found found = option_map link_number found
 
-none-numbered : (found : Option Rooted) → is_none found ≡ is_none (number_found found)
+none-numbered : (found : Option ChainLink) → is_none found ≡ is_none (number_found found)
 none-numbered None = refl
 none-numbered (Some item) = refl
 
 version-by_cell :
-    (slots : List (Slot Rooted)) (found : Option Cell)
+    (slots : List (Slot ChainLink)) (found : Option Cell)
     → option_and_then (standing_at slots) found
     ≡ (if is_none (number_found (newest_live slots (option_map_or (λ cell. cell.busts.places) found [])))
     then number_found (newest_live slots (option_map_or (λ cell. cell.versions.places) found [])) else None)
@@ -41,20 +37,20 @@ version-by_cell slots None = refl
 version-by_cell slots (Some cell) =
     ap (λ none. if none then number_found (newest_live slots cell.versions.places) else None) (none-numbered (newest_live slots cell.busts.places))
 
-abbrev pub root_by_cell : List (Slot Rooted) → Option Cell → Option ExecKey
+abbrev pub root_by_cell : List (Slot ChainLink) → Option Cell → Option ExecKey
 root_by_cell slots found = option_and_then (λ cell. option_and_then kept_root (newest_live slots cell.takers.places)) found
 
 root-by_cell :
-    (slots : List (Slot Rooted)) (found : Option Cell)
+    (slots : List (Slot ChainLink)) (found : Option Cell)
     → root_by_cell slots found ≡ option_and_then kept_root (newest_live slots (option_map_or (λ cell. cell.takers.places) found []))
 root-by_cell slots None = refl
 root-by_cell slots (Some cell) = refl
 
 -- a root that is the link's own key
-begun-root : (item : Rooted) (root : ExecKey) → item ≡ begun item.link.number item.link.key item.place → kept_root item ≡ Some root → item.link.key ≡ root
+begun-root : (item : ChainLink) (root : ExecKey) → item ≡ begun item.link.number item.link.key item.place → kept_root item ≡ Some root → item.link.key ≡ root
 begun-root item root is kept = same_Some item.link.key root (sym (ap kept_root is) ∙ kept)
 
-module _ (index : Index) (slots : List (Slot Rooted)) (shown : Shown Link) (holds : HoldsChains index (reverse slots)) (is : shown_of (reverse slots) ≡ shown) where
+module _ (index : Index) (slots : List (Slot ChainLink)) (shown : Shown Link) (holds : HoldsChains index (reverse slots)) (is : shown_of (reverse slots) ≡ shown) where
   -- the cell of a root tells which version stands, and that of a key tells the root
   pub version-told :
       (root : ExecKey) (found : Option Cell) → found ≡ lookup (same_exec root) index.cells.cells
@@ -72,7 +68,7 @@ module _ (index : Index) (slots : List (Slot Rooted)) (shown : Shown Link) (hold
 
   -- the newest link in the cell of a key has that key
   pub key-told :
-      (key : ExecKey) (cell : Cell) (item : Rooted) → Some cell ≡ lookup (same_exec key) index.cells.cells → newest_live slots cell.takers.places ≡ Some item
+      (key : ExecKey) (cell : Cell) (item : ChainLink) → Some cell ≡ lookup (same_exec key) index.cells.cells → newest_live slots cell.takers.places ≡ Some item
       → key ≡ item.link.key
   key-told key cell item there newest =
       let places = ap (λ found. option_map_or (λ (cell : Cell). cell.takers.places) found []) there in
@@ -80,7 +76,7 @@ module _ (index : Index) (slots : List (Slot Rooted)) (shown : Shown Link) (hold
 
   -- where it begins its chain, the key is the root
   pub version-beside :
-      (key : ExecKey) (cell : Cell) (item : Rooted) (root : ExecKey) → Some cell ≡ lookup (same_exec key) index.cells.cells
+      (key : ExecKey) (cell : Cell) (item : ChainLink) (root : ExecKey) → Some cell ≡ lookup (same_exec key) index.cells.cells
       → newest_live slots cell.takers.places ≡ Some item → item ≡ begun item.link.number item.link.key item.place → kept_root item ≡ Some root
       → standing_at slots cell ≡ standing_version_in shown.list root
   version-beside key cell item root there newest begins kept =

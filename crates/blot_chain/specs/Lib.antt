@@ -1,7 +1,7 @@
 pub mod Cells
+pub mod ChainLinks
 pub mod Holds
 pub mod Index
-pub mod Rooted
 pub mod RootedLink
 pub mod Standing
 pub mod Steps

@@ -1,9 +1,6 @@
 -- What a contract sees of a stored link.
 use Rattle.std.specs.Prelude.{ℕ}
-use Rattle.blot_types.specs.declared.keys.ExecKey.{ExecKey}
-use Rattle.blot_types.specs.declared.link.Link.{Link}
-use Rattle.blot_types.specs.declared.link.Role.{Role}
-use Rattle.blot_types.specs.declared.link.Role.TheVariants.{Begins}
+use Rattle.blot_types.specs.declared.{keys.ExecKey.ExecKey, link.Link.Link, link.Role.Role, link.Role.TheVariants.Begins}
 
 -- a link, and beside it the root of its chain, and the place of the cell of its key among the cells
 pub record RootedLink : Type 0 where

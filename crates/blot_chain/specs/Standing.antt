@@ -1,7 +1,6 @@
 -- Which version of a chain stands, and in which chain a version does. The links stand newest first.
 use Rattle.std.specs.Prelude.{ℕ, List, Option, None, is_none, if◌then◌else◌}
-use Rattle.blot_types.specs.declared.keys.ExecKey.{ExecKey}
-use Rattle.blot_types.specs.declared.link.Link.{Link}
+use Rattle.blot_types.specs.declared.{keys.ExecKey.ExecKey, link.Link.Link}
 use Rattle.blot_types.specs.Chains.{bust_in, current_in, root_in}
 use Rattle.blot_types.specs.Survivors.{stands_under}
 

@@ -8,7 +8,7 @@ use std::alloc::{AllocError as NoMemory, Global};
 /// What a link is to a key. A Trade takes its key up, and brings the first version to the chain whose root that is. A Correct and a
 /// Bust take up theirs, and to the key of their root they are a version, or the Bust.
 #[derive(Clone, Copy)]
-pub(crate) enum Part {
+pub(crate) enum Relation {
     First,
     Taker,
     Version,
@@ -37,37 +37,37 @@ impl Cell {
         }
     }
 
-    /// Puts in the place of a link that is this part to the key. All room is made before, and an error leaves the places.
-    pub(crate) fn add(&mut self, part: Part, place: usize) -> Result<(), NoMemory>
-        ensures ok { OnOk result (HasMore part place self.old self.new) }
+    /// Puts in the place of a link that has this relation to the key. All room is made before, and an error leaves the places.
+    pub(crate) fn add(&mut self, relation: Relation, place: usize) -> Result<(), NoMemory>
+        ensures ok { OnOk result (HasMore relation place self.old self.new) }
         ensures err { OnErr result (HasSame self.old self.new) }
-        ensures kept { has_taker part ≡ false → self.new.takers ≡ self.old.takers }
+        ensures kept { has_taker relation ≡ false → self.new.takers ≡ self.old.takers }
     {
-        match part {
-            Part::First => {
+        match relation {
+            Relation::First => {
                 self.takers.make_room()?;
                 add_place(&mut self.versions, place)?;
                 self.takers.push(place);
                 Ok(())
             }
-            Part::Taker => add_place(&mut self.takers, place),
-            Part::Version => add_place(&mut self.versions, place),
-            Part::Bust => add_place(&mut self.busts, place),
+            Relation::Taker => add_place(&mut self.takers, place),
+            Relation::Version => add_place(&mut self.versions, place),
+            Relation::Bust => add_place(&mut self.busts, place),
         }
     }
 
-    /// Takes out the newest place of the links that are this part to the key.
-    pub(crate) fn pop(&mut self, part: Part)
-        ensures { HasOneLess part self.old self.new }
+    /// Takes out the newest place of the links that have this relation to the key.
+    pub(crate) fn pop(&mut self, relation: Relation)
+        ensures { HasOneLess relation self.old self.new }
     {
-        match part {
-            Part::First => {
+        match relation {
+            Relation::First => {
                 self.takers.pop();
                 self.versions.pop();
             }
-            Part::Taker => self.takers.pop(),
-            Part::Version => self.versions.pop(),
-            Part::Bust => self.busts.pop(),
+            Relation::Taker => self.takers.pop(),
+            Relation::Version => self.versions.pop(),
+            Relation::Bust => self.busts.pop(),
         }
     }
 }

@@ -1,11 +1,10 @@
 //! The cells of all keys.
-ghost use Rattle.std.specs.Prelude.{◌≡◌, [], false, reverse, IfOk, IsSome, IsTrue, OnOk, OnErr};
+ghost use Rattle.std.specs.Prelude.{◌≡◌, [], false, reverse, IfOk, IsSome, IsTrue, OnOk, OnErr, option_copied, IsSomeAnd};
 ghost use Rattle.std.specs.Map.{lookup};
-ghost use Rattle.std.specs.Option.{option_copied, IsSomeAnd};
-ghost use Rattle.blot_chain.specs.declared.cell.Part.TheVariants.{Taker};
+ghost use Rattle.blot_chain.specs.declared.cell.Relation.TheVariants.{Taker};
 ghost use Rattle.blot_chain.specs.Cells.{HasTakerRoom, KeepsPlaces, KeepsTakerRoom, PutsAt, SameUnder, TakesUnder, busts_in, has_taker, key_at, takers_in, versions_in};
 
-use crate::cell::{Cell, Part};
+use crate::cell::{Cell, Relation};
 use indexmap::IndexMap;
 use std::alloc::{AllocError as NoMemory, Global};
 use std::hash::Hash;
@@ -51,16 +50,21 @@ impl<K: Eq + Hash + Copy> Cells<K> {
         Ok(place)
     }
 
-    /// Puts in the place of a link that is this part to the key whose cell is at a place. An error leaves the places.
-    pub(crate) fn add(&mut self, at: usize, part: Part, place: usize) -> Result<(), NoMemory>
+    /// Puts in the place of a link that has this relation to the key whose cell is at a place. An error leaves the places.
+    pub(crate) fn add(
+        &mut self,
+        at: usize,
+        relation: Relation,
+        place: usize,
+    ) -> Result<(), NoMemory>
         requires { IsSome (key_at self.old at) }
-        ensures ok { OnOk result (PutsAt K.eq part at place self.old self.new) }
+        ensures ok { OnOk result (PutsAt K.eq relation at place self.old self.new) }
         ensures err { OnErr result (SameUnder K.eq self.old self.new) }
         ensures places { KeepsPlaces self.old self.new }
-        ensures room { has_taker part ≡ false → KeepsTakerRoom self.old self.new }
+        ensures room { has_taker relation ≡ false → KeepsTakerRoom self.old self.new }
     {
         match self.cells.get_index_mut(at) {
-            Some(cell) => cell.add(part, place),
+            Some(cell) => cell.add(relation, place),
             None => unreachable!(),
         }
     }
@@ -90,15 +94,15 @@ impl<K: Eq + Hash + Copy> Cells<K> {
         }
     }
 
-    /// Takes out the newest place of the links that are this part to a key, if there is one. No memory is taken.
-    pub(crate) fn pop(&mut self, key: &K, part: Part)
-        ensures takes { TakesUnder K.eq part key.now self.old self.new }
+    /// Takes out the newest place of the links that have this relation to a key, if there is one. No memory is taken.
+    pub(crate) fn pop(&mut self, key: &K, relation: Relation)
+        ensures takes { TakesUnder K.eq relation key.now self.old self.new }
         ensures places { KeepsPlaces self.old self.new }
     {
         let Some(cell) = self.cells.get_mut(key) else {
             return;
         };
-        cell.pop(part);
+        cell.pop(relation);
     }
 
     /// The key whose cell is at a place.

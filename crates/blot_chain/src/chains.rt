@@ -3,14 +3,14 @@ ghost use Rattle.std.specs.Prelude.{◌≡◌, [], Some, None, IfSome, IsSome, I
 ghost use Rattle.blot_types.specs.declared.link.Role.TheVariants.{Begins, Corrects, Busts};
 ghost use Rattle.blot_types.specs.Chains.{root_in, current_in, bust_in, taker_in, link_refusal, is_above_links, is_chained, first_needing_link, version_after_in, version_before_in};
 ghost use Rattle.blot_types.specs.Laws.{IsOneTrade};
-ghost use Rattle.blot_types.specs.Standing.{chain_under};
+ghost use Rattle.blot_types.specs.StandingVersion.{chain_under};
 ghost use Rattle.blot_chain.specs.Standing.{standing_root_in, standing_version_in};
 ghost use Rattle.blot_chain.specs.Steps.{Adds, AddsOne, CanReturn, IsNewest, exec_refusal, lifted_out, link_at, put_back};
 
+use crate::chain_link::ChainLink;
 use crate::index::{
     Index, number_above, number_below, number_on, referring_at, root_on, standing_at,
 };
-use crate::rooted::Rooted;
 use blot_places::{Slot, live_numbered, mark, newest_live};
 use blot_types::{ExecKey, Role, lesser};
 use std::alloc::{AllocError as NoMemory, Global};
@@ -22,7 +22,7 @@ use std::marker::Model;
 #[derive(Drop)]
 pub struct Chains {
     alloc: Global,
-    slots: Vec<Slot<Rooted>>,
+    slots: Vec<Slot<ChainLink>>,
     index: Index,
 }
 
@@ -265,7 +265,7 @@ impl Chains {
         self.slots.reserve(1)?;
         let at = self.index.reach(self.alloc, key)?;
         let slot = Slot {
-            item: Rooted::new(self.alloc, number, key, role, root, at)?,
+            item: ChainLink::new(self.alloc, number, key, role, root, at)?,
             is_live: true,
         };
         let place = self.slots.len();

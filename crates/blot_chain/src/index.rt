@@ -1,15 +1,14 @@
 //! Where the slots of a key, and of the chain of a root, are.
-ghost use Rattle.std.specs.Prelude.{◌≡◌, [], Some, IfOk, IfSome, OnOk, OnErr};
-ghost use Rattle.std.specs.Option.{option_and_then, option_map};
+ghost use Rattle.std.specs.Prelude.{◌≡◌, [], Some, IfOk, IfSome, OnOk, OnErr, option_and_then, option_map};
 ghost use Rattle.blot_places.specs.Indexed.{NamesOneLess, NamesOneMore, NamesSame};
 ghost use Rattle.blot_types.specs.Refusals.{first_of};
 ghost use Rattle.blot_chain.specs.Cells.{key_at};
-ghost use Rattle.blot_chain.specs.Rooted.{kept_root, link_number};
+ghost use Rattle.blot_chain.specs.ChainLinks.{kept_root, link_number};
 ghost use Rattle.blot_chain.specs.Index.{BelowFirst, IsIndexed, IsPlaced, UpToFirst, newest_below, newest_on, number_if_referring, oldest_above, referring_at, standing_at};
 
-use crate::cell::{Cell, Part};
+use crate::cell::{Cell, Relation};
 use crate::cells::Cells;
-use crate::rooted::Rooted;
+use crate::chain_link::ChainLink;
 use blot_places::{Slot, live_at, newest_live, oldest_live, places_above, places_below};
 use blot_types::{ExecKey, Numbered};
 use std::alloc::{AllocError as NoMemory, Global};
@@ -45,7 +44,7 @@ impl Index {
         &mut self,
         alloc: Global,
         key: &ExecKey,
-        slot: &Slot<Rooted>,
+        slot: &Slot<ChainLink>,
         place: usize,
     ) -> Result<(), NoMemory>
         requires key { key.now ≡ slot.now.item.link.key }
@@ -55,38 +54,38 @@ impl Index {
     {
         let item = &slot.item;
         if item.begins() {
-            return self.cells.add(item.place(), Part::First, place);
+            return self.cells.add(item.place(), Relation::First, place);
         }
         self.cells.make_taker_room(item.place())?;
         let chain = self.cells.reach(alloc, item.root(key))?;
-        self.cells.add(chain, item.part_in_chain(), place)?;
+        self.cells.add(chain, item.relation_in_chain(), place)?;
         self.cells.push_taker(item.place(), place);
         Ok(())
     }
 
     /// Takes out the place of the newest slot, which is of this key.
-    pub(crate) fn pop(&mut self, key: &ExecKey, slot: &Slot<Rooted>)
+    pub(crate) fn pop(&mut self, key: &ExecKey, slot: &Slot<ChainLink>)
         requires { key.now ≡ slot.now.item.link.key }
         ensures { NamesOneLess IsIndexed slot.now self.old self.new }
     {
         let item = &slot.item;
         if item.begins() {
-            return self.cells.pop(key, Part::First);
+            return self.cells.pop(key, Relation::First);
         }
-        self.cells.pop(key, Part::Taker);
-        self.cells.pop(item.root(key), item.part_in_chain());
+        self.cells.pop(key, Relation::Taker);
+        self.cells.pop(item.root(key), item.relation_in_chain());
     }
 }
 
 /// The number of the newest live link on a stack.
-pub(crate) fn number_on(slots: &[Slot<Rooted>], stack: &[usize]) -> Option<u64>
+pub(crate) fn number_on(slots: &[Slot<ChainLink>], stack: &[usize]) -> Option<u64>
     ensures { result ≡ option_map link_number (newest_on slots.now stack.now) }
 {
     newest_live(slots, stack).map(|item| item.number())
 }
 
 /// The number of the last version of a root's chain, where no Bust ended it, as the root's cell tells.
-pub(crate) fn standing_at(slots: &[Slot<Rooted>], cell: &Cell) -> Option<u64>
+pub(crate) fn standing_at(slots: &[Slot<ChainLink>], cell: &Cell) -> Option<u64>
     ensures { result ≡ standing_at slots.now cell.now }
 {
     if newest_live(slots, cell.busts.as_slice()).is_some() {
@@ -96,7 +95,7 @@ pub(crate) fn standing_at(slots: &[Slot<Rooted>], cell: &Cell) -> Option<u64>
 }
 
 /// The number of the newest live link below a number, on a stack.
-pub(crate) fn number_below(slots: &[Slot<Rooted>], stack: &[usize], number: u64) -> Option<u64>
+pub(crate) fn number_below(slots: &[Slot<ChainLink>], stack: &[usize], number: u64) -> Option<u64>
     requires { BelowFirst number slots.now stack.now }
     ensures { result ≡ option_map link_number (newest_below number slots.now stack.now) }
 {
@@ -104,7 +103,7 @@ pub(crate) fn number_below(slots: &[Slot<Rooted>], stack: &[usize], number: u64)
 }
 
 /// The number of the oldest live link above a number, on a stack.
-pub(crate) fn number_above(slots: &[Slot<Rooted>], stack: &[usize], number: u64) -> Option<u64>
+pub(crate) fn number_above(slots: &[Slot<ChainLink>], stack: &[usize], number: u64) -> Option<u64>
     requires { UpToFirst number slots.now stack.now }
     ensures { result ≡ option_map link_number (oldest_above number slots.now stack.now) }
 {
@@ -113,7 +112,7 @@ pub(crate) fn number_above(slots: &[Slot<Rooted>], stack: &[usize], number: u64)
 
 /// The number of the oldest live link above a number, on a stack, that refers to a key.
 pub(crate) fn referring_at(
-    slots: &[Slot<Rooted>],
+    slots: &[Slot<ChainLink>],
     stack: &[usize],
     number: u64,
     key: &ExecKey,
@@ -125,7 +124,7 @@ pub(crate) fn referring_at(
 }
 
 // The number of the first live link at these places that refers to a key.
-fn first_referring(slots: &[Slot<Rooted>], places: &[usize], key: &ExecKey) -> Option<u64>
+fn first_referring(slots: &[Slot<ChainLink>], places: &[usize], key: &ExecKey) -> Option<u64>
     ensures { result ≡ first_of (number_if_referring slots.now key.now) places.now }
 {
     for place in places {
@@ -137,7 +136,7 @@ fn first_referring(slots: &[Slot<Rooted>], places: &[usize], key: &ExecKey) -> O
 }
 
 // The number of the link at a place, if it is live and refers to a key.
-fn number_if_referring(slots: &[Slot<Rooted>], place: usize, key: &ExecKey) -> Option<u64>
+fn number_if_referring(slots: &[Slot<ChainLink>], place: usize, key: &ExecKey) -> Option<u64>
     ensures { result ≡ number_if_referring slots.now key.now place }
 {
     let item = live_at(slots, place)?;
@@ -149,7 +148,7 @@ fn number_if_referring(slots: &[Slot<Rooted>], place: usize, key: &ExecKey) -> O
 }
 
 /// The root of a key, as the newest live link on the stack of those that take it up tells.
-pub(crate) fn root_on(slots: &[Slot<Rooted>], stack: &[usize], key: &ExecKey) -> Option<ExecKey>
+pub(crate) fn root_on(slots: &[Slot<ChainLink>], stack: &[usize], key: &ExecKey) -> Option<ExecKey>
     requires { IfSome (newest_on slots.now stack.now) (λ item. key.now ≡ item.link.key) }
     ensures { result ≡ option_and_then kept_root (newest_on slots.now stack.now) }
 {

@@ -4,8 +4,8 @@
 
 mod cell;
 mod cells;
+mod chain_link;
 mod chains;
 mod index;
-mod rooted;
 
 pub use chains::Chains;

@@ -1,22 +1,12 @@
 -- What needs an entry of an allocation: the first instruction that refers to it, or lists a chain that it freed.
-use Rattle.std.proofs.Common.{◌≡◌, ℕ, ◌<◌, ◌≤◌, Bool, true, false, cond, ◌&&◌, ◌||◌, List, [], ◌∷◌, ◌++◌, length, Option, Some, None, refl, sym, ap, subst, ◌∙◌, inl, inr, arith}
-use Rattle.std.specs.Prelude.{filter, find, nat_eq}
-use Rattle.std.specs.List.{cons_option, filter_map, list_any}
-use Rattle.std.specs.Option.{option_and_then, option_map, option_map_or}
-use Rattle.std.proofs.lemmas.Bool.{and_parts, and_right, cases_Bool, eq-eqb, ne_eqb}
-use Rattle.std.proofs.lemmas.List.{append_assoc}
+use Rattle.std.proofs.Common.{◌≡◌, ℕ, ◌<◌, ◌≤◌, Bool, true, false, cond, ◌&&◌, ◌||◌, List, [], ◌∷◌, ◌++◌, length, Option, Some, None, refl, sym, ap, subst, ◌∙◌, inl, inr, arith, filter, find, nat_eq, filter_map, option_and_then, option_map, eq-eqb, ne_eqb, append_assoc}
+use Rattle.std.specs.List.{cons_option, list_any}
+use Rattle.std.specs.Option.{option_map_or}
+use Rattle.std.proofs.lemmas.Bool.{and_parts, and_right, cases_Bool}
 use Rattle.std.proofs.lemmas.Option.{same_Some}
 use Rattle.blot_types.specs.declared.allocation.AllocRole.TheVariants.{Allocates, Replaces, Cancels}
-use Rattle.blot_types.specs.declared.allocation.Instruction.{Instruction}
-use Rattle.blot_types.specs.declared.command.AllocCancel.{AllocCancel as AllocCancelCommand}
-use Rattle.blot_types.specs.declared.command.AllocNew.{AllocNew as AllocNewCommand}
-use Rattle.blot_types.specs.declared.command.AllocReplace.{AllocReplace as AllocReplaceCommand}
-use Rattle.blot_types.specs.declared.command.Command.{Command}
+use Rattle.blot_types.specs.declared.{allocation.Instruction.Instruction, command.AllocCancel.AllocCancel as AllocCancelCommand, command.AllocNew.AllocNew as AllocNewCommand, command.AllocReplace.AllocReplace as AllocReplaceCommand, command.Command.Command, command.Entry.Entry, keys.AllocKey.AllocKey, keys.ExecKey.ExecKey, refused.Refused.TheVariants.UnknownAlloc}
 use Rattle.blot_types.specs.declared.command.Command.TheVariants.{Trade, Correct, Bust, AllocNew, AllocReplace, AllocCancel, Withdraw}
-use Rattle.blot_types.specs.declared.command.Entry.{Entry}
-use Rattle.blot_types.specs.declared.keys.AllocKey.{AllocKey}
-use Rattle.blot_types.specs.declared.keys.ExecKey.{ExecKey}
-use Rattle.blot_types.specs.declared.refused.Refused.TheVariants.{UnknownAlloc}
 use Rattle.blot_types.specs.Allocations.{instruction_by, instructions_in, roots_of_terms}
 use Rattle.blot_types.specs.Chains.{root_in}
 use Rattle.blot_types.specs.Instructions.{alloc_taker_in, brings_allocation, ended_roots, ends, first_instruction, first_needing_instruction, is_allocation_in, is_allocation_of, is_instructed, is_keyed, may_follow, names, names_any, needs_instruction, reference_of}
@@ -34,13 +24,11 @@ use Rattle.blot_types.proofs.CorrectLemmas.{front-legal}
 use Rattle.blot_types.proofs.InstructionLemmas.{follows}
 use Rattle.blot_types.proofs.KeyLemmas.{same_alloc-sym, same_alloc-true, same_exec-sym}
 use Rattle.blot_types.proofs.NeedLemmas.{member-below}
+use Rattle.blot_types.proofs.GeneralLemmas.{or-false, any-same}
 use Rattle.blot_alloc.proofs.HolderLemmas.{allocation-taker, keyed_once}
 use Rattle.blot_command.proofs.FirstEntryLemmas.{IsTest, instruction-number, instruction_after, instructions-above, needed-by, needed-in}
 
 -- ---- lists
-
-pub any-same : {A : Type 0} (p q : A → Bool) (xs : List A) → ((x : A) → p x ≡ q x) → list_any p xs ≡ list_any q xs
-any-same p q xs same = ap (λ test. list_any test xs) (λ i x. same x i)
 
 any-never : {A : Type 0} (xs : List A) → list_any (λ x. false) xs ≡ false
 any-never [] = refl
@@ -95,10 +83,6 @@ none-keyed key p (i ∷ earlier) none =
       | inr other ↦ ap (λ b. ((b && brings_allocation i.role) && p i) || list_any (λ i. is_allocation_of key i && p i) earlier) other ∙ none-keyed key p earlier (rw other at none)
     ]
 
-pub or-none : (b : Bool) → (b || false) ≡ b
-or-none true = refl
-or-none false = refl
-
 -- what is asked of the allocation of a key is asked of the one instruction that brings it
 any-keyed :
     (key : AllocKey) (p : Instruction → Bool) (instructions : List Instruction) (x : Instruction) → length (filter (is_keyed key) instructions) ≤ 1
@@ -110,7 +94,7 @@ any-keyed key p (i ∷ earlier) x once found brings =
           let same : i ≡ x = same_Some i x (sym (ap (λ b. cond b (Some i) (find (is_keyed key) earlier)) here) ∙ found) in
           let rest : length (i ∷ filter (is_keyed key) earlier) ≤ 1 = rw here at once in
           ap (λ b. ((b && brings_allocation i.role) && p i) || list_any (λ i. is_allocation_of key i && p i) earlier) here
-          ∙ ap (λ b. (brings_allocation i.role && p i) || b) (none-keyed key p earlier (omega (arith, rest))) ∙ or-none (brings_allocation i.role && p i)
+          ∙ ap (λ b. (brings_allocation i.role && p i) || b) (none-keyed key p earlier (omega (arith, rest))) ∙ or-false (brings_allocation i.role && p i)
           ∙ ap (λ (i : Instruction). brings_allocation i.role && p i) same ∙ ap (λ b. b && p x) brings
       | inr other ↦
           ap (λ b. ((b && brings_allocation i.role) && p i) || list_any (λ i. is_allocation_of key i && p i) earlier) other

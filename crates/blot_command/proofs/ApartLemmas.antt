@@ -1,14 +1,11 @@
 -- A book with and without an entry: what of it the accounts and the orders ask.
-use Rattle.std.proofs.Common.{◌≡◌, true, List, ◌∷◌, ◌++◌, Some, None}
-use Rattle.std.specs.Prelude.{◌==◌, find, All, IfSome}
-use Rattle.std.specs.Option.{option_map}
-use Rattle.blot_types.specs.declared.command.Entry.{Entry}
-use Rattle.blot_types.specs.declared.link.Link.{Link}
+use Rattle.std.proofs.Common.{◌≡◌, true, List, ◌∷◌, ◌++◌, Some, None, ◌==◌, find, All, IfSome, option_map}
+use Rattle.blot_types.specs.declared.{command.Entry.Entry, link.Link.Link}
 use Rattle.blot_types.specs.Allocations.{allocation_of, live_allocations}
 use Rattle.blot_types.specs.Legal.{is_book}
 use Rattle.blot_types.specs.Position.{is_named}
 use Rattle.blot_types.specs.Refusals.{alloc_reference, withdrawn_by}
-use Rattle.blot_types.specs.Standing.{chain_of, stood}
+use Rattle.blot_types.specs.StandingVersion.{chain_of, stood}
 use Rattle.blot_types.specs.Survivors.{link_of, links_of, survivors}
 use Rattle.blot_types.proofs.ApartLemmas.{link-apart as whole-link, number_of}
 use Rattle.blot_types.proofs.BetweenLemmas.{instruction-apart as whole-instruction}

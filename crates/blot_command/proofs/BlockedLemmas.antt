@@ -1,21 +1,13 @@
 -- The first entry that needs another is the one that the look-ups name.
-use Rattle.std.proofs.Common.{◌≡◌, ℕ, ◌+◌, ◌<◌, true, false, cond, ◌&&◌, List, [], ◌∷◌, ◌++◌, reverse, Option, Some, None, refl, sym, ap, subst, ◌∙◌, inl, inr, arith}
-use Rattle.std.specs.Prelude.{All, find, is_none, nat_lt, not, unwrap_or}
-use Rattle.std.specs.Option.{option_and_then, option_map, option_map_or, option_or}
-use Rattle.std.proofs.lemmas.Bool.{and_from, and_parts, cases_Bool, eq-eqb, eqb-true, ltb-true, ne_eqb}
+use Rattle.std.proofs.Common.{◌≡◌, ℕ, ◌+◌, ◌<◌, true, false, cond, ◌&&◌, List, [], ◌∷◌, ◌++◌, reverse, Option, Some, None, refl, sym, ap, subst, ◌∙◌, inl, inr, arith, All, find, is_none, nat_lt, not, unwrap_or, option_and_then, option_map, eq-eqb, eqb-true, ltb-true, ne_eqb}
+use Rattle.std.specs.Option.{option_map_or, option_or}
+use Rattle.std.proofs.lemmas.Bool.{and_from, and_parts, cases_Bool}
 use Rattle.std.proofs.lemmas.List.{reverse-append, reverse-reverse}
 use Rattle.std.proofs.lemmas.List.Elements.{All-cons, All-nil, All-weaker}
 use Rattle.std.proofs.lemmas.List.Folds.{find-append}
 use Rattle.std.proofs.lemmas.Option.{same_Some}
-use Rattle.blot_types.specs.declared.command.Command.{Command}
+use Rattle.blot_types.specs.declared.{command.Command.Command, command.Correct.Correct as CorrectCommand, command.Entry.Entry, fill.Fill.Fill, keys.ExecKey.ExecKey, lines.Version.Version, link.Role.TheVariants.Corrects, TheConstants.EVENTS_MAX}
 use Rattle.blot_types.specs.declared.command.Command.TheVariants.{Trade, Correct, Bust, AllocNew, AllocReplace, AllocCancel, Withdraw}
-use Rattle.blot_types.specs.declared.command.Correct.{Correct as CorrectCommand}
-use Rattle.blot_types.specs.declared.command.Entry.{Entry}
-use Rattle.blot_types.specs.declared.fill.Fill.{Fill}
-use Rattle.blot_types.specs.declared.keys.ExecKey.{ExecKey}
-use Rattle.blot_types.specs.declared.lines.Version.{Version}
-use Rattle.blot_types.specs.declared.link.Role.TheVariants.{Corrects}
-use Rattle.blot_types.specs.declared.TheConstants.{EVENTS_MAX}
 use Rattle.blot_types.specs.Allocations.{instructions_in, instructions_of}
 use Rattle.blot_types.specs.Chains.{current_in, first_needing_link, is_chained, link_refusal, root_in, version_after_in}
 use Rattle.blot_types.specs.Keys.{is_among}
@@ -30,7 +22,7 @@ use Rattle.blot_types.proofs.CorrectLemmas.{as_entry, front-legal}
 use Rattle.blot_types.proofs.EntryLemmas.{chained-links}
 use Rattle.blot_types.proofs.LawLemmas.{find-none}
 use Rattle.blot_types.proofs.NeededLemmas.{needed_first, no_withdraw}
-use Rattle.blot_places.proofs.FirstLemmas.{all-reversed, none-and}
+use Rattle.blot_types.proofs.GeneralLemmas.{and-false, all-reversed}
 use Rattle.blot_command.specs.Blocking.{blocked_by, blocked_correct, changes_version, first_listing, lists_at, needed_until}
 use Rattle.blot_command.specs.Book.{has_number}
 use Rattle.blot_command.specs.Shown.{version_numbered}
@@ -95,7 +87,7 @@ never-in : (k : Entry) (entries : List Entry) → first_in (after k (λ before e
 never-in k [] = refl
 never-in k (entry ∷ earlier) =
     ap (λ found. option_or found (cond (nat_lt k.number entry.number && false) (Some entry.number) None)) (never-in k earlier)
-    ∙ ap (λ b. cond b (Some entry.number) None) (none-and (nat_lt k.number entry.number))
+    ∙ ap (λ b. cond b (Some entry.number) None) (and-false (nat_lt k.number entry.number))
 
 -- ---- a Correct
 

@@ -1,16 +1,10 @@
 -- No total of an order or a position of a book reaches 10^38.
-use Rattle.std.proofs.Common.{◌≡◌, ◌+◌, ◌*◌, ◌^◌, ◌≤◌, pos, ◌*ℤ◌, arith, List, [], ◌∷◌, length, map, Option, Some, None, sym, subst, true}
-use Rattle.std.specs.Prelude.{ℤ, unsigned_abs, filter, All, IfSome}
+use Rattle.std.proofs.Common.{◌≡◌, ◌+◌, ◌*◌, ◌^◌, ◌≤◌, pos, ◌*ℤ◌, arith, List, [], ◌∷◌, length, map, Option, Some, None, sym, subst, true, ℤ, unsigned_abs, filter, All, IfSome, option_map}
 use Rattle.std.specs.List.{last_or}
-use Rattle.std.specs.Option.{option_map}
 use Rattle.std.proofs.lemmas.Int.{ints}
 use Rattle.std.proofs.lemmas.List.{length-map}
 use Rattle.std.proofs.lemmas.List.Elements.{All-nil, All-cons, All-head, All-tail, All-filter}
-use Rattle.blot_types.specs.declared.fill.Fill.{Fill}
-use Rattle.blot_types.specs.declared.lines.OrderLine.{OrderLine}
-use Rattle.blot_types.specs.declared.part.Part.{Part}
-use Rattle.blot_types.specs.declared.lines.Version.{Version}
-use Rattle.blot_types.specs.declared.TheConstants.{EVENTS_MAX}
+use Rattle.blot_types.specs.declared.{fill.Fill.Fill, lines.OrderLine.OrderLine, part.Part.Part, lines.Version.Version, TheConstants.EVENTS_MAX}
 use Rattle.blot_types.specs.Bounds.{BOOK_QTY}
 use Rattle.blot_types.specs.Keys.{same_order}
 use Rattle.blot_types.specs.Laws.{IsBounded, HasBoundedTotals}
@@ -20,10 +14,11 @@ use Rattle.blot_types.specs.Position.{is_at, position_by, parts_of, FillFits}
 use Rattle.blot_types.specs.Survivors.{links_of, versions_of, stands_in, survivors}
 use Rattle.blot_types.proofs.PartLemmas.{signed-size}
 use Rattle.blot_types.proofs.SumLemmas.{total-cons, total-where}
+use Rattle.blot_types.proofs.GeneralLemmas.{length-filtered}
 use Rattle.blot_position.specs.Positions.{Cells}
 use Rattle.blot_command.specs.Book.{Shown}
 use Rattle.blot_command.specs.Carried.{ShowsPositions}
-use Rattle.blot_command.proofs.ReadyLemmas.{few-survivors, length-filtered, light-list}
+use Rattle.blot_command.proofs.ReadyLemmas.{few-survivors, light-list}
 use Rattle.blot_position.proofs.CarryLemmas.{qty_at, value_at}
 
 bounded : (amount : ℤ) → unsigned_abs amount ≤ BOOK_QTY * 10 ^ 16 → IsBounded amount

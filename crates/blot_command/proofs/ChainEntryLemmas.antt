@@ -1,28 +1,22 @@
 -- The entries of a chain, newest first: its Bust, and before that its versions, each below the one after it.
-use Rattle.std.proofs.Common.{◌≡◌, ℕ, ◌<◌, ◌≤◌, ◌==◌, Bool, true, false, List, [], ◌∷◌, reverse, Option, Some, None, refl, sym, ap, subst, ◌∙◌, arith, inl, inr}
-use Rattle.std.specs.Prelude.{IfSome, filter, find, is_none, nat_lt, if◌then◌else◌}
+use Rattle.std.proofs.Common.{◌≡◌, ℕ, ◌<◌, ◌≤◌, ◌==◌, Bool, true, false, List, [], ◌∷◌, reverse, Option, Some, None, refl, sym, ap, subst, ◌∙◌, arith, inl, inr, IfSome, filter, find, is_none, nat_lt, if◌then◌else◌, option_and_then, eq-eqb, eqb-true, lt-ltb, ltb-false, ltb-true, ne_eqb}
 use Rattle.std.specs.List.{cons_option, list_all}
-use Rattle.std.specs.Option.{option_and_then, option_map_or, option_or}
-use Rattle.std.proofs.lemmas.Bool.{and_parts, cases_Bool, eq-eqb, eqb-true, lt-ltb, ltb-false, ltb-true, ne_eqb}
+use Rattle.std.specs.Option.{option_map_or, option_or}
+use Rattle.std.proofs.lemmas.Bool.{and_parts, cases_Bool}
 use Rattle.std.proofs.lemmas.Grind.{reverse_onto}
 use Rattle.std.proofs.lemmas.List.Folds.{find-append}
-use Rattle.blot_types.specs.declared.allocation.AllocRole.{AllocRole}
-use Rattle.blot_types.specs.declared.command.Command.{Command}
-use Rattle.blot_types.specs.declared.command.Command.TheVariants.{Bust}
-use Rattle.blot_types.specs.declared.command.Entry.{Entry}
-use Rattle.blot_types.specs.declared.keys.ExecKey.{ExecKey}
-use Rattle.blot_types.specs.declared.link.Link.{Link}
-use Rattle.blot_types.specs.declared.link.Role.{Role}
+use Rattle.blot_types.specs.declared.{command.Entry.Entry, keys.ExecKey.ExecKey, link.Link.Link, link.Role.Role}
 use Rattle.blot_types.specs.declared.link.Role.TheVariants.{Begins, Corrects, Busts}
 use Rattle.blot_types.specs.Chains.{bust_in, busts, current_in, is_above_links, is_chained, is_root, link_refusal, own_root, reference_refusal, root_in, version_before_in}
 use Rattle.blot_types.specs.Keys.{same_exec}
 use Rattle.blot_types.specs.Legal.{is_above_entries, legal_in, rises_in}
-use Rattle.blot_types.specs.Standing.{chain_by}
+use Rattle.blot_types.specs.StandingVersion.{chain_by}
 use Rattle.blot_types.specs.Survivors.{link_of, links_in}
 use Rattle.blot_types.proofs.ChainLemmas.{accepted_key, accepted_root, bust-fresh, none_is}
 use Rattle.blot_types.proofs.EntryLemmas.{chained-links, is_above_links-links, link-number}
 use Rattle.blot_types.proofs.KeyLemmas.{same_exec-true}
 use Rattle.blot_types.proofs.NeedLemmas.{not-below}
+use Rattle.blot_types.proofs.GeneralLemmas.{or-none}
 use Rattle.blot_command.specs.Book.{has_number}
 use Rattle.blot_command.specs.Questions.{chain_in}
 
@@ -34,10 +28,6 @@ none-above n (entry ∷ earlier) above =
     let parts : (nat_lt entry.number n ≡ true) × (is_above_entries n earlier ≡ true) = and_parts _ _ above in
     let less : entry.number < n = ltb-true _ _ parts.0 in
     rw (ne_eqb entry.number n (λ same. absurd (omega (arith, same, less)))) (none-above n earlier parts.1)
-
-or-none : {A : Type 0} (found : Option A) → option_or found None ≡ found
-or-none None = refl
-or-none (Some a) = refl
 
 pub found-turned : (n : ℕ) (entries : List Entry) → rises_in entries ≡ true → find (has_number n) (reverse entries) ≡ find (has_number n) entries
 found-turned n [] rises = refl

@@ -1,16 +1,11 @@
 -- What needs a Correct: the first link that refers to it, or the first allocation that lists it, or that lists its chain while it is the
 -- last version, where it changed the fill.
-use Rattle.std.proofs.Common.{◌≡◌, ℕ, ◌<◌, Bool, true, false, cond, ◌&&◌, ◌||◌, List, [], ◌∷◌, ◌++◌, Option, Some, None, refl, sym, ap, ◌∙◌, inl, inr, arith}
-use Rattle.std.specs.Prelude.{is_none, nat_lt, not}
-use Rattle.std.specs.List.{cons_option, filter_map, list_any}
-use Rattle.std.specs.Option.{option_and_then, option_map_or, option_or}
-use Rattle.std.proofs.lemmas.Bool.{and_parts, cases_Bool, lt-ltb, ltb-true, ne_eqb, eq-eqb}
-use Rattle.blot_types.specs.declared.command.Command.{Command}
+use Rattle.std.proofs.Common.{◌≡◌, ℕ, ◌<◌, Bool, true, false, cond, ◌&&◌, ◌||◌, List, [], ◌∷◌, ◌++◌, Option, Some, None, refl, sym, ap, ◌∙◌, inl, inr, arith, is_none, nat_lt, not, filter_map, option_and_then, lt-ltb, ltb-true, ne_eqb, eq-eqb}
+use Rattle.std.specs.List.{cons_option, list_any}
+use Rattle.std.specs.Option.{option_map_or, option_or}
+use Rattle.std.proofs.lemmas.Bool.{and_parts, cases_Bool}
+use Rattle.blot_types.specs.declared.{command.Command.Command, command.Correct.Correct as CorrectCommand, command.Entry.Entry, keys.ExecKey.ExecKey, link.Link.Link}
 use Rattle.blot_types.specs.declared.command.Command.TheVariants.{Trade, Correct, Bust, AllocNew, AllocReplace, AllocCancel, Withdraw}
-use Rattle.blot_types.specs.declared.command.Correct.{Correct as CorrectCommand}
-use Rattle.blot_types.specs.declared.command.Entry.{Entry}
-use Rattle.blot_types.specs.declared.keys.ExecKey.{ExecKey}
-use Rattle.blot_types.specs.declared.link.Link.{Link}
 use Rattle.blot_types.specs.Chains.{current_in, first_needing_link, is_above_links, is_chained, is_root, own_root, root_in, version_after_in}
 use Rattle.blot_types.specs.Instructions.{names}
 use Rattle.blot_types.specs.Keys.{is_among, same_exec}
@@ -26,8 +21,8 @@ use Rattle.blot_types.proofs.EntryLemmas.{chained-links, is_above_links-links, l
 use Rattle.blot_types.proofs.KeyLemmas.{same_exec-refl, same_exec-sym, same_exec-true}
 use Rattle.blot_types.proofs.LinkOutLemmas.{links-whole}
 use Rattle.blot_types.proofs.NeedLemmas.{member-below, not-below}
-use Rattle.blot_places.proofs.FirstLemmas.{none-and}
-use Rattle.blot_command.proofs.AllocNeedLemmas.{any-mapped, any-same, or-none}
+use Rattle.blot_types.proofs.GeneralLemmas.{and-false, or-false, or-falses, or-none, any-same}
+use Rattle.blot_command.proofs.AllocNeedLemmas.{any-mapped}
 use Rattle.blot_command.proofs.FirstEntryLemmas.{IsTest, after, first_in, instruction_after, needed-by, needed-in}
 use Rattle.blot_command.proofs.LinkNeedLemmas.{first-of_either, referring}
 
@@ -42,7 +37,7 @@ or-swap false false = refl
 -- among those that name the chain, those that list the key, or that see a changed fill
 among-named : (listed named changed last : Bool) → listed ≡ (named && listed) → (listed || (changed && (named && last))) ≡ (named && ((changed && last) || listed))
 among-named listed true changed last is = or-swap listed (changed && last)
-among-named listed false changed last is = ap (λ b. b || (changed && false)) is ∙ none-and changed
+among-named listed false changed last is = ap (λ b. b || (changed && false)) is ∙ and-false changed
 
 any-and : {A : Type 0} (p : A → Bool) (b : Bool) (xs : List A) → list_any (λ x. p x && b) xs ≡ (list_any p xs && b)
 any-and p b [] = refl
@@ -50,7 +45,7 @@ any-and p b (x ∷ xs) = ap (λ rest. (p x && b) || rest) (any-and p b xs) ∙ o
   where
     one : (a b c : Bool) → ((a && b) || (c && b)) ≡ ((a || c) && b)
     one true true c = refl
-    one true false c = none-and c
+    one true false c = and-false c
     one false b c = refl
 
 any-implied : {A : Type 0} (p q : A → Bool) (xs : List A) → ((x : A) → p x ≡ true → q x ≡ true) → list_any p xs ≡ true → list_any q xs ≡ true
@@ -126,10 +121,6 @@ module _ (number : ℕ) (correct : CorrectCommand) (front : List Entry) (r : Exe
   some-after None n = refl
   some-after (Some m) n = refl
 
-  or-nothing : (found : Option ℕ) → option_or found None ≡ found
-  or-nothing None = refl
-  or-nothing (Some n) = refl
-
   last-more : (entry : Entry) (found : Option Link) (links : List Link) → link_of entry ≡ found → number < entry.number → IsLastOf links → IsLastOf (cons_option found links)
   last-more entry None links is less last = last
   last-more entry (Some link) links is less last =
@@ -144,7 +135,7 @@ module _ (number : ℕ) (correct : CorrectCommand) (front : List Entry) (r : Exe
         | inr passed ↦
             ap (λ b. is_number number (cond b (Some link.number) (current_in links r))) passed ∙ last
             ∙ sym (ap (λ b. is_none (option_or (version_after_in links number r) (cond b (Some link.number) None))) (ap (λ b. b && brings_to r link links) over ∙ passed)
-            ∙ ap is_none (or-nothing (version_after_in links number r)))
+            ∙ ap is_none (or-none (version_after_in links number r)))
       ]
 
   last-of : (later : List Entry) → rises_in (upto later) ≡ true → IsLastOf (links_in (upto later))
@@ -197,7 +188,7 @@ module _ (number : ℕ) (correct : CorrectCommand) (front : List Entry) (r : Exe
         let named : named_by (upto later) keys ≡ true =
         sym (any-mapped (root_in (links_in (upto later))) (λ root. same_exec root r) keys) ∙ any-implied (λ key. same_exec key correct.key) rooted_at keys its among in
         sym (ap (λ b. b && is_among keys correct.key) named)
-    | inr other ↦ other ∙ sym (ap (λ b. named_by (upto later) keys && b) other ∙ none-and (named_by (upto later) keys))
+    | inr other ↦ other ∙ sym (ap (λ b. named_by (upto later) keys && b) other ∙ and-false (named_by (upto later) keys))
   ]
 
   -- ---- the fill that it changed
@@ -215,10 +206,6 @@ module _ (number : ℕ) (correct : CorrectCommand) (front : List Entry) (r : Exe
       option_map_or (λ i. names r i && ((is_changed && is_none (version_after_in (links_in before) number r)) || is_among (listed_by entry.command) correct.key))
       (instruction_after before entry) false
 
-  or-two : (b : Bool) → (b || false || false) ≡ b
-  or-two true = refl
-  or-two false = refl
-
   listed-asks : (later : List Entry) (keys : List ExecKey) → legal_in (upto later) ≡ true → rises_in (upto later) ≡ true
       → (is_among keys correct.key || (is_changed && list_any (is_last_of (upto later) number) keys))
       ≡ (named_by (upto later) keys && ((is_changed && is_none (version_after_in (links_in (upto later)) number r)) || is_among keys correct.key))
@@ -227,25 +214,25 @@ module _ (number : ℕ) (correct : CorrectCommand) (front : List Entry) (r : Exe
       ∙ among-named (is_among keys correct.key) (named_by (upto later) keys) is_changed (is_none (version_after_in (links_in (upto later)) number r)) (listed-named later keys legal)
 
   unlisted : (b : Bool) → (b || (is_changed && false)) ≡ (b || false)
-  unlisted b = ap (λ c. b || c) (none-and is_changed)
+  unlisted b = ap (λ c. b || c) (and-false is_changed)
 
   asks-correct : (later : List Entry) (n : ℕ) (command : Command) → legal_in (upto later) ≡ true → rises_in (upto later) ≡ true
       → (is_among (exec_references command) correct.key || (is_changed && list_any (is_last_of (upto later) number) (listed_by command)))
       ≡ (referring correct.key (record { number = n; command = command }) || listing (upto later) (record { number = n; command = command }))
-  asks-correct later n (Trade trade) legal rise = none-and is_changed
-  asks-correct later n (Correct other) legal rise = unlisted (same_exec other.reference correct.key || false) ∙ or-none (same_exec other.reference correct.key || false)
-  asks-correct later n (Bust bust) legal rise = unlisted (same_exec bust.reference correct.key || false) ∙ or-none (same_exec bust.reference correct.key || false)
+  asks-correct later n (Trade trade) legal rise = and-false is_changed
+  asks-correct later n (Correct other) legal rise = unlisted (same_exec other.reference correct.key || false) ∙ or-false (same_exec other.reference correct.key || false)
+  asks-correct later n (Bust bust) legal rise = unlisted (same_exec bust.reference correct.key || false) ∙ or-false (same_exec bust.reference correct.key || false)
   asks-correct later n (AllocNew new) legal rise = listed-asks later new.terms.execs legal rise
   asks-correct later n (AllocReplace replace) legal rise = listed-asks later replace.terms.execs legal rise
-  asks-correct later n (AllocCancel cancel) legal rise = none-and is_changed
-  asks-correct later n (Withdraw withdrawn) legal rise = none-and is_changed
+  asks-correct later n (AllocCancel cancel) legal rise = and-false is_changed
+  asks-correct later n (Withdraw withdrawn) legal rise = and-false is_changed
 
   pub first-listing : (later : List Entry) → legal_in (upto later) ≡ true → rises_in (upto later) ≡ true
       → needed_in k (upto later) ≡ lesser (first_needing_link (links_in (upto later)) number) (first_in (after k listing) (upto later))
   first-listing later legal rise =
       let test : List Entry → Entry → Bool = λ before entry. referring correct.key entry || listing before entry in
       let step : IsTest k front test = λ later entry next.
-      or-two (is_among (exec_references entry.command) correct.key || (changes_fill (upto later) k && list_any (is_last_of (upto later) number) (listed_by entry.command)))
+      or-falses (is_among (exec_references entry.command) correct.key || (changes_fill (upto later) k && list_any (is_last_of (upto later) number) (listed_by entry.command)))
       ∙ ap (λ b. is_among (exec_references entry.command) correct.key || (b && list_any (is_last_of (upto later) number) (listed_by entry.command))) (changed later next.rise)
       ∙ asks-correct later entry.number entry.command next.legal next.rise in
       needed-in k (upto later) ∙ needed-by k front test step later legal rise ∙ first-of_either k front (as_link number correct) later listing refl rise

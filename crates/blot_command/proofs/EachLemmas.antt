@@ -1,23 +1,10 @@
 -- What holds of each item of a list, and of all that its items bring.
-use Rattle.std.proofs.Common.{◌≡◌, Bool, List, [], ◌∷◌, ◌++◌, Option, Some, None, refl}
-use Rattle.std.specs.Prelude.{find, All, IfSome, Contains}
-use Rattle.std.specs.List.{cons_option, filter_map}
-use Rattle.std.proofs.lemmas.List.Elements.{All-nil, All-cons, All-head, All-tail, All-contains, All-contains_itself}
-use Rattle.blot_types.proofs.BringLemmas.{found-All}
+use Rattle.std.proofs.Common.{◌≡◌, Bool, List, [], ◌∷◌, Option, Some, None, refl, find, All, IfSome, Contains, filter_map}
+use Rattle.std.specs.List.{cons_option}
+use Rattle.std.proofs.lemmas.List.Elements.{All-nil, All-cons, All-head, All-tail, All-contains}
+use Rattle.blot_types.proofs.GeneralLemmas.{found-contains}
 
 -- ---- lists
-
-pub all-front : {X : Type 0} (P : X → Type 0) (xs ys : List X) → All P (xs ++ ys) → All P xs
-all-front P [] ys all = All-nil P
-all-front P (x ∷ xs) ys all = All-cons P x xs (All-head P x (xs ++ ys) all) (all-front P xs ys (All-tail P x (xs ++ ys) all))
-
-pub all-back : {X : Type 0} (P : X → Type 0) (xs ys : List X) → All P (xs ++ ys) → All P ys
-all-back P [] ys all = all
-all-back P (x ∷ xs) ys all = all-back P xs ys (All-tail P x (xs ++ ys) all)
-
--- what is found is in the list
-found-contains : {X : Type 0} (p : X → Bool) (xs : List X) (x : X) → find p xs ≡ Some x → Contains xs x
-found-contains p xs x found = found-All (Contains xs) p xs x (All-contains_itself xs) found
 
 found-by : {X : Type 0} (p : X → Bool) (xs : List X) (found : Option X) → find p xs ≡ found → IfSome found (Contains xs)
 found-by p xs None is = tt

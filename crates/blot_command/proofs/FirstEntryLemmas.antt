@@ -1,14 +1,10 @@
 -- The first entry that passes a test, which sees the entries before it. The entries stand newest first, and their numbers fall.
-use Rattle.std.proofs.Common.{◌≡◌, ℕ, ◌<◌, Bool, true, false, cond, ◌&&◌, ◌||◌, List, [], ◌∷◌, ◌++◌, Option, Some, None, refl, sym, ap, ◌∙◌, arith}
-use Rattle.std.specs.Prelude.{is_none, nat_lt}
+use Rattle.std.proofs.Common.{◌≡◌, ℕ, ◌<◌, Bool, true, false, cond, ◌&&◌, ◌||◌, List, [], ◌∷◌, ◌++◌, Option, Some, None, refl, sym, ap, ◌∙◌, arith, is_none, nat_lt, ltb-true}
 use Rattle.std.specs.List.{cons_option}
 use Rattle.std.specs.Option.{option_map_or, option_or}
-use Rattle.std.proofs.lemmas.Bool.{and_parts, ltb-true}
-use Rattle.blot_types.specs.declared.allocation.Instruction.{Instruction}
-use Rattle.blot_types.specs.declared.command.Command.{Command}
+use Rattle.std.proofs.lemmas.Bool.{and_parts}
+use Rattle.blot_types.specs.declared.{allocation.Instruction.Instruction, command.Command.Command, command.Entry.Entry, link.Link.Link}
 use Rattle.blot_types.specs.declared.command.Command.TheVariants.{Trade, Correct, Bust, AllocNew, AllocReplace, AllocCancel, Withdraw}
-use Rattle.blot_types.specs.declared.command.Entry.{Entry}
-use Rattle.blot_types.specs.declared.link.Link.{Link}
 use Rattle.blot_types.specs.Allocations.{instruction_by, instructions_in}
 use Rattle.blot_types.specs.Legal.{is_above_entries, legal_in, refusal_in, rises_in}
 use Rattle.blot_types.specs.Numbers.{lesser}
@@ -17,10 +13,10 @@ use Rattle.blot_types.specs.Withdrawal.{needed_in, needs}
 use Rattle.blot_types.proofs.ChainLemmas.{none_is}
 use Rattle.blot_types.proofs.EntryLemmas.{link-number}
 use Rattle.blot_types.proofs.NeedLemmas.{not-below}
-use Rattle.blot_places.proofs.FirstLemmas.{first-more, first_by, is_under, none-and, one_of_two, under-or}
+use Rattle.blot_types.proofs.GeneralLemmas.{and-false, or-none}
+use Rattle.blot_places.proofs.FirstLemmas.{first-more, first_by, is_under, one_of_two, under-or}
 use Rattle.blot_chain.specs.Steps.{number_of as link_number}
 use Rattle.blot_alloc.specs.Allocs.{number_of as instruction_number}
-use Rattle.blot_alloc.proofs.NeedLemmas.{or-none}
 
 -- the number of the first that passes
 abbrev pub first_in : (List Entry → Entry → Bool) → List Entry → Option ℕ
@@ -110,7 +106,7 @@ in-instructions test (entry ∷ earlier) =
 -- the number of an entry is that of its link, and of its instruction
 link-above : (n : ℕ) (entry : Entry) (found : Option Link) (test : Link → Bool) → link_of entry ≡ found
     → (nat_lt n entry.number && option_map_or test found false) ≡ option_map_or (λ link. nat_lt n link.number && test link) found false
-link-above n entry None test is = none-and (nat_lt n entry.number)
+link-above n entry None test is = and-false (nat_lt n entry.number)
 link-above n entry (Some link) test is = ap (λ m. nat_lt n m && test link) (sym (link-number entry link is))
 
 pub links-above :
@@ -121,7 +117,7 @@ links-above n test entries =
 
 instruction-above : (n : ℕ) (before : List Entry) (entry : Entry) (found : Option Instruction) (test : Instruction → Bool) → instruction_after before entry ≡ found
     → (nat_lt n entry.number && option_map_or test found false) ≡ option_map_or (λ i. nat_lt n i.number && test i) found false
-instruction-above n before entry None test is = none-and (nat_lt n entry.number)
+instruction-above n before entry None test is = and-false (nat_lt n entry.number)
 instruction-above n before entry (Some i) test is = ap (λ m. nat_lt n m && test i) (sym (instruction-number (links_in before) entry.number entry.command i is))
 
 pub instructions-above :

@@ -1,19 +1,14 @@
 -- What the live list keeps of its slots: the links and the instructions of the entries that are there, and of those that were taken
 -- out.
-use Rattle.std.proofs.Common.{◌≡◌, ℕ, ◌<◌, true, false, ◌&&◌, List, [], ◌∷◌, ◌++◌, reverse, Option, Some, None, refl, sym, ap, subst, ◌∙◌, arith, inl, inr}
-use Rattle.std.specs.Prelude.{nat_eq, nat_lt}
+use Rattle.std.proofs.Common.{◌≡◌, ℕ, ◌<◌, true, false, ◌&&◌, List, [], ◌∷◌, ◌++◌, reverse, Option, Some, None, refl, sym, ap, subst, ◌∙◌, arith, inl, inr, nat_eq, nat_lt, option_and_then, eqb-true, eq-eqb, lt-ltb, ltb-false, ltb-true, ne_eqb}
 use Rattle.std.specs.List.{cons_option}
-use Rattle.std.specs.Option.{option_and_then}
-use Rattle.std.proofs.lemmas.Bool.{cases_Bool, and_parts, and_from, eqb-false, eqb-true, eq-eqb, lt-ltb, ltb-false, ltb-true, ne_eqb}
+use Rattle.std.proofs.lemmas.Bool.{cases_Bool, and_parts, and_from, eqb-false}
 use Rattle.blot_places.specs.declared.slots.Slot.{Slot}
 use Rattle.blot_places.specs.Shown.{Shown, item_at, with_item, with_some, without as without_item}
 use Rattle.blot_places.specs.Slots.{is_above, numbers_fall}
 use Rattle.blot_places.proofs.ShownLemmas.{above-more, at-below, at-here, at-none, at-on, falling-parts, with_item-front, with_item-here, with_item-on, without-here, without-none, without-on}
-use Rattle.blot_types.specs.declared.allocation.Instruction.{Instruction}
-use Rattle.blot_types.specs.declared.command.Command.{Command}
+use Rattle.blot_types.specs.declared.{allocation.Instruction.Instruction, command.Command.Command, command.Entry.Entry, link.Link.Link}
 use Rattle.blot_types.specs.declared.command.Command.TheVariants.{Trade, Correct, Bust, AllocNew, AllocReplace, AllocCancel, Withdraw}
-use Rattle.blot_types.specs.declared.command.Entry.{Entry}
-use Rattle.blot_types.specs.declared.link.Link.{Link}
 use Rattle.blot_types.specs.Allocations.{instruction_by, instructions_in, instructions_of}
 use Rattle.blot_types.specs.Chains.{falls as links_fall, is_above_links}
 use Rattle.blot_types.specs.Instructions.{is_above_instructions}

@@ -1,9 +1,8 @@
 -- The cells of the house account: there is one in each symbol in which an account has one, whatever is opened, put and taken.
-use Rattle.std.proofs.Common.{◌≡◌, ℕ, ◌<◌, arith, Bool, true, false, ◌||◌, List, [], ◌∷◌, Option, Some, None, refl, sym, ap, subst, ◌∙◌, inl, inr}
-use Rattle.std.specs.Prelude.{is_some}
+use Rattle.std.proofs.Common.{◌≡◌, ℕ, ◌<◌, arith, Bool, true, false, ◌||◌, List, [], ◌∷◌, Option, Some, None, refl, sym, ap, subst, ◌∙◌, inl, inr, is_some}
 use Rattle.std.specs.FinMap as finite
-use Rattle.std.specs.Option.{unwrap_or}
-use Rattle.std.proofs.lemmas.Bool.{cases_Bool}
+use Rattle.std.proofs.Common.{unwrap_or}
+use Rattle.std.proofs.lemmas.Bool.{cases_Bool, or_right}
 use Rattle.blot_types.specs.declared.part.Part.{Part}
 use Rattle.blot_types.specs.Keys.{position_at}
 use Rattle.blot_types.specs.Position.{house}
@@ -14,10 +13,6 @@ use Rattle.blot_position.proofs.PositionLemmas.{same_position-true, has_cell-wit
 use Rattle.blot_command.specs.Booking.{Change, changed, changed_by, changed_all, CanChangeBy, CanChangeAll}
 use Rattle.blot_command.specs.Carried.{IsHoused}
 
-or_true : (test has : Bool) → has ≡ true → (test || has) ≡ true
-or_true true has is = refl
-or_true false has is = is
-
 -- cells with that of one position more, in whose symbol the house account has one
 pub housed-more :
     (a s : List ℕ) (old new : Cells) → ((a' s' : List ℕ) → has_cell new a' s' ≡ (same_position a s a' s' || has_cell old a' s')) → has_cell new house s ≡ true → IsHoused old
@@ -26,7 +21,7 @@ housed-more a s old new more here before a' s' has = elim (cases_Bool (same_posi
   | inl same ↦ subst (λ t. has_cell new house t ≡ true) (same_position-true a s a' s' same).1 here
   | inr other ↦
       let was : has_cell old a' s' ≡ true = sym (more a' s' ∙ ap (λ test. test || has_cell old a' s') other) ∙ has in
-      more house s' ∙ or_true (same_position a s house s') (has_cell old house s') (before a' s' was)
+      more house s' ∙ or_right (same_position a s house s') (has_cell old house s') (before a' s' was)
 ]
 
 pub housed-empty : IsHoused finite.empty

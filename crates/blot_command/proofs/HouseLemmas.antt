@@ -1,15 +1,10 @@
 -- The parts of chains that are named go to the house account, and come back from it.
-use Rattle.std.proofs.Common.{◌≡◌, ℕ, ◌+◌, ◌*◌, ◌^◌, ◌≤◌, pos, ◌+ℤ◌, ◌≤ℤ◌, arith, Bool, true, false, List, [], ◌∷◌, Option, Some, None, refl, sym, ap, subst, ◌∙◌, inl, inr}
-use Rattle.std.specs.Prelude.{ℤ, unsigned_abs, ◌&&◌, ◌||◌, not, filter, find, is_none, ◌==◌, All, IsTrue, if◌then◌else◌}
-use Rattle.std.specs.List.{cons_option, flat_map}
-use Rattle.std.specs.Option.{option_and_then, option_map}
-use Rattle.std.proofs.lemmas.Bool.{cases_Bool, and_from, and_parts}
+use Rattle.std.proofs.Common.{◌≡◌, ℕ, ◌+◌, ◌*◌, ◌^◌, ◌≤◌, pos, ◌+ℤ◌, ◌≤ℤ◌, arith, Bool, true, false, List, [], ◌∷◌, Option, Some, None, refl, sym, ap, subst, ◌∙◌, inl, inr, ℤ, unsigned_abs, ◌&&◌, ◌||◌, not, filter, find, is_none, ◌==◌, All, IsTrue, if◌then◌else◌, flat_map, option_and_then, option_map}
+use Rattle.std.specs.List.{cons_option}
+use Rattle.std.proofs.lemmas.Bool.{cases_Bool, and_from, and_parts, not-true}
 use Rattle.std.proofs.lemmas.Int.{ints}
 use Rattle.std.proofs.lemmas.List.Elements.{All-nil, All-cons, All-head, All-tail, All-weaker}
-use Rattle.blot_types.specs.declared.command.Entry.{Entry}
-use Rattle.blot_types.specs.declared.keys.ExecKey.{ExecKey}
-use Rattle.blot_types.specs.declared.part.Part.{Part}
-use Rattle.blot_types.specs.declared.lines.Version.{Version}
+use Rattle.blot_types.specs.declared.{command.Entry.Entry, keys.ExecKey.ExecKey, part.Part.Part, lines.Version.Version}
 use Rattle.blot_types.specs.Chains.{bust_in, current_in}
 use Rattle.blot_types.specs.Instructions.{are_apart}
 use Rattle.blot_types.specs.Keys.{is_among, same_exec}
@@ -17,15 +12,13 @@ use Rattle.blot_types.specs.Laws.{survivors_of_chain, is_of_chain}
 use Rattle.blot_types.specs.Legal.{is_book}
 use Rattle.blot_types.specs.Order.{total}
 use Rattle.blot_types.specs.Position.{house, account_of, part_of_fill, IsSmall, FillFits}
-use Rattle.blot_types.specs.Standing.{standing}
+use Rattle.blot_types.specs.StandingVersion.{standing}
 use Rattle.blot_types.specs.Survivors.{links_of, versions_of, survivors}
-use Rattle.blot_types.proofs.BringLemmas.{found-All}
 use Rattle.blot_types.proofs.ChainLemmas.{differing}
 use Rattle.blot_types.proofs.KeyLemmas.{same_exec-refl, same_exec-sym}
 use Rattle.blot_types.proofs.PartLemmas.{part_under, parts_under, total-named, NamesMore, moves-chain, chain-standing, MovesChain}
-use Rattle.blot_types.proofs.StandLemmas.{and-true, and-false}
 use Rattle.blot_types.proofs.SumLemmas.{total-cons}
-use Rattle.blot_types.proofs.AcceptLemmas.{not_true}
+use Rattle.blot_types.proofs.GeneralLemmas.{and-true, and-false, found-All}
 use Rattle.blot_position.specs.Positions.{Cells, has_cell}
 use Rattle.blot_command.specs.Booking.{Change, put_in, taken_out, changed, changed_all, to_house, from_house, chains_to_house, chains_from_house}
 use Rattle.blot_command.specs.Shown.{standing_fill}
@@ -243,7 +236,7 @@ reach-house list (root ∷ roots) cells count qty named others booked free apart
     let moved = flat_map to_house (cons_option (standing_fill list root) []) in
     let cells_after = changed_all moved cells in
     let free_rest : All (λ r. after r ≡ false) roots =
-    all_free root named roots (All-tail (λ r. named r ≡ false) root roots free) (not_among root roots (not_true _ parts.0)) in
+    all_free root named roots (All-tail (λ r. named r ≡ false) root roots free) (not_among root roots (not-true _ parts.0)) in
     let rest = reach-house list roots cells_after count qty after others (booked-stays list moved cells booked) free_rest parts.1 first.carried light some enough in
     let whole = reach-append moved (chains_to_house list roots) cells count qty count qty (beside list after others) (beside list (with_roots roots after) others) first rest in
     reach-same (chains_to_house list (root ∷ roots)) cells count qty (beside list (with_roots roots after) others) (beside list (with_roots (root ∷ roots) named) others)
@@ -275,7 +268,7 @@ reach-home list (root ∷ roots) cells count qty named others booked held apart 
     let moved = flat_map from_house (cons_option (standing_fill list root) []) in
     let cells_after = changed_all moved cells in
     let held_rest : All (λ r. after r ≡ true) roots =
-    all_held root named roots (All-tail (λ r. named r ≡ true) root roots held) (not_among root roots (not_true _ parts.0)) in
+    all_held root named roots (All-tail (λ r. named r ≡ true) root roots held) (not_among root roots (not-true _ parts.0)) in
     let rest = reach-home list roots cells_after count qty after others (booked-stays list moved cells booked) held_rest parts.1 first.carried light some enough in
     let whole = reach-append moved (chains_from_house list roots) cells count qty count qty (beside list after others) (beside list (without_roots roots after) others) first rest in
     reach-same (chains_from_house list (root ∷ roots)) cells count qty (beside list (without_roots roots after) others) (beside list (without_roots (root ∷ roots) named) others)

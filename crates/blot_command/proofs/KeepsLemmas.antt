@@ -1,13 +1,13 @@
 -- What a state keeps for the earlier steps, it keeps after each later one, and after each later one taken back.
-use Rattle.std.proofs.Common.{◌≡◌, ℕ, ◌<◌, ◌≤◌, true, false, List, [], ◌∷◌, ◌++◌, Some, ◌⊎◌, refl, sym, ap, subst, ◌∙◌, inl, inr, arith}
-use Rattle.std.specs.Prelude.{Contains, find, nat_eq, not}
-use Rattle.std.proofs.lemmas.Bool.{cases_Bool, eqb-true, eq-eqb}
+use Rattle.std.proofs.Common.{◌≡◌, ℕ, ◌<◌, ◌≤◌, true, false, List, [], ◌∷◌, ◌++◌, Some, ◌⊎◌, refl, sym, ap, subst, ◌∙◌, inl, inr, arith, Contains, find, nat_eq, not, eqb-true, eq-eqb}
+use Rattle.std.proofs.lemmas.Bool.{cases_Bool}
 use Rattle.std.proofs.lemmas.Option.{same_Some}
 use Rattle.std.proofs.lemmas.List.{map-append}
 use Rattle.std.proofs.lemmas.List.Elements.{All-weaker, All-contains, All-contains_itself, Contains-append_left, Contains-append_right, Contains-append_cases, Contains-push_cases}
 use Rattle.blot_types.specs.declared.command.Entry.{Entry}
 use Rattle.blot_types.specs.Legal.{is_book, without}
 use Rattle.blot_types.proofs.LawLemmas.{book_parts}
+use Rattle.blot_types.proofs.GeneralLemmas.{found-contains}
 use Rattle.blot_places.specs.Shown.{item_at, with_item, without as without_item}
 use Rattle.blot_command.specs.declared.inverse.Inverse.{Inverse}
 use Rattle.blot_command.specs.declared.inverse.Inverse.TheVariants.{Number, Taken}
@@ -16,7 +16,7 @@ use Rattle.blot_command.specs.Law.{has_entry, without-split}
 use Rattle.blot_command.specs.Meanings.{entry_meaning, command_meaning, KeepsFor}
 use Rattle.blot_command.specs.Undoable.{KeepsEarlier}
 use Rattle.blot_command.specs.Withdrawing.{with_entry, shares_exec, StandsOnce, IsThere, Keeps}
-use Rattle.blot_command.proofs.WithinLemmas.{either, middle_cases, middle_own, middle_other, mapped, from_mapped, from_passed, found_within, found_number, with_item_cases, at-with_own, at-with_other, at-without_other, without_other}
+use Rattle.blot_command.proofs.WithinLemmas.{either, middle_cases, middle_own, middle_other, mapped, from_mapped, from_passed, found_number, with_item_cases, at-with_own, at-with_other, at-without_other, without_other}
 
 -- the entries in a book, listed and kept, and its numbers
 abbrev pub entries_within : Shown → List Entry
@@ -243,7 +243,7 @@ module _ (entry : Entry) (full rest : List Entry) (it : Parted entry full rest) 
     within-in other within =
         either full (without_item entry_number entry.number kept) rest kept other
         (λ listed. elim (full_cases other listed) [
-          | inl own ↦ Contains-append_right rest kept other (subst (Contains kept) own (found_within (λ e. nat_eq (entry_number e) entry.number) kept entry is_kept))
+          | inl own ↦ Contains-append_right rest kept other (subst (Contains kept) own (found-contains (λ e. nat_eq (entry_number e) entry.number) kept entry is_kept))
           | inr was ↦ Contains-append_left rest kept other was
         ])
         (λ less. Contains-append_right rest kept other (from_passed _ kept other less).0)

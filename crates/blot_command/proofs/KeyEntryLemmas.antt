@@ -1,20 +1,12 @@
 -- The entry that takes up a key, among those newest first.
-use Rattle.std.proofs.Common.{◌≡◌, ℕ, ◌+◌, ◌<◌, true, false, List, [], ◌∷◌, ◌++◌, reverse, Option, Some, None, refl, sym, ap, subst, ◌∙◌, arith, inl, inr}
-use Rattle.std.specs.Prelude.{IfSome, find, nat_lt, if◌then◌else◌}
+use Rattle.std.proofs.Common.{◌≡◌, ℕ, ◌+◌, ◌<◌, true, false, List, [], ◌∷◌, ◌++◌, reverse, Option, Some, None, refl, sym, ap, subst, ◌∙◌, arith, inl, inr, IfSome, find, nat_lt, if◌then◌else◌, option_and_then, option_map, ltb-true, append_assoc}
 use Rattle.std.specs.List.{cons_option}
-use Rattle.std.specs.Option.{option_and_then, option_map, option_map_or}
-use Rattle.std.proofs.lemmas.Bool.{and_parts, cases_Bool, ltb-true}
-use Rattle.std.proofs.lemmas.List.{append_assoc, reverse-reverse}
-use Rattle.blot_types.specs.declared.allocation.AllocRole.{AllocRole}
-use Rattle.blot_types.specs.declared.allocation.Instruction.{Instruction}
+use Rattle.std.specs.Option.{option_map_or}
+use Rattle.std.proofs.lemmas.Bool.{and_parts, cases_Bool}
+use Rattle.std.proofs.lemmas.List.{reverse-reverse}
+use Rattle.blot_types.specs.declared.{allocation.AllocRole.AllocRole, allocation.Instruction.Instruction, command.Command.Command, command.Entry.Entry, keys.AllocKey.AllocKey, keys.ExecKey.ExecKey, link.Link.Link, link.Role.Role}
 use Rattle.blot_types.specs.declared.allocation.AllocRole.TheVariants.{Allocates, Replaces, Cancels}
-use Rattle.blot_types.specs.declared.command.Command.{Command}
 use Rattle.blot_types.specs.declared.command.Command.TheVariants.{Trade, Correct, Bust, AllocNew, AllocReplace, AllocCancel, Withdraw}
-use Rattle.blot_types.specs.declared.command.Entry.{Entry}
-use Rattle.blot_types.specs.declared.keys.AllocKey.{AllocKey}
-use Rattle.blot_types.specs.declared.keys.ExecKey.{ExecKey}
-use Rattle.blot_types.specs.declared.link.Link.{Link}
-use Rattle.blot_types.specs.declared.link.Role.{Role}
 use Rattle.blot_types.specs.declared.link.Role.TheVariants.{Begins, Corrects, Busts}
 use Rattle.blot_types.specs.Allocations.{instruction_by, instructions_in, instructions_of, roots_of_terms}
 use Rattle.blot_types.specs.Chains.{bust_in, current_in, is_above_links, taker_in, takes_up, version_before_in}
@@ -22,7 +14,7 @@ use Rattle.blot_types.specs.Instructions.{alloc_taker_in, ended_in}
 use Rattle.blot_types.specs.Keys.{same_alloc, same_exec}
 use Rattle.blot_types.specs.Legal.{is_above_entries, is_book, rises_in}
 use Rattle.blot_types.specs.Refusals.{alloc_key, exec_key}
-use Rattle.blot_types.specs.Standing.{chain_by}
+use Rattle.blot_types.specs.StandingVersion.{chain_by}
 use Rattle.blot_types.specs.Survivors.{link_by, link_of, links_in, links_of}
 use Rattle.blot_types.proofs.EntryLemmas.{is_above_links-links}
 use Rattle.blot_command.specs.Book.{has_number}

@@ -1,19 +1,13 @@
 -- What the live list keeps, with one slot more at its end, and with one less.
-use Rattle.std.proofs.Common.{◌≡◌, ℕ, ◌+◌, ◌-◌, ◌<◌, true, false, List, [], ◌∷◌, ◌++◌, get_or, length, reverse, Option, Some, None, refl, sym, ap, subst, ◌∙◌, arith, inl, inr}
-use Rattle.std.specs.Prelude.{not, IfSome}
-use Rattle.std.specs.Option.{option_and_then}
-use Rattle.std.proofs.lemmas.Bool.{cases_Bool, and_parts, and_from, ltb-true}
+use Rattle.std.proofs.Common.{◌≡◌, ℕ, ◌+◌, ◌-◌, ◌<◌, true, false, List, [], ◌∷◌, ◌++◌, get_or, length, reverse, Option, Some, None, refl, sym, ap, subst, ◌∙◌, arith, inl, inr, not, IfSome, option_and_then, ltb-true}
+use Rattle.std.proofs.lemmas.Bool.{cases_Bool, and_parts, and_from}
 use Rattle.std.proofs.lemmas.List.{reverse-append}
 use Rattle.blot_places.specs.declared.slots.Slot.{Slot}
 use Rattle.blot_places.specs.Shown.{Shown}
 use Rattle.blot_places.specs.Slots.{items, is_above, lifted, live, numbers_fall}
 use Rattle.blot_places.proofs.MarkLemmas.{above-both, above-side, side_here, side_on}
 use Rattle.blot_places.proofs.ShownLemmas.{falling-parts}
-use Rattle.blot_types.specs.declared.allocation.Instruction.{Instruction}
-use Rattle.blot_types.specs.declared.command.Entry.{Entry}
-use Rattle.blot_types.specs.declared.keys.ExecKey.{ExecKey}
-use Rattle.blot_types.specs.declared.link.Link.{Link}
-use Rattle.blot_types.specs.declared.refused.Refused.TheVariants.{DuplicateExec}
+use Rattle.blot_types.specs.declared.{allocation.Instruction.Instruction, command.Entry.Entry, keys.ExecKey.ExecKey, link.Link.Link, refused.Refused.TheVariants.DuplicateExec}
 use Rattle.blot_types.specs.Allocations.{instructions_of}
 use Rattle.blot_types.specs.Chains.{is_above_links, taker_in}
 use Rattle.blot_types.specs.Instructions.{is_above_instructions}

@@ -1,10 +1,8 @@
 -- The slots newest first: what the earlier ones tell of roots, whether their entries are there or not, and the instructions of the
 -- entries that were taken out.
-use Rattle.std.proofs.Common.{◌≡◌, ℕ, ◌<◌, true, false, cond, List, [], ◌∷◌, Option, Some, None, refl, sym, ap, subst, ◌∙◌, arith, inl, inr}
-use Rattle.std.specs.Prelude.{All, is_none, nat_eq, nat_lt, not, IfSome}
-use Rattle.std.specs.List.{cons_option, filter_map}
-use Rattle.std.specs.Option.{option_map}
-use Rattle.std.proofs.lemmas.Bool.{cases_Bool, and_parts, and_from, eqb-true, eq-eqb, lt-ltb, ltb-true}
+use Rattle.std.proofs.Common.{◌≡◌, ℕ, ◌<◌, true, false, cond, List, [], ◌∷◌, Option, Some, None, refl, sym, ap, subst, ◌∙◌, arith, inl, inr, All, is_none, nat_eq, nat_lt, not, IfSome, filter_map, option_map, eqb-true, eq-eqb, lt-ltb, ltb-true}
+use Rattle.std.specs.List.{cons_option}
+use Rattle.std.proofs.lemmas.Bool.{cases_Bool, and_parts, and_from}
 use Rattle.std.proofs.lemmas.List.Elements.{All-head, All-tail}
 use Rattle.blot_places.specs.declared.slots.Slot.{Slot}
 use Rattle.blot_places.specs.Shown.{item_at, with_item, with_some}
@@ -12,16 +10,9 @@ use Rattle.blot_places.specs.Slots.{items, is_above, lifted, live, mark, marked,
 use Rattle.blot_places.proofs.MarkLemmas.{above-side, items-marked, mark-same, marked-below, side_here, side_on}
 use Rattle.blot_places.proofs.ShownLemmas.{at-below, at-here, at-none, at-number, at-on, falling-parts, with_item-front}
 use Rattle.blot_types.specs.declared.allocation.AllocRole.TheVariants.{Allocates, Replaces}
-use Rattle.blot_types.specs.declared.allocation.Instruction.{Instruction}
-use Rattle.blot_types.specs.declared.allocation.Terms.{Terms}
-use Rattle.blot_types.specs.declared.command.Command.{Command}
+use Rattle.blot_types.specs.declared.{allocation.Instruction.Instruction, allocation.Terms.Terms, command.Command.Command, command.Entry.Entry, keys.ExecKey.ExecKey, link.Link.Link, link.Role.Role, refused.Refused.TheVariants.UnknownExec}
 use Rattle.blot_types.specs.declared.command.Command.TheVariants.{Trade, Correct, Bust, AllocNew, AllocReplace, AllocCancel, Withdraw}
-use Rattle.blot_types.specs.declared.command.Entry.{Entry}
-use Rattle.blot_types.specs.declared.keys.ExecKey.{ExecKey}
-use Rattle.blot_types.specs.declared.link.Link.{Link}
-use Rattle.blot_types.specs.declared.link.Role.{Role}
 use Rattle.blot_types.specs.declared.link.Role.TheVariants.{Begins, Corrects, Busts}
-use Rattle.blot_types.specs.declared.refused.Refused.TheVariants.{UnknownExec}
 use Rattle.blot_types.specs.Allocations.{instruction_by, instructions_in, roots_of_terms}
 use Rattle.blot_types.specs.Chains.{own_root, root_in, taker_in, takes_up}
 use Rattle.blot_types.specs.Instructions.{is_above_instructions}
@@ -30,7 +21,7 @@ use Rattle.blot_types.specs.Refusals.{exec_key, exec_references, listed_by}
 use Rattle.blot_types.specs.Survivors.{link_of, links_in}
 use Rattle.blot_types.proofs.AcceptLemmas.{unmapped}
 use Rattle.blot_types.proofs.AcceptOutLemmas.{accepts, listed, unfound}
-use Rattle.blot_types.proofs.ChainLemmas.{none_is}
+use Rattle.blot_types.proofs.ChainLemmas.{none_is, rootless}
 use Rattle.blot_types.proofs.KeyLemmas.{same_exec-true}
 use Rattle.blot_alloc.specs.Allocs.{instruction_at, number_of}
 use Rattle.blot_command.specs.Book.{entry_number}
@@ -38,15 +29,6 @@ use Rattle.blot_command.specs.Slots.{NewestThere, left_instructions}
 use Rattle.blot_command.proofs.LiveLemmas.{above-instructions, instruction-number}
 
 -- ---- roots
-
--- a key that nothing takes up has no root
-rootless : (links : List Link) (key : ExecKey) → taker_in links key ≡ None → root_in links key ≡ None
-rootless [] key none = refl
-rootless (link ∷ earlier) key none =
-    elim (cases_Bool (takes_up key link)) [
-      | inl here ↦ (let clash : Some link.number ≡ None = rw here at none in cc)
-      | inr other ↦ rw other (rootless earlier key (rw other at none))
-    ]
 
 -- the key of an entry that is a link
 pub exec-key : (entry : Entry) (link : Link) → link_of entry ≡ Some link → exec_key entry.command ≡ Some link.key
@@ -62,19 +44,19 @@ exec-key entry link is = by entry.number entry.command is
     by number (Withdraw withdrawn) is = cc
 
 -- what the entries that are there tell of roots, all slots tell
-abbrev Told : List (Slot Entry) → Type 0
-Told slots = (key root : ExecKey) → root_in (links_in (live slots)) key ≡ Some root → root_in (links_in (items slots)) key ≡ Some root
+abbrev TellsLeft : List (Slot Entry) → Type 0
+TellsLeft slots = (key root : ExecKey) → root_in (links_in (live slots)) key ≡ Some root → root_in (links_in (items slots)) key ≡ Some root
 
 pub root-told : (slots : List (Slot Entry)) (key root : ExecKey) → NewestThere slots → root_in (links_in (live slots)) key ≡ Some root → root_in (links_in (items slots)) key ≡ Some root
 root-told [] key root newest is = is
 root-told (slot ∷ earlier) key root newest is = by (λ k r found. root-told earlier k r newest.1 found) (link_of slot.item) refl
   where
-    own : Told earlier → (link : Link) (role : Role) → own_root (root_in (links_in (live earlier))) link.key role ≡ Some root → own_root (root_in (links_in (items earlier))) link.key role ≡ Some root
+    own : TellsLeft earlier → (link : Link) (role : Role) → own_root (root_in (links_in (live earlier))) link.key role ≡ Some root → own_root (root_in (links_in (items earlier))) link.key role ≡ Some root
     own rest link Begins found = found
     own rest link (Corrects reference) found = rest reference root found
     own rest link (Busts reference) found = cc
 
-    told : Told earlier → (link : Link) → cond (takes_up key link) (own_root (root_in (links_in (live earlier))) link.key link.role) (root_in (links_in (live earlier)) key) ≡ Some root
+    told : TellsLeft earlier → (link : Link) → cond (takes_up key link) (own_root (root_in (links_in (live earlier))) link.key link.role) (root_in (links_in (live earlier)) key) ≡ Some root
         → cond (takes_up key link) (own_root (root_in (links_in (items earlier))) link.key link.role) (root_in (links_in (items earlier)) key) ≡ Some root
     told rest link found =
         elim (cases_Bool (takes_up key link)) [
@@ -82,7 +64,7 @@ root-told (slot ∷ earlier) key root newest is = by (λ k r found. root-told ea
           | inr other ↦ rw other (rest key root (rw other at found))
         ]
 
-    gone : Told earlier → (link : Link) → link_of slot.item ≡ Some link → root_in (links_in (live earlier)) key ≡ Some root
+    gone : TellsLeft earlier → (link : Link) → link_of slot.item ≡ Some link → root_in (links_in (live earlier)) key ≡ Some root
         → cond (takes_up key link) (own_root (root_in (links_in (items earlier))) link.key link.role) (root_in (links_in (items earlier)) key) ≡ Some root
     gone rest link linked found =
         elim (cases_Bool (takes_up key link)) [
@@ -93,7 +75,7 @@ root-told (slot ∷ earlier) key root newest is = by (λ k r found. root-told ea
           | inr other ↦ rw other (rest key root found)
         ]
 
-    by : Told earlier → (found : Option Link) → link_of slot.item ≡ found → root_in (links_in (items (slot ∷ earlier))) key ≡ Some root
+    by : TellsLeft earlier → (found : Option Link) → link_of slot.item ≡ found → root_in (links_in (items (slot ∷ earlier))) key ≡ Some root
     by rest None linked =
         ap (λ l. root_in (cons_option l (links_in (items earlier))) key) linked
         ∙ elim (cases_Bool slot.is_live) [

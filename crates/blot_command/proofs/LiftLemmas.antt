@@ -1,22 +1,16 @@
 -- A book with an entry in its middle, and without it: what holds of its entries, and the fills that are shown.
-use Rattle.std.proofs.Common.{◌≡◌, ℕ, true, List, [], ◌∷◌, ◌++◌, reverse, Option, Some, None, refl, sym, ap, subst, ◌∙◌, append_assoc, inl, inr}
-use Rattle.std.specs.Prelude.{find, not, nat_eq, nat_lt, is_none, All, IfSome}
-use Rattle.std.specs.Option.{option_and_then}
-use Rattle.std.proofs.lemmas.Bool.{cases_Bool, and_parts, eqb-true}
+use Rattle.std.proofs.Common.{◌≡◌, ℕ, true, List, [], ◌∷◌, ◌++◌, reverse, Option, Some, None, refl, sym, ap, subst, ◌∙◌, append_assoc, inl, inr, find, not, nat_eq, nat_lt, is_none, All, IfSome, option_and_then, eqb-true}
+use Rattle.std.proofs.lemmas.Bool.{cases_Bool, and_parts}
 use Rattle.std.proofs.lemmas.List.{reverse-reverse, reverse-append}
 use Rattle.std.proofs.lemmas.List.Elements.{All-cons, All-head, All-tail, All-append, All-filter}
 use Rattle.blot_places.specs.Shown.{item_at, with_item}
-use Rattle.blot_types.specs.declared.command.Entry.{Entry}
-use Rattle.blot_types.specs.declared.keys.ExecKey.{ExecKey}
-use Rattle.blot_types.specs.declared.lines.Version.{Version}
-use Rattle.blot_types.specs.declared.link.Link.{Link}
+use Rattle.blot_types.specs.declared.{command.Entry.Entry, keys.ExecKey.ExecKey, lines.Version.Version, link.Link.Link}
 use Rattle.blot_types.specs.Legal.{rises_in, numbers_rise, is_legal, entry_refusal, is_book, without}
 use Rattle.blot_types.specs.Refusals.{withdrawn_by}
-use Rattle.blot_types.specs.Standing.{standing, chain_by, chain_of, stood}
+use Rattle.blot_types.specs.StandingVersion.{standing, chain_by, chain_of, stood}
 use Rattle.blot_types.specs.Survivors.{link_of, links_of, version_of}
 use Rattle.blot_types.specs.Withdrawal.{put_back_in, put_back}
 use Rattle.blot_types.proofs.AcceptLemmas.{enters}
-use Rattle.blot_types.proofs.BringLemmas.{found-All}
 use Rattle.blot_types.proofs.BustLemmas.{reverse-middle}
 use Rattle.blot_types.proofs.ChainLemmas.{none_is}
 use Rattle.blot_types.proofs.LawLemmas.{book_parts}
@@ -24,12 +18,13 @@ use Rattle.blot_types.proofs.LegalLemmas.{is_legal-front, is_legal-push}
 use Rattle.blot_types.proofs.NeedLemmas.{without-out}
 use Rattle.blot_types.proofs.StayLemmas.{filter-reverse}
 use Rattle.blot_types.proofs.SurvivorLemmas.{without as without_version}
+use Rattle.blot_types.proofs.GeneralLemmas.{all-front, all-back, found-All}
 use Rattle.blot_order.specs.Fills.{Fills}
 use Rattle.blot_command.specs.Book.{Shown, entry_number, has_number}
 use Rattle.blot_command.specs.Shown.{Shows}
 use Rattle.blot_command.specs.Withdrawing.{lifted, returned, CanReturn}
 use Rattle.blot_command.proofs.ApartLemmas.{LinkApart, link-apart, InstructionApart, instruction-apart}
-use Rattle.blot_command.proofs.EachLemmas.{all-front, all-back, each-brings, all-brought}
+use Rattle.blot_command.proofs.EachLemmas.{each-brings, all-brought}
 use Rattle.blot_command.proofs.ShowLemmas.{IsHeld, Trades, trades-back, IsTraded, traded}
 
 -- ---- around an entry

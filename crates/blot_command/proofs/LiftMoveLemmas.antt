@@ -1,25 +1,18 @@
 -- What the cells carry once an entry is taken out of the middle of the book, and once it is put back.
-use Rattle.std.proofs.Common.{◌≡◌, ℕ, ◌+◌, ◌≤◌, ◌==◌, ◌+ℤ◌, arith, true, List, [], ◌∷◌, Option, Some, None, refl, sym, ap, subst, ◌∙◌, inl, inr}
-use Rattle.std.specs.Prelude.{ℤ, ◌⊎◌, nat_le, find, IfSome, Contains}
+use Rattle.std.proofs.Common.{◌≡◌, ℕ, ◌+◌, ◌≤◌, ◌==◌, ◌+ℤ◌, arith, true, List, [], ◌∷◌, Option, Some, None, refl, sym, ap, subst, ◌∙◌, inl, inr, ℤ, ◌⊎◌, nat_le, find, IfSome, Contains, option_map, option_and_then, leb-true, ne_eqb, eq-eqb, eqb-true}
 use Rattle.std.specs.List.{cons_option}
-use Rattle.std.specs.Option.{option_map, option_and_then}
-use Rattle.std.proofs.lemmas.Bool.{cases_Bool, and_parts, leb-true, ne_eqb, eq-eqb, eqb-true, eqb-false}
+use Rattle.std.proofs.lemmas.Bool.{cases_Bool, and_parts, eqb-false}
 use Rattle.std.proofs.lemmas.Int.{ints}
 use Rattle.std.proofs.lemmas.List.Elements.{All-weaker, All-filter, All-contains_itself}
-use Rattle.blot_types.specs.declared.command.Entry.{Entry}
-use Rattle.blot_types.specs.declared.keys.AllocKey.{AllocKey}
-use Rattle.blot_types.specs.declared.keys.ExecKey.{ExecKey}
-use Rattle.blot_types.specs.declared.lines.Version.{Version}
-use Rattle.blot_types.specs.declared.link.Link.{Link}
-use Rattle.blot_types.specs.declared.part.Part.{Part}
+use Rattle.blot_types.specs.declared.{command.Entry.Entry, keys.AllocKey.AllocKey, keys.ExecKey.ExecKey, lines.Version.Version, link.Link.Link, part.Part.Part}
 use Rattle.blot_types.specs.Allocations.{live_allocations}
 use Rattle.blot_types.specs.Legal.{is_book, without as without_number}
 use Rattle.blot_types.specs.Order.{total}
 use Rattle.blot_types.specs.Position.{part_of_fill, part_of, is_named}
 use Rattle.blot_types.specs.Refusals.{alloc_reference}
-use Rattle.blot_types.specs.Standing.{standing, chain_of, stood}
+use Rattle.blot_types.specs.StandingVersion.{standing, chain_of, stood}
 use Rattle.blot_types.specs.Survivors.{link_of, links_of, versions_of, stands_in, survivors}
-use Rattle.blot_types.proofs.BringLemmas.{lines_of, found-All}
+use Rattle.blot_types.proofs.BringLemmas.{lines_of}
 use Rattle.blot_types.proofs.ChangeLemmas.{amount, total-parts}
 use Rattle.blot_types.proofs.SumLemmas.{total-cons, total-map, total-agree}
 use Rattle.blot_types.proofs.SurvivorLemmas.{without, without-none}
@@ -31,6 +24,7 @@ use Rattle.blot_command.specs.Carried.{IsReady, ShowsPositions}
 use Rattle.blot_command.specs.Withdrawing.{lifted, returned, CanReturn}
 use Rattle.blot_command.proofs.AccountLemmas.{Reads, goes-as, comes-as, LeadsTo}
 use Rattle.blot_types.proofs.ApartLemmas.{number_of}
+use Rattle.blot_types.proofs.GeneralLemmas.{found-All}
 use Rattle.blot_command.proofs.ApartLemmas.{LinkApart}
 use Rattle.blot_command.proofs.EntryMoveLemmas.{own_key, Exchanges, rest_low, LinkChanges, InstructionChanges, AreApart, link-changes}
 use Rattle.blot_command.proofs.LiftLemmas.{IsWithout, taken-out, put-in, link-without, instruction-without, chainless, same-chain, EachShown, each-lifted, each-returned}

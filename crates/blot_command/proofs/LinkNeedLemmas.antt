@@ -1,17 +1,11 @@
 -- What needs an entry of an execution: the first link that refers to it, or an allocation. For a Trade the first that lists its chain.
-use Rattle.std.proofs.Common.{◌≡◌, ℕ, ◌<◌, Bool, true, false, cond, ◌&&◌, ◌||◌, List, [], ◌∷◌, ◌++◌, Option, Some, None, refl, sym, ap, subst, ◌∙◌, inl, inr, arith}
-use Rattle.std.specs.Prelude.{find, is_none, nat_eq, nat_lt}
-use Rattle.std.specs.List.{cons_option, filter_map, list_any}
-use Rattle.std.specs.Option.{option_and_then, option_map_or, option_or}
-use Rattle.std.proofs.lemmas.Bool.{and_parts, cases_Bool, eq-eqb, lt-ltb, ne_eqb}
+use Rattle.std.proofs.Common.{◌≡◌, ℕ, ◌<◌, Bool, true, false, cond, ◌&&◌, ◌||◌, List, [], ◌∷◌, ◌++◌, Option, Some, None, refl, sym, ap, subst, ◌∙◌, inl, inr, arith, find, is_none, nat_eq, nat_lt, filter_map, option_and_then, eq-eqb, lt-ltb, ne_eqb}
+use Rattle.std.specs.List.{cons_option, list_any}
+use Rattle.std.specs.Option.{option_map_or}
+use Rattle.std.proofs.lemmas.Bool.{and_parts, cases_Bool, or_parts}
 use Rattle.std.proofs.lemmas.Option.{same_Some}
-use Rattle.blot_types.specs.declared.command.Command.{Command}
+use Rattle.blot_types.specs.declared.{command.Command.Command, command.Entry.Entry, command.Trade.Trade as TradeCommand, keys.ExecKey.ExecKey, link.Link.Link, link.Role.Role}
 use Rattle.blot_types.specs.declared.command.Command.TheVariants.{Trade, Correct, Bust, AllocNew, AllocReplace, AllocCancel, Withdraw}
-use Rattle.blot_types.specs.declared.command.Entry.{Entry}
-use Rattle.blot_types.specs.declared.command.Trade.{Trade as TradeCommand}
-use Rattle.blot_types.specs.declared.keys.ExecKey.{ExecKey}
-use Rattle.blot_types.specs.declared.link.Link.{Link}
-use Rattle.blot_types.specs.declared.link.Role.{Role}
 use Rattle.blot_types.specs.declared.link.Role.TheVariants.{Begins, Corrects, Busts}
 use Rattle.blot_types.specs.Allocations.{instruction_by, instructions_in}
 use Rattle.blot_types.specs.Chains.{first_needing_link, first_referring, is_chained, is_root, link_refusal, own_root, refers_to, root_in, taker_in, takes_up}
@@ -29,9 +23,9 @@ use Rattle.blot_types.proofs.KeyLemmas.{same_exec-refl, same_exec-sym, same_exec
 use Rattle.blot_types.proofs.LinkOutLemmas.{links-whole}
 use Rattle.blot_types.proofs.NeedLemmas.{member-below}
 use Rattle.blot_types.proofs.VersionLemmas.{as_entry, as_link, trade-needs}
-use Rattle.blot_types.proofs.AcceptLemmas.{or-false}
+use Rattle.blot_types.proofs.GeneralLemmas.{none-both, any-same}
 use Rattle.blot_alloc.proofs.NeedLemmas.{and-either}
-use Rattle.blot_command.proofs.AllocNeedLemmas.{any-mapped, any-same}
+use Rattle.blot_command.proofs.AllocNeedLemmas.{any-mapped}
 use Rattle.blot_command.proofs.FirstEntryLemmas.{IsTest, after, first_in, in-either, instruction_after, instructions-above, links-above, needed-by, needed-in}
 
 -- ---- the link of an entry among those of all
@@ -75,11 +69,6 @@ first-of_either k front l later test is rise =
 
 -- ---- a Trade: before another link refers to it, its chain has no other key
 
-none-both : (found : Option ℕ) (b : Bool) (n : ℕ) → option_or found (cond b (Some n) None) ≡ None → (found ≡ None) × (b ≡ false)
-none-both (Some m) b n none = cc
-none-both None true n none = cc
-none-both None false n none = (refl, refl)
-
 -- no entry of these refers to the key
 abbrev NoneRefer : ExecKey → List Entry → List Entry → Type 0
 NoneRefer key [] base = Unit {0}
@@ -95,7 +84,7 @@ none-refer k front key test (entry ∷ later) rise none =
     let parts = none-both (first_in (after k (λ before entry. referring key entry || test before entry)) all) (nat_lt k.number entry.number && (referring key entry || test all entry)) entry.number none in
     let over : nat_lt k.number entry.number ≡ true = lt-ltb _ _ (member-below entry.number later front k rises.0) in
     let fails : (referring key entry || test all entry) ≡ false = sym (ap (λ b. b && (referring key entry || test all entry)) over) ∙ parts.1 in
-    ((or-false (referring key entry) (test all entry) fails).0, none-refer k front key test later rises.1 parts.0)
+    ((or_parts (referring key entry) (test all entry) fails).0, none-refer k front key test later rises.1 parts.0)
 
 -- the key of the entry isn't that of one that comes later
 key-apart :

@@ -1,14 +1,12 @@
 -- The first allocation that needs a Correct, found from one that names its chain to the next.
-use Rattle.std.proofs.Common.{◌≡◌, ℕ, ◌<◌, Bool, true, false, ◌&&◌, ◌||◌, List, [], ◌∷◌, Some, None, sym, ap, subst, ◌∙◌}
-use Rattle.std.specs.Prelude.{All, nat_lt}
-use Rattle.std.proofs.lemmas.Bool.{and_from, and_parts, ltb-true}
+use Rattle.std.proofs.Common.{◌≡◌, ℕ, ◌<◌, Bool, true, false, ◌&&◌, ◌||◌, List, [], ◌∷◌, Some, None, sym, ap, subst, ◌∙◌, All, nat_lt, ltb-true}
+use Rattle.std.proofs.lemmas.Bool.{and_from, and_parts}
 use Rattle.std.proofs.lemmas.List.Elements.{All-cons, All-nil}
-use Rattle.blot_types.specs.declared.allocation.Instruction.{Instruction}
-use Rattle.blot_types.specs.declared.command.Entry.{Entry}
-use Rattle.blot_types.specs.declared.keys.ExecKey.{ExecKey}
+use Rattle.blot_types.specs.declared.{allocation.Instruction.Instruction, command.Entry.Entry, keys.ExecKey.ExecKey}
 use Rattle.blot_types.specs.Instructions.{first_naming, names}
+use Rattle.blot_types.proofs.GeneralLemmas.{and-false}
 use Rattle.blot_places.specs.Slots.{numbers_fall}
-use Rattle.blot_places.proofs.FirstLemmas.{first-next, first-passes, first-stronger, none-and, nothing-stronger}
+use Rattle.blot_places.proofs.FirstLemmas.{first-next, first-passes, first-stronger, nothing-stronger}
 use Rattle.blot_alloc.specs.Allocs.{number_of}
 use Rattle.blot_command.specs.Blocking.{first_listing, lists_at, needs_correct}
 
@@ -37,7 +35,7 @@ module _ (entries : List Entry) (key root : ExecKey) (until : ℕ) (instructions
   uncounted n other [] = All-nil (λ i. number_of i ≡ n → needs_correct entries key root until i ≡ false)
   uncounted n other (i ∷ others) =
       All-cons (λ i. number_of i ≡ n → needs_correct entries key root until i ≡ false) i others
-      (λ its. ap (λ b. names root i && b) (ap counts its ∙ other) ∙ none-and (names root i)) (uncounted n other others)
+      (λ its. ap (λ b. names root i && b) (ap counts its ∙ other) ∙ and-false (names root i)) (uncounted n other others)
 
   -- else what needs it comes after that
   pub listing-next :

@@ -1,17 +1,11 @@
 -- The live list: what names a chain, and the list with and without its last entry.
-use Rattle.std.proofs.Common.{◌≡◌, ℕ, ◌≤◌, ◌+◌, true, ◌&&◌, List, [], ◌∷◌, ◌++◌, reverse, Option, Some, None, refl, sym, ap, subst, ◌∙◌, arith, inl, inr}
-use Rattle.std.specs.Prelude.{Bool, false, find, is_none, is_some, nat_lt, IfSome}
+use Rattle.std.proofs.Common.{◌≡◌, ℕ, ◌≤◌, ◌+◌, true, ◌&&◌, List, [], ◌∷◌, ◌++◌, reverse, Option, Some, None, refl, sym, ap, subst, ◌∙◌, arith, inl, inr, Bool, false, find, is_none, is_some, nat_lt, IfSome, ltb-true}
 use Rattle.std.specs.List.{cons_option, list_any}
-use Rattle.std.specs.Option.{option_map, option_map_or}
-use Rattle.std.proofs.lemmas.Bool.{cases_Bool, and_from, and_parts, ltb-true}
+use Rattle.std.specs.Option.{option_map_or}
+use Rattle.std.proofs.lemmas.Bool.{cases_Bool, and_from, and_parts}
 use Rattle.std.proofs.lemmas.List.{reverse-append}
-use Rattle.blot_types.specs.declared.allocation.Instruction.{Instruction}
-use Rattle.blot_types.specs.declared.command.Command.{Command}
+use Rattle.blot_types.specs.declared.{allocation.Instruction.Instruction, command.Command.Command, command.Entry.Entry, keys.ExecKey.ExecKey, link.Link.Link, TheConstants.EVENTS_MAX}
 use Rattle.blot_types.specs.declared.command.Command.TheVariants.{Trade, Correct, Bust, AllocNew, AllocReplace, AllocCancel, Withdraw}
-use Rattle.blot_types.specs.declared.command.Entry.{Entry}
-use Rattle.blot_types.specs.declared.keys.ExecKey.{ExecKey}
-use Rattle.blot_types.specs.declared.link.Link.{Link}
-use Rattle.blot_types.specs.declared.TheConstants.{EVENTS_MAX}
 use Rattle.blot_types.specs.Allocations.{instruction_by, instructions_in, instructions_of}
 use Rattle.blot_types.specs.Chains.{root_in, is_above_links}
 use Rattle.blot_types.specs.Instructions.{holds_in, holder_in, named_in, is_above_instructions}
@@ -24,7 +18,9 @@ use Rattle.blot_types.proofs.ChainLemmas.{none_is}
 use Rattle.blot_types.proofs.ChangeLemmas.{named-held}
 use Rattle.blot_types.proofs.LegalLemmas.{is_legal-push, numbers_rise-push, is_book-front}
 use Rattle.blot_types.proofs.EntryLemmas.{link-number, refusal-link, links_of-push, is_above_links-links}
+use Rattle.blot_types.proofs.GeneralLemmas.{some-mapped}
 use Rattle.blot_command.specs.Linking.{CanLinkNext, CanInstructNext, CanLink, IsLinkedLast, with_instruction, with_link, without_link, without_instruction}
+use Rattle.blot_command.proofs.FirstEntryLemmas.{instruction-number as numbered_instruction}
 
 -- ---- one entry more, and one less
 
@@ -63,20 +59,6 @@ next-entry list entry book =
     }
 
 -- ---- the next entry as the link or the instruction that it is
-
-abbrev instruction_number : Option Instruction → ℕ
-instruction_number None = 0
-instruction_number (Some instruction) = instruction.number
-
-numbered_instruction :
-    (links : List Link) (number : ℕ) (command : Command) (i : Instruction) → instruction_by links number command ≡ Some i → i.number ≡ number
-numbered_instruction links number (Trade trade) i is = cc
-numbered_instruction links number (Correct correct) i is = cc
-numbered_instruction links number (Bust bust) i is = cc
-numbered_instruction links number (AllocNew new) i is = ap instruction_number (sym is)
-numbered_instruction links number (AllocReplace replace) i is = ap instruction_number (sym is)
-numbered_instruction links number (AllocCancel cancel) i is = ap instruction_number (sym is)
-numbered_instruction links number (Withdraw withdrawn) i is = cc
 
 -- an instruction bears the number of its entry
 pub instruction-number :
@@ -195,10 +177,6 @@ any-found p (x ∷ xs) =
       | inl passes ↦ rw passes refl
       | inr fails ↦ rw fails (any-found p xs)
     ]
-
-some-mapped : {X Y : Type 0} (f : X → Y) (found : Option X) → is_some (option_map f found) ≡ is_some found
-some-mapped f None = refl
-some-mapped f (Some x) = refl
 
 -- the chain of a root is named where a live allocation holds it
 pub named-holder : (instructions : List Instruction) (root : ExecKey) → is_some (holder_in instructions root) ≡ is_among (named_in instructions) root

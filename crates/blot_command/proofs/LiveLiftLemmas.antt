@@ -1,20 +1,15 @@
 -- What the live list keeps as the code takes an entry out, and puts it back.
-use Rattle.std.proofs.Common.{◌≡◌, ℕ, ◌<◌, Bool, true, false, ◌&&◌, List, [], ◌∷◌, reverse, Option, Some, None, refl, sym, ap, subst, ◌∙◌, arith, inl, inr}
-use Rattle.std.specs.Prelude.{find, nat_eq, nat_lt, not, IfSome}
+use Rattle.std.proofs.Common.{◌≡◌, ℕ, ◌<◌, Bool, true, false, ◌&&◌, List, [], ◌∷◌, reverse, Option, Some, None, refl, sym, ap, subst, ◌∙◌, arith, inl, inr, find, nat_eq, nat_lt, not, IfSome, option_and_then, eqb-true, eq-eqb, le-ltb, ltb-true}
 use Rattle.std.specs.List.{list_all}
-use Rattle.std.specs.Option.{option_and_then, option_map_or}
-use Rattle.std.proofs.lemmas.Bool.{cases_Bool, and_parts, and_from, eqb-true, eq-eqb, le-ltb, ltb-true}
+use Rattle.std.specs.Option.{option_map_or}
+use Rattle.std.proofs.lemmas.Bool.{cases_Bool, and_parts, and_from}
 use Rattle.blot_places.specs.declared.slots.Slot.{Slot}
 use Rattle.blot_places.specs.Shown.{Shown, item_at, with_item}
 use Rattle.blot_places.specs.Slots.{items, is_above, lifted, live, marked, numbers_fall}
 use Rattle.blot_places.proofs.MarkLemmas.{above-side, falling-side, items-marked, reverse-marked, side_here, side_on}
 use Rattle.blot_places.proofs.ShownLemmas.{none-at, at-on, falling-parts, with_item-here, with_item-on}
-use Rattle.blot_types.specs.declared.allocation.Instruction.{Instruction}
-use Rattle.blot_types.specs.declared.command.Command.{Command}
+use Rattle.blot_types.specs.declared.{allocation.Instruction.Instruction, command.Command.Command, command.Entry.Entry, keys.ExecKey.ExecKey, link.Link.Link}
 use Rattle.blot_types.specs.declared.command.Command.TheVariants.{Trade, Correct, Bust, AllocNew, AllocReplace, AllocCancel, Withdraw}
-use Rattle.blot_types.specs.declared.command.Entry.{Entry}
-use Rattle.blot_types.specs.declared.keys.ExecKey.{ExecKey}
-use Rattle.blot_types.specs.declared.link.Link.{Link}
 use Rattle.blot_types.specs.Chains.{taker_in, takes_up}
 use Rattle.blot_types.specs.Keys.{same_exec}
 use Rattle.blot_types.specs.Legal.{is_book, without}
@@ -23,8 +18,8 @@ use Rattle.blot_types.specs.Survivors.{link_of, links_in}
 use Rattle.blot_types.proofs.ChainLemmas.{differing}
 use Rattle.blot_types.proofs.KeyLemmas.{same_exec-sym}
 use Rattle.blot_types.proofs.LawLemmas.{book_parts}
-use Rattle.blot_types.proofs.StandLemmas.{and-false}
 use Rattle.blot_types.proofs.WithdrawLemmas.{put-back}
+use Rattle.blot_types.proofs.GeneralLemmas.{and-false}
 use Rattle.blot_chain.specs.Steps.{link_at, number_of as link_number}
 use Rattle.blot_command.specs.Book.{Shown as SeenBook, entry_number, has_number}
 use Rattle.blot_command.specs.Linking.{CanLift, CanUnLift, HoldsLive, lifted_allocs, lifted_chains, returned_allocs, returned_chains}

@@ -1,29 +1,21 @@
 -- An allocation's changes to what the cells carry, as it comes and as it goes.
-use Rattle.std.proofs.Common.{◌≡◌, ℕ, ◌+◌, ◌*◌, ◌^◌, ◌≤◌, ◌+ℤ◌, arith, Bool, true, false, ◌&&◌, List, [], ◌∷◌, ◌++◌, length, Option, Some, None, refl, sym, ap, subst, ◌∙◌}
-use Rattle.std.specs.Prelude.{ℤ, ◌||◌, not, All}
-use Rattle.std.specs.List.{flat_map}
-use Rattle.std.specs.Option.{option_map}
+use Rattle.std.proofs.Common.{◌≡◌, ℕ, ◌+◌, ◌*◌, ◌^◌, ◌≤◌, ◌+ℤ◌, arith, Bool, true, false, ◌&&◌, List, [], ◌∷◌, ◌++◌, length, Option, Some, None, refl, sym, ap, subst, ◌∙◌, ℤ, ◌||◌, not, All, flat_map, option_map}
 use Rattle.std.proofs.lemmas.Int.{ints}
 use Rattle.std.proofs.lemmas.List.Elements.{All-nil, All-cons, All-head, All-tail, All-weaker}
-use Rattle.blot_types.specs.declared.allocation.Line.{Line}
-use Rattle.blot_types.specs.declared.allocation.Terms.{Terms}
-use Rattle.blot_types.specs.declared.command.Entry.{Entry}
-use Rattle.blot_types.specs.declared.keys.AllocKey.{AllocKey}
-use Rattle.blot_types.specs.declared.keys.ExecKey.{ExecKey}
-use Rattle.blot_types.specs.declared.part.Part.{Part}
-use Rattle.blot_types.specs.declared.TheConstants.{EVENTS_MAX}
+use Rattle.std.proofs.lemmas.Bool.{or_left}
+use Rattle.blot_types.specs.declared.{allocation.Line.Line, allocation.Terms.Terms, command.Entry.Entry, keys.AllocKey.AllocKey, keys.ExecKey.ExecKey, part.Part.Part, TheConstants.EVENTS_MAX}
 use Rattle.blot_types.specs.Allocations.{Allocation}
 use Rattle.blot_types.specs.Bounds.{BOOK_PARTS, BOOK_QTY}
 use Rattle.blot_types.specs.Keys.{is_among}
 use Rattle.blot_types.specs.Order.{total}
 use Rattle.blot_types.specs.Position.{house, moves_of, moves_of_line, part_of_line, from_house, FillFits, IsSmall}
 use Rattle.blot_types.specs.Survivors.{links_of, survivors}
-use Rattle.blot_types.proofs.BringLemmas.{lines_of, BringsIf, each-root, among-root, found-All}
+use Rattle.blot_types.proofs.BringLemmas.{lines_of, BringsIf, each-root, among-root}
 use Rattle.blot_types.proofs.ChangeLemmas.{allocations_in}
 use Rattle.blot_types.proofs.LiveLemmas.{has_alloc_key}
 use Rattle.blot_types.proofs.PartLemmas.{parts_under}
-use Rattle.blot_types.proofs.StandLemmas.{and-true}
 use Rattle.blot_types.proofs.SumLemmas.{total-cons}
+use Rattle.blot_types.proofs.GeneralLemmas.{and-true, found-All}
 use Rattle.blot_position.specs.Positions.{Cells, has_cell}
 use Rattle.blot_command.specs.Booking.{Change, changed_all, moved_in, lines_put, lines_taken, chains_to_house, chains_from_house, allocated, allocated_by, released, released_by}
 use Rattle.blot_position.specs.Carried.{Carries}
@@ -136,10 +128,6 @@ stocked-stays list changes cells stocked = record {
 
 -- ---- an allocation goes
 
-or-true : (a b : Bool) → a ≡ true → (a || b) ≡ true
-or-true true b is = refl
-or-true false b is = cc
-
 without-free : (a b : Bool) → (a ≡ true → b ≡ false) → ((a || b) && not a) ≡ b
 without-free true b free = sym (free refl)
 without-free false b free = and-true b
@@ -185,7 +173,7 @@ goes list cells (Some key) fewer more few many stocked brings little large carri
     (light_few more).some own.small enough in
     let between = changed_all (lines_taken terms terms.lines) cells in
     let free : (root : ExecKey) → is_among roots root ≡ true → fewer root ≡ false = λ root among. among-root fewer false roots root brings.free among in
-    let held : All (λ root. more root ≡ true) roots = each-root more true roots (λ root among. brings.named root ∙ or-true (is_among roots root) (fewer root) among) in
+    let held : All (λ root. more root ≡ true) roots = each-root more true roots (λ root among. brings.named root ∙ or_left (is_among roots root) (fewer root) among) in
     let second =
     reach-home list roots between BOOK_PARTS BOOK_QTY more (moves_whole few) (booked-stays list (lines_taken terms terms.lines) cells stocked.booked) held brings.apart first.carried light_few
     (lines_low few little.booked) (light_enough 2 (2 * 10 ^ 16) (omega arith) (omega arith)) in

@@ -1,14 +1,14 @@
 -- The last entry of the live list is that of the last slot whose entry is there.
-use Rattle.std.proofs.Common.{◌≡◌, ℕ, Bool, List, [], ◌∷◌, reverse, Option, Some, None, refl, sym, ap, ◌∙◌, inl, inr}
-use Rattle.std.specs.Prelude.{find}
+use Rattle.std.proofs.Common.{◌≡◌, ℕ, Bool, List, [], ◌∷◌, reverse, Option, Some, None, refl, sym, ap, ◌∙◌, inl, inr, find, option_map}
 use Rattle.std.specs.List.{last_or}
-use Rattle.std.specs.Option.{option_map, option_or}
+use Rattle.std.specs.Option.{option_or}
 use Rattle.std.proofs.lemmas.Bool.{cases_Bool}
 use Rattle.std.proofs.lemmas.List.{reverse-append}
 use Rattle.std.proofs.lemmas.List.Folds.{find-append}
 use Rattle.blot_places.specs.declared.slots.Slot.{Slot}
 use Rattle.blot_places.proofs.SlotLemmas.{find_here, find_on, live_here, live_on}
 use Rattle.blot_types.specs.declared.command.Entry.{Entry}
+use Rattle.blot_types.proofs.GeneralLemmas.{or-none}
 use Rattle.blot_command.specs.Book.{entry_number}
 use Rattle.blot_command.specs.Slots.{entries_in}
 
@@ -35,10 +35,6 @@ last-first entry (first ∷ entries) = first-of entries first
     first-of [] first = refl
     first-of (next ∷ entries) first = first-of entries next
 
-none-more : (number : Option ℕ) → option_or number None ≡ number
-none-more None = refl
-none-more (Some number) = refl
-
 map-either : (a b : Option (Slot Entry)) → option_map slot_number (option_or a b) ≡ option_or (option_map slot_number a) (option_map slot_number b)
 map-either None b = refl
 map-either (Some slot) b = refl
@@ -59,5 +55,5 @@ last-there (slot ∷ later) = elim (cases_Bool slot.is_live) [
       ∙ ap (last_number None) (sym (live_here slot later there))
   | inr out ↦
       there-first slot later ∙ ap (λ found. option_or (last_there later) (option_map slot_number found)) (find_on is_there slot [] out)
-      ∙ none-more (last_there later) ∙ last-there later ∙ ap (last_number None) (sym (live_on slot later out))
+      ∙ or-none (last_there later) ∙ last-there later ∙ ap (last_number None) (sym (live_on slot later out))
 ]

@@ -1,19 +1,15 @@
 -- Of the slots of one execution none but the newest has its entry there: so it stays when an entry is taken out, and when it is put back.
-use Rattle.std.proofs.Common.{◌≡◌, ℕ, Bool, true, false, ◌&&◌, List, [], ◌∷◌, Option, Some, None, refl, sym, ap, subst, ◌∙◌, inl, inr}
-use Rattle.std.specs.Prelude.{find, is_none, nat_eq, nat_lt, not, IfSome}
+use Rattle.std.proofs.Common.{◌≡◌, ℕ, true, false, ◌&&◌, List, [], ◌∷◌, Option, Some, None, refl, sym, ap, subst, ◌∙◌, inl, inr, find, is_none, nat_eq, nat_lt, not, IfSome, option_map, eqb-true}
 use Rattle.std.specs.List.{cons_option, list_all}
-use Rattle.std.specs.Option.{option_map, option_map_or}
-use Rattle.std.proofs.lemmas.Bool.{cases_Bool, and_parts, eqb-true}
+use Rattle.std.specs.Option.{option_map_or}
+use Rattle.std.proofs.lemmas.Bool.{cases_Bool, and_parts}
 use Rattle.blot_places.specs.declared.slots.Slot.{Slot}
 use Rattle.blot_places.specs.Shown.{item_at, with_item, with_some}
 use Rattle.blot_places.specs.Slots.{items, is_above, lifted, live, mark, marked, numbers_fall}
 use Rattle.blot_places.proofs.MarkLemmas.{above-side, at-apart, falling-side, mark-item, mark-same, marked-below, marked-into, marked-out, side_here, side_on}
 use Rattle.blot_places.proofs.ShownLemmas.{at-number, none-with_some, none-without, at-on, falling-parts}
-use Rattle.blot_types.specs.declared.command.Command.{Command}
+use Rattle.blot_types.specs.declared.{command.Command.Command, command.Entry.Entry, keys.ExecKey.ExecKey, link.Link.Link}
 use Rattle.blot_types.specs.declared.command.Command.TheVariants.{Trade, Correct, Bust, AllocNew, AllocReplace, AllocCancel, Withdraw}
-use Rattle.blot_types.specs.declared.command.Entry.{Entry}
-use Rattle.blot_types.specs.declared.keys.ExecKey.{ExecKey}
-use Rattle.blot_types.specs.declared.link.Link.{Link}
 use Rattle.blot_types.specs.Chains.{is_chained, link_refusal, taker_in, takes_up}
 use Rattle.blot_types.specs.Keys.{same_exec}
 use Rattle.blot_types.specs.Refusals.{exec_key}
@@ -21,6 +17,7 @@ use Rattle.blot_types.specs.Survivors.{link_of, links_in}
 use Rattle.blot_types.proofs.AcceptLemmas.{unmapped}
 use Rattle.blot_types.proofs.ChainLemmas.{accepted_key, none_is}
 use Rattle.blot_types.proofs.KeyLemmas.{same_exec-sym}
+use Rattle.blot_types.proofs.GeneralLemmas.{and-not}
 use Rattle.blot_chain.specs.Steps.{number_of as link_number}
 use Rattle.blot_command.specs.Book.{entry_number}
 use Rattle.blot_command.specs.Withdrawing.{shares_exec}
@@ -51,11 +48,6 @@ newest-taken (slot ∷ earlier) n newest = (
 -- an entry that is put back shares no execution with one that was taken out later
 abbrev pub Untaken : Entry → List Entry → Type 0
 Untaken entry entries = list_all (λ other. not (nat_lt entry.number other.number && shares_exec entry other)) entries ≡ true
-
-not-shared : (less shares : Bool) → less ≡ true → not (less && shares) ≡ true → shares ≡ false
-not-shared true true is apart = cc
-not-shared true false is apart = refl
-not-shared false shares is apart = cc
 
 -- the link of an entry takes up no execution that the entry doesn't share
 unshared : (entry other : Entry) (key : ExecKey) (link : Link) → exec_key other.command ≡ Some key → shares_exec entry other ≡ false → link_of entry ≡ Some link → takes_up key link ≡ false
@@ -119,7 +111,7 @@ newest-put (slot ∷ earlier) entry fall left untaken chained newest =
                 let untakens : (not (nat_lt n slot.item.number && shares_exec entry slot.item) ≡ true) × Untaken entry (lifted earlier) =
                 and_parts _ _ (ap (list_all (λ (o : Entry). not (nat_lt n o.number && shares_exec entry o))) (sym lifts) ∙ untaken) in
                 let less : nat_lt n slot.item.number ≡ true = at-number entry_number n slot.item.number (lifted earlier) entry (above-side entry_number slot.item.number false earlier falling.0) left_on in
-                let apart : shares_exec entry slot.item ≡ false = not-shared _ _ less untakens.0 in
+                let apart : shares_exec entry slot.item ≡ false = and-not _ _ less untakens.0 in
                 let chains : is_chained (links_in (live (marked entry_number n true earlier))) ≡ true =
                 ap (λ entries. is_chained (links_in entries)) (sym (ap (λ (s : Slot Entry). live (s ∷ marked entry_number n true earlier)) same ∙ side_on true slot (marked entry_number n true earlier) taken)) ∙ chained in
                 let into : live (marked entry_number n true earlier) ≡ with_item entry_number entry (live earlier) =

@@ -1,13 +1,8 @@
 -- Cells that are made: no sums change, no cell is lost, and the house account has one in each symbol.
-use Rattle.std.proofs.Common.{◌≡◌, ℕ, ◌+◌, ◌^◌, ◌<◌, ◌≤◌, true, false, List, [], ◌∷◌, ◌++◌, length, take, get_or, Ok, Err, refl, sym, ap, subst, ◌∙◌}
-use Rattle.std.specs.Prelude.{All, Result, OnOk, OnErr}
-use Rattle.std.proofs.lemmas.List.{take_more, take_all}
+use Rattle.std.proofs.Common.{◌≡◌, ℕ, ◌+◌, ◌^◌, ◌<◌, ◌≤◌, true, false, List, [], ◌∷◌, ◌++◌, length, take, get_or, Ok, Err, refl, sym, ap, subst, ◌∙◌, All, Result, OnOk, OnErr, take_all}
+use Rattle.std.proofs.lemmas.List.{take_more}
 use Rattle.std.proofs.lemmas.List.Elements.{All-push, All-weaker}
-use Rattle.blot_types.specs.declared.allocation.Line.{Line}
-use Rattle.blot_types.specs.declared.allocation.Terms.{Terms}
-use Rattle.blot_types.specs.declared.fill.Fill.{Fill}
-use Rattle.blot_types.specs.declared.part.Part.{Part}
-use Rattle.blot_types.specs.declared.TheConstants.{ITEMS_MAX}
+use Rattle.blot_types.specs.declared.{allocation.Line.Line, allocation.Terms.Terms, fill.Fill.Fill, part.Part.Part, TheConstants.ITEMS_MAX}
 use Rattle.blot_types.specs.Position.{house, part_of_fill, part_of_line, IsSmall, TermsFit}
 use Rattle.blot_position.specs.Positions.{Cells, has_cell, with_cell}
 use Rattle.blot_position.proofs.PositionLemmas.{sums_at-with_cell, has_cell-with_cell, has_cell-stays_with_cell, has_cell-own_with_cell}
@@ -66,14 +61,11 @@ house-made account s old new at is = subst (λ a. has_cell new a s ≡ true) at 
 
 -- they are there
 pub fill-there :
-    (fill : Fill) (part : Part) (old new : Cells) → part ≡ part_of_fill false fill → new ≡ old → has_cell old part.account part.symbol ≡ true → IsHoused old → HasFillCells new fill
-fill-there fill part old new is same has housed =
-    let own : has_cell new part.account part.symbol ≡ true = ap (λ cells. has_cell cells part.account part.symbol) same ∙ has in
-    let in_house : has_cell new house part.symbol ≡ true = ap (λ cells. has_cell cells house part.symbol) same ∙ housed part.account part.symbol has in
-    record {
-      own = subst (λ (p : Part). has_cell new p.account p.symbol ≡ true) is own;
-      housed = subst (λ (p : Part). has_cell new house p.symbol ≡ true) is in_house;
-    }
+    (fill : Fill) (part : Part) (cells : Cells) → part ≡ part_of_fill false fill → has_cell cells part.account part.symbol ≡ true → IsHoused cells → HasFillCells cells fill
+fill-there fill part cells is has housed = record {
+  own = subst (λ (p : Part). has_cell cells p.account p.symbol ≡ true) is has;
+  housed = subst (λ (p : Part). has_cell cells house p.symbol ≡ true) is (housed part.account part.symbol has);
+}
 
 -- or they are made
 pub fill-opens :

@@ -1,12 +1,9 @@
 -- The line of a position is that of the sums that its cell holds.
-use Rattle.std.proofs.Common.{◌≡◌, ℕ, ◌==◌, pos, arith, false, List, [], ◌∷◌, length, Some, refl, sym, ap, subst, ◌∙◌}
-use Rattle.std.specs.Prelude.{filter}
-use Rattle.std.proofs.lemmas.Bool.{ne_eqb, eq-eqb}
+use Rattle.std.proofs.Common.{◌≡◌, ℕ, ◌==◌, pos, arith, false, List, [], ◌∷◌, length, Some, refl, sym, ap, subst, ◌∙◌, filter, ne_eqb, eq-eqb}
 use Rattle.std.proofs.lemmas.Int.{ints}
 use Rattle.std.proofs.lemmas.List.Elements.{All-nil}
 use Rattle.std.specs.FinMap as finite
-use Rattle.blot_types.specs.declared.part.Part.{Part}
-use Rattle.blot_types.specs.declared.lines.Version.{Version}
+use Rattle.blot_types.specs.declared.{part.Part.Part, lines.Version.Version}
 use Rattle.blot_types.specs.Allocations.{Allocation}
 use Rattle.blot_types.specs.Order.{total}
 use Rattle.blot_types.specs.Position.{is_at, position_by, position_of, parts_of, FillFits, TermsFit}

@@ -1,19 +1,15 @@
 -- What the live list keeps, once an entry is put back at its place.
-use Rattle.std.proofs.Common.{◌≡◌, ℕ, Bool, true, false, ◌&&◌, cond, List, [], ◌∷◌, reverse, Option, Some, None, ◌⊎◌, refl, sym, ap, subst, ◌∙◌, inl, inr}
-use Rattle.std.specs.Prelude.{Contains, find, is_some, nat_eq, nat_lt, not, if◌then◌else◌}
+use Rattle.std.proofs.Common.{◌≡◌, ℕ, Bool, true, false, ◌&&◌, cond, List, [], ◌∷◌, reverse, Option, Some, None, ◌⊎◌, refl, sym, ap, subst, ◌∙◌, inl, inr, Contains, find, is_some, nat_eq, nat_lt, not, if◌then◌else◌, option_and_then, eq-eqb}
 use Rattle.std.specs.List.{cons_option}
-use Rattle.std.specs.Option.{option_and_then, option_map_or}
-use Rattle.std.proofs.lemmas.Bool.{cases_Bool, and_parts, and_from, eq-eqb}
+use Rattle.std.specs.Option.{option_map_or}
+use Rattle.std.proofs.lemmas.Bool.{cases_Bool, and_parts, and_from}
 use Rattle.std.proofs.lemmas.List.{reverse-reverse}
 use Rattle.blot_places.specs.declared.slots.Slot.{Slot}
 use Rattle.blot_places.specs.Shown.{Shown, item_at, with_item, with_some}
 use Rattle.blot_places.specs.Slots.{items, live, mark, marked, numbers_fall}
 use Rattle.blot_places.proofs.MarkLemmas.{at-apart, falling-side, items-marked, mark-same, marked-into, reverse-marked, side_here, side_on}
 use Rattle.blot_places.proofs.ShownLemmas.{at-here, at-on, put_back-lifted, at-lifted}
-use Rattle.blot_types.specs.declared.allocation.Instruction.{Instruction}
-use Rattle.blot_types.specs.declared.command.Entry.{Entry}
-use Rattle.blot_types.specs.declared.keys.ExecKey.{ExecKey}
-use Rattle.blot_types.specs.declared.link.Link.{Link}
+use Rattle.blot_types.specs.declared.{allocation.Instruction.Instruction, command.Entry.Entry, keys.ExecKey.ExecKey, link.Link.Link}
 use Rattle.blot_types.specs.Chains.{is_chained}
 use Rattle.blot_types.specs.Instructions.{is_instructed}
 use Rattle.blot_types.specs.Keys.{same_exec}
@@ -24,6 +20,7 @@ use Rattle.blot_types.proofs.AcceptLemmas.{instructed}
 use Rattle.blot_types.proofs.ChainLemmas.{differing}
 use Rattle.blot_types.proofs.EntryLemmas.{chained-links, falls-links}
 use Rattle.blot_types.proofs.LawLemmas.{book_parts}
+use Rattle.blot_types.proofs.GeneralLemmas.{found-contains}
 use Rattle.blot_alloc.specs.Allocs.{instruction_at, lifted_out as lifted_instruction, number_of as instruction_of_number, put_back as put_back_instruction}
 use Rattle.blot_chain.specs.Steps.{is_untaken_above, lifted_out as lifted_link, number_of as link_number, put_back as put_back_link}
 use Rattle.blot_command.specs.Book.{entry_number, has_number}
@@ -31,7 +28,7 @@ use Rattle.blot_command.specs.Linking.{CanUnLift, is_instruction, is_link, lifte
 use Rattle.blot_command.specs.Withdrawing.{shares_exec}
 use Rattle.blot_command.specs.Slots.{AreNumbered, NewestThere, entries_in, left_in}
 use Rattle.blot_command.proofs.LeftLemmas.{exec-key}
-use Rattle.blot_command.proofs.WithinLemmas.{at-with_own, cons_cases, found_within, none_within, within_turned}
+use Rattle.blot_command.proofs.WithinLemmas.{at-with_own, cons_cases, none_within, within_turned}
 use Rattle.blot_command.proofs.TurnLemmas.{at-own, at-turned, list-put, list-taken, live-turned}
 use Rattle.blot_command.proofs.HoldLemmas.{allocs_of, at-links, chains_of, falls-instructions, falls-link-numbers, its-number}
 use Rattle.blot_command.proofs.TakeOutLemmas.{IsTaken, taken}
@@ -130,7 +127,7 @@ module _ (slots : List (Slot Entry)) (entry : Entry) (numbered : AreNumbered slo
       let at : item_at entry_number entry.number (live (reverse with_it)) ≡ Some entry =
       ap (item_at entry_number entry.number) into ∙ at-with_own entry_number entry.number entry (live (reverse slots)) (eq-eqb entry.number entry.number refl) in
       subst (λ l. Contains l entry) (ap reverse (live-turned with_it) ∙ reverse-reverse (entries_in with_it))
-      (within_turned (live (reverse with_it)) entry (found_within (λ item. nat_eq (entry_number item) entry.number) (live (reverse with_it)) entry at))
+      (within_turned (live (reverse with_it)) entry (found-contains (λ item. nat_eq (entry_number item) entry.number) (live (reverse with_it)) entry at))
 
   found_with : find (has_number entry.number) (entries_in with_it) ≡ Some entry
   found_with = by (find (has_number entry.number) (entries_in with_it)) refl

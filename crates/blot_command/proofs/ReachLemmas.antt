@@ -1,6 +1,5 @@
 -- The cells after lists of changes.
-use Rattle.std.proofs.Common.{◌≡◌, ℕ, ◌+◌, ◌≤◌, pos, ◌+ℤ◌, ◌≤ℤ◌, arith, Bool, true, false, List, [], ◌∷◌, ◌++◌, length, map, sym, subst, add-zero}
-use Rattle.std.specs.Prelude.{unsigned_abs, All, if◌then◌else◌}
+use Rattle.std.proofs.Common.{◌≡◌, ℕ, ◌+◌, ◌≤◌, pos, ◌+ℤ◌, ◌≤ℤ◌, arith, Bool, true, false, List, [], ◌∷◌, ◌++◌, length, map, sym, subst, add-zero, unsigned_abs, All, if◌then◌else◌}
 use Rattle.std.proofs.lemmas.Int.{ints}
 use Rattle.std.proofs.lemmas.List.Elements.{All-head, All-tail, All-weaker}
 use Rattle.blot_types.specs.declared.part.Part.{Part}

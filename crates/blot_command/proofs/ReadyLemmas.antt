@@ -1,16 +1,10 @@
 -- What a list keeps of the cells: how few its entries are, the cells that they need, and what these carry for all of them.
-use Rattle.std.proofs.Common.{◌≡◌, ℕ, ◌+◌, ◌^◌, ◌≤◌, ◌+ℤ◌, arith, Bool, true, false, List, [], ◌∷◌, ◌++◌, length, map, Option, Some, None, sym, inl, inr}
-use Rattle.std.specs.Prelude.{filter, is_none, not, All, IfSome}
-use Rattle.std.specs.List.{cons_option, filter_map}
-use Rattle.std.proofs.lemmas.Bool.{cases_Bool, and_parts}
+use Rattle.std.proofs.Common.{◌≡◌, ℕ, ◌+◌, ◌^◌, ◌≤◌, ◌+ℤ◌, arith, true, false, List, [], ◌∷◌, ◌++◌, length, map, Option, Some, None, sym, is_none, not, All, IfSome}
+use Rattle.std.specs.List.{cons_option}
+use Rattle.std.proofs.lemmas.Bool.{and_parts}
 use Rattle.std.proofs.lemmas.List.Elements.{All-head, All-push, All-weaker, All-filter}
-use Rattle.blot_types.specs.declared.command.Command.{Command}
+use Rattle.blot_types.specs.declared.{command.Command.Command, command.Entry.Entry, fill.Fill.Fill, keys.AllocKey.AllocKey, part.Part.Part, TheConstants.EVENTS_MAX}
 use Rattle.blot_types.specs.declared.command.Command.TheVariants.{Trade, Correct, Bust, AllocNew, AllocReplace, AllocCancel, Withdraw}
-use Rattle.blot_types.specs.declared.command.Entry.{Entry}
-use Rattle.blot_types.specs.declared.fill.Fill.{Fill}
-use Rattle.blot_types.specs.declared.keys.AllocKey.{AllocKey}
-use Rattle.blot_types.specs.declared.part.Part.{Part}
-use Rattle.blot_types.specs.declared.TheConstants.{EVENTS_MAX}
 use Rattle.blot_types.specs.Bounds.{BOOK_PARTS, BOOK_QTY}
 use Rattle.blot_types.specs.Allocations.{Allocation, allocation_of, instructions_of, live_allocations}
 use Rattle.blot_types.specs.Instructions.{ended_in, is_reference}
@@ -22,33 +16,20 @@ use Rattle.blot_types.proofs.BookedLemmas.{books_blocks}
 use Rattle.blot_types.proofs.BringLemmas.{live_beside}
 use Rattle.blot_types.proofs.ChangeLemmas.{is_named_root, allocations_in, total-parts}
 use Rattle.blot_types.proofs.LegalLemmas.{length_numbered}
-use Rattle.blot_types.proofs.SurvivorLemmas.{length-option}
+use Rattle.blot_types.proofs.GeneralLemmas.{all-front, length-filtered, length-found}
 use Rattle.blot_position.specs.Positions.{Cells, has_cell}
 use Rattle.blot_command.specs.Booking.{Change, put_in, taken_out, changed_all, CanChangeAll, rebooked}
 use Rattle.blot_position.specs.Carried.{Carries}
 use Rattle.blot_command.specs.Carried.{Opens, HasFillCells, HasTermsCells, HasEntryCells, EntryFits, IsReady, ShowsPositions}
 use Rattle.blot_position.proofs.CarryLemmas.{Whole, SameWhole, IsCount, Carries-same, Carries-cells, Light, Light-same, IsLightEnough}
 use Rattle.blot_command.specs.Book.{Shown}
-use Rattle.blot_command.proofs.EachLemmas.{all-front, each-brings, all-brought}
+use Rattle.blot_command.proofs.EachLemmas.{each-brings, all-brought}
 use Rattle.blot_command.proofs.HouseLemmas.{beside, relight}
 use Rattle.blot_command.proofs.MoveLemmas.{light_enough, always-light, IsStocked, IsNoneLost, terms-kept}
 use Rattle.blot_command.proofs.ReachLemmas.{Reaches, reach-append, reach-same, reach-put, reach-take, sizes, stays, AreMade}
 use Rattle.blot_command.proofs.WeightLemmas.{AllBooked, AreBooked, all_booked, moves_whole}
 
 -- ---- lists
-
-pub length-filtered : {X : Type 0} (p : X → Bool) (xs : List X) → length (filter p xs) ≤ length xs
-length-filtered p [] = omega arith
-length-filtered p (x ∷ xs) =
-    let rest = length-filtered p xs in
-    elim (cases_Bool (p x)) [
-      | inl passes ↦ rw passes (omega (arith, rest))
-      | inr fails ↦ rw fails (omega (arith, rest))
-    ]
-
-length-brought : {X Y : Type 0} (f : X → Option Y) (xs : List X) → length (filter_map f xs) ≤ length xs
-length-brought f [] = omega arith
-length-brought f (x ∷ xs) = let more = length-option (f x) (filter_map f xs) (length xs) (length-brought f xs) in omega (arith, more)
 
 -- ---- how few entries, fills and allocations a book has
 
@@ -58,12 +39,12 @@ length-book list book = length_numbered list (and_parts _ _ book).0
 pub few-survivors : (list : List Entry) → is_book list ≡ true → length (survivors list) ≤ EVENTS_MAX + 1
 few-survivors list book =
     let one = length-filtered (stands_in (links_of list)) (versions_of list) in
-    let two = length-brought version_of list in
+    let two = length-found version_of list in
     let three = length-book list book in
     omega (arith, one, two, three)
 
 few-allocations : (list : List Entry) → is_book list ≡ true → length (allocations_in list) ≤ EVENTS_MAX + 1
-few-allocations list book = (let one = length-brought (λ (e : Entry). allocation_of e.command) list in let two = length-book list book in omega (arith, one, two))
+few-allocations list book = (let one = length-found (λ (e : Entry). allocation_of e.command) list in let two = length-book list book in omega (arith, one, two))
 
 pub few-live : (list : List Entry) → is_book list ≡ true → length (live_allocations list) ≤ EVENTS_MAX + 1
 few-live list book = (let one = length-filtered (λ a. is_none (ended_in (instructions_of list) a.key)) (allocations_in list) in let two = few-allocations list book in omega (arith, one, two))

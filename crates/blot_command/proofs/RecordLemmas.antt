@@ -1,16 +1,13 @@
 -- What the book shows after one entry more, and one less. `brought` is the version that the entry brings,
 -- `replaced` the one whose place it takes.
-use Rattle.std.proofs.Common.{◌≡◌, ℕ, ◌+◌, ◌<◌, ◌≤◌, ◌==◌, Bool, true, List, [], ◌∷◌, ◌++◌, reverse, Option, Some, None, refl, sym, ap, subst, ◌∙◌, arith, inl, inr}
-use Rattle.std.specs.Prelude.{nat_le, nat_lt, not, find, filter, All, IfSome}
+use Rattle.std.proofs.Common.{◌≡◌, ℕ, ◌+◌, ◌<◌, ◌≤◌, ◌==◌, Bool, true, List, [], ◌∷◌, ◌++◌, reverse, Option, Some, None, refl, sym, ap, subst, ◌∙◌, arith, inl, inr, nat_le, nat_lt, not, find, filter, All, IfSome, option_map, option_and_then, le-leb, leb-true, ltb-true, ne_eqb, eq-eqb, eqb-true, append-nil}
 use Rattle.std.specs.List.{cons_option}
-use Rattle.std.specs.Option.{option_map, option_and_then, option_or}
-use Rattle.std.proofs.lemmas.Bool.{cases_Bool, and_from, and_parts, le-leb, leb-true, ltb-true, ne_eqb, eq-eqb, eqb-true, eqb-false}
-use Rattle.std.proofs.lemmas.List.{append-nil, reverse-reverse}
+use Rattle.std.specs.Option.{option_or}
+use Rattle.std.proofs.lemmas.Bool.{cases_Bool, and_from, and_parts, eqb-false}
+use Rattle.std.proofs.lemmas.List.{reverse-reverse}
 use Rattle.std.proofs.lemmas.List.Elements.{All-nil, All-cons, All-head, All-tail, All-append, All-weaker, All-filter, filter-append, filter_map-append}
 use Rattle.std.proofs.lemmas.List.Folds.{find-append}
-use Rattle.blot_types.specs.declared.command.Entry.{Entry}
-use Rattle.blot_types.specs.declared.lines.Version.{Version}
-use Rattle.blot_types.specs.declared.link.Link.{Link}
+use Rattle.blot_types.specs.declared.{command.Entry.Entry, lines.Version.Version, link.Link.Link}
 use Rattle.blot_types.specs.Chains.{replaced_by}
 use Rattle.blot_types.specs.Legal.{is_above_entries, rises_in, numbers_rise, is_book}
 use Rattle.blot_types.specs.Survivors.{link_of, links_in, links_of, version_of, versions_of, is_number, stands_in, survivors}
@@ -23,7 +20,8 @@ use Rattle.blot_command.specs.Book.{Shown}
 use Rattle.blot_command.specs.Shown.{version_numbered, version_replaced, Shows, with_kept, CanPut}
 use Rattle.blot_command.specs.Withdrawing.{with_entry}
 use Rattle.blot_types.proofs.ApartLemmas.{number_of}
-use Rattle.blot_command.proofs.EachLemmas.{all-front, all-brought}
+use Rattle.blot_types.proofs.GeneralLemmas.{all-front}
+use Rattle.blot_command.proofs.EachLemmas.{all-brought}
 use Rattle.blot_command.proofs.LiveLemmas.{IsNextEntry, next-entry}
 use Rattle.blot_command.proofs.ShowLemmas.{Puts, IsUnused, IsAmong, IsHeld, puts_kept, Trades, trades-back, IsTraded, traded}
 

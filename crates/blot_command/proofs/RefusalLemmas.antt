@@ -1,22 +1,14 @@
 -- The fill of the last version of a chain, as the code finds it; and sums of such fills.
-use Rattle.std.proofs.Common.{◌≡◌, ℕ, ◌+◌, ◌<◌, pos, ◌+ℤ◌, arith, true, false, List, [], ◌∷◌, ◌++◌, take, get_or, length, reverse, Option, Some, None, refl, sym, ap, ◌∙◌}
-use Rattle.std.specs.Prelude.{ℤ}
-use Rattle.std.specs.List.{cons_option, filter_map, list_any}
-use Rattle.std.specs.Option.{option_map, option_or, option_and_then}
+use Rattle.std.proofs.Common.{◌≡◌, ℕ, ◌+◌, ◌<◌, pos, ◌+ℤ◌, arith, true, false, List, [], ◌∷◌, ◌++◌, take, get_or, length, reverse, Option, Some, None, refl, sym, ap, ◌∙◌, ℤ, filter_map, option_map, option_and_then}
+use Rattle.std.specs.List.{cons_option, list_any}
+use Rattle.std.specs.Option.{option_or}
 use Rattle.std.proofs.lemmas.Int.{ints}
 use Rattle.std.proofs.lemmas.List.{reverse-reverse, take_more}
 use Rattle.std.proofs.lemmas.List.Elements.{filter_map-append}
-use Rattle.blot_types.specs.declared.command.AllocNew.{AllocNew}
-use Rattle.blot_types.specs.declared.command.AllocReplace.{AllocReplace}
+use Rattle.blot_types.specs.declared.{command.AllocNew.AllocNew, command.AllocReplace.AllocReplace, command.Entry.Entry, fill.Fill.Fill, keys.ExecKey.ExecKey, lines.Version.Version, link.Link.Link, refused.Refused.TheVariants.DuplicateAlloc}
 use Rattle.blot_types.specs.declared.command.Command.TheVariants.{AllocNew as NewCommand, AllocReplace as ReplaceCommand}
-use Rattle.blot_types.specs.declared.command.Entry.{Entry}
-use Rattle.blot_types.specs.declared.fill.Fill.{Fill}
-use Rattle.blot_types.specs.declared.keys.ExecKey.{ExecKey}
-use Rattle.blot_types.specs.declared.lines.Version.{Version}
-use Rattle.blot_types.specs.declared.link.Link.{Link}
 use Rattle.blot_types.specs.Chains.{root_in, current_in}
 use Rattle.blot_types.specs.Legal.{numbers_rise, entry_refusal}
-use Rattle.blot_types.specs.declared.refused.Refused.TheVariants.{DuplicateAlloc}
 use Rattle.blot_types.specs.Allocations.{instructions_of}
 use Rattle.blot_types.specs.Instructions.{alloc_taker_in}
 use Rattle.blot_types.proofs.AcceptLemmas.{or_parts}

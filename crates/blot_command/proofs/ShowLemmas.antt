@@ -1,22 +1,18 @@
 -- The fills put and held, after a version's fill is put or kept.
-use Rattle.std.proofs.Common.{◌≡◌, ℕ, ◌==◌, Bool, true, false, List, [], ◌∷◌, Option, Some, None, refl, sym, ap, subst, ◌∙◌, inl, inr}
-use Rattle.std.specs.Prelude.{find, All, IfSome, if◌then◌else◌}
-use Rattle.std.specs.Option.{option_map}
-use Rattle.std.proofs.lemmas.Bool.{cases_Bool, ne_eqb, eq-eqb, eqb-true, eqb-false}
+use Rattle.std.proofs.Common.{◌≡◌, ℕ, ◌==◌, Bool, true, false, List, [], ◌∷◌, Option, Some, None, refl, sym, ap, subst, ◌∙◌, inl, inr, find, All, IfSome, if◌then◌else◌, option_map, ne_eqb, eq-eqb, eqb-true}
+use Rattle.std.proofs.lemmas.Bool.{cases_Bool, eqb-false}
 use Rattle.std.specs.FinMap as finite
 use Rattle.std.proofs.lemmas.List.Elements.{All-nil, All-weaker, All-filter}
-use Rattle.blot_types.specs.declared.fill.Fill.{Fill}
-use Rattle.blot_types.specs.declared.lines.Version.{Version}
-use Rattle.blot_types.specs.declared.command.Entry.{Entry}
+use Rattle.blot_types.specs.declared.{fill.Fill.Fill, lines.Version.Version, command.Entry.Entry}
 use Rattle.blot_types.specs.Legal.{is_book}
 use Rattle.blot_types.specs.Survivors.{links_of, versions_of, is_number, stands_in, survivors}
-use Rattle.blot_types.proofs.BringLemmas.{found-All}
 use Rattle.blot_types.proofs.SurvivorLemmas.{without, without-none}
 use Rattle.blot_order.specs.Fills.{Fills, put_at, held_at}
 use Rattle.blot_order.proofs.FillLemmas.{put_at-empty, put_at-with_put, put_at-with_kept, held_at-with_put, held_at-with_kept, held_at-put, held_at-kept, kept_at-held}
 use Rattle.blot_command.specs.Book.{Shown}
 use Rattle.blot_command.specs.Shown.{Shows, HoldsFills, fill_numbered, with_put, with_kept, IsPut, IsKept}
 use Rattle.blot_types.proofs.ApartLemmas.{number_of}
+use Rattle.blot_types.proofs.GeneralLemmas.{found-All}
 
 cond-same : (test : Bool) → fill_numbered 0 [] ≡ (if test then None else None)
 cond-same true = refl

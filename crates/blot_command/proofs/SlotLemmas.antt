@@ -1,16 +1,16 @@
 -- The slots of the live list: what is found among them by a number, and what stands at the place of one.
-use Rattle.std.proofs.Common.{◌≡◌, ◌≢◌, ℕ, zero, suc, ◌<◌, ◌≤◌, ◌==◌, Bool, true, false, cond, List, [], ◌∷◌, length, reverse, get_or, set, Option, Some, None, refl, sym, ap, subst, ◌∙◌, arith, ⊎_elim, inl, inr}
-use Rattle.std.specs.Prelude.{find, not, nat_eq, IsSome, if◌then◌else◌}
-use Rattle.std.proofs.lemmas.Bool.{cases_Bool, cases_eq, cases_lt, eq-eqb, ne_eqb}
+use Rattle.std.proofs.Common.{◌≡◌, ◌≢◌, ℕ, zero, suc, ◌<◌, ◌≤◌, ◌==◌, Bool, true, false, cond, List, [], ◌∷◌, length, reverse, get_or, set, Option, Some, None, refl, sym, ap, subst, ◌∙◌, arith, ⊎_elim, inl, inr, find, not, nat_eq, IsSome, if◌then◌else◌, eq-eqb, ne_eqb}
+use Rattle.std.proofs.lemmas.Bool.{cases_Bool, cases_eq, cases_lt}
 use Rattle.std.proofs.lemmas.List.{get_or_default}
 use Rattle.blot_places.specs.declared.slots.Slot.{Slot}
 use Rattle.blot_places.specs.Slots.{marked}
 use Rattle.blot_places.proofs.MarkLemmas.{side_here, side_on}
 use Rattle.blot_places.proofs.SearchLemmas.{rises, marked-at}
 use Rattle.blot_types.specs.declared.command.Entry.{Entry}
+use Rattle.blot_types.proofs.GeneralLemmas.{found-contains}
 use Rattle.blot_command.specs.Book.{entry_number, has_number}
 use Rattle.blot_command.specs.Slots.{AreNumbered, IsLeft, entries_in, left_in}
-use Rattle.blot_command.proofs.WithinLemmas.{found_within, from_mapped, from_passed, turned_within}
+use Rattle.blot_command.proofs.WithinLemmas.{from_mapped, from_passed, turned_within}
 
 -- ---- what is found among the entries that are there
 
@@ -121,7 +121,7 @@ module _ (slots : List (Slot Entry)) (n place : ℕ) (numbered : AreNumbered slo
   -- the slot of an entry that was taken out
   pub left-at : (entry : Entry) → entry.number ≡ n → IsLeft entry slots → (place < length slots) × ((slot : Slot Entry) → slot ≡ get_or slots place slot → slot.item ≡ entry)
   left-at entry own left =
-      let inside = from_mapped (λ (slot : Slot Entry). slot.item) _ entry (found_within (λ item. nat_eq (entry_number item) entry.number) (left_in slots) entry left) in
+      let inside = from_mapped (λ (slot : Slot Entry). slot.item) _ entry (found-contains (λ item. nat_eq (entry_number item) entry.number) (left_in slots) entry left) in
       let turned = from_passed (λ (slot : Slot Entry). not slot.is_live) (reverse slots) inside.0 inside.1 in
       let it = turned_within slots inside.0 turned.0 in
       let number : (get_or slots it.0 inside.0).item.number ≡ n = ap (λ (s : Slot Entry). s.item.number) it.2 ∙ ap (λ (e : Entry). e.number) inside.2 ∙ own in

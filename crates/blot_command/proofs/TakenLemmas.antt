@@ -1,17 +1,12 @@
 -- A step of any kind of command on the book: as an entry, or as an entry taken out of the middle.
-use Rattle.std.proofs.Common.{◌≡◌, ℕ, ◌<◌, ◌≤◌, ◌+◌, Bool, true, false, List, [], ◌∷◌, ◌++◌, reverse, Option, Some, None, ◌⊎◌, refl, sym, ap, subst, ◌∙◌, arith, inl, inr}
-use Rattle.std.specs.Prelude.{All, Contains, find, not, nat_eq, nat_lt, ◌&&◌}
+use Rattle.std.proofs.Common.{◌≡◌, ℕ, ◌<◌, ◌≤◌, ◌+◌, Bool, true, false, List, [], ◌∷◌, ◌++◌, reverse, Option, Some, None, ◌⊎◌, refl, sym, ap, subst, ◌∙◌, arith, inl, inr, All, Contains, find, not, nat_eq, nat_lt, ◌&&◌, option_map, eq-eqb, le-ltb}
 use Rattle.std.specs.List.{cons_option, list_all}
-use Rattle.std.specs.Option.{option_map, option_map_or}
-use Rattle.std.proofs.lemmas.Bool.{cases_Bool, and_parts, and_from, eq-eqb, le-ltb}
+use Rattle.std.specs.Option.{option_map_or}
+use Rattle.std.proofs.lemmas.Bool.{cases_Bool, and_parts, and_from}
 use Rattle.std.proofs.lemmas.List.{reverse-append}
 use Rattle.std.proofs.lemmas.List.Elements.{All-nil, All-cons, All-head, All-tail, All-append, All-same, All-weaker, All-contains, All-contains_itself, Contains-append_right}
-use Rattle.blot_types.specs.declared.command.Command.{Command}
+use Rattle.blot_types.specs.declared.{command.Command.Command, command.Entry.Entry, keys.ExecKey.ExecKey, link.Link.Link, TheConstants.EVENTS_MAX}
 use Rattle.blot_types.specs.declared.command.Command.TheVariants.{Trade, Correct, Bust, AllocNew, AllocReplace, AllocCancel, Withdraw}
-use Rattle.blot_types.specs.declared.command.Entry.{Entry}
-use Rattle.blot_types.specs.declared.keys.ExecKey.{ExecKey}
-use Rattle.blot_types.specs.declared.link.Link.{Link}
-use Rattle.blot_types.specs.declared.TheConstants.{EVENTS_MAX}
 use Rattle.blot_types.specs.Chains.{taker_in, is_chained}
 use Rattle.blot_types.specs.Keys.{same_exec}
 use Rattle.blot_types.specs.Legal.{is_book, legal_in, entry_refusal, withdrawal_refusal, without}
@@ -22,8 +17,9 @@ use Rattle.blot_types.proofs.BustLemmas.{reverse-middle}
 use Rattle.blot_types.proofs.ChainLemmas.{fresh-parts}
 use Rattle.blot_types.proofs.ChainOutLemmas.{key-out}
 use Rattle.blot_types.proofs.EntryLemmas.{chained-links}
-use Rattle.blot_types.proofs.LawLemmas.{all, book_parts}
+use Rattle.blot_types.proofs.LawLemmas.{book_parts}
 use Rattle.blot_types.proofs.LinkOutLemmas.{links-whole, links-rest}
+use Rattle.blot_types.proofs.GeneralLemmas.{all-of}
 use Rattle.blot_places.specs.Shown.{item_at, with_item, without as without_item}
 use Rattle.blot_places.proofs.ShownLemmas.{with_item-here, with_item-on, without-here, without-on}
 use Rattle.blot_command.specs.declared.fault.ApplyFault.TheVariants.{Refused as RefusedBy}
@@ -151,7 +147,7 @@ IsAlone entry other = shares_exec entry other ≡ false
 alone-in :
     (later earlier : List Entry) (entry : Entry) (found : Option Link) → link_of entry ≡ found → legal_in (later ++ entry ∷ earlier) ≡ true → All (IsAlone entry) (later ++ earlier)
 alone-in later earlier entry None is legal =
-    all (IsAlone entry) (later ++ earlier) (λ other. ap (λ own. option_map_or (λ key. takes_exec key other) own false) (key-of entry None is))
+    all-of (IsAlone entry) (later ++ earlier) (λ other. ap (λ own. option_map_or (λ key. takes_exec key other) own false) (key-of entry None is))
 alone-in later earlier entry (Some link) is legal =
     let chained : is_chained (links_in later ++ link ∷ links_in earlier) ≡ true =
     ap is_chained (sym (links-whole later earlier entry link is)) ∙ chained-links (later ++ entry ∷ earlier) legal in

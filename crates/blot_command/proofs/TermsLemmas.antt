@@ -1,19 +1,14 @@
 -- The terms of the allocation of a key, found by the number of the entry that takes it up.
-use Rattle.std.proofs.Common.{◌≡◌, ℕ, ◌<◌, Bool, true, false, List, [], ◌∷◌, ◌++◌, reverse, Option, Some, None, refl, sym, ap, ◌∙◌, arith, inl, inr}
-use Rattle.std.specs.Prelude.{find, is_none, nat_lt, if◌then◌else◌}
+use Rattle.std.proofs.Common.{◌≡◌, ℕ, ◌<◌, Bool, true, false, List, [], ◌∷◌, ◌++◌, reverse, Option, Some, None, refl, sym, ap, ◌∙◌, arith, inl, inr, find, is_none, nat_lt, if◌then◌else◌, option_map, option_and_then, ltb-true, eq-eqb, ne_eqb}
 use Rattle.std.specs.List.{cons_option}
-use Rattle.std.specs.Option.{option_map, option_and_then, option_or}
-use Rattle.std.proofs.lemmas.Bool.{cases_Bool, and_parts, ltb-true, eq-eqb, ne_eqb}
+use Rattle.std.specs.Option.{option_or}
+use Rattle.std.proofs.lemmas.Bool.{cases_Bool, and_parts}
 use Rattle.std.proofs.lemmas.List.{reverse-append, reverse-reverse}
 use Rattle.std.proofs.lemmas.List.Folds.{find-append}
-use Rattle.blot_types.specs.declared.allocation.Instruction.{Instruction}
-use Rattle.blot_types.specs.declared.allocation.Terms.{Terms}
-use Rattle.blot_types.specs.declared.command.Entry.{Entry}
-use Rattle.blot_types.specs.declared.keys.AllocKey.{AllocKey}
+use Rattle.blot_types.specs.declared.{allocation.Instruction.Instruction, allocation.Terms.Terms, command.Entry.Entry, keys.AllocKey.AllocKey, link.Link.Link}
 use Rattle.blot_types.specs.Allocations.{Allocation, allocation_of, instruction_by, instructions_in, instructions_of}
 use Rattle.blot_types.specs.Instructions.{is_keyed, alloc_taker_in, is_above_instructions, may_follow}
 use Rattle.blot_types.specs.Keys.{same_alloc}
-use Rattle.blot_types.specs.declared.link.Link.{Link}
 use Rattle.blot_types.specs.Legal.{is_above_entries, rises_in, numbers_rise, is_numbered, legal_in, is_legal, refusal_in, HoldsList}
 use Rattle.blot_types.specs.Survivors.{links_in}
 use Rattle.blot_types.proofs.AcceptLemmas.{accepted-instruction}
@@ -21,7 +16,8 @@ use Rattle.blot_types.proofs.ChainLemmas.{none_is}
 use Rattle.blot_types.proofs.ChangeLemmas.{allocations_in}
 use Rattle.blot_types.proofs.KeyLemmas.{same_alloc-true, same_alloc-sym}
 use Rattle.blot_types.proofs.LawLemmas.{find-none}
-use Rattle.blot_types.proofs.LiveLemmas.{IsOfInstruction, of_instruction, turned, has_alloc_key, none_keyed, all_taken, or-nothing}
+use Rattle.blot_types.proofs.LiveLemmas.{IsOfInstruction, of_instruction, turned, has_alloc_key, none_keyed, all_taken}
+use Rattle.blot_types.proofs.GeneralLemmas.{or-none}
 use Rattle.blot_command.specs.Book.{has_number}
 use Rattle.blot_command.specs.Shown.{terms_of_key, terms_keyed}
 use Rattle.blot_command.proofs.LiveLemmas.{above-instructions, instruction-number}
@@ -44,7 +40,7 @@ taker-below (i ∷ earlier) key n m above is =
 terms-other : (list : List Entry) (entry : Entry) (key : AllocKey) (n : ℕ) → n < entry.number → terms_at (list ++ entry ∷ []) key n ≡ terms_at list key n
 terms-other list entry key n less =
     let none : find (has_number n) (entry ∷ []) ≡ None = rw (ne_eqb entry.number n (λ same. absurd (omega (arith, less, same)))) refl in
-    ap (option_and_then (λ e. terms_of_key key e.command)) (find-append (has_number n) list (entry ∷ []) ∙ ap (option_or (find (has_number n) list)) none ∙ or-nothing (find (has_number n) list))
+    ap (option_and_then (λ e. terms_of_key key e.command)) (find-append (has_number n) list (entry ∷ []) ∙ ap (option_or (find (has_number n) list)) none ∙ or-none (find (has_number n) list))
 
 taken-other : (list : List Entry) (entry : Entry) (key : AllocKey) (taken : Option ℕ) → ((n : ℕ) → taken ≡ Some n → n < entry.number)
     → option_and_then (terms_at (list ++ entry ∷ []) key) taken ≡ option_and_then (terms_at list key) taken
@@ -103,7 +99,7 @@ step :
     → option_or (terms_keyed (reverse earlier) key) (option_map (λ a. a.terms) (find (has_alloc_key key) (cons_option (allocation_of entry.command) [])))
     ≡ option_and_then (terms_at (reverse earlier ++ entry ∷ []) key) (alloc_taker_in (cons_option found (instructions_in earlier)) key)
 step entry earlier key None by is fresh above before unused =
-    ap (option_or (terms_keyed (reverse earlier) key)) (other-terms key None (allocation_of entry.command) is (λ i some. cc)) ∙ or-nothing (terms_keyed (reverse earlier) key) ∙ before
+    ap (option_or (terms_keyed (reverse earlier) key)) (other-terms key None (allocation_of entry.command) is (λ i some. cc)) ∙ or-none (terms_keyed (reverse earlier) key) ∙ before
     ∙ sym (taken-other (reverse earlier) entry key (alloc_taker_in (instructions_in earlier) key) (λ n taken. taker-below (instructions_in earlier) key n entry.number (above-instructions entry.number earlier above) taken))
 step entry earlier key (Some i) by is fresh above before unused =
     let brought = allocation_of entry.command in
@@ -121,7 +117,7 @@ step entry earlier key (Some i) by is fresh above before unused =
           ∙ sym (ap (λ test. option_and_then (terms_at (reverse earlier ++ entry ∷ []) key) (option_map (λ j. j.number) (if test then Some i else find (is_keyed key) (instructions_in earlier)))) here
           ∙ ap (option_and_then (λ e. terms_of_key key e.command)) found)
       | inr other ↦
-          ap (option_or (terms_keyed (reverse earlier) key)) (other-terms key (Some i) brought is (λ j some. ap (λ (o : Option Instruction). keyed key o) (sym some) ∙ other)) ∙ or-nothing (terms_keyed (reverse earlier) key) ∙ before
+          ap (option_or (terms_keyed (reverse earlier) key)) (other-terms key (Some i) brought is (λ j some. ap (λ (o : Option Instruction). keyed key o) (sym some) ∙ other)) ∙ or-none (terms_keyed (reverse earlier) key) ∙ before
           ∙ sym (ap (λ test. option_and_then (terms_at (reverse earlier ++ entry ∷ []) key) (option_map (λ j. j.number) (if test then Some i else find (is_keyed key) (instructions_in earlier)))) other
           ∙ taken-other (reverse earlier) entry key (alloc_taker_in (instructions_in earlier) key) (λ n taken. taker-below (instructions_in earlier) key n entry.number (above-instructions entry.number earlier above) taken))
     ]

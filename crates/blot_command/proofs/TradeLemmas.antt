@@ -1,9 +1,7 @@
 -- What an entry of a Trade is to the entries before it: nothing.
-use Rattle.std.proofs.Common.{◌≡◌, ℕ, List, None, refl}
-use Rattle.std.specs.Prelude.{IsSome}
-use Rattle.blot_types.specs.declared.command.Command.{Command}
+use Rattle.std.proofs.Common.{◌≡◌, ℕ, List, None, refl, IsSome}
+use Rattle.blot_types.specs.declared.{command.Command.Command, command.Entry.Entry}
 use Rattle.blot_types.specs.declared.command.Command.TheVariants.{Trade, Correct, Bust, AllocNew, AllocReplace, AllocCancel, Withdraw}
-use Rattle.blot_types.specs.declared.command.Entry.{Entry}
 use Rattle.blot_types.specs.Refusals.{alloc_reference}
 use Rattle.blot_types.proofs.ChangeLemmas.{replaced_version}
 use Rattle.blot_command.specs.Kinds.{trade_of}

@@ -1,7 +1,6 @@
 -- The slots of the live list, read newest first: the entries that are there, and those that were taken out.
-use Rattle.std.proofs.Common.{◌≡◌, ℕ, ◌<◌, ◌&&◌, true, false, List, [], ◌∷◌, ◌++◌, map, reverse, Some, None, refl, sym, ap, subst, ◌∙◌, arith, inl, inr}
-use Rattle.std.specs.Prelude.{Contains, filter, find, nat_eq, nat_lt}
-use Rattle.std.proofs.lemmas.Bool.{cases_Bool, and_parts, eqb-true, ltb-true, ne_eqb, eq-eqb, eqb-false, ltb-false, le-ltb, lt-ltb}
+use Rattle.std.proofs.Common.{◌≡◌, ℕ, ◌<◌, ◌&&◌, true, false, List, [], ◌∷◌, ◌++◌, map, reverse, Some, None, refl, sym, ap, subst, ◌∙◌, arith, inl, inr, Contains, filter, find, nat_eq, nat_lt, eqb-true, ltb-true, ne_eqb, eq-eqb, ltb-false, le-ltb, lt-ltb}
+use Rattle.std.proofs.lemmas.Bool.{cases_Bool, and_parts, eqb-false}
 use Rattle.std.proofs.lemmas.List.{map-append, reverse-append, reverse-reverse}
 use Rattle.std.proofs.lemmas.List.Elements.{filter-append}
 use Rattle.blot_places.specs.declared.slots.Slot.{Slot}
@@ -13,9 +12,10 @@ use Rattle.blot_types.specs.declared.command.Entry.{Entry}
 use Rattle.blot_types.specs.Legal.{is_above_entries, numbers_rise, rises_in, without}
 use Rattle.blot_types.specs.Withdrawal.{put_back, put_back_in}
 use Rattle.blot_types.proofs.StayLemmas.{filter-reverse}
+use Rattle.blot_types.proofs.GeneralLemmas.{found-contains}
 use Rattle.blot_command.specs.Book.{entry_number, has_number}
 use Rattle.blot_command.specs.Slots.{AreNumbered, entries_in, left_in}
-use Rattle.blot_command.proofs.WithinLemmas.{cons_cases, found_within, none_within, within_turned}
+use Rattle.blot_command.proofs.WithinLemmas.{cons_cases, none_within, within_turned}
 
 -- ---- turned
 
@@ -68,7 +68,7 @@ pub at-turned :
 at-turned slots entry n numbered found =
     let own = number_found (entries_in slots) found in
     let within : Contains (live (reverse slots)) entry =
-    subst (λ all. Contains all entry) (sym (live-turned slots)) (within_turned (entries_in slots) entry (found_within (has_number n) (entries_in slots) entry found)) in
+    subst (λ all. Contains all entry) (sym (live-turned slots)) (within_turned (entries_in slots) entry (found-contains (has_number n) (entries_in slots) entry found)) in
     (own, ap (λ k. item_at entry_number k (live (reverse slots))) (sym own) ∙ at-own (live (reverse slots)) entry (falling-side entry_number true (reverse slots) numbered) within)
   where
     number_found : (list : List Entry) → find (has_number n) list ≡ Some entry → entry.number ≡ n

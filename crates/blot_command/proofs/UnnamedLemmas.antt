@@ -1,17 +1,10 @@
 -- The key of a Trade is new, so no allocation before it lists the chain that it begins.
-use Rattle.std.proofs.Common.{◌≡◌, ℕ, true, false, ◌&&◌, List, [], ◌∷◌, ◌++◌, reverse, Option, Some, None, refl, sym, ap, ◌∙◌}
-use Rattle.std.specs.Prelude.{All}
-use Rattle.std.specs.List.{cons_option, filter_map, last_or, list_any}
+use Rattle.std.proofs.Common.{◌≡◌, ℕ, true, false, ◌&&◌, List, [], ◌∷◌, ◌++◌, reverse, Option, Some, None, refl, sym, ap, ◌∙◌, All, filter_map}
+use Rattle.std.specs.List.{cons_option, last_or, list_any}
 use Rattle.std.specs.Option.{option_map_or}
 use Rattle.std.proofs.lemmas.List.Elements.{All-nil, All-cons, All-head, All-tail}
-use Rattle.blot_types.specs.declared.allocation.Instruction.{Instruction}
-use Rattle.blot_types.specs.declared.command.Command.{Command}
+use Rattle.blot_types.specs.declared.{allocation.Instruction.Instruction, command.Command.Command, command.Entry.Entry, command.Trade.Trade as TradeCommand, keys.ExecKey.ExecKey, link.Link.Link, link.Role.TheVariants.Begins}
 use Rattle.blot_types.specs.declared.command.Command.TheVariants.{Trade, Correct, Bust, AllocNew, AllocReplace, AllocCancel, Withdraw}
-use Rattle.blot_types.specs.declared.command.Entry.{Entry}
-use Rattle.blot_types.specs.declared.command.Trade.{Trade as TradeCommand}
-use Rattle.blot_types.specs.declared.keys.ExecKey.{ExecKey}
-use Rattle.blot_types.specs.declared.link.Link.{Link}
-use Rattle.blot_types.specs.declared.link.Role.TheVariants.{Begins}
 use Rattle.blot_types.specs.Allocations.{instruction_by, instructions_in, instructions_of}
 use Rattle.blot_types.specs.Chains.{is_root, root_in, taker_in}
 use Rattle.blot_types.specs.Instructions.{holds_in, is_live_in, named_in, names}
@@ -24,7 +17,7 @@ use Rattle.blot_types.proofs.ChainLemmas.{accepted_key, fresh-parts, root-fresh}
 use Rattle.blot_types.proofs.ChangeLemmas.{named-held}
 use Rattle.blot_types.proofs.EntryLemmas.{links_of-push, refusal-link}
 use Rattle.blot_types.proofs.KeyLemmas.{same_exec-refl}
-use Rattle.blot_types.proofs.StandLemmas.{and-false}
+use Rattle.blot_types.proofs.GeneralLemmas.{and-false}
 use Rattle.blot_command.proofs.AccountLemmas.{last-split}
 use Rattle.blot_command.proofs.LiveLemmas.{next-entry}
 

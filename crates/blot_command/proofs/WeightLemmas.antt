@@ -1,15 +1,8 @@
 -- How large the amounts are that the positions of a list carry.
-use Rattle.std.proofs.Common.{◌≡◌, ℕ, ◌+◌, ◌*◌, ◌^◌, ◌≤◌, pos, ◌+ℤ◌, arith, Bool, List, [], ◌∷◌, length, refl, sym}
-use Rattle.std.specs.Prelude.{unsigned_abs, All}
-use Rattle.std.specs.List.{flat_map}
+use Rattle.std.proofs.Common.{◌≡◌, ℕ, ◌+◌, ◌*◌, ◌^◌, ◌≤◌, pos, ◌+ℤ◌, arith, Bool, List, [], ◌∷◌, length, refl, sym, unsigned_abs, All, flat_map}
 use Rattle.std.proofs.lemmas.Int.{ints}
 use Rattle.std.proofs.lemmas.List.Elements.{All-nil, All-cons, All-head, All-tail}
-use Rattle.blot_types.specs.declared.allocation.Line.{Line}
-use Rattle.blot_types.specs.declared.allocation.Terms.{Terms}
-use Rattle.blot_types.specs.declared.keys.ExecKey.{ExecKey}
-use Rattle.blot_types.specs.declared.part.Part.{Part}
-use Rattle.blot_types.specs.declared.lines.Version.{Version}
-use Rattle.blot_types.specs.declared.link.Link.{Link}
+use Rattle.blot_types.specs.declared.{allocation.Line.Line, allocation.Terms.Terms, keys.ExecKey.ExecKey, part.Part.Part, lines.Version.Version, link.Link.Link}
 use Rattle.blot_types.specs.Allocations.{Allocation}
 use Rattle.blot_types.specs.Chains.{root_in}
 use Rattle.blot_types.specs.Order.{total}

@@ -1,10 +1,9 @@
 -- What is in a list, and what is found in it.
-use Rattle.std.proofs.Common.{◌≡◌, ℕ, ◌<◌, Bool, true, false, List, [], ◌∷◌, ◌++◌, length, get_or, suc, reverse, map, Option, Some, None, ◌⊎◌, refl, sym, ap, subst, ◌∙◌, inl, inr, arith}
-use Rattle.std.specs.Prelude.{Contains, filter, find, nat_eq, nat_lt, not}
-use Rattle.std.proofs.lemmas.Bool.{cases_Bool, eqb-true, ltb-true}
-use Rattle.std.proofs.lemmas.Option.{same_Some}
+use Rattle.std.proofs.Common.{◌≡◌, ℕ, ◌<◌, Bool, true, false, List, [], ◌∷◌, ◌++◌, length, get_or, suc, reverse, map, Option, Some, None, ◌⊎◌, refl, sym, ap, subst, ◌∙◌, inl, inr, arith, Contains, filter, nat_eq, nat_lt, not, eqb-true, ltb-true}
+use Rattle.std.proofs.lemmas.Bool.{cases_Bool}
 use Rattle.std.proofs.lemmas.List.{reverse-append}
 use Rattle.std.proofs.lemmas.List.Elements.{Contains-append_left, Contains-append_right, Contains-append_cases, Contains-push, Contains-push_cases}
+use Rattle.blot_types.proofs.GeneralLemmas.{found-contains}
 use Rattle.blot_places.specs.Shown.{item_at, without, with_item}
 use Rattle.blot_places.proofs.ShownLemmas.{at-here, at-on, at-its, more-other}
 
@@ -93,14 +92,6 @@ from_passed p (first ∷ xs) x within =
 
 -- ---- an item found
 
-pub found_within : {X : Type 0} (p : X → Bool) (xs : List X) (x : X) → find p xs ≡ Some x → Contains xs x
-found_within p [] x is = cc
-found_within p (first ∷ xs) x is =
-    elim (cases_Bool (p first)) [
-      | inl here ↦ (let own : Some first ≡ Some x = rw here at is in subst (Contains (first ∷ xs)) (same_Some first x own) (cons_first first xs))
-      | inr other ↦ cons_later first xs x (found_within p xs x (rw other at is))
-    ]
-
 pub known : {X : Type 0} (o : Option X) → (o ≡ None) ⊎ ((x : X) × (o ≡ Some x))
 known None = inl refl
 known (Some x) = inr (x, refl)
@@ -115,7 +106,7 @@ module _ {T : Type 0} (number_of : T → ℕ) where
   pub found_number : (n : ℕ) (items : List T) (item : T) → item_at number_of n items ≡ Some item → Contains (map number_of items) n
   found_number n items item found =
       subst (Contains (map number_of items)) (eqb-true _ _ (at-its number_of n items item found))
-      (mapped number_of items item (found_within (λ item. nat_eq (number_of item) n) items item found))
+      (mapped number_of items item (found-contains (λ item. nat_eq (number_of item) n) items item found))
 
   pub none_found : (n : ℕ) (items : List T) → (Contains (map number_of items) n → ⊥) → item_at number_of n items ≡ None
   none_found n items out =

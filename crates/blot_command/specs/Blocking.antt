@@ -1,15 +1,8 @@
 -- Which entry is the first that needs another, as the code asks it: over entries, and the chains and the allocations that are theirs.
-use Rattle.std.specs.Prelude.{ℕ, ◌+◌, Bool, false, ◌&&◌, ◌||◌, not, List, Option, None, find, nat_lt, unwrap_or, if◌then◌else◌}
-use Rattle.std.specs.Option.{option_and_then, option_map_or}
-use Rattle.blot_types.specs.declared.allocation.Instruction.{Instruction}
-use Rattle.blot_types.specs.declared.command.Command.{Command}
+use Rattle.std.specs.Prelude.{ℕ, ◌+◌, Bool, false, ◌&&◌, ◌||◌, not, List, Option, None, find, nat_lt, unwrap_or, if◌then◌else◌, option_and_then}
+use Rattle.std.specs.Option.{option_map_or}
+use Rattle.blot_types.specs.declared.{allocation.Instruction.Instruction, command.Command.Command, command.Correct.Correct as CorrectCommand, command.Entry.Entry, fill.Fill.Fill, keys.ExecKey.ExecKey, link.Link.Link, TheConstants.EVENTS_MAX}
 use Rattle.blot_types.specs.declared.command.Command.TheVariants.{Trade, Correct, Bust, AllocNew, AllocReplace, AllocCancel, Withdraw}
-use Rattle.blot_types.specs.declared.command.Correct.{Correct as CorrectCommand}
-use Rattle.blot_types.specs.declared.command.Entry.{Entry}
-use Rattle.blot_types.specs.declared.fill.Fill.{Fill}
-use Rattle.blot_types.specs.declared.keys.ExecKey.{ExecKey}
-use Rattle.blot_types.specs.declared.link.Link.{Link}
-use Rattle.blot_types.specs.declared.TheConstants.{EVENTS_MAX}
 use Rattle.blot_types.specs.Chains.{first_needing_link, root_in, version_after_in, version_before_in}
 use Rattle.blot_types.specs.Instructions.{first_instruction, first_naming, first_needing_instruction, names}
 use Rattle.blot_types.specs.Keys.{is_among}

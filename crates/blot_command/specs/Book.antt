@@ -1,9 +1,7 @@
 -- The book as a list of entries: what stands after a command, its inverse, and what stands before.
-use Rattle.std.specs.Prelude.{ℕ, ◌==◌, Bool, map, List, [], ◌∷◌, ◌++◌, Option, Some, find}
-use Rattle.std.specs.Option.{option_map, option_map_or}
-use Rattle.blot_types.specs.declared.command.Command.{Command}
-use Rattle.blot_types.specs.declared.command.Command.TheVariants.{Withdraw}
-use Rattle.blot_types.specs.declared.command.Entry.{Entry}
+use Rattle.std.specs.Prelude.{ℕ, ◌==◌, Bool, map, List, [], ◌∷◌, ◌++◌, Option, Some, find, option_map}
+use Rattle.std.specs.Option.{option_map_or}
+use Rattle.blot_types.specs.declared.{command.Command.Command, command.Command.TheVariants.Withdraw, command.Entry.Entry}
 use Rattle.blot_types.specs.Refusals.{withdrawn_by}
 use Rattle.blot_types.specs.Legal.{without}
 use Rattle.blot_types.specs.Withdrawal.{put_back}

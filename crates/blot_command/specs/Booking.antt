@@ -1,14 +1,7 @@
 -- Parts put to the positions and taken from them, one after the other.
-use Rattle.std.specs.Prelude.{Bool, true, false, List, [], ◌∷◌, ◌++◌, map, Option, Some, None, IsTrue}
-use Rattle.std.specs.Bool.{⊤}
-use Rattle.std.specs.List.{cons_option, flat_map}
-use Rattle.blot_types.specs.declared.allocation.Line.{Line}
-use Rattle.blot_types.specs.declared.allocation.Terms.{Terms}
-use Rattle.blot_types.specs.declared.command.Entry.{Entry}
-use Rattle.blot_types.specs.declared.fill.Fill.{Fill}
-use Rattle.blot_types.specs.declared.keys.AllocKey.{AllocKey}
-use Rattle.blot_types.specs.declared.keys.ExecKey.{ExecKey}
-use Rattle.blot_types.specs.declared.part.Part.{Part}
+use Rattle.std.specs.Prelude.{Bool, true, false, List, [], ◌∷◌, ◌++◌, map, Option, Some, None, IsTrue, ⊤, flat_map}
+use Rattle.std.specs.List.{cons_option}
+use Rattle.blot_types.specs.declared.{allocation.Line.Line, allocation.Terms.Terms, command.Entry.Entry, fill.Fill.Fill, keys.AllocKey.AllocKey, keys.ExecKey.ExecKey, part.Part.Part}
 use Rattle.blot_types.specs.Position.{part_of_fill, part_of_line, from_house as leaving_house, moves_of_line}
 use Rattle.blot_position.specs.Positions.{Cells, sums_at, has_cell, with_part, without_part}
 use Rattle.blot_position.specs.Sums.{HasRoom, HasPart}

@@ -1,10 +1,6 @@
 -- The cells that the entries of a list need, and what these carry.
-use Rattle.std.specs.Prelude.{◌≡◌, ℕ, false, true, List, All, IfSome}
-use Rattle.std.specs.List.{filter_map}
-use Rattle.blot_types.specs.declared.allocation.Terms.{Terms}
-use Rattle.blot_types.specs.declared.command.Command.{Command}
-use Rattle.blot_types.specs.declared.command.Entry.{Entry}
-use Rattle.blot_types.specs.declared.fill.Fill.{Fill}
+use Rattle.std.specs.Prelude.{◌≡◌, ℕ, false, true, List, All, IfSome, filter_map}
+use Rattle.blot_types.specs.declared.{allocation.Terms.Terms, command.Command.Command, command.Entry.Entry, fill.Fill.Fill}
 use Rattle.blot_types.specs.Allocations.{allocation_of}
 use Rattle.blot_types.specs.Order.{total}
 use Rattle.blot_types.specs.Position.{house, account_of, parts_of, FillFits, TermsFit}

@@ -1,13 +1,7 @@
 -- The kinds of command, each read back from the command that it is.
 use Rattle.std.specs.Prelude.{ℕ, Option, Some, None, refl}
-use Rattle.blot_types.specs.declared.command.Command.{Command}
+use Rattle.blot_types.specs.declared.{command.Command.Command, command.AllocCancel.AllocCancel, command.AllocNew.AllocNew, command.AllocReplace.AllocReplace, command.Bust.Bust, command.Correct.Correct, command.Trade.Trade}
 use Rattle.blot_types.specs.declared.command.Command.TheVariants.{Trade as TradeCommand, Correct as CorrectCommand, Bust as BustCommand, AllocNew as NewCommand, AllocReplace as ReplaceCommand, AllocCancel as CancelCommand}
-use Rattle.blot_types.specs.declared.command.AllocCancel.{AllocCancel}
-use Rattle.blot_types.specs.declared.command.AllocNew.{AllocNew}
-use Rattle.blot_types.specs.declared.command.AllocReplace.{AllocReplace}
-use Rattle.blot_types.specs.declared.command.Bust.{Bust}
-use Rattle.blot_types.specs.declared.command.Correct.{Correct}
-use Rattle.blot_types.specs.declared.command.Trade.{Trade}
 use Rattle.blot_command.specs.Meanings.{BookMeaning, meaning_by}
 use Rattle.blot_command.specs.Law.{lawful_by}
 use Rattle.blot_command.specs.Undoable.{IsLawful}

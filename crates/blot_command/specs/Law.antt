@@ -1,16 +1,12 @@
 -- Every command obeys the law: what stands before what stands after it is the book itself.
-use Rattle.std.specs.Prelude.{◌≡◌, ℕ, ◌==◌, ◌<◌, ◌≤◌, ◌⊎◌, Bool, true, false, not, List, [], ◌∷◌, ◌++◌, reverse, Option, Some, None, find, is_none, refl, if◌then◌else◌}
-use Rattle.std.specs.Option.{option_map, option_and_then}
+use Rattle.std.specs.Prelude.{◌≡◌, ℕ, ◌==◌, ◌<◌, ◌≤◌, ◌⊎◌, Bool, true, false, not, List, [], ◌∷◌, ◌++◌, reverse, Option, Some, None, find, is_none, refl, if◌then◌else◌, option_map, option_and_then}
 use Rattle.std.proofs.Common.{ap, sym, ◌∙◌, arith, inl, inr}
 use Rattle.std.proofs.lemmas.Bool.{cases_Bool, and_parts, ne_eqb, eq-eqb, eqb-true}
 use Rattle.std.proofs.lemmas.List.{append-nil, reverse-append, reverse-reverse}
 use Rattle.std.proofs.lemmas.List.Elements.{All-head, All-tail, filter-append}
 use Rattle.std.proofs.lemmas.List.Folds.{find-append}
-use Rattle.blot_types.specs.declared.command.Command.{Command}
+use Rattle.blot_types.specs.declared.{command.Command.Command, command.Entry.Entry, TheConstants.EVENTS_MAX, refused.Refused.Refused}
 use Rattle.blot_types.specs.declared.command.Command.TheVariants.{Trade, Correct, Bust as BustCommand, AllocNew, AllocReplace, AllocCancel, Withdraw}
-use Rattle.blot_types.specs.declared.command.Entry.{Entry}
-use Rattle.blot_types.specs.declared.TheConstants.{EVENTS_MAX}
-use Rattle.blot_types.specs.declared.refused.Refused.{Refused}
 use Rattle.blot_types.specs.declared.refused.Refused.TheVariants.{Needed, NotLive}
 use Rattle.blot_types.specs.Legal.{is_book, legal_in, least_needing, numbers_rise, refusal_in, rises_in, without, withdrawal_refusal}
 use Rattle.blot_types.specs.Refusals.{is_live, withdrawn_by}

@@ -3,11 +3,8 @@ use Rattle.std.specs.Prelude.{◌≡◌, Bool, true, false, List, [], ◌∷◌,
 use Rattle.std.specs.List.{cons_option}
 use Rattle.blot_places.specs.declared.slots.Slot.{Slot}
 use Rattle.blot_places.specs.Shown.{Shown}
-use Rattle.blot_types.specs.declared.allocation.Instruction.{Instruction}
-use Rattle.blot_types.specs.declared.command.Command.{Command}
+use Rattle.blot_types.specs.declared.{allocation.Instruction.Instruction, command.Command.Command, command.Entry.Entry, link.Link.Link}
 use Rattle.blot_types.specs.declared.command.Command.TheVariants.{Trade, Correct, Bust, AllocNew, AllocReplace, AllocCancel}
-use Rattle.blot_types.specs.declared.command.Entry.{Entry}
-use Rattle.blot_types.specs.declared.link.Link.{Link}
 use Rattle.blot_types.specs.Allocations.{instruction_by}
 use Rattle.blot_types.specs.Chains.{link_refusal, is_above_links, is_chained}
 use Rattle.blot_types.specs.Instructions.{may_follow, is_above_instructions, is_instructed}

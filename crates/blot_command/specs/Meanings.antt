@@ -1,13 +1,10 @@
 -- What commands mean on the book: those that are entries, by their kind, and those of any kind.
-use Rattle.std.specs.Prelude.{◌≡◌, ℕ, true, List, Option, Some, is_none}
-use Rattle.std.specs.Option.{option_map, option_and_then}
-use Rattle.blot_types.specs.declared.command.Command.{Command}
-use Rattle.blot_types.specs.declared.command.Entry.{Entry}
+use Rattle.std.specs.Prelude.{◌≡◌, ℕ, true, List, Option, Some, is_none, option_map, option_and_then}
+use Rattle.blot_types.specs.declared.{command.Command.Command, command.Entry.Entry}
 use Rattle.blot_types.specs.Legal.{is_book, entry_refusal, refusal_of, without}
 use Rattle.blot_types.specs.Refusals.{withdrawn_by}
-use Rattle.blot_command.specs.declared.fault.ApplyFault.{ApplyFault}
+use Rattle.blot_command.specs.declared.{fault.ApplyFault.ApplyFault, inverse.Inverse.Inverse}
 use Rattle.blot_command.specs.declared.fault.ApplyFault.TheVariants.{Refused, NoMemory}
-use Rattle.blot_command.specs.declared.inverse.Inverse.{Inverse}
 use Rattle.blot_command.specs.declared.inverse.Inverse.TheVariants.{Number, Taken}
 use Rattle.blot_command.specs.Book.{Shown, numbers_of, entered, after, inverse_of, before, command_at, command_of}
 use Rattle.blot_command.specs.Undoable.{Meaning}

@@ -1,21 +1,18 @@
 -- What is told of an execution, of an allocation, and of a withdrawal that isn't made. A word that ends in `_in` reads the entries newest
 -- first: after an entry stand the earlier ones.
-use Rattle.std.specs.Prelude.{ℕ, Bool, false, List, [], ◌∷◌, reverse, Option, find, if◌then◌else◌}
-use Rattle.std.specs.Option.{option_map, option_map_or, option_and_then}
-use Rattle.blot_types.specs.declared.command.Entry.{Entry}
-use Rattle.blot_types.specs.declared.keys.AllocKey.{AllocKey}
-use Rattle.blot_types.specs.declared.keys.ExecKey.{ExecKey}
+use Rattle.std.specs.Prelude.{ℕ, Bool, false, List, [], ◌∷◌, reverse, Option, find, if◌then◌else◌, option_map, option_and_then}
+use Rattle.std.specs.Option.{option_map_or}
+use Rattle.blot_types.specs.declared.{command.Entry.Entry, keys.AllocKey.AllocKey, keys.ExecKey.ExecKey}
 use Rattle.blot_types.specs.Allocations.{instructions_of}
 use Rattle.blot_types.specs.Chains.{bust_in, current_in, is_root}
 use Rattle.blot_types.specs.Instructions.{ended_in, holder_in}
 use Rattle.blot_types.specs.Keys.{same_alloc}
 use Rattle.blot_types.specs.Refusals.{alloc_key}
-use Rattle.blot_types.specs.Standing.{chain_by}
+use Rattle.blot_types.specs.StandingVersion.{chain_by}
 use Rattle.blot_types.specs.Survivors.{link_of, links_in, links_of}
 use Rattle.blot_command.specs.Book.{has_number}
 use Rattle.blot_command.specs.Withdrawing.{takes_exec}
-use Rattle.blot_command.specs.declared.questions.AllocationAnswer.{AllocationAnswer}
-use Rattle.blot_command.specs.declared.questions.ExecutionAnswer.{ExecutionAnswer}
+use Rattle.blot_command.specs.declared.{questions.AllocationAnswer.AllocationAnswer, questions.ExecutionAnswer.ExecutionAnswer}
 
 -- whether an entry is of the chain of a root: it begins it, or corrects or busts an execution of it
 abbrev pub is_of_chain : List Entry → ExecKey → Entry → Bool

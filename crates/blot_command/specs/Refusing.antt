@@ -1,14 +1,7 @@
 -- The rules as the code asks them: over the chains and the allocations that the live list keeps.
-use Rattle.std.specs.Prelude.{◌≡◌, false, ℤ, List, [], reverse, Option, pos, find, is_none, if◌then◌else◌, Some, None}
-use Rattle.std.specs.List.{filter_map}
-use Rattle.std.specs.Option.{option_map, option_map_or, option_or}
-use Rattle.blot_types.specs.declared.allocation.Instruction.{Instruction}
-use Rattle.blot_types.specs.declared.allocation.Terms.{Terms}
-use Rattle.blot_types.specs.declared.command.Entry.{Entry}
-use Rattle.blot_types.specs.declared.keys.AllocKey.{AllocKey}
-use Rattle.blot_types.specs.declared.keys.ExecKey.{ExecKey}
-use Rattle.blot_types.specs.declared.link.Link.{Link}
-use Rattle.blot_types.specs.declared.refused.Refused.{Refused}
+use Rattle.std.specs.Prelude.{◌≡◌, false, ℤ, List, [], reverse, Option, pos, find, is_none, if◌then◌else◌, Some, None, filter_map, option_map}
+use Rattle.std.specs.Option.{option_map_or, option_or}
+use Rattle.blot_types.specs.declared.{allocation.Instruction.Instruction, allocation.Terms.Terms, command.Entry.Entry, keys.AllocKey.AllocKey, keys.ExecKey.ExecKey, link.Link.Link, refused.Refused.Refused}
 use Rattle.blot_types.specs.declared.refused.Refused.TheVariants.{UnknownAlloc, DeadAlloc, UnknownExec, BustedExec, RepeatedExec, ExecTaken, Instrument}
 use Rattle.blot_types.specs.Allocations.{instructions_of}
 use Rattle.blot_types.specs.Chains.{root_in}

@@ -1,23 +1,13 @@
 -- What ties the chains and the fills that the book keeps to its live list.
-use Rattle.std.specs.Prelude.{◌≡◌, ℕ, ◌≤◌, ◌==◌, List, Option, Some, None, true, find, All, if◌then◌else◌}
-use Rattle.std.specs.List.{filter_map}
-use Rattle.std.specs.Option.{option_map, option_and_then}
-use Rattle.blot_types.specs.declared.allocation.Terms.{Terms}
-use Rattle.blot_types.specs.declared.command.Command.{Command}
-use Rattle.blot_types.specs.declared.command.Entry.{Entry}
-use Rattle.blot_types.specs.declared.fill.Fill.{Fill}
-use Rattle.blot_types.specs.declared.keys.AllocKey.{AllocKey}
-use Rattle.blot_types.specs.declared.keys.ExecKey.{ExecKey}
-use Rattle.blot_types.specs.declared.link.Link.{Link}
-use Rattle.blot_types.specs.declared.lines.Version.{Version}
+use Rattle.std.specs.Prelude.{◌≡◌, ℕ, ◌≤◌, ◌==◌, List, Option, Some, None, true, find, All, if◌then◌else◌, filter_map, option_map, option_and_then}
+use Rattle.blot_types.specs.declared.{allocation.Terms.Terms, command.Command.Command, command.Entry.Entry, fill.Fill.Fill, keys.AllocKey.AllocKey, keys.ExecKey.ExecKey, link.Link.Link, lines.Version.Version, TheConstants.EVENTS_MAX}
 use Rattle.blot_types.specs.Allocations.{allocation_of, instructions_of}
 use Rattle.blot_types.specs.Chains.{current_in, replaced_by, root_in}
 use Rattle.blot_types.specs.Instructions.{is_keyed}
 use Rattle.blot_types.specs.Keys.{same_alloc}
 use Rattle.blot_types.specs.Legal.{is_book}
-use Rattle.blot_types.specs.Standing.{chain_of, standing}
+use Rattle.blot_types.specs.StandingVersion.{chain_of, standing}
 use Rattle.blot_types.specs.Survivors.{link_of, links_of, versions_of, survivors}
-use Rattle.blot_types.specs.declared.TheConstants.{EVENTS_MAX}
 use Rattle.blot_command.specs.Book.{Shown, has_number}
 use Rattle.blot_order.specs.Fills.{Fills, put_at, kept_at, held_at, with_put as with_put_at, with_kept as with_kept_at}
 

@@ -1,12 +1,7 @@
 -- What each entry of a list comes to, as the links and the instructions of the list tell it.
 use Rattle.std.specs.Prelude.{ℕ, Bool, false, List, map, Option, Some, None, is_none, if◌then◌else◌}
 use Rattle.std.specs.Option.{option_map_or}
-use Rattle.blot_types.specs.declared.allocation.Instruction.{Instruction}
-use Rattle.blot_types.specs.declared.command.Entry.{Entry}
-use Rattle.blot_types.specs.declared.keys.AllocKey.{AllocKey}
-use Rattle.blot_types.specs.declared.keys.ExecKey.{ExecKey}
-use Rattle.blot_types.specs.declared.lines.Version.{Version}
-use Rattle.blot_types.specs.declared.link.Link.{Link}
+use Rattle.blot_types.specs.declared.{allocation.Instruction.Instruction, command.Entry.Entry, keys.AllocKey.AllocKey, keys.ExecKey.ExecKey, lines.Version.Version, link.Link.Link}
 use Rattle.blot_types.specs.Allocations.{Allocation, allocation_of, instructions_of}
 use Rattle.blot_types.specs.Chains.{root_in}
 use Rattle.blot_types.specs.Instructions.{ended_in, named_in}

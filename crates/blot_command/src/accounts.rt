@@ -1,7 +1,6 @@
 //! The live list with its positions.
-ghost use Rattle.std.specs.Prelude.{◌≡◌, [], ◌∷◌, ◌++◌, find, None, Some, IsSome, IsTrue, OnOk, OnErr, IfErr};
+ghost use Rattle.std.specs.Prelude.{◌≡◌, [], ◌∷◌, ◌++◌, find, None, Some, IsSome, IsTrue, OnOk, OnErr, IfErr, option_map};
 ghost use Rattle.std.specs.List.{last_or};
-ghost use Rattle.std.specs.Option.{option_map};
 ghost use Rattle.blot_types.specs.Laws.{HasBoundedTotals};
 ghost use Rattle.blot_types.specs.Legal.{is_above_entries, is_book, without};
 ghost use Rattle.blot_types.specs.Position.{is_named, part_of, part_of_fill, position_of};

@@ -14,12 +14,12 @@ use std::marker::Model;
 /// the command.
 #[derive(Drop)]
 pub struct BoxedCommand {
-    pub(crate) form: Form,
+    pub(crate) effect: Effect,
 }
 
 /// A command that is an entry, or a withdrawal, which is short enough to need no heap.
 #[derive(Drop)]
-pub(crate) enum Form {
+pub(crate) enum Effect {
     /// The number of the entry says nothing yet.
     Enters(BoxedEntry),
     Withdraws(u64),
@@ -27,13 +27,13 @@ pub(crate) enum Form {
 
 impl Model for BoxedCommand {
     ghost use Rattle.blot_types.specs.declared.command.Command.{Command};
-    ghost use Rattle.blot_command.specs.Boxed.{command_in, IsForm};
+    ghost use Rattle.blot_command.specs.Boxed.{command_in, IsEffect};
 
     ghost Value = { Command };
 
-    ghost view = { λ boxed. command_in boxed.form };
+    ghost view = { λ boxed. command_in boxed.effect };
 
-    ghost invariant = { λ boxed. IsForm boxed.form };
+    ghost invariant = { λ boxed. IsEffect boxed.effect };
 }
 
 impl BoxedCommand {
@@ -48,7 +48,7 @@ impl BoxedCommand {
         let command = command.try_copy(alloc)?;
         match BoxedEntry::new(alloc, Entry { number: 0, command }) {
             Ok(entry) => Ok(BoxedCommand {
-                form: Form::Enters(entry),
+                effect: Effect::Enters(entry),
             }),
             Err(back) => {
                 drop(back);
@@ -62,7 +62,7 @@ impl BoxedCommand {
         ensures { result ≡ Withdraw number }
     {
         BoxedCommand {
-            form: Form::Withdraws(number),
+            effect: Effect::Withdraws(number),
         }
     }
 
@@ -76,7 +76,7 @@ impl BoxedCommand {
                 BoxedCommand::of_withdrawal(number)
             }
             None => BoxedCommand {
-                form: Form::Enters(entry),
+                effect: Effect::Enters(entry),
             },
         }
     }
@@ -106,12 +106,12 @@ impl Undoable for BoxedCommand {
         tables: &mut Tables,
         number: u64,
     ) -> Result<Inverse, (BoxedCommand, ApplyFault)> {
-        match self.form {
-            Form::Enters(entry) => match enter_boxed(tables, entry.renumbered(number)) {
+        match self.effect {
+            Effect::Enters(entry) => match enter_boxed(tables, entry.renumbered(number)) {
                 Ok(number) => Ok(Inverse::Number(number)),
                 Err((back, fault)) => Err((BoxedCommand::of_entry(back), fault)),
             },
-            Form::Withdraws(taken) => match withdraw(tables, taken) {
+            Effect::Withdraws(taken) => match withdraw(tables, taken) {
                 Ok(entry) => Ok(Inverse::Taken(entry)),
                 Err(refused) => Err((
                     BoxedCommand::of_withdrawal(taken),

@@ -1,6 +1,5 @@
 //! An entry as the chains and the allocations see it: added to them, and taken back.
-ghost use Rattle.std.specs.Prelude.{◌≡◌, IsTrue, IfOk, OnOk, OnErr};
-ghost use Rattle.std.specs.List.{filter_map};
+ghost use Rattle.std.specs.Prelude.{◌≡◌, IsTrue, IfOk, OnOk, OnErr, filter_map};
 ghost use Rattle.blot_types.specs.Chains.{root_in, is_above_links};
 ghost use Rattle.blot_types.specs.Instructions.{is_above_instructions};
 ghost use Rattle.blot_command.specs.Linking.{CanLift, CanLink, CanUnLift, IsLinkedLast, lifted_allocs, lifted_chains, returned_allocs, returned_chains, with_instruction, with_link, without_link, without_instruction};

@@ -1,12 +1,11 @@
 //! The live list.
-ghost use Rattle.std.specs.Prelude.{◌≡◌, ◌<◌, [], ◌∷◌, ◌++◌, length, find, None, Some, IsSome, IsTrue, OnOk, OnErr, IfOk, IfErr};
+ghost use Rattle.std.specs.Prelude.{◌≡◌, ◌<◌, [], ◌∷◌, ◌++◌, length, find, None, Some, IsSome, IsTrue, OnOk, OnErr, IfOk, IfErr, option_map, option_and_then, option_copied};
 ghost use Rattle.std.specs.List.{last_or};
-ghost use Rattle.std.specs.Option.{option_map, option_and_then, option_copied};
 ghost use Rattle.blot_types.specs.Allocations.{instructions_of};
 ghost use Rattle.blot_types.specs.Instructions.{is_keyed};
 ghost use Rattle.blot_types.specs.Legal.{is_above_entries, is_book, entry_refusal, least_needing, without};
 ghost use Rattle.blot_types.specs.Position.{is_named};
-ghost use Rattle.blot_types.specs.Standing.{chain_by, standing};
+ghost use Rattle.blot_types.specs.StandingVersion.{chain_by, standing};
 ghost use Rattle.blot_types.specs.Survivors.{links_of};
 ghost use Rattle.blot_command.specs.Book.{has_number};
 ghost use Rattle.blot_command.specs.Shown.{standing_fill, version_replaced, terms_of_key, terms_keyed, roots_keyed};

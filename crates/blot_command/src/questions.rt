@@ -3,7 +3,7 @@ ghost use Rattle.std.specs.Prelude.{◌≡◌, ◌++◌, [], IfOk, IsTrue, OnOk}
 ghost use Rattle.std.specs.List.{cons_option};
 ghost use Rattle.blot_types.specs.Allocations.{instructions_of};
 ghost use Rattle.blot_types.specs.Legal.{is_book};
-ghost use Rattle.blot_types.specs.Standing.{chain_by};
+ghost use Rattle.blot_types.specs.StandingVersion.{chain_by};
 ghost use Rattle.blot_command.specs.Questions.{allocation_of, chain_entries, chain_keyed, entry_in, execution_of};
 ghost use Rattle.blot_command.specs.Refusing.{HoldsBoth, HoldsChainsOf};
 ghost use Rattle.blot_command.specs.Slots.{AreNumbered, entries_in};

@@ -1,7 +1,6 @@
 //! Why the live list refuses a command: one function a rule, in the order of the rules.
-ghost use Rattle.std.specs.Prelude.{◌≡◌, [], reverse, find, is_none};
+ghost use Rattle.std.specs.Prelude.{◌≡◌, [], reverse, find, is_none, option_and_then, option_copied, option_map};
 ghost use Rattle.std.specs.List.{list_any};
-ghost use Rattle.std.specs.Option.{option_and_then, option_copied, option_map};
 ghost use Rattle.blot_types.specs.declared.link.Role.TheVariants.{Begins, Corrects, Busts};
 ghost use Rattle.blot_types.specs.declared.refused.Refused.TheVariants.{DuplicateAlloc};
 ghost use Rattle.blot_types.specs.Chains.{current_in, root_in, is_root, link_refusal};

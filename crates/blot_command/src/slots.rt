@@ -1,7 +1,6 @@
 //! The slots of the live list. The numbers rise.
-ghost use Rattle.std.specs.Prelude.{◌≡◌, ◌≤◌, find, length, reverse, IsTrue, IsSome, Some, None, true, false, if◌then◌else◌};
+ghost use Rattle.std.specs.Prelude.{◌≡◌, ◌≤◌, find, length, reverse, IsTrue, IsSome, Some, None, true, false, if◌then◌else◌, option_copied, option_map};
 ghost use Rattle.std.specs.List.{last_or};
-ghost use Rattle.std.specs.Option.{option_copied, option_map};
 ghost use Rattle.blot_places.specs.Slots.{AreBelow, NoneBelow, marked};
 ghost use Rattle.blot_types.specs.Survivors.{versions_of};
 ghost use Rattle.blot_command.specs.Book.{has_number, entry_number};
@@ -9,7 +8,7 @@ ghost use Rattle.blot_command.specs.Shown.{fill_numbered, version_numbered};
 ghost use Rattle.blot_command.specs.Slots.{AreNumbered, IsLeft, entries_in};
 
 use crate::BoxedEntry;
-use blot_places::Remembered;
+use blot_places::GhostValue;
 use blot_types::{Entry, Fill, Version};
 use std::marker::Model;
 
@@ -19,7 +18,7 @@ use std::marker::Model;
 pub(crate) struct EntrySlot {
     number: u64,
     entry: Option<BoxedEntry>,
-    was: Remembered<Entry>,
+    was: GhostValue<Entry>,
 }
 
 impl Model for EntrySlot {
@@ -39,7 +38,7 @@ impl EntrySlot {
     pub(crate) fn new(entry: BoxedEntry) -> EntrySlot
         ensures { result ≡ record { item = entry; is_live = true } }
     {
-        let was = Remembered::of(entry.as_entry());
+        let was = GhostValue::of(entry.as_entry());
         EntrySlot {
             number: entry.as_entry().number,
             entry: Some(entry),

@@ -1,7 +1,6 @@
 //! The book.
-ghost use Rattle.std.specs.Prelude.{◌≡◌, ◌<◌, [], ◌∷◌, ◌++◌, None, Some, IsSome, find, IsTrue, OnOk, OnErr, IfOk, IfErr, IfSome};
+ghost use Rattle.std.specs.Prelude.{◌≡◌, ◌<◌, [], ◌∷◌, ◌++◌, None, Some, IsSome, find, IsTrue, OnOk, OnErr, IfOk, IfErr, IfSome, option_copied, option_map};
 ghost use Rattle.std.specs.List.{last_or};
-ghost use Rattle.std.specs.Option.{option_copied, option_map};
 ghost use Rattle.blot_types.specs.Laws.{HasBoundedTotals, IsConserving};
 ghost use Rattle.blot_types.specs.Legal.{is_above_entries, is_book, entry_refusal, least_needing, refusal_of, without};
 ghost use Rattle.blot_types.specs.Order.{order_of};

@@ -1,14 +1,10 @@
 -- How the lists of an allocation are made.
-use Rattle.std.proofs.Common.{◌≡◌, ℕ, ℤ, ◌+◌, ◌*◌, ◌^◌, ◌<◌, ◌≤◌, List, [], ◌∷◌, length, Result, Ok, Err, refl, sym, ap, subst, ◌∙◌, suc, arith}
-use Rattle.std.specs.Prelude.{IfOk, IsOkAnd}
+use Rattle.std.proofs.Common.{◌≡◌, ℕ, ℤ, ◌+◌, ◌*◌, ◌^◌, ◌<◌, ◌≤◌, List, [], ◌∷◌, length, Result, Ok, Err, refl, sym, ap, subst, ◌∙◌, suc, arith, IfOk, IsOkAnd}
 use Rattle.blot_time.specs.Results.{◌>>=◌}
-use Rattle.blot_types.specs.declared.TheConstants.{ITEMS_MAX}
-use Rattle.blot_types.specs.declared.allocation.Line.{Line}
-use Rattle.blot_types.specs.declared.keys.ExecKey.{ExecKey}
-use Rattle.blot_types.specs.Making.{Made, Grows, Holds, Makes, IsShort}
-use Rattle.blot_types.proofs.MakingLemmas.{with_first, IsFront, front_grows, front_faults, front_ends, made_short, makes_short}
-use Rattle.blot_console.specs.declared.allocate.Block.{Block}
-use Rattle.blot_console.specs.declared.fault.Wrong.{Wrong}
+use Rattle.blot_types.specs.declared.{TheConstants.ITEMS_MAX, allocation.Line.Line, keys.ExecKey.ExecKey}
+use Rattle.blot_types.specs.ItemsBuilder.{Made, Grows, HoldsItems, Makes, IsShort}
+use Rattle.blot_types.proofs.BuilderLemmas.{with_first, IsFront, front_grows, front_faults, front_ends, made_short, makes_short}
+use Rattle.blot_console.specs.declared.{allocate.Block.Block, fault.Wrong.Wrong}
 use Rattle.blot_console.specs.Allocate.{execs_of, line_of, lines_of, block_of}
 use Rattle.blot_console.specs.Block.{kept_sum, MakesBlock}
 use Rattle.blot_console.specs.Forms.{text_form}
@@ -181,7 +177,7 @@ pub execs_short : (result : Result (Made ExecKey) Wrong) (peer : List ℕ) (plac
 execs_short result peer place words few makes =
     makes_short result (execs_of peer place words) (λ execs is. let same = execs_of-length peer place words execs is in omega (arith, same)) makes
 
-held : (block : Block) (meant : Result (List Line) Wrong) → MakesBlock (Ok block) meant → IsOkAnd meant (Holds block.lines)
+held : (block : Block) (meant : Result (List Line) Wrong) → MakesBlock (Ok block) meant → IsOkAnd meant (HoldsItems block.lines)
 held block (Ok lines) makes = makes.0
 held block (Err wrong) makes = absurd makes
 

@@ -1,8 +1,6 @@
 -- What a number of few digits says.
-use Rattle.std.proofs.Common.{◌≡◌, ℕ, ◌-◌, ◌^◌, ◌<◌, ◌≤◌, Bool, true, false, List, length, min, Some, refl, arith, lit≤}
-use Rattle.std.specs.Prelude.{◌&&◌, nat_le}
+use Rattle.std.proofs.Common.{◌≡◌, ℕ, ◌-◌, ◌^◌, ◌<◌, ◌≤◌, Bool, true, false, List, length, min, Some, refl, arith, lit≤, ◌&&◌, nat_le, le-leb}
 use Rattle.std.proofs.Math.Nat.{pow-le-pow_right}
-use Rattle.std.proofs.lemmas.Bool.{le-leb}
 use Rattle.blot_decimal.specs.Text.{are_digits, number_of}
 use Rattle.blot_decimal.proofs.ValueLemmas.{number_of_below}
 use Rattle.blot_console.specs.declared.digits.TheConstants.{DIGITS_MAX}

@@ -1,6 +1,6 @@
 -- An operator's lines and their answers, computed. Quantities are in units of 10^-6, prices in units of 10^-8, values in
 -- units of 10^-14.
-use Rattle.std.specs.Prelude.{◌≡◌, ℕ, ◌*◌, ◌^◌, ◌++◌, pos, true, false, List, [], ◌∷◌, codes, Option, Some, None, Result, Ok, Err, refl}
+use Rattle.std.proofs.Common.{◌≡◌, ℕ, ◌*◌, ◌^◌, ◌++◌, pos, true, false, List, [], ◌∷◌, codes, Option, Some, None, Result, Ok, Err, refl}
 use Rattle.std.specs.Fmt.{digits}
 use Rattle.std.specs.List.{join_with_byte}
 use Rattle.blot_decimal.specs.Meaning.{size_of, qty_of, price_of}
@@ -14,18 +14,13 @@ use Rattle.blot_desk.specs.declared.question.Question.TheVariants.{Entry, Execut
 use Rattle.blot_desk.specs.declared.question.StepRow.TheVariants as rows
 use Rattle.blot_time.specs.Calendar.{day_number}
 use Rattle.blot_time.specs.Day.{day_of, civil_day}
-use Rattle.blot_types.specs.declared.allocation.Line.{Line}
+use Rattle.blot_types.specs.declared.{allocation.Line.Line, fill.Sign.TheVariants.Buy, keys.ExecKey.ExecKey, keys.OrderKey.OrderKey}
 use Rattle.blot_types.specs.declared.command.Command.TheVariants.{AllocNew, Withdraw}
-use Rattle.blot_types.specs.declared.fill.Sign.TheVariants.{Buy}
-use Rattle.blot_types.specs.declared.keys.ExecKey.{ExecKey}
-use Rattle.blot_types.specs.declared.keys.OrderKey.{OrderKey}
 use Rattle.blot_types.specs.declared.refused.Refused.TheVariants.{NotLive, NothingToUndo, Moved, UnknownExec, Quantity}
 use Rattle.blot_console.specs.declared.answer.Answer.TheVariants as answers
-use Rattle.blot_console.specs.declared.open_day.DayAsk.{DayAsk}
+use Rattle.blot_console.specs.declared.{open_day.DayAsk.DayAsk, ask.Ask.Ask, fault.LineFault.LineFault}
 use Rattle.blot_console.specs.declared.open_day.DayAsk.TheVariants.{Close, Sessions}
-use Rattle.blot_console.specs.declared.ask.Ask.{Ask}
 use Rattle.blot_console.specs.declared.ask.Ask.TheVariants.{Step, Report, Mine, Look, Orders}
-use Rattle.blot_console.specs.declared.fault.LineFault.{LineFault}
 use Rattle.blot_console.specs.declared.fault.LineFault.TheVariants.{UnknownWord, WrongCount, BadValue}
 use Rattle.blot_console.specs.Allocate.{execs_counted, execs_of, line_of, lines_of, allocate_line}
 use Rattle.blot_console.specs.Answers.{answer_text}

@@ -1,15 +1,12 @@
 -- Lines that end with their maker.
-use Rattle.std.proofs.Common.{◌≡◌, ℕ, suc, ◌+◌, ◌-◌, ◌<◌, List, [], ◌∷◌, ◌++◌, drop, get_or, length, take, Option, Some, None, refl, sym, ap, ◌∙◌, arith}
-use Rattle.std.specs.Prelude.{slice_get}
-use Rattle.std.specs.List.{flat_map}
-use Rattle.std.proofs.lemmas.List.{append-nil, append_assoc, length-append, length-take, take_more}
+use Rattle.std.proofs.Common.{◌≡◌, ℕ, suc, ◌+◌, ◌-◌, ◌<◌, List, [], ◌∷◌, ◌++◌, drop, get_or, length, take, Option, Some, None, refl, sym, ap, ◌∙◌, arith, slice_get, flat_map, append-nil, append_assoc, length-append, length-take}
+use Rattle.std.proofs.lemmas.List.{take_more}
 use Rattle.blot_report.specs.Text.{end_text}
 use Rattle.blot_types.specs.declared.command.Command.{Command}
 use Rattle.blot_types.specs.declared.command.Command.TheVariants as commands
 use Rattle.blot_desk.specs.declared.question.Found.{Found}
 use Rattle.blot_desk.specs.declared.question.Found.TheVariants as found
-use Rattle.blot_desk.specs.declared.question.RefusalRow.{RefusalRow}
-use Rattle.blot_desk.specs.declared.question.StepRow.{StepRow}
+use Rattle.blot_desk.specs.declared.{question.RefusalRow.RefusalRow, question.StepRow.StepRow}
 use Rattle.blot_desk.specs.declared.question.StepRow.TheVariants as steps
 use Rattle.blot_console.specs.Entries.{command_text}
 use Rattle.blot_console.specs.Replies.{told}

@@ -1,20 +1,14 @@
 -- The place that is told is the first bad one.
-use Rattle.std.proofs.Common.{◌≡◌, ℕ, ℤ, pos, ◌+◌, ◌-◌, Bool, true, false, List, [], ◌∷◌, ◌++◌, length, take, drop, Option, Some, None, Result, Ok, Err, refl, sym, ap, subst, ◌∙◌}
-use Rattle.std.specs.Prelude.{if◌then◌else◌, ◌==◌, nat_lt, nat_le, codes}
+use Rattle.std.proofs.Common.{◌≡◌, ℕ, ℤ, pos, ◌+◌, ◌-◌, Bool, true, false, List, [], ◌∷◌, ◌++◌, length, take, drop, Option, Some, None, Result, Ok, Err, refl, sym, ap, subst, ◌∙◌, if◌then◌else◌, ◌==◌, nat_lt, nat_le, codes}
 use Rattle.std.specs.Option.{option_or}
 use Rattle.blot_decimal.specs.Meaning.{qty_units}
 use Rattle.blot_time.specs.Results.{◌>>=◌}
-use Rattle.blot_types.specs.declared.allocation.Line.{Line}
-use Rattle.blot_types.specs.declared.keys.ExecKey.{ExecKey}
+use Rattle.blot_types.specs.declared.{allocation.Line.Line, keys.ExecKey.ExecKey}
 use Rattle.blot_types.specs.Keys.{same_text}
-use Rattle.blot_console.specs.declared.allocate.TheConstants.{EXECS_PLACE}
-use Rattle.blot_console.specs.declared.ask.Ask.{Ask}
+use Rattle.blot_console.specs.declared.{allocate.TheConstants.EXECS_PLACE, ask.Ask.Ask, fault.LineFault.LineFault, fault.Wrong.Wrong, kinds.Kind.Kind}
 use Rattle.blot_console.specs.declared.ask.Ask.TheVariants.{Orders, Positions}
-use Rattle.blot_console.specs.declared.fault.LineFault.{LineFault}
 use Rattle.blot_console.specs.declared.fault.LineFault.TheVariants as faults
-use Rattle.blot_console.specs.declared.fault.Wrong.{Wrong}
 use Rattle.blot_console.specs.declared.fault.Wrong.TheVariants.{UnknownWord, WrongCount, BadValue, TooLong}
-use Rattle.blot_console.specs.declared.kinds.Kind.{Kind}
 use Rattle.blot_console.specs.declared.kinds.Kind.TheVariants as kinds
 use Rattle.blot_console.specs.declared.parsing.TheConstants.{LINE_MAX}
 use Rattle.blot_console.specs.Allocate.{are_pairs, counted_by, execs_counted, execs_of, line_of, lines_of, block_of, allocate_line}

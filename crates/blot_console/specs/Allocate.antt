@@ -3,15 +3,8 @@ use Rattle.std.specs.Prelude.{ℕ, ℤ, pos, ◌+◌, ◌-◌, ◌*◌, ◌%◌,
 use Rattle.blot_decimal.specs.Meaning.{qty_units}
 use Rattle.blot_time.specs.Results.{◌>>=◌}
 use Rattle.blot_desk.specs.declared.event.Event.TheVariants.{Submit}
-use Rattle.blot_types.specs.declared.TheConstants.{ITEMS_MAX}
-use Rattle.blot_types.specs.declared.allocation.Line.{Line}
-use Rattle.blot_types.specs.declared.command.Command.TheVariants.{AllocNew}
-use Rattle.blot_types.specs.declared.keys.ExecKey.{ExecKey}
-use Rattle.blot_console.specs.declared.ask.Ask.{Ask}
-use Rattle.blot_console.specs.declared.ask.Ask.TheVariants.{Step}
-use Rattle.blot_console.specs.declared.allocate.TheConstants.{EXECS_PLACE}
-use Rattle.blot_console.specs.declared.fault.Wrong.{Wrong}
-use Rattle.blot_console.specs.declared.fault.Wrong.TheVariants.{WrongCount}
+use Rattle.blot_types.specs.declared.{TheConstants.ITEMS_MAX, allocation.Line.Line, command.Command.TheVariants.AllocNew, keys.ExecKey.ExecKey}
+use Rattle.blot_console.specs.declared.{ask.Ask.Ask, ask.Ask.TheVariants.Step, allocate.TheConstants.EXECS_PLACE, fault.Wrong.Wrong, fault.Wrong.TheVariants.WrongCount}
 use Rattle.blot_console.specs.Forms.{count_form, text_form, sign_form, day_form, price_form, qty_form}
 use Rattle.blot_console.specs.Rows.{at, value_at}
 use Rattle.blot_console.specs.Words.{word_at}

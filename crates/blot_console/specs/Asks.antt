@@ -1,12 +1,8 @@
 -- Asks, and those that take memory.
 use Rattle.std.specs.Prelude.{◌≡◌, Result, Ok, Err, IsOkAnd}
-use Rattle.blot_desk.specs.declared.event.Event.{Event}
-use Rattle.blot_desk.specs.declared.event.Event.TheVariants.{Submit}
-use Rattle.blot_types.specs.declared.command.Command.{Command}
-use Rattle.blot_types.specs.declared.command.Command.TheVariants.{AllocNew}
-use Rattle.blot_console.specs.declared.ask.Ask.{Ask}
-use Rattle.blot_console.specs.declared.ask.Ask.TheVariants.{Step}
-use Rattle.blot_console.specs.declared.fault.Refusal.{Refusal}
+use Rattle.blot_desk.specs.declared.{event.Event.Event, event.Event.TheVariants.Submit}
+use Rattle.blot_types.specs.declared.{command.Command.Command, command.Command.TheVariants.AllocNew}
+use Rattle.blot_console.specs.declared.{ask.Ask.Ask, ask.Ask.TheVariants.Step, fault.Refusal.Refusal}
 use Rattle.blot_console.specs.declared.fault.Refusal.TheVariants as refusals
 use Rattle.blot_console.specs.declared.fault.Wrong.{Wrong}
 

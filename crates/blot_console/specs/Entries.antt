@@ -1,15 +1,9 @@
 -- The line that tells an entry. Words are divided by tabs. Source: this project's rule.
-use Rattle.std.specs.Prelude.{ℕ, pos, List, [], ◌∷◌, ◌++◌, length, codes, Option, Some, None}
-use Rattle.std.specs.List.{flat_map}
+use Rattle.std.specs.Prelude.{ℕ, pos, List, [], ◌∷◌, ◌++◌, length, codes, Option, Some, None, flat_map}
 use Rattle.blot_decimal.specs.Printed.{printed}
 use Rattle.blot_time.specs.Day.{day_text}
-use Rattle.blot_types.specs.declared.allocation.Line.{Line}
-use Rattle.blot_types.specs.declared.allocation.Terms.{Terms}
-use Rattle.blot_types.specs.declared.command.Command.{Command}
+use Rattle.blot_types.specs.declared.{allocation.Line.Line, allocation.Terms.Terms, command.Command.Command, command.Entry.Entry, fill.Fill.Fill, keys.AllocKey.AllocKey}
 use Rattle.blot_types.specs.declared.command.Command.TheVariants.{Trade, Correct, Bust, AllocNew, AllocReplace, AllocCancel, Withdraw}
-use Rattle.blot_types.specs.declared.command.Entry.{Entry}
-use Rattle.blot_types.specs.declared.fill.Fill.{Fill}
-use Rattle.blot_types.specs.declared.keys.AllocKey.{AllocKey}
 use Rattle.blot_report.specs.Text.{sign_text}
 use Rattle.blot_console.specs.Replies.{told, number_text, exec_text}
 

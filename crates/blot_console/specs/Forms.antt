@@ -4,13 +4,11 @@ use Rattle.std.specs.Result.{result_ok}
 use Rattle.blot_decimal.specs.Meaning.{qty_of, price_of}
 use Rattle.blot_decimal.specs.Text.{are_digits, number_of}
 use Rattle.blot_time.specs.Day.{day_of}
-use Rattle.blot_types.specs.declared.fill.Sign.{Sign}
+use Rattle.blot_types.specs.declared.{fill.Sign.Sign, TheConstants.ITEMS_MAX}
 use Rattle.blot_types.specs.declared.fill.Sign.TheVariants.{Buy, Sell}
-use Rattle.blot_types.specs.declared.TheConstants.{ITEMS_MAX}
 use Rattle.blot_types.specs.Keys.{same_text}
 use Rattle.blot_types.specs.Text.{is_text}
-use Rattle.blot_console.specs.declared.digits.TheConstants.{DIGITS_MAX}
-use Rattle.blot_console.specs.declared.forms.TheConstants.{ROWS_MAX}
+use Rattle.blot_console.specs.declared.{digits.TheConstants.DIGITS_MAX, forms.TheConstants.ROWS_MAX}
 
 -- one or more digits
 abbrev pub is_number : List ℕ → Bool

@@ -1,22 +1,13 @@
 -- What is told of what was found to a question. Source: this project's rule.
-use Rattle.std.specs.Prelude.{ℕ, ◌+◌, ◌-◌, List, [], ◌∷◌, ◌++◌, drop, length, slice_get, take, codes, Option, Some, None}
-use Rattle.std.specs.List.{flat_map}
-use Rattle.blot_types.specs.declared.keys.AllocKey.{AllocKey}
-use Rattle.blot_types.specs.declared.keys.ExecKey.{ExecKey}
-use Rattle.blot_types.specs.declared.refused.Refused.{Refused}
-use Rattle.blot_types.specs.declared.refused.Refused.TheVariants.{Needed}
-use Rattle.blot_types.specs.Told.{refused_number, refused_name}
-use Rattle.blot_command.specs.declared.questions.AllocationAnswer.{AllocationAnswer}
-use Rattle.blot_command.specs.declared.questions.ExecutionAnswer.{ExecutionAnswer}
-use Rattle.blot_desk.specs.declared.question.CommandKey.{CommandKey}
+use Rattle.std.specs.Prelude.{ℕ, ◌+◌, ◌-◌, List, [], ◌∷◌, ◌++◌, drop, length, slice_get, take, codes, Option, Some, None, flat_map}
+use Rattle.blot_types.specs.declared.{keys.AllocKey.AllocKey, keys.ExecKey.ExecKey, refused.Refused.Refused, refused.Refused.TheVariants.Needed}
+use Rattle.blot_types.specs.RefusalNames.{refused_number, refused_name}
+use Rattle.blot_command.specs.declared.{questions.AllocationAnswer.AllocationAnswer, questions.ExecutionAnswer.ExecutionAnswer}
+use Rattle.blot_desk.specs.declared.{question.CommandKey.CommandKey, question.Found.Found, question.RefusalRow.RefusalRow, question.StepRow.StepRow}
 use Rattle.blot_desk.specs.declared.question.CommandKey.TheVariants.{Trade, Correct, Bust, AllocNew, AllocReplace, AllocCancel, Withdraw}
-use Rattle.blot_desk.specs.declared.question.Found.{Found}
 use Rattle.blot_desk.specs.declared.question.Found.TheVariants as found
-use Rattle.blot_desk.specs.declared.question.RefusalRow.{RefusalRow}
-use Rattle.blot_desk.specs.declared.question.StepRow.{StepRow}
 use Rattle.blot_desk.specs.declared.question.StepRow.TheVariants as steps
-use Rattle.blot_report.specs.declared.lines.OrderRow.{OrderRow}
-use Rattle.blot_report.specs.declared.lines.PositionRow.{PositionRow}
+use Rattle.blot_report.specs.declared.{lines.OrderRow.OrderRow, lines.PositionRow.PositionRow}
 use Rattle.blot_report.specs.Text.{end_text, order_lines_text, position_lines_text}
 use Rattle.blot_console.specs.Replies.{told, number_text, exec_text, values_text, refused_text, word_line, number_line}
 use Rattle.blot_console.specs.Entries.{alloc_text, entry_text, withdraw_text}

@@ -1,11 +1,9 @@
 -- The line by which an operator's connection names itself, and what is answered until it has a name. Source: this project's rule.
 use Rattle.std.specs.Prelude.{ℕ, ◌==◌, nat_le, List, [], ◌∷◌, ◌++◌, length, codes, Option, Some, None, Result, Ok, Err, if◌then◌else◌}
 use Rattle.blot_types.specs.Keys.{same_text}
-use Rattle.blot_console.specs.declared.fault.LineFault.{LineFault}
+use Rattle.blot_console.specs.declared.{fault.LineFault.LineFault, naming.Naming.Naming, parsing.TheConstants.LINE_MAX}
 use Rattle.blot_console.specs.declared.fault.LineFault.TheVariants.{BadValue, TooLong, UnknownWord, WrongCount}
-use Rattle.blot_console.specs.declared.naming.Naming.{Naming}
 use Rattle.blot_console.specs.declared.naming.Naming.TheVariants.{Bad, Full, Named, Taken}
-use Rattle.blot_console.specs.declared.parsing.TheConstants.{LINE_MAX}
 use Rattle.blot_console.specs.Answers.{bad_text}
 use Rattle.blot_console.specs.Forms.{text_form}
 use Rattle.blot_console.specs.Replies.{told, word_line}

@@ -1,14 +1,9 @@
 -- The two lines that an open day has and no other, and what is told of sessions. Source: this project's rule.
-use Rattle.std.specs.Prelude.{ℕ, ◌==◌, nat_le, Bool, true, false, List, [], ◌∷◌, ◌++◌, length, codes, Option, Some, None, option_map, Result, Ok, Err, if◌then◌else◌}
-use Rattle.std.specs.List.{flat_map}
+use Rattle.std.specs.Prelude.{ℕ, ◌==◌, nat_le, Bool, true, false, List, [], ◌∷◌, ◌++◌, length, codes, Option, Some, None, option_map, Result, Ok, Err, if◌then◌else◌, flat_map}
 use Rattle.blot_report.specs.Text.{end_text}
 use Rattle.blot_types.specs.Keys.{same_text}
-use Rattle.blot_console.specs.declared.fault.LineFault.{LineFault}
-use Rattle.blot_console.specs.declared.fault.LineFault.TheVariants.{WrongCount}
-use Rattle.blot_console.specs.declared.open_day.DayAsk.{DayAsk}
+use Rattle.blot_console.specs.declared.{fault.LineFault.LineFault, fault.LineFault.TheVariants.WrongCount, open_day.DayAsk.DayAsk, open_day.SessionLine.SessionLine, parsing.TheConstants.LINE_MAX}
 use Rattle.blot_console.specs.declared.open_day.DayAsk.TheVariants.{Close, Sessions}
-use Rattle.blot_console.specs.declared.open_day.SessionLine.{SessionLine}
-use Rattle.blot_console.specs.declared.parsing.TheConstants.{LINE_MAX}
 use Rattle.blot_console.specs.Replies.{told, number_text}
 use Rattle.blot_console.specs.Words.{words_of, word_at}
 

@@ -3,9 +3,8 @@
 use Rattle.std.specs.Prelude.{ℕ, ◌==◌, List, length, Option, Some, None, Result, Ok, if◌then◌else◌}
 use Rattle.blot_time.specs.Results.{◌>>=◌}
 use Rattle.blot_desk.specs.declared.question.Question.TheVariants.{Entry, Execution, Allocation, Needs, Steps, Refusals}
-use Rattle.blot_console.specs.declared.ask.Ask.{Ask}
+use Rattle.blot_console.specs.declared.{ask.Ask.Ask, fault.Wrong.Wrong}
 use Rattle.blot_console.specs.declared.ask.Ask.TheVariants.{Look, Orders, Positions}
-use Rattle.blot_console.specs.declared.fault.Wrong.{Wrong}
 use Rattle.blot_console.specs.Forms.{number_form, rows_form, text_form}
 use Rattle.blot_console.specs.Rows.{counted, value_at}
 

@@ -1,13 +1,11 @@
 -- How replies and refusals are told. Words are divided by tabs, and each line ends with LF. Source: this project's rule.
-use Rattle.std.specs.Prelude.{ℕ, ℤ, List, [], ◌∷◌, ◌++◌, codes}
-use Rattle.std.specs.Fmt.{decimal}
+use Rattle.std.specs.Prelude.{ℕ, ℤ, List, [], ◌∷◌, ◌++◌, codes, decimal}
 use Rattle.blot_decimal.specs.Printed.{printed}
 use Rattle.blot_desk.specs.declared.event.Reply.{Reply}
 use Rattle.blot_desk.specs.declared.event.Reply.TheVariants as replies
-use Rattle.blot_types.specs.declared.keys.ExecKey.{ExecKey}
-use Rattle.blot_types.specs.declared.refused.Refused.{Refused}
+use Rattle.blot_types.specs.declared.{keys.ExecKey.ExecKey, refused.Refused.Refused}
 use Rattle.blot_types.specs.declared.refused.Refused.TheVariants.{DuplicateExec, DuplicateAlloc, UnknownAlloc, DeadAlloc, UnknownExec, BustedExec, RepeatedExec, ExecTaken, Instrument, Quantity, NotLive, Needed, NothingToUndo, Moved, NothingToRedo}
-use Rattle.blot_types.specs.Told.{refused_number, refused_name}
+use Rattle.blot_types.specs.RefusalNames.{refused_number, refused_name}
 
 -- a word after a tab
 abbrev pub told : List ℕ → List ℕ

@@ -1,6 +1,5 @@
 -- The rows of a line: how many words it has, and what the word at each place says. Source: this project's rule.
-use Rattle.std.specs.Prelude.{ℕ, ◌==◌, List, length, Option, Result, Ok, Err, if◌then◌else◌}
-use Rattle.std.specs.Option.{ok_or}
+use Rattle.std.specs.Prelude.{ℕ, ◌==◌, List, length, Option, Result, Ok, Err, if◌then◌else◌, ok_or}
 use Rattle.blot_console.specs.declared.fault.Wrong.{Wrong}
 use Rattle.blot_console.specs.declared.fault.Wrong.TheVariants.{WrongCount, BadValue}
 use Rattle.blot_console.specs.Words.{word_at}

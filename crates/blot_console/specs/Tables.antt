@@ -2,8 +2,7 @@
 use Rattle.std.specs.Prelude.{◌≡◌, ℕ, pos, ◌+◌, ◌-◌, ◌==◌, List, [], ◌∷◌, ◌++◌, length, take, drop, Option, Some, None, unwrap_or, is_some, Ok, if◌then◌else◌}
 use Rattle.std.specs.List.{AllByRecursion}
 use Rattle.blot_decimal.specs.Meaning.{qty_units}
-use Rattle.blot_console.specs.declared.allocate.TheConstants.{EXECS_PLACE}
-use Rattle.blot_console.specs.declared.kinds.Kind.{Kind}
+use Rattle.blot_console.specs.declared.{allocate.TheConstants.EXECS_PLACE, kinds.Kind.Kind}
 use Rattle.blot_console.specs.declared.kinds.Kind.TheVariants as kinds
 use Rattle.blot_console.specs.Forms.{number_form, count_form, rows_form, text_form, sign_form, day_form, price_form, qty_form}
 use Rattle.blot_console.specs.Parsing.{kind_of}

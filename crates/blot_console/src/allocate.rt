@@ -1,7 +1,7 @@
 //! What `allocate` asks.
 ghost use Rattle.std.specs.Prelude.{◌≡◌, ◌+◌, ◌*◌, ◌≤◌, drop, length, IfOk, IfSome, pos};
 ghost use Rattle.blot_decimal.specs.Meaning.{qty_units};
-ghost use Rattle.blot_types.specs.Making.{Makes, IsShort};
+ghost use Rattle.blot_types.specs.ItemsBuilder.{Makes, IsShort};
 ghost use Rattle.blot_types.specs.declared.TheConstants.{ITEMS_MAX};
 ghost use Rattle.blot_console.specs.Allocate.{are_pairs, execs_counted, execs_of, line_of, lines_of, allocate_line};
 ghost use Rattle.blot_console.specs.Asks.{Gives};
@@ -16,7 +16,7 @@ use blot_decimal::{Price, Qty};
 use blot_desk::Event;
 use blot_time::Day;
 use blot_types::{
-    AllocKey, AllocNew, Command, ExecKey, ITEMS_MAX, Line, Making, Sign, Terms, Text64,
+    AllocKey, AllocNew, Command, ExecKey, ITEMS_MAX, ItemsBuilder, Line, Sign, Terms, Text64,
 };
 use std::alloc::Global;
 
@@ -26,7 +26,7 @@ const EXECS_PLACE: usize = 8;
 // The lines of an allocation in the making, and the sum of their quantities.
 #[derive(Drop)]
 struct Block {
-    lines: Making<Line>,
+    lines: ItemsBuilder<Line>,
     // In units of 10^-6; the largest `u64` where it is larger.
     sum: u64,
 }
@@ -90,12 +90,12 @@ fn execs_counted(words: &Words) -> Result<Option<usize>, Wrong>
 }
 
 // The executions of a peer, by their ExecIDs.
-fn execs_of(alloc: Global, peer: Text64, words: Words) -> Result<Making<ExecKey>, Wrong>
+fn execs_of(alloc: Global, peer: Text64, words: Words) -> Result<ItemsBuilder<ExecKey>, Wrong>
     requires { length words ≤ ITEMS_MAX }
     ensures made { Makes result (execs_of peer EXECS_PLACE words.entry) }
     ensures few { IfOk result IsShort }
 {
-    let mut execs = Making::new(alloc);
+    let mut execs = ItemsBuilder::new(alloc);
     let mut place = EXECS_PLACE;
     for word in words {
         let id = at(place, Text64::from_word(word))?;
@@ -127,7 +127,7 @@ fn lines_of(alloc: Global, price: Price, place: usize, words: Words) -> Result<B
     ensures made { MakesBlock result (lines_of price place words.entry) }
     ensures few { IfOk result (λ block. IsShort block.lines) }
 {
-    let mut lines = Making::new(alloc);
+    let mut lines = ItemsBuilder::new(alloc);
     let mut sum: u64 = 0;
     let mut place = place;
     let mut words = words;

@@ -1,6 +1,5 @@
 //! The line that tells an entry.
-ghost use Rattle.std.specs.Prelude.{◌≡◌, ◌++◌, OnOk};
-ghost use Rattle.std.specs.List.{flat_map};
+ghost use Rattle.std.specs.Prelude.{◌≡◌, ◌++◌, OnOk, flat_map};
 ghost use Rattle.blot_types.specs.declared.command.Command.TheVariants as commands;
 ghost use Rattle.blot_report.specs.Text.{sign_text};
 ghost use Rattle.blot_console.specs.Replies.{told};

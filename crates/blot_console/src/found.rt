@@ -1,6 +1,5 @@
 //! How what was found to a question is told.
-ghost use Rattle.std.specs.Prelude.{◌≡◌, ◌++◌, IfOk, OnOk, length, slice_get};
-ghost use Rattle.std.specs.List.{flat_map};
+ghost use Rattle.std.specs.Prelude.{◌≡◌, ◌++◌, IfOk, OnOk, length, slice_get, flat_map};
 ghost use Rattle.blot_report.specs.Text.{end_text};
 ghost use Rattle.blot_console.specs.Replies.{exec_text, told};
 ghost use Rattle.blot_console.specs.Entries.{alloc_text, entry_text};

@@ -1,8 +1,7 @@
 //! The words of a line.
-ghost use Rattle.std.specs.Prelude.{◌≡◌, ◌∷◌, ◌≤◌, ◌<◌, ◌^◌, drop, length, take};
+ghost use Rattle.std.specs.Prelude.{◌≡◌, ◌∷◌, ◌≤◌, ◌<◌, ◌^◌, drop, length, take, option_copied};
 ghost use Rattle.std.specs.Iterator.{YieldsFirstRef, item_count};
 ghost use Rattle.std.specs.List.{position_or_len};
-ghost use Rattle.std.specs.Option.{option_copied};
 ghost use Rattle.blot_console.specs.Words.{is_tab, words_of, words_behind, word_at, GivesPair};
 
 use std::marker::Model;

@@ -1,11 +1,9 @@
 -- What `exact_of` computes is the one number of units that a text writes, and its faults come exactly
 -- where there is no decimal and no such number.
-use Rattle.std.proofs.Common.{◌≡◌, ℕ, zero, suc, ◌*◌, ◌/◌, ◌^◌, ◌<◌, ℤ, pos, negsuc, ◌*ℤ◌, neg_ℤ, unsigned_abs, Bool, true, false, List, ◌++◌, length, drop, Result, Ok, Err, Option, Some, None, ◌↔◌, IfOk, refl, sym, ap, ◌∙◌, subst, arith, inl, inr}
-use Rattle.std.specs.Option.{ok_or}
+use Rattle.std.proofs.Common.{◌≡◌, ℕ, zero, suc, ◌*◌, ◌/◌, ◌^◌, ◌<◌, ℤ, pos, negsuc, ◌*ℤ◌, neg_ℤ, unsigned_abs, Bool, true, false, List, ◌++◌, length, drop, Result, Ok, Err, Option, Some, None, ◌↔◌, IfOk, refl, sym, ap, ◌∙◌, subst, arith, inl, inr, ok_or, mul-div_cancel}
 use Rattle.std.proofs.lemmas.Bool.{cases_Bool}
 use Rattle.std.proofs.lemmas.Int.{unsigned_abs-mul}
 use Rattle.std.proofs.lemmas.Grind.{fold-append}
-use Rattle.std.proofs.Math.Nat.{mul-div_cancel}
 use Rattle.blot_decimal.specs.declared.fault.DecimalFault.{DecimalFault}
 use Rattle.blot_decimal.specs.declared.fault.DecimalFault.TheVariants.{Format, TooFine, TooLarge}
 use Rattle.blot_decimal.specs.Text.{is_negative, unsigned_of, with_digit, number_of, are_zeros, whole_of, fraction_of, is_decimal}

@@ -1,7 +1,6 @@
 -- What is printed is read again as the same number, and nothing shorter is.
-use Rattle.std.proofs.Common.{◌≡◌, ℕ, zero, suc, ◌+◌, ◌-◌, ◌/◌, ◌%◌, ◌^◌, ◌<◌, ◌≤◌, ◌==◌, ℤ, pos, negsuc, int_lt, false, if◌then◌else◌, [], ◌∷◌, refl, arith, lit<}
-use Rattle.std.proofs.lemmas.Bool.{eq-eqb, ne_eqb, le-ltb}
-use Rattle.std.proofs.lemmas.Nat.{div-add-mod', div_below, mod_below}
+use Rattle.std.proofs.Common.{◌≡◌, ℕ, zero, suc, ◌+◌, ◌-◌, ◌/◌, ◌%◌, ◌^◌, ◌<◌, ◌≤◌, ◌==◌, ℤ, pos, negsuc, int_lt, false, if◌then◌else◌, [], ◌∷◌, refl, arith, lit<, eq-eqb, ne_eqb, le-ltb}
+use Rattle.std.proofs.lemmas.Nat.{div_below, mod_below}
 use Rattle.std.proofs.Math.Nat.{pow-le-pow_right}
 use Rattle.blot_decimal.specs.Printed.{fraction_digits, behind_point, sign_text}
 use Rattle.blot_decimal.proofs.ValueLemmas.{ten_more, ten_pos}

@@ -1,8 +1,7 @@
 -- What reading a quantity or a price gives, from the sign and the size that the code reads.
-use Rattle.std.proofs.Common.{◌≡◌, ℕ, zero, suc, ◌^◌, ◌≤◌, ℤ, pos, negsuc, unsigned_abs, Bool, true, false, List, Result, Ok, Err, Some, None, IfOk, nat_lt, refl, sym, ap, ◌∙◌, subst, arith, inl, inr}
-use Rattle.std.proofs.lemmas.Bool.{cases_Bool, cases_lt, lt-ltb, le-ltb}
-use Rattle.blot_decimal.specs.declared.fault.DecimalFault.{DecimalFault}
-use Rattle.blot_decimal.specs.declared.fault.DecimalFault.TheVariants.{TooLarge}
+use Rattle.std.proofs.Common.{◌≡◌, ℕ, zero, suc, ◌^◌, ◌≤◌, ℤ, pos, negsuc, unsigned_abs, Bool, true, false, List, Result, Ok, Err, Some, None, IfOk, nat_lt, refl, sym, ap, ◌∙◌, subst, arith, inl, inr, lt-ltb, le-ltb}
+use Rattle.std.proofs.lemmas.Bool.{cases_Bool, cases_lt}
+use Rattle.blot_decimal.specs.declared.{fault.DecimalFault.DecimalFault, fault.DecimalFault.TheVariants.TooLarge}
 use Rattle.blot_decimal.specs.Text.{is_negative, unsigned_of, is_decimal, with_leading_zeros, with_trailing_zeros}
 use Rattle.blot_decimal.specs.Meaning.{IsValue, size_of, with_sign, qty_units, price_units, within, qty_of, price_of, limited}
 use Rattle.blot_decimal.proofs.MeaningLemmas.{ReadsKind, reads_kind}

@@ -1,6 +1,5 @@
 -- The worked row "decimals", computed over the definitions.
-use Rattle.std.proofs.Common.{◌≡◌, pos, negsuc, Ok, Err, [], refl}
-use Rattle.std.specs.Prelude.{codes}
+use Rattle.std.proofs.Common.{◌≡◌, pos, negsuc, Ok, Err, [], refl, codes}
 use Rattle.std.specs.Fmt.{digits}
 use Rattle.blot_decimal.specs.declared.fault.DecimalFault.TheVariants.{Format, TooFine, TooLarge}
 use Rattle.blot_decimal.specs.Text.{are_parts}

@@ -1,13 +1,12 @@
 -- What is printed is read again as the same number, and no text of that number is shorter.
-use Rattle.std.proofs.Common.{◌≡◌, ◌≢◌, ℕ, zero, suc, ◌+◌, ◌-◌, ◌*◌, ◌/◌, ◌%◌, ◌^◌, ◌<◌, ◌≤◌, ◌==◌, if◌then◌else◌, ℤ, pos, negsuc, unsigned_abs, Bool, true, false, List, [], ◌∷◌, ◌++◌, length, get_or, drop, Ok, Err, refl, sym, ap, ◌∙◌, subst, arith, inl, inr, fold, length-append, nat_lt}
-use Rattle.std.specs.Fmt.{decimal}
+use Rattle.std.proofs.Common.{◌≡◌, ◌≢◌, ℕ, zero, suc, ◌+◌, ◌-◌, ◌*◌, ◌/◌, ◌%◌, ◌^◌, ◌<◌, ◌≤◌, ◌==◌, if◌then◌else◌, ℤ, pos, negsuc, unsigned_abs, Bool, true, false, List, [], ◌∷◌, ◌++◌, length, get_or, drop, Ok, Err, refl, sym, ap, ◌∙◌, subst, arith, inl, inr, fold, length-append, nat_lt, decimal, ne_eqb, lt-ltb, le-leb, append-nil, length-take, length-drop, div-add-mod'}
 use Rattle.std.specs.Char.{is_ascii_digit}
 use Rattle.std.specs.List.{list_any, position_or_len}
-use Rattle.std.proofs.lemmas.Bool.{cases_eq, ne_eqb, and_from, or_from, and_parts, lt-ltb, le-leb}
+use Rattle.std.proofs.lemmas.Bool.{cases_eq, and_from, or_from, and_parts}
 use Rattle.std.proofs.lemmas.Grind.{fold-append}
-use Rattle.std.proofs.lemmas.List.{append-nil, drop_all, length-take, length-drop}
+use Rattle.std.proofs.lemmas.List.{drop_all}
 use Rattle.std.proofs.lemmas.Fmt.{decimal_is_IsNumeral_wide, length-decimal-le_wide}
-use Rattle.std.proofs.lemmas.Nat.{div-add-mod', div_below, mod_below, div-mul-add, mod-mul-add}
+use Rattle.std.proofs.lemmas.Nat.{div_below, mod_below, div-mul-add, mod-mul-add}
 use Rattle.blot_decimal.specs.declared.fault.DecimalFault.TheVariants.{Format, TooFine}
 use Rattle.blot_decimal.specs.Text.{is_negative, unsigned_of, is_point, with_digit, number_of, are_digits, are_zeros, are_parts, whole_of, fraction_of, is_size}
 use Rattle.blot_decimal.specs.Meaning.{signed, IsValue, kept_of, size_of, with_sign, exact_of, within, qty_units, price_units, qty_of, price_of}

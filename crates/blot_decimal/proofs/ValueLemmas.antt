@@ -1,8 +1,7 @@
 -- A text read as units of 10^-places is exactly what its digits write, and nothing else is.
-use Rattle.std.proofs.Common.{◌≡◌, ℕ, zero, suc, ◌+◌, ◌-◌, ◌*◌, ◌^◌, ◌<◌, ◌==◌, true, List, [], ◌∷◌, length, drop, refl, ap, ◌∙◌, arith, rules, fold}
-use Rattle.std.proofs.Math.Nat.{pow-suc}
+use Rattle.std.proofs.Common.{◌≡◌, ℕ, zero, suc, ◌+◌, ◌-◌, ◌*◌, ◌^◌, ◌<◌, ◌==◌, true, List, [], ◌∷◌, length, drop, refl, ap, ◌∙◌, arith, rules, fold, pow-suc, eq-eqb, eqb-true}
 use Rattle.std.proofs.lemmas.Nat.{same_from_place}
-use Rattle.std.proofs.lemmas.Bool.{and_parts, and_from, eq-eqb, eqb-true}
+use Rattle.std.proofs.lemmas.Bool.{and_parts, and_from}
 use Rattle.std.proofs.lemmas.Str.Parse.{IsNumeralModel, numerals_by_fold, digits_value_short}
 use Rattle.std.specs.Char.{is_ascii_digit}
 use Rattle.blot_decimal.specs.Text.{with_digit, number_of, are_digits, are_zeros}

@@ -1,13 +1,10 @@
 -- Undos and redos of a desk, one after the other, are those of its steps.
-use Rattle.std.proofs.Common.{◌≡◌, ℕ, zero, suc, List, [], ◌∷◌, refl, sym, ap, subst, ◌∙◌}
-use Rattle.std.proofs.lemmas.Bool.{eq-eqb}
-use Rattle.blot_types.specs.declared.command.Command.{Command}
-use Rattle.blot_types.specs.declared.command.Entry.{Entry}
+use Rattle.std.proofs.Common.{◌≡◌, ℕ, zero, suc, List, [], ◌∷◌, refl, sym, ap, subst, ◌∙◌, eq-eqb}
+use Rattle.blot_types.specs.declared.{command.Command.Command, command.Entry.Entry}
 use Rattle.blot_command.specs.declared.inverse.Inverse.{Inverse}
 use Rattle.blot_command.specs.Law.{command_lawful}
 use Rattle.blot_command.specs.Meanings.{command_meaning}
-use Rattle.blot_undo.specs.declared.step.Done.{Done}
-use Rattle.blot_undo.specs.declared.step.Undone.{Undone}
+use Rattle.blot_undo.specs.declared.{step.Done.Done, step.Undone.Undone}
 use Rattle.blot_undo.specs.Book.{undo_of as undone_book, redo_of as redone_book, redone, rewound}
 use Rattle.blot_undo.specs.Laws.{GoesBack, LeadTo, RoundTrips}
 use Rattle.blot_undo.proofs.BookLemmas.{book, goes_back}

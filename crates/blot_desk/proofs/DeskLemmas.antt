@@ -1,33 +1,22 @@
 -- A refused command, and a run with one event more.
-use Rattle.std.proofs.Common.{◌≡◌, ◌⊎◌, ℕ, ◌+◌, ◌<◌, ◌≤◌, ◌==◌, true, List, [], ◌∷◌, ◌++◌, length, reverse, Option, Some, None, refl, sym, ap, subst, ◌∙◌, arith, inl, inr}
-use Rattle.std.specs.Prelude.{All, IfSome, IsTrue, nat_lt}
-use Rattle.std.proofs.lemmas.Bool.{and_parts, cases_Bool, ltb-true}
+use Rattle.std.proofs.Common.{◌≡◌, ◌⊎◌, ℕ, ◌+◌, ◌<◌, ◌≤◌, ◌==◌, true, List, [], ◌∷◌, ◌++◌, length, reverse, Option, Some, None, refl, sym, ap, subst, ◌∙◌, arith, inl, inr, All, IfSome, IsTrue, nat_lt, ltb-true, option_map}
+use Rattle.std.proofs.lemmas.Bool.{and_parts, cases_Bool}
 use Rattle.std.proofs.lemmas.Grind.{fold-append}
 use Rattle.std.proofs.lemmas.List.{map_push, length_push, reverse-append, reverse-reverse}
 use Rattle.std.proofs.lemmas.List.Elements.{All-nil, All-push}
-use Rattle.std.specs.Option.{option_map}
-use Rattle.blot_types.specs.declared.command.Command.{Command}
-use Rattle.blot_types.specs.declared.refused.Refused.{Refused as Reason}
-use Rattle.blot_types.specs.declared.command.Entry.{Entry}
+use Rattle.blot_types.specs.declared.{command.Command.Command, refused.Refused.Refused as Reason, command.Entry.Entry, TheConstants.EVENTS_MAX}
 use Rattle.blot_types.specs.Legal.{is_above_entries, is_book, refusal_of, rises_in}
 use Rattle.blot_types.proofs.LawLemmas.{book_parts}
 use Rattle.blot_types.proofs.OrderLemmas.{last_or-push}
-use Rattle.blot_types.specs.declared.TheConstants.{EVENTS_MAX}
-use Rattle.blot_command.specs.declared.fault.ApplyFault.{ApplyFault}
+use Rattle.blot_command.specs.declared.{fault.ApplyFault.ApplyFault, inverse.Inverse.Inverse}
 use Rattle.blot_command.specs.declared.fault.ApplyFault.TheVariants.{Refused, NoMemory}
 use Rattle.blot_command.specs.Meanings.{command_meaning}
-use Rattle.blot_command.specs.declared.inverse.Inverse.{Inverse}
-use Rattle.blot_undo.specs.declared.fault.StepFault.TheVariants.{Refused as RefusedStep}
+use Rattle.blot_undo.specs.declared.{fault.StepFault.TheVariants.Refused as RefusedStep, step.Done.Done, step.Undone.Undone}
 use Rattle.blot_undo.specs.Faults.{IsFault}
 use Rattle.blot_undo.specs.Book.{apply_of, undo_in, redo_in, newest_done, newest_undone}
-use Rattle.blot_undo.specs.declared.step.Done.{Done}
-use Rattle.blot_undo.specs.declared.step.Undone.{Undone}
-use Rattle.blot_desk.specs.declared.event.Event.{Event}
+use Rattle.blot_desk.specs.declared.{event.Event.Event, event.Recorded.Recorded, event.Reply.Reply, event.Reply.TheVariants.Accepted}
 use Rattle.blot_desk.specs.declared.event.Event.TheVariants.{Submit, Undo, Redo, AskOrder, AskPosition}
-use Rattle.blot_desk.specs.declared.event.Recorded.{Recorded}
-use Rattle.blot_desk.specs.declared.event.Reply.{Reply}
-use Rattle.blot_desk.specs.declared.event.Reply.TheVariants.{Accepted}
-use Rattle.blot_desk.specs.Desk.{DeskBook, Outcome, newest_entry_of, submit_by, submit_of, refused_by, undo_by, redo_by, step_of, run_of, events_of, IsJournal, empty_journal, recorded_of, with_recorded, IsRun}
+use Rattle.blot_desk.specs.Desk.{DeskBook, Outcome, newest_entry_of, submit_by, submit_of, refused_by, undo_by, redo_by, step_of, run_of, events_of, IsDeskState, empty_desk, recorded_of, with_recorded, IsRun}
 
 -- the list's own reason, where the fault gives one
 reason_in : (found : Option Reason) (reason : ApplyFault) (why : Reason) → (option_map Refused found ≡ Some reason) ⊎ ((option_map Refused found ≡ None) × (reason ≡ NoMemory)) → reason ≡ Refused why → found ≡ Some why
@@ -96,22 +85,22 @@ run_more :
 run_more book next history event reply run is =
     let last : Recorded = record { event = event; reply = reply } in
     ap run_of (map_push (λ (r : Recorded). r.event) history last)
-    ∙ fold-append recorded_of empty_journal (events_of history) (event ∷ [])
-    ∙ ap (λ journal. recorded_of journal event) run
+    ∙ fold-append recorded_of empty_desk (events_of history) (event ∷ [])
+    ∙ ap (λ desk. recorded_of desk event) run
     ∙ ap (λ (outcome : Outcome). record { book = outcome.book; history = with_recorded event outcome.reply history }) (sym is)
 
 -- what a desk keeps after one event more
-pub journal_more :
-    (book next : DeskBook) (history later : List Recorded) (event copy : Event) (reply : Reply) → IsJournal book history → length history < EVENTS_MAX
+pub desk_more :
+    (book next : DeskBook) (history later : List Recorded) (event copy : Event) (reply : Reply) → IsDeskState book history → length history < EVENTS_MAX
     → record { book = next; reply = reply } ≡ step_of book event → copy ≡ event → later ≡ history ++ record { event = copy; reply = reply } ∷ []
-    → IsJournal next later
-journal_more book next history later event copy reply journal room is same items =
+    → IsDeskState next later
+desk_more book next history later event copy reply desk room is same items =
     let grown : next.next ≤ book.next + 1 = subst (λ (outcome : Outcome). outcome.book.next ≤ book.next + 1) (sym is) (step_next book event) in
     let long : length later ≡ length history + 1 = ap length items ∙ length_push history (record { event = copy; reply = reply }) in
     record {
-      run = rw (items, same) (run_more book next history event reply journal.run is);
+      run = rw (items, same) (run_more book next history event reply desk.run is);
       few = omega (arith, long, room);
-      next = omega (arith, long, grown, journal.next);
+      next = omega (arith, long, grown, desk.next);
     }
 
 -- ---- the newest entry

@@ -1,20 +1,16 @@
 -- A desk's day with a withdrawal, computed.
-use Rattle.std.specs.Prelude.{◌≡◌, ℕ, ◌+◌, ◌*◌, ◌^◌, pos, List, [], ◌∷◌, map, Some, None, true, false, refl}
-use Rattle.blot_types.specs.declared.command.Command.{Command}
+use Rattle.std.proofs.Common.{◌≡◌, ℕ, ◌+◌, ◌*◌, ◌^◌, pos, List, [], ◌∷◌, map, Some, None, true, false, refl}
+use Rattle.blot_types.specs.declared.{command.Command.Command, fill.Sign.TheVariants.Buy, keys.ExecKey.ExecKey}
 use Rattle.blot_types.specs.declared.command.Command.TheVariants.{Trade, Bust, Withdraw}
-use Rattle.blot_types.specs.declared.fill.Sign.TheVariants.{Buy}
-use Rattle.blot_types.specs.declared.keys.ExecKey.{ExecKey}
 use Rattle.blot_types.specs.declared.refused.Refused.TheVariants.{DuplicateExec, NotLive, Moved, NothingToRedo}
-use Rattle.blot_command.specs.declared.inverse.Inverse.{Inverse}
-use Rattle.blot_command.specs.declared.inverse.Inverse.TheVariants.{Number}
+use Rattle.blot_command.specs.declared.{inverse.Inverse.Inverse, inverse.Inverse.TheVariants.Number}
 use Rattle.blot_command.specs.Book.{Shown}
 use Rattle.blot_command.specs.Meanings.{command_meaning}
 use Rattle.blot_undo.specs.Book.{Stack, book_of, apply_of, undone_of, undo_in, undo_of as undone_book, redo_in, redo_of as redone_book, past, done_number, newest_done, newest_undone}
-use Rattle.blot_desk.specs.declared.event.Event.{Event}
+use Rattle.blot_desk.specs.declared.{event.Event.Event, event.Recorded.Recorded}
 use Rattle.blot_desk.specs.declared.event.Event.TheVariants.{Submit, Undo, Redo, AskOrder}
-use Rattle.blot_desk.specs.declared.event.Recorded.{Recorded}
 use Rattle.blot_desk.specs.declared.event.Reply.TheVariants.{Accepted, Refused, Undone, Redone, Order}
-use Rattle.blot_desk.specs.Desk.{DeskBook, empty_book, refused_by, submit_by, submit_of, undo_by, undo_of, redo_by, redo_of, step_of, undone_once, after_undos, after_redos, run_of, empty_journal, with_recorded, recorded_of, events_of, list_after, replies_of}
+use Rattle.blot_desk.specs.Desk.{DeskBook, empty_book, refused_by, submit_by, submit_of, undo_by, undo_of, redo_by, redo_of, step_of, undone_once, after_undos, after_redos, run_of, empty_desk, with_recorded, recorded_of, events_of, list_after, replies_of}
 use Rattle.blot_desk.specs.Keeping.{is_ask, kept_events}
 
 abbrev exec : ℕ → ExecKey
@@ -169,7 +165,7 @@ history = asked ∷ record { event = Redo; reply = Refused NothingToRedo } ∷ [
 at_the_end : with_recorded Redo (Refused NothingToRedo) (asked ∷ []) ≡ history
 at_the_end = refl
 
-recorded : (recorded_of (recorded_of empty_journal asking) Redo).history ≡ history
+recorded : (recorded_of (recorded_of empty_desk asking) Redo).history ≡ history
 recorded = refl
 
 recorded_events : events_of history ≡ asking ∷ Redo ∷ []

@@ -1,26 +1,9 @@
 -- When two events and two replies are one: what `==` computes decides equality.
-use Rattle.std.proofs.Common.{◌≡◌, ◌&&◌, Bool, Option, Some, None, refl, ap}
-use Rattle.std.specs.Bool.{Decides}
+use Rattle.std.proofs.Common.{◌≡◌, ◌&&◌, Bool, Option, Some, None, refl, ap, Decides}
 use Rattle.std.specs.Option.{option_eq}
 use Rattle.std.proofs.lemmas.Bool.Decides.{Decides-and, Decides-eqb, Decides-int_eq}
 use Rattle.std.proofs.lemmas.Slice.Eq.{bytes_eq-Decides, slice_eq-Decides}
-use Rattle.blot_types.specs.declared.keys.ExecKey.{ExecKey}
-use Rattle.blot_types.specs.declared.keys.OrderKey.{OrderKey}
-use Rattle.blot_types.specs.declared.keys.AllocKey.{AllocKey}
-use Rattle.blot_types.specs.declared.fill.Fill.{Fill}
-use Rattle.blot_types.specs.declared.allocation.Line.{Line}
-use Rattle.blot_types.specs.declared.allocation.Terms.{Terms}
-use Rattle.blot_types.specs.declared.command.Trade.{Trade}
-use Rattle.blot_types.specs.declared.command.Correct.{Correct}
-use Rattle.blot_types.specs.declared.command.Bust.{Bust}
-use Rattle.blot_types.specs.declared.command.AllocNew.{AllocNew}
-use Rattle.blot_types.specs.declared.command.AllocReplace.{AllocReplace}
-use Rattle.blot_types.specs.declared.command.AllocCancel.{AllocCancel}
-use Rattle.blot_types.specs.declared.lines.OrderLine.{OrderLine}
-use Rattle.blot_types.specs.declared.lines.PositionLine.{PositionLine}
-use Rattle.blot_types.specs.declared.fill.Sign.{Sign}
-use Rattle.blot_types.specs.declared.refused.Refused.{Refused}
-use Rattle.blot_types.specs.declared.command.Command.{Command}
+use Rattle.blot_types.specs.declared.{keys.ExecKey.ExecKey, keys.OrderKey.OrderKey, keys.AllocKey.AllocKey, fill.Fill.Fill, allocation.Line.Line, allocation.Terms.Terms, command.Trade.Trade, command.Correct.Correct, command.Bust.Bust, command.AllocNew.AllocNew, command.AllocReplace.AllocReplace, command.AllocCancel.AllocCancel, lines.OrderLine.OrderLine, lines.PositionLine.PositionLine, fill.Sign.Sign, refused.Refused.Refused, command.Command.Command}
 use Rattle.blot_types.specs.declared.fill.Sign.TheVariants as sign_of
 use Rattle.blot_types.specs.declared.refused.Refused.TheVariants as refused_of
 use Rattle.blot_types.specs.declared.command.Command.TheVariants as command_of
@@ -41,8 +24,7 @@ use Rattle.blot_types.specs.contracts.lines.PositionLinePartialEq.TheImpl.{ghost
 use Rattle.blot_types.specs.contracts.fill.SignPartialEq.TheImpl.{ghosts as sign}
 use Rattle.blot_types.specs.contracts.refused.RefusedPartialEq.TheImpl.{ghosts as refused}
 use Rattle.blot_types.specs.contracts.command.CommandPartialEq.TheImpl.{ghosts as command}
-use Rattle.blot_desk.specs.declared.event.Event.{Event}
-use Rattle.blot_desk.specs.declared.event.Reply.{Reply}
+use Rattle.blot_desk.specs.declared.{event.Event.Event, event.Reply.Reply}
 use Rattle.blot_desk.specs.declared.event.Event.TheVariants as event_of
 use Rattle.blot_desk.specs.declared.event.Reply.TheVariants as reply_of
 use Rattle.blot_desk.specs.contracts.event.EventPartialEq.TheImpl.{ghosts as event}

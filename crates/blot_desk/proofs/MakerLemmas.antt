@@ -1,21 +1,17 @@
 -- Who made each command, and names by their places.
-use Rattle.std.proofs.Common.{◌≡◌, ℕ, suc, ◌+◌, ◌==◌, List, [], ◌∷◌, ◌++◌, length, map, reverse, take, true, Option, Some, None, inl, inr, nat_eq, refl, sym, ap, ◌∙◌, arith}
-use Rattle.std.specs.Prelude.{slice_get}
+use Rattle.std.proofs.Common.{◌≡◌, ℕ, suc, ◌+◌, ◌==◌, List, [], ◌∷◌, ◌++◌, length, map, reverse, take, true, Option, Some, None, inl, inr, nat_eq, refl, sym, ap, ◌∙◌, arith, slice_get, length-append}
 use Rattle.std.specs.List.{cons_option}
 use Rattle.std.specs.Cmp.Lexicographic.{bytes_decides, pointwise}
 use Rattle.std.proofs.lemmas.Bool.{cases_Bool}
-use Rattle.std.proofs.lemmas.List.{length-append, length_push, get_or_append_left, map-append, reverse-append, take-map}
+use Rattle.std.proofs.lemmas.List.{length_push, get_or_append_left, map-append, reverse-append, take-map}
 use Rattle.std.proofs.lemmas.Option.{get_or_from_slice_get}
-use Rattle.blot_types.specs.declared.command.Command.{Command}
-use Rattle.blot_types.specs.declared.refused.Refused.{Refused as Reason}
+use Rattle.blot_types.specs.declared.{command.Command.Command, refused.Refused.Refused as Reason}
 use Rattle.blot_types.specs.Legal.{refusal_of}
 use Rattle.blot_undo.specs.Book.{newest_done, newest_undone}
-use Rattle.blot_desk.specs.declared.event.Event.{Event}
+use Rattle.blot_desk.specs.declared.{event.Event.Event, event.Recorded.Recorded, event.Reply.Reply}
 use Rattle.blot_desk.specs.declared.event.Event.TheVariants.{Submit, Undo, Redo, AskOrder, AskPosition}
-use Rattle.blot_desk.specs.declared.event.Recorded.{Recorded}
-use Rattle.blot_desk.specs.declared.event.Reply.{Reply}
 use Rattle.blot_desk.specs.declared.event.Reply.TheVariants.{Accepted, Refused, Undone, Redone, Order, Position}
-use Rattle.blot_desk.specs.Desk.{DeskBook, Journal, recorded_of, redo_by, step_of, submit_by, undo_by, with_recorded}
+use Rattle.blot_desk.specs.Desk.{DeskBook, DeskState, recorded_of, redo_by, step_of, submit_by, undo_by, with_recorded}
 use Rattle.blot_desk.specs.Makers.{AreMakers, AreWithin, Makers, name_at, names_at, no_name, with_maker}
 use Rattle.blot_desk.specs.Questions.{refusal_row, refusals_from}
 use Rattle.blot_desk.proofs.DeskLemmas.{redo_next, undo_next}
@@ -98,16 +94,16 @@ refused_more history event reply maker makers made =
     ap length (one_later 1 history last) ∙ length-append (refusals_from 1 history) one in
     refused_by_one place event reply maker makers ∙ ap (λ n. n + length one) made ∙ sym more
 
-makers_more : (journal : Journal) (event : Event) (maker : List ℕ) (makers : Makers) → AreMakers makers journal
-    → AreMakers (with_maker maker event (step_of journal.book event).reply makers) (recorded_of journal event)
-makers_more journal event maker makers made = record {
-  of_accepted = accepted_more journal.book maker makers made.of_accepted event;
-  of_refused = refused_more journal.history event (step_of journal.book event).reply maker makers made.of_refused;
+makers_more : (desk : DeskState) (event : Event) (maker : List ℕ) (makers : Makers) → AreMakers makers desk
+    → AreMakers (with_maker maker event (step_of desk.book event).reply makers) (recorded_of desk event)
+makers_more desk event maker makers made = record {
+  of_accepted = accepted_more desk.book maker makers made.of_accepted event;
+  of_refused = refused_more desk.history event (step_of desk.book event).reply maker makers made.of_refused;
 }
 
 -- after an event there are still as many makers as commands
-pub makers_kept : (journal later : Journal) (event copy : Event) (reply : Reply) (maker : List ℕ) (makers roomy noted : Makers) → AreMakers makers journal
-    → roomy ≡ makers → copy ≡ event → later ≡ recorded_of journal event → reply ≡ (step_of journal.book event).reply → noted ≡ with_maker maker copy reply roomy
+pub makers_kept : (desk later : DeskState) (event copy : Event) (reply : Reply) (maker : List ℕ) (makers roomy noted : Makers) → AreMakers makers desk
+    → roomy ≡ makers → copy ≡ event → later ≡ recorded_of desk event → reply ≡ (step_of desk.book event).reply → noted ≡ with_maker maker copy reply roomy
     → AreMakers noted later
-makers_kept journal later event copy reply maker makers roomy noted made room same taken told is =
-    rw (taken, is, told, same, room) (makers_more journal event maker makers made)
+makers_kept desk later event copy reply maker makers roomy noted made room same taken told is =
+    rw (taken, is, told, same, room) (makers_more desk event maker makers made)

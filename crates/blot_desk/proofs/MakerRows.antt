@@ -1,13 +1,12 @@
 -- Who made what, computed on a short day: A's broker trades twice, and once more under a number that is taken; the operator, O, takes the
 -- first out, undoes that and does it again, and wants to take out what isn't live.
-use Rattle.std.specs.Prelude.{◌≡◌, ℕ, ◌*◌, ◌^◌, pos, List, [], ◌∷◌, fold, None, refl}
+use Rattle.std.proofs.Common.{◌≡◌, ℕ, ◌*◌, ◌^◌, pos, List, [], ◌∷◌, fold, None, refl}
 use Rattle.blot_types.specs.declared.command.Command.TheVariants as commands
 use Rattle.blot_types.specs.declared.fill.Sign.TheVariants.{Buy}
-use Rattle.blot_desk.specs.declared.event.Event.{Event}
+use Rattle.blot_desk.specs.declared.{event.Event.Event, question.Question.Question}
 use Rattle.blot_desk.specs.declared.event.Event.TheVariants.{Submit, Undo, Redo}
-use Rattle.blot_desk.specs.declared.question.Question.{Question}
 use Rattle.blot_desk.specs.declared.question.Question.TheVariants.{Entry, Refusals, Steps}
-use Rattle.blot_desk.specs.Desk.{Journal, empty_journal, recorded_of, step_of}
+use Rattle.blot_desk.specs.Desk.{DeskState, empty_desk, recorded_of, step_of}
 use Rattle.blot_desk.specs.Makers.{Makers, makers_of, no_makers, with_maker}
 use Rattle.blot_desk.specs.Questions.{found_of}
 
@@ -40,14 +39,14 @@ abbrev withdrawal : ℕ → Event
 withdrawal number = Submit (commands.Withdraw number)
 
 -- what a desk holds, with the makers, after an event of a maker
-abbrev Told : Type 0
-Told = Journal × Makers
+abbrev DeskWithMakers : Type 0
+DeskWithMakers = DeskState × Makers
 
-abbrev on : Told → List ℕ × Event → Told
+abbrev on : DeskWithMakers → List ℕ × Event → DeskWithMakers
 on now made = (recorded_of now.0 made.1, with_maker made.0 made.1 (step_of now.0.book made.1).reply now.1)
 
-abbrev day : Told
-day = fold on (empty_journal, no_makers) (
+abbrev day : DeskWithMakers
+day = fold on (empty_desk, no_makers) (
     (A, trade A 49)
     ∷ (B, trade B 49)
     ∷ (A, trade A 49)

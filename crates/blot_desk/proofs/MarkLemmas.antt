@@ -1,11 +1,8 @@
 -- Receipts laid beside the history, one by one.
-use Rattle.std.proofs.Common.{◌≡◌, ℕ, ◌+◌, ◌==◌, ◌<◌, ◌≤◌, Bool, true, false, List, [], ◌∷◌, ◌++◌, Some, length, slice_index_or, slice_set, refl, sym, ◌∙◌, ap, arith, inl, inr, ◌≢◌, drop, if◌then◌else◌}
-use Rattle.std.specs.Bool.{Decides}
-use Rattle.std.specs.List.{slice_get}
-use Rattle.std.proofs.lemmas.Bool.{cases_Bool, eqb-true, eq-eqb}
-use Rattle.std.proofs.lemmas.List.{at_drop_more, get_or-set_same, get_or-set_other, length-set}
-use Rattle.blot_desk.specs.declared.event.Recorded.{Recorded}
-use Rattle.blot_desk.specs.declared.receipt.Receipt.{Receipt}
+use Rattle.std.proofs.Common.{◌≡◌, ℕ, ◌+◌, ◌==◌, ◌<◌, ◌≤◌, Bool, true, false, List, [], ◌∷◌, ◌++◌, Some, length, slice_index_or, slice_set, refl, sym, ◌∙◌, ap, arith, inl, inr, ◌≢◌, drop, if◌then◌else◌, Decides, slice_get, eqb-true, eq-eqb, get_or-set_same, get_or-set_other, length-set}
+use Rattle.std.proofs.lemmas.Bool.{cases_Bool}
+use Rattle.std.proofs.lemmas.List.{at_drop_more}
+use Rattle.blot_desk.specs.declared.{event.Recorded.Recorded, receipt.Receipt.Receipt}
 use Rattle.blot_desk.specs.Marks.{AllDisagree, AreMarked, Disagree, HasTwo, mark_at}
 use Rattle.blot_desk.specs.Receipts.{AllStand, EachRises, RiseFrom, Stands, all_receipts, count_at}
 

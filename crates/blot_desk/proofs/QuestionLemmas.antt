@@ -1,10 +1,8 @@
 -- The newest rows of a list, found one by one.
-use Rattle.std.proofs.Common.{◌≡◌, ℕ, zero, suc, ◌+◌, ◌<◌, ◌≤◌, List, [], ◌∷◌, ◌++◌, length, map, reverse, take, get_or, Option, Some, None, refl, sym, ap, ◌∙◌, arith}
-use Rattle.std.specs.Prelude.{slice_get}
+use Rattle.std.proofs.Common.{◌≡◌, ℕ, zero, suc, ◌+◌, ◌<◌, ◌≤◌, List, [], ◌∷◌, ◌++◌, length, map, reverse, take, get_or, Option, Some, None, refl, sym, ap, ◌∙◌, arith, slice_get, append_assoc, length-append, length-take}
 use Rattle.std.specs.List.{cons_option}
-use Rattle.std.proofs.lemmas.List.{append_assoc, reverse-append, take_more, length-append, length-take}
-use Rattle.blot_desk.specs.declared.event.Recorded.{Recorded}
-use Rattle.blot_desk.specs.declared.question.RefusalRow.{RefusalRow}
+use Rattle.std.proofs.lemmas.List.{reverse-append, take_more}
+use Rattle.blot_desk.specs.declared.{event.Recorded.Recorded, question.RefusalRow.RefusalRow}
 use Rattle.blot_desk.specs.Questions.{refusal_row, refusals_from}
 
 -- ---- done steps

@@ -1,21 +1,15 @@
 -- What questions are answered at a desk, computed on the day of two brokers, whose commands are numbered as there.
-use Rattle.std.specs.Prelude.{◌≡◌, ℕ, ◌*◌, ◌^◌, pos, List, [], ◌∷◌, map, fold, Option, Some, None, refl}
-use Rattle.std.specs.Option.{option_map}
+use Rattle.std.proofs.Common.{◌≡◌, ℕ, ◌*◌, ◌^◌, pos, List, [], ◌∷◌, map, fold, Option, Some, None, refl, option_map}
 use Rattle.blot_types.specs.declared.command.Command.TheVariants as commands
-use Rattle.blot_types.specs.declared.command.Entry.{Entry}
-use Rattle.blot_types.specs.declared.fill.Fill.{Fill}
-use Rattle.blot_types.specs.declared.fill.Sign.TheVariants.{Buy}
-use Rattle.blot_types.specs.declared.keys.AllocKey.{AllocKey}
-use Rattle.blot_types.specs.declared.keys.ExecKey.{ExecKey}
+use Rattle.blot_types.specs.declared.{command.Entry.Entry, fill.Fill.Fill, fill.Sign.TheVariants.Buy, keys.AllocKey.AllocKey, keys.ExecKey.ExecKey}
 use Rattle.blot_types.specs.declared.refused.Refused.TheVariants.{BustedExec, Needed, NotLive}
 use Rattle.blot_types.specs.Legal.{refusal_of}
 use Rattle.blot_command.specs.Questions.{allocation_of, execution_of}
-use Rattle.blot_desk.specs.declared.event.Event.{Event}
-use Rattle.blot_desk.specs.declared.event.Event.TheVariants.{Submit}
+use Rattle.blot_desk.specs.declared.{event.Event.Event, event.Event.TheVariants.Submit}
 use Rattle.blot_desk.specs.declared.question.CommandKey.TheVariants as keys
 use Rattle.blot_desk.specs.declared.question.StepRow.{StepRow}
 use Rattle.blot_desk.specs.declared.question.StepRow.TheVariants.{Entry as Live, Withdraw, Withdrawn}
-use Rattle.blot_desk.specs.Desk.{Journal, empty_journal, recorded_of}
+use Rattle.blot_desk.specs.Desk.{DeskState, empty_desk, recorded_of}
 use Rattle.blot_desk.specs.Questions.{newest_refusals, newest_steps}
 
 -- broker A or B, and an execution or an allocation of it
@@ -77,17 +71,17 @@ events =
     ∷ allocated 1 130 (exec A 1 ∷ exec A 2 ∷ [])
     ∷ []
 
-abbrev after : List Event → Journal
-after these = fold recorded_of empty_journal these
+abbrev after : List Event → DeskState
+after these = fold recorded_of empty_desk these
 
 abbrev list : List Entry
 list = (after events).book.list
 
 -- the numbers of a chain, its Bust, its last version, and the allocation that names it
-abbrev Told : Type 0
-Told = List ℕ × (Option ℕ × (Option ℕ × Option ℕ))
+abbrev Answered : Type 0
+Answered = List ℕ × (Option ℕ × (Option ℕ × Option ℕ))
 
-abbrev told : ExecKey → Option Told
+abbrev told : ExecKey → Option Answered
 told key = option_map (λ answer. (map (λ entry. entry.number) answer.entries, (answer.bust, (answer.version, answer.allocation)))) (execution_of list key)
 
 -- `execution` of B's E2, and by the key of its Bust; of A's E1; of none
@@ -117,7 +111,7 @@ allocation : option_map {U = ℕ × Option ℕ} (λ answer. (answer.entry.number
 allocation = refl
 
 -- the Bust is withdrawn by step 8: then it isn't live, and its step is told as withdrawn
-abbrev withdrawn : Journal
+abbrev withdrawn : DeskState
 withdrawn = recorded_of (after events) (Submit (commands.Withdraw 6))
 
 gone : refusal_of withdrawn.book.list (commands.Withdraw 6) ≡ Some (NotLive 6)

@@ -1,12 +1,9 @@
 -- What the receipts of a seat show of a number, receipt by receipt.
-use Rattle.std.proofs.Common.{◌≡◌, ℕ, ◌==◌, ◌&&◌, Bool, true, false, List, [], ◌∷◌, fold, refl, ap, ◌∙◌, inl, inr}
-use Rattle.std.specs.Prelude.{◌||◌}
+use Rattle.std.proofs.Common.{◌≡◌, ℕ, ◌==◌, ◌&&◌, Bool, true, false, List, [], ◌∷◌, fold, refl, ap, ◌∙◌, inl, inr, ◌||◌}
 use Rattle.std.specs.List.{list_any}
 use Rattle.std.proofs.lemmas.Bool.{cases_Bool}
-use Rattle.blot_desk.specs.declared.event.Event.{Event}
-use Rattle.blot_desk.specs.declared.event.Reply.{Reply}
+use Rattle.blot_desk.specs.declared.{event.Event.Event, event.Reply.Reply, receipt.Receipt.Receipt}
 use Rattle.blot_desk.specs.declared.event.Reply.TheVariants.{Accepted, Refused, Undone, Redone, Order, Position}
-use Rattle.blot_desk.specs.declared.receipt.Receipt.{Receipt}
 use Rattle.blot_desk.specs.Receipts.{Seen, withdraws, seen_accepted, seen_undone, seen_redone, seen_by, seen_on, seen_in, unseen, is_withdrawal_by, is_withdrawal}
 
 -- whether a step is among those that withdrew a number

@@ -1,12 +1,10 @@
 -- The newest number of a seat, computed on what it was told.
-use Rattle.std.specs.Prelude.{◌≡◌, ℕ, [], ◌∷◌, Some, None, refl}
+use Rattle.std.proofs.Common.{◌≡◌, ℕ, [], ◌∷◌, Some, None, refl}
 use Rattle.blot_types.specs.declared.command.Command.TheVariants.{Bust, Withdraw}
 use Rattle.blot_types.specs.declared.refused.Refused.TheVariants.{NothingToUndo}
-use Rattle.blot_desk.specs.declared.event.Event.{Event}
+use Rattle.blot_desk.specs.declared.{event.Event.Event, event.Reply.Reply, receipt.Receipt.Receipt}
 use Rattle.blot_desk.specs.declared.event.Event.TheVariants.{Submit, Undo, Redo}
-use Rattle.blot_desk.specs.declared.event.Reply.{Reply}
 use Rattle.blot_desk.specs.declared.event.Reply.TheVariants.{Accepted, Refused, Undone, Redone}
-use Rattle.blot_desk.specs.declared.receipt.Receipt.{Receipt}
 use Rattle.blot_desk.specs.Receipts.{newest_of}
 
 abbrev told : Event → Reply → Receipt

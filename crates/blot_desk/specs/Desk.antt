@@ -1,13 +1,8 @@
 -- What a desk does: one event on the book, and a run of events from the empty book.
-use Rattle.std.specs.Prelude.{◌≡◌, ℕ, zero, suc, ◌+◌, ◌≤◌, ◌==◌, Bool, true, false, List, [], ◌∷◌, ◌++◌, length, map, fold, Option, Some, None, if◌then◌else◌}
+use Rattle.std.specs.Prelude.{◌≡◌, ℕ, zero, suc, ◌+◌, ◌≤◌, ◌==◌, List, [], ◌∷◌, ◌++◌, length, map, fold, Option, Some, None, if◌then◌else◌, option_map, unwrap_or}
 use Rattle.std.specs.List.{last_or}
-use Rattle.std.specs.Option.{option_map, unwrap_or}
-use Rattle.blot_types.specs.declared.command.Command.{Command}
-use Rattle.blot_types.specs.declared.command.Command.TheVariants.{Correct, Bust}
-use Rattle.blot_types.specs.declared.command.Entry.{Entry}
-use Rattle.blot_types.specs.declared.refused.Refused.{Refused as Reason}
+use Rattle.blot_types.specs.declared.{command.Command.Command, command.Entry.Entry, refused.Refused.Refused as Reason, TheConstants.EVENTS_MAX}
 use Rattle.blot_types.specs.declared.refused.Refused.TheVariants.{NothingToUndo, Moved, NothingToRedo}
-use Rattle.blot_types.specs.declared.TheConstants.{EVENTS_MAX}
 use Rattle.blot_types.specs.Legal.{refusal_of}
 use Rattle.blot_types.specs.Order.{order_of}
 use Rattle.blot_types.specs.Position.{position_of}
@@ -16,10 +11,8 @@ use Rattle.blot_command.specs.Book.{Shown}
 use Rattle.blot_command.specs.Meanings.{command_meaning}
 use Rattle.blot_undo.specs.Laws.{GoesBack}
 use Rattle.blot_undo.specs.Book.{Book, Stack, book_of, apply_of, undo_of as undone_book, redo_of as redone_book, newest_done, newest_undone}
-use Rattle.blot_desk.specs.declared.event.Event.{Event}
+use Rattle.blot_desk.specs.declared.{event.Event.Event, event.Recorded.Recorded, event.Reply.Reply}
 use Rattle.blot_desk.specs.declared.event.Event.TheVariants.{Submit, Undo, Redo, AskOrder, AskPosition}
-use Rattle.blot_desk.specs.declared.event.Recorded.{Recorded}
-use Rattle.blot_desk.specs.declared.event.Reply.{Reply}
 use Rattle.blot_desk.specs.declared.event.Reply.TheVariants.{Accepted, Refused, Undone, Redone, Order, Position}
 
 -- the book of a desk: the live list, the done and the undone steps, newest first, and the next number
@@ -59,12 +52,6 @@ submit_by book command (Some reason) = refused_by book reason
 -- a command: done where the list accepts it
 abbrev pub submit_of : DeskBook → Command → Outcome
 submit_of book command = submit_by book command (refusal_of book.list command)
-
--- whether a command corrects or busts an execution
-abbrev pub corrects_or_busts : Command → Bool
-corrects_or_busts (Correct correct) = true
-corrects_or_busts (Bust bust) = true
-corrects_or_busts _ = false
 
 -- undo, by the number of the newest done step: only where it is the one that the caller believes to be newest
 abbrev pub undo_by : DeskBook → ℕ → Option ℕ → Outcome
@@ -119,28 +106,28 @@ RedosReturn book = (count : ℕ) → count ≤ length book.done → after_redos 
 -- ---- a run
 
 -- what a desk holds: the book, and the recorded events with their replies
-pub record Journal : Type 0 where
+pub record DeskState : Type 0 where
   pub book : DeskBook
   pub history : List Recorded
 
 -- an empty book without history
-abbrev pub empty_journal : Journal
-empty_journal = record { book = empty_book; history = [] }
+abbrev pub empty_desk : DeskState
+empty_desk = record { book = empty_book; history = [] }
 
 -- a history with an event and the reply to it at its end
 abbrev pub with_recorded : Event → Reply → List Recorded → List Recorded
 with_recorded event reply history = history ++ record { event = event; reply = reply } ∷ []
 
 -- what a desk holds after an event: its book, and the history with the event and the reply to it
-abbrev pub recorded_of : Journal → Event → Journal
-recorded_of journal event = record {
-  book = (step_of journal.book event).book;
-  history = with_recorded event (step_of journal.book event).reply journal.history;
+abbrev pub recorded_of : DeskState → Event → DeskState
+recorded_of desk event = record {
+  book = (step_of desk.book event).book;
+  history = with_recorded event (step_of desk.book event).reply desk.history;
 }
 
 -- the run of events: what a desk holds after them, from the empty book on
-abbrev pub run_of : List Event → Journal
-run_of events = fold recorded_of empty_journal events
+abbrev pub run_of : List Event → DeskState
+run_of events = fold recorded_of empty_desk events
 
 -- the reply to an event, after a run of some events
 pub record IsReply (event : Event) (reply : Reply) : Type 0 where
@@ -160,12 +147,12 @@ abbrev pub replies_of : List Recorded → List Reply
 replies_of history = map (λ recorded. recorded.reply) history
 
 -- what a desk holds is the run of its events
-abbrev pub IsRun : Journal → Type 0
-IsRun journal = run_of (events_of journal.history) ≡ journal
+abbrev pub IsRun : DeskState → Type 0
+IsRun desk = run_of (events_of desk.history) ≡ desk
 
 -- what a desk keeps: its book and replies are the run of its events, of which there are at most EVENTS_MAX; no more
 -- numbers are given than there are events
-pub record IsJournal (book : DeskBook) (history : List Recorded) : Type 0 where
+pub record IsDeskState (book : DeskBook) (history : List Recorded) : Type 0 where
   pub run : IsRun (record { book = book; history = history })
   pub few : length history ≤ EVENTS_MAX
   pub next : book.next ≤ length history + 1

@@ -1,9 +1,8 @@
 -- The events that are kept beside the book of a desk.
 use Rattle.std.specs.Prelude.{◌≡◌, ℕ, ◌≤◌, Bool, true, false, not, List, [], ◌∷◌, ◌++◌, filter, length, take, if◌then◌else◌}
-use Rattle.blot_desk.specs.declared.event.Event.{Event}
+use Rattle.blot_desk.specs.declared.{event.Event.Event, event.Recorded.Recorded}
 use Rattle.blot_desk.specs.declared.event.Event.TheVariants.{AskOrder, AskPosition}
-use Rattle.blot_desk.specs.declared.event.Recorded.{Recorded}
-use Rattle.blot_desk.specs.Desk.{Journal, events_of}
+use Rattle.blot_desk.specs.Desk.{DeskState, events_of}
 use Rattle.blot_desk.specs.Makers.{Makers}
 
 -- whether an event only asks
@@ -48,6 +47,6 @@ pub record SameKept {K : Type 0} (events : K → List Event) (found durable : K 
 
 -- what is under the lock of a desk: the book with its history, who made the commands, and what keeps the events
 pub record Under (K : Type 0) : Type 0 where
-  pub journal : Journal
+  pub desk : DeskState
   pub makers : Makers
   pub keeper : K

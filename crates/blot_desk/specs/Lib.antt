@@ -1,4 +1,5 @@
 pub mod Desk
+mod EarlyRefusal
 pub mod Keeping
 pub mod Makers
 pub mod Marks

@@ -1,15 +1,10 @@
 -- Who made each command of a desk, by the name that the caller of its seat has.
 use Rattle.std.specs.Prelude.{◌≡◌, ℕ, ◌+◌, ◌-◌, ◌<◌, List, [], ◌∷◌, ◌++◌, All, codes, length, map, reverse, slice_index_or, take}
-use Rattle.blot_desk.specs.declared.event.Event.{Event}
-use Rattle.blot_desk.specs.declared.event.Event.TheVariants.{Submit}
-use Rattle.blot_desk.specs.declared.event.Reply.{Reply}
+use Rattle.blot_desk.specs.declared.{event.Event.Event, event.Event.TheVariants.Submit, event.Reply.Reply, question.Found.Found, question.Question.Question, question.StepRow.StepRow}
 use Rattle.blot_desk.specs.declared.event.Reply.TheVariants.{Accepted, Refused}
-use Rattle.blot_desk.specs.declared.question.Found.{Found}
 use Rattle.blot_desk.specs.declared.question.Found.TheVariants as found
-use Rattle.blot_desk.specs.declared.question.Question.{Question}
-use Rattle.blot_desk.specs.declared.question.StepRow.{StepRow}
 use Rattle.blot_desk.specs.declared.question.StepRow.TheVariants as steps
-use Rattle.blot_desk.specs.Desk.{IsRun, Journal}
+use Rattle.blot_desk.specs.Desk.{IsRun, DeskState}
 use Rattle.blot_desk.specs.Questions.{found_of, refusals_from}
 
 -- the makers of the commands that were accepted, the k-th that of the command of number k; and of those that were refused, in their order
@@ -29,9 +24,9 @@ with_maker maker event reply makers = makers
 
 -- the makers are those of what a desk holds: a command that is accepted has the next number, and so many numbers are given as makers of such
 -- commands are noted; and each refused command has its maker
-pub record AreMakers (makers : Makers) (journal : Journal) : Type 0 where
-  pub of_accepted : length makers.accepted + 1 ≡ journal.book.next
-  pub of_refused : length makers.refused ≡ length (refusals_from 1 journal.history)
+pub record AreMakers (makers : Makers) (desk : DeskState) : Type 0 where
+  pub of_accepted : length makers.accepted + 1 ≡ desk.book.next
+  pub of_refused : length makers.refused ≡ length (refusals_from 1 desk.history)
 
 -- ---- who made what a question is answered
 
@@ -64,11 +59,11 @@ makers_of makers other = []
 
 -- an answer is that of what a desk held after a run of some events, and the names are those of its makers then
 pub record IsFoundBy (question : Question) (answer : Found) (names : List (List ℕ)) : Type 0 where
-  pub journal : Journal
+  pub desk : DeskState
   pub makers : Makers
-  pub run : IsRun journal
-  pub made : AreMakers makers journal
-  pub found_is : answer ≡ found_of journal question
+  pub run : IsRun desk
+  pub made : AreMakers makers desk
+  pub found_is : answer ≡ found_of desk question
   pub names_are : names ≡ makers_of makers answer
 
 -- ---- names by their places

@@ -1,7 +1,6 @@
 -- Marks on the places of a history that have a receipt.
 use Rattle.std.specs.Prelude.{◌≡◌, ℕ, ◌+◌, ◌<◌, ◌≤◌, Bool, false, List, length, slice_index_or, if◌then◌else◌}
-use Rattle.blot_desk.specs.declared.event.Recorded.{Recorded}
-use Rattle.blot_desk.specs.declared.receipt.Receipt.{Receipt}
+use Rattle.blot_desk.specs.declared.{event.Recorded.Recorded, receipt.Receipt.Receipt}
 use Rattle.blot_desk.specs.Receipts.{AllStand, EachRises, RiseFrom, all_receipts, count_at}
 
 -- how many marks a place has: 1 or none

@@ -11,21 +11,13 @@ use Rattle.blot_command.specs.declared.inverse.Inverse.TheVariants.{Number, Take
 use Rattle.blot_command.specs.Book.{has_number}
 use Rattle.blot_command.specs.Questions.{allocation_of, execution_of}
 use Rattle.blot_undo.specs.declared.step.Done.{Done}
-use Rattle.blot_desk.specs.declared.event.Event.{Event}
-use Rattle.blot_desk.specs.declared.event.Event.TheVariants.{Submit}
-use Rattle.blot_desk.specs.declared.event.Recorded.{Recorded}
-use Rattle.blot_desk.specs.declared.event.Reply.{Reply}
-use Rattle.blot_desk.specs.declared.event.Reply.TheVariants.{Refused}
-use Rattle.blot_desk.specs.declared.question.CommandKey.{CommandKey}
+use Rattle.blot_desk.specs.declared.{event.Event.Event, event.Event.TheVariants.Submit, event.Recorded.Recorded, event.Reply.Reply, event.Reply.TheVariants.Refused, question.CommandKey.CommandKey, question.Found.Found, question.RefusalRow.RefusalRow, question.StepRow.StepRow}
 use Rattle.blot_desk.specs.declared.question.CommandKey.TheVariants.{Trade, Correct, Bust, AllocNew, AllocReplace, AllocCancel, Withdraw}
-use Rattle.blot_desk.specs.declared.question.Found.{Found}
 use Rattle.blot_desk.specs.declared.question.Found.TheVariants as found
 use Rattle.blot_desk.specs.declared.question.Question.{Question}
 use Rattle.blot_desk.specs.declared.question.Question.TheVariants as questions
-use Rattle.blot_desk.specs.declared.question.RefusalRow.{RefusalRow}
-use Rattle.blot_desk.specs.declared.question.StepRow.{StepRow}
 use Rattle.blot_desk.specs.declared.question.StepRow.TheVariants as steps
-use Rattle.blot_desk.specs.Desk.{DeskBook, IsRun, Journal}
+use Rattle.blot_desk.specs.Desk.{DeskBook, IsRun, DeskState}
 
 -- ---- done steps
 
@@ -70,16 +62,16 @@ newest_refusals count history = take count (reverse (refusals_from 1 history))
 -- ---- questions
 
 -- what a question is answered
-abbrev pub found_of : Journal → Question → Found
-found_of journal (questions.Entry number) = found.Entry (find (has_number number) journal.book.list)
-found_of journal (questions.Execution key) = found.Execution key (execution_of journal.book.list key)
-found_of journal (questions.Allocation key) = found.Allocation key (allocation_of journal.book.list key)
-found_of journal (questions.Needs number) = found.Needs (refusal_of journal.book.list (commands.Withdraw number))
-found_of journal (questions.Steps count) = found.Steps (newest_steps count journal.book)
-found_of journal (questions.Refusals count) = found.Refusals (newest_refusals count journal.history)
+abbrev pub found_of : DeskState → Question → Found
+found_of desk (questions.Entry number) = found.Entry (find (has_number number) desk.book.list)
+found_of desk (questions.Execution key) = found.Execution key (execution_of desk.book.list key)
+found_of desk (questions.Allocation key) = found.Allocation key (allocation_of desk.book.list key)
+found_of desk (questions.Needs number) = found.Needs (refusal_of desk.book.list (commands.Withdraw number))
+found_of desk (questions.Steps count) = found.Steps (newest_steps count desk.book)
+found_of desk (questions.Refusals count) = found.Refusals (newest_refusals count desk.history)
 
 -- an answer is that of what a desk held after a run of some events
 pub record IsFound (question : Question) (answer : Found) : Type 0 where
-  pub journal : Journal
-  pub run : IsRun journal
-  pub found_is : answer ≡ found_of journal question
+  pub desk : DeskState
+  pub run : IsRun desk
+  pub found_is : answer ≡ found_of desk question

@@ -1,14 +1,9 @@
 -- The receipts of a seat: what it was told, at which place of the history.
-use Rattle.std.specs.Prelude.{◌≡◌, ℕ, ◌+◌, ◌<◌, ◌≤◌, ◌==◌, Bool, true, false, ◌&&◌, ◌||◌, nat_le, List, [], ◌∷◌, ◌++◌, fold, length, slice_get, Option, Some, None, if◌then◌else◌}
+use Rattle.std.specs.Prelude.{◌≡◌, ℕ, ◌+◌, ◌<◌, ◌≤◌, ◌==◌, Bool, true, false, ◌&&◌, ◌||◌, nat_le, List, [], ◌∷◌, ◌++◌, fold, length, slice_get, Option, Some, None, if◌then◌else◌, option_and_then}
 use Rattle.std.specs.List.{list_any}
-use Rattle.std.specs.Option.{option_and_then}
 use Rattle.blot_types.specs.declared.command.Command.TheVariants.{Withdraw}
-use Rattle.blot_desk.specs.declared.event.Event.{Event}
-use Rattle.blot_desk.specs.declared.event.Event.TheVariants.{Submit}
-use Rattle.blot_desk.specs.declared.event.Recorded.{Recorded}
-use Rattle.blot_desk.specs.declared.event.Reply.{Reply}
+use Rattle.blot_desk.specs.declared.{event.Event.Event, event.Event.TheVariants.Submit, event.Recorded.Recorded, event.Reply.Reply, receipt.Receipt.Receipt}
 use Rattle.blot_desk.specs.declared.event.Reply.TheVariants.{Accepted, Undone, Redone}
-use Rattle.blot_desk.specs.declared.receipt.Receipt.{Receipt}
 
 -- some receipts with one more at their end: of an event and the reply to it, at a place of the history
 abbrev pub with_receipt : ℕ → Event → Reply → List Receipt → List Receipt

@@ -29,7 +29,7 @@ impl<L: Ledger, K: Keeper> Model for Counted<L, K> {
 
     ghost Value = { Under K };
 
-    ghost view = { λ counted. record { journal = counted.held; makers = counted.makers.makers; keeper = counted.keeper } };
+    ghost view = { λ counted. record { desk = counted.held; makers = counted.makers.makers; keeper = counted.keeper } };
 
     ghost invariant = { λ counted. (length counted.held.history ≡ counted.book.total)
         × (K.IsKept → K.events counted.keeper ≡ kept_events counted.held.history)
@@ -40,7 +40,7 @@ impl<L: Ledger, K: Keeper> Counted<L, K> {
     /// Puts a record that spells no event behind the others.
     pub(crate) fn note(&mut self, text: &[u8]) -> Result<(), KeepFault>
         requires { K.spells_none text.now }
-        ensures journal { self.new.journal ≡ self.old.journal }
+        ensures desk { self.new.desk ≡ self.old.desk }
         ensures makers { self.new.makers ≡ self.old.makers }
         ensures same { SameKept K.events K.found K.durable K.is_broken self.old.keeper self.new.keeper }
         ensures broken { result ≡ Err KeepFault.Broken → K.is_broken self.new.keeper ≡ true }
@@ -52,7 +52,7 @@ impl<L: Ledger, K: Keeper> Counted<L, K> {
     pub(crate) fn sync(&mut self) -> Result<(), KeepFault>
         ensures durable { OnOk result (K.durable self.new.keeper ≡ length (K.events self.new.keeper)) }
         ensures events { K.events self.new.keeper ≡ K.events self.old.keeper }
-        ensures journal { self.new.journal ≡ self.old.journal }
+        ensures desk { self.new.desk ≡ self.old.desk }
         ensures makers { self.new.makers ≡ self.old.makers }
         ensures breaks { OnErr result (K.is_broken self.new.keeper ≡ true) }
     {
@@ -65,7 +65,7 @@ impl<L: Ledger, K: Keeper> Counted<L, K> {
         alloc: Global,
         question: &Question,
     ) -> Result<(Found, Vec<Text64>), NoMemory>
-        ensures found { IfOk result (λ found. found.0 ≡ found_of self.now.journal question.now) }
+        ensures found { IfOk result (λ found. found.0 ≡ found_of self.now.desk question.now) }
         ensures names { IfOk result (λ found. found.1.items ≡ makers_of self.now.makers found.0) }
         ensures by { IfOk result (λ found. IsFoundBy question.now found.0 found.1.items) }
     {

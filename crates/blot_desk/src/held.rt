@@ -5,7 +5,7 @@ ghost use Rattle.blot_types.specs.Order.{order_of};
 ghost use Rattle.blot_types.specs.Position.{position_of};
 ghost use Rattle.blot_command.specs.Meanings.{command_meaning};
 ghost use Rattle.blot_undo.specs.Laws.{LeadTo};
-ghost use Rattle.blot_desk.specs.Desk.{empty_journal, list_after, newest_entry_of, step_of, recorded_of, with_recorded, IsRun, UndosGoBack, RedosReturn};
+ghost use Rattle.blot_desk.specs.Desk.{empty_desk, list_after, newest_entry_of, step_of, recorded_of, with_recorded, IsRun, UndosGoBack, RedosReturn};
 ghost use Rattle.blot_desk.specs.Questions.{found_of};
 
 use crate::looking::{entry, newest_refusals, newest_steps};
@@ -27,19 +27,19 @@ pub struct Held {
 }
 
 impl Model for Held {
-    ghost use Rattle.blot_desk.specs.Desk.{Journal, IsJournal, desk_book};
+    ghost use Rattle.blot_desk.specs.Desk.{DeskState, IsDeskState, desk_book};
 
-    ghost Value = { Journal };
+    ghost Value = { DeskState };
 
     ghost view = { λ held. record { book = desk_book held.steps; history = held.history.items } };
 
-    ghost invariant = { λ held. IsJournal (desk_book held.steps) held.history.items };
+    ghost invariant = { λ held. IsDeskState (desk_book held.steps) held.history.items };
 }
 
 impl Held {
     /// An empty book without history. No memory is taken.
     pub fn new(alloc: Global) -> Held
-        ensures { result ≡ empty_journal }
+        ensures { result ≡ empty_desk }
     {
         Held {
             alloc,
@@ -159,7 +159,7 @@ impl Held {
 }
 
 impl TakesCommands for Held {
-    ghost journal_of = { λ held. held };
+    ghost desk_of = { λ held. held };
 
     fn submit(&mut self, command: &Command) -> Result<Reply, DeskFault> {
         if self.history.len() as u64 >= EVENTS_MAX {

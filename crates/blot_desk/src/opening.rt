@@ -1,7 +1,7 @@
 //! A desk that nobody shares yet.
 ghost use Rattle.std.specs.Prelude.{◌≡◌, ◌≢◌, ◌↔◌, ◌<◌, [], All, Err, IfOk, OnErr, OnOk, length};
 ghost use Rattle.blot_types.specs.declared.TheConstants.{EVENTS_MAX};
-ghost use Rattle.blot_desk.specs.Desk.{IsRun, empty_journal, recorded_of, step_of};
+ghost use Rattle.blot_desk.specs.Desk.{IsRun, empty_desk, recorded_of, step_of};
 ghost use Rattle.blot_desk.specs.Keeping.{kept_events};
 ghost use Rattle.blot_desk.specs.Receipts.{with_receipt};
 
@@ -22,11 +22,11 @@ pub struct Opening<L: Ledger> {
 }
 
 impl<L: Ledger> Model for Opening<L> {
-    ghost use Rattle.blot_desk.specs.Desk.{Journal};
+    ghost use Rattle.blot_desk.specs.Desk.{DeskState};
 
-    ghost Value = { Journal };
+    ghost Value = { DeskState };
 
-    ghost view = { λ opening. opening.counted.journal };
+    ghost view = { λ opening. opening.counted.desk };
 }
 
 impl<L: Ledger> Opening<L> {
@@ -40,7 +40,7 @@ impl<L: Ledger> Opening<L> {
         requires parts { blank.parts ≡ L.parts }
         requires seats { blank.parts ≡ seats }
         requires some { 0 < seats }
-        ensures desk { IfOk result (λ opened. opened.0 ≡ empty_journal) }
+        ensures desk { IfOk result (λ opened. opened.0 ≡ empty_desk) }
         ensures seats { IfOk result (λ opened. length opened.1.items ≡ seats) }
         ensures empty { IfOk result (λ opened. All (λ receipts. receipts ≡ []) opened.1.items) }
     {

@@ -58,16 +58,16 @@ impl<L: Ledger> Seat<L> {
         text: &[u8],
     ) -> Result<Reply, DeskFault>
         requires { IsSpelled K.spells text.now event }
-        ensures reply { IfOk result (λ reply. reply ≡ (step_of counted.old.journal.book event).reply) }
+        ensures reply { IfOk result (λ reply. reply ≡ (step_of counted.old.desk.book event).reply) }
         ensures behind_a_run { IfOk result (λ reply. IsReply event reply) }
-        ensures taken { IfOk result (λ reply. counted.new.journal ≡ recorded_of counted.old.journal event) }
+        ensures taken { IfOk result (λ reply. counted.new.desk ≡ recorded_of counted.old.desk event) }
         ensures made { IfOk result (λ reply. counted.new.makers ≡ with_maker maker.now event reply counted.old.makers) }
-        ensures receipt { IfOk result (λ reply. self.new ≡ with_receipt (length counted.old.journal.history) event reply self.old) }
+        ensures receipt { IfOk result (λ reply. self.new ≡ with_receipt (length counted.old.desk.history) event reply self.old) }
         ensures kept { OnOk result (K.IsKept → K.events counted.new.keeper ≡ with_kept event (K.events counted.old.keeper)) }
-        ensures full { (result ≡ Err DeskFault.Full) ↔ (length counted.old.journal.history ≡ EVENTS_MAX) }
+        ensures full { (result ≡ Err DeskFault.Full) ↔ (length counted.old.desk.history ≡ EVENTS_MAX) }
         ensures broken { (result ≡ Err DeskFault.Broken)
-            ↔ ((length counted.old.journal.history ≢ EVENTS_MAX) × (is_ask event ≡ false) × (K.is_broken counted.old.keeper ≡ true)) }
-        ensures err { OnErr result ((counted.new.journal ≡ counted.old.journal) × (self.new ≡ self.old)) }
+            ↔ ((length counted.old.desk.history ≢ EVENTS_MAX) × (is_ask event ≡ false) × (K.is_broken counted.old.keeper ≡ true)) }
+        ensures err { OnErr result ((counted.new.desk ≡ counted.old.desk) × (self.new ≡ self.old)) }
         ensures unmade { OnErr result (counted.new.makers ≡ counted.old.makers) }
         ensures same { OnErr result (SameKept K.events K.found K.durable K.is_broken counted.old.keeper counted.new.keeper) }
         ensures faults { result ≢ Err DeskFault.Unsettled }

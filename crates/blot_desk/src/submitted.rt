@@ -1,15 +1,15 @@
 //! A command that was submitted.
 
 use crate::Reply;
-use blot_places::Remembered;
+use blot_places::GhostValue;
 use blot_types::Command;
 use std::marker::Model;
 
 /// A command that was submitted, with the reply to it, both of which proofs alone remember. A contract sees the event with its reply.
 #[derive(Drop)]
 pub(crate) struct Submitted {
-    pub(crate) command: Remembered<Command>,
-    pub(crate) reply: Remembered<Reply>,
+    pub(crate) command: GhostValue<Command>,
+    pub(crate) reply: GhostValue<Reply>,
 }
 
 impl Model for Submitted {

@@ -1,7 +1,8 @@
 //! Each kind of event on the book.
 ghost use Rattle.std.specs.Prelude.{◌≡◌, ◌≤◌, None, IfOk, IfErr, OnErr, if◌then◌else◌};
 ghost use Rattle.blot_types.specs.Legal.{entry_refusal};
-ghost use Rattle.blot_desk.specs.Desk.{corrects_or_busts, desk_book, outcome_in, step_of, submit_of, undo_of, redo_of};
+ghost use Rattle.blot_desk.specs.EarlyRefusal.{corrects_or_busts};
+ghost use Rattle.blot_desk.specs.Desk.{desk_book, outcome_in, step_of, submit_of, undo_of, redo_of};
 
 use crate::{DeskFault, Event, Reply};
 use blot_command::{ApplyFault, BoxedCommand, Tables};

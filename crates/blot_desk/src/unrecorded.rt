@@ -1,14 +1,14 @@
 //! A desk that keeps no record.
 ghost use Rattle.std.specs.Prelude.{◌≡◌, ◌≤◌, length};
 ghost use Rattle.blot_desk.specs.declared.event.Event.TheVariants.{Submit};
-ghost use Rattle.blot_desk.specs.Desk.{empty_journal, list_after, with_recorded};
+ghost use Rattle.blot_desk.specs.Desk.{empty_desk, list_after, with_recorded};
 
-use crate::past::Past;
+use crate::ghost_list::GhostList;
 use crate::submitted::Submitted;
 use crate::taking::submit;
 use crate::{DeskFault, Reply, TakesCommands};
 use blot_command::{BoxedCommand, Tables};
-use blot_places::Remembered;
+use blot_places::GhostValue;
 use blot_types::{Command, EVENTS_MAX};
 use blot_undo::Steps;
 use std::alloc::Global;
@@ -21,30 +21,30 @@ pub struct Unrecorded {
     alloc: Global,
     steps: Steps<BoxedCommand>,
     events: u64,
-    history: Past<Submitted>,
+    history: GhostList<Submitted>,
 }
 
 impl Model for Unrecorded {
     ghost use Rattle.std.specs.Prelude.{◌≡◌, length};
-    ghost use Rattle.blot_desk.specs.Desk.{Journal, IsJournal, desk_book};
+    ghost use Rattle.blot_desk.specs.Desk.{DeskState, IsDeskState, desk_book};
 
-    ghost Value = { Journal };
+    ghost Value = { DeskState };
 
     ghost view = { λ desk. record { book = desk_book desk.steps; history = desk.history.items } };
 
-    ghost invariant = { λ desk. IsJournal (desk_book desk.steps) desk.history.items × (desk.events ≡ length desk.history.items) };
+    ghost invariant = { λ desk. IsDeskState (desk_book desk.steps) desk.history.items × (desk.events ≡ length desk.history.items) };
 }
 
 impl Unrecorded {
     /// An empty book, and no event yet. No memory is taken.
     pub fn new(alloc: Global) -> Unrecorded
-        ensures { result ≡ empty_journal }
+        ensures { result ≡ empty_desk }
     {
         Unrecorded {
             alloc,
             steps: Steps::new(alloc, Tables::new(alloc)),
             events: 0,
-            history: Past::new(),
+            history: GhostList::new(),
         }
     }
 
@@ -69,7 +69,7 @@ impl Unrecorded {
 }
 
 impl TakesCommands for Unrecorded {
-    ghost journal_of = { λ desk. desk };
+    ghost desk_of = { λ desk. desk };
 
     fn submit(&mut self, command: &Command) -> Result<Reply, DeskFault> {
         if self.events == EVENTS_MAX {
@@ -85,12 +85,12 @@ impl TakesCommands for Unrecorded {
 }
 
 // Remembers a command and the reply to it after the others.
-fn remember(history: &mut Past<Submitted>, command: &Command, reply: &Reply)
+fn remember(history: &mut GhostList<Submitted>, command: &Command, reply: &Reply)
     ensures { history.new.items ≡ with_recorded (Submit command.now) reply.now history.old.items }
 {
     let submitted = Submitted {
-        command: Remembered::of(command),
-        reply: Remembered::of(reply),
+        command: GhostValue::of(command),
+        reply: GhostValue::of(reply),
     };
     *history = history.followed_by(&submitted);
 }

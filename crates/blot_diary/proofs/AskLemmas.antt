@@ -1,27 +1,18 @@
 -- No event of a text only asks.
-use Rattle.std.proofs.Common.{◌≡◌, ℤ, ℕ, Bool, true, false, not, List, [], ◌∷◌, map, Option, Some, None, Result, Ok, Err, refl, sym, ap, ◌∙◌, cond}
-use Rattle.std.specs.Prelude.{if◌then◌else◌}
-use Rattle.std.specs.List.{cons_option, filter, filter_map}
-use Rattle.std.specs.Option.{option_and_then}
-use Rattle.std.proofs.lemmas.Bool.{false≢true}
+use Rattle.std.proofs.Common.{◌≡◌, ℤ, ℕ, Bool, true, false, not, List, [], ◌∷◌, map, Option, Some, None, Result, Ok, Err, refl, sym, ap, ◌∙◌, cond, if◌then◌else◌, filter, filter_map, option_and_then}
+use Rattle.std.specs.List.{cons_option}
 use Rattle.blot_time.specs.declared.fault.TimeFault.{TimeFault}
 use Rattle.blot_tag.specs.Fields.{Item, fields_of}
 use Rattle.blot_tag.specs.Walking.{frames_of}
 use Rattle.blot_types.specs.declared.command.Command.{Command}
 use Rattle.blot_fields.specs.Decoding.{decoded}
 use Rattle.blot_fields.specs.First.{first_text, first_value}
-use Rattle.blot_fields.specs.declared.fault.FieldFault.{FieldFault}
-use Rattle.blot_fields.specs.declared.message.Message.{Message}
+use Rattle.blot_fields.specs.declared.{fault.FieldFault.FieldFault, message.Message.Message}
 use Rattle.blot_desk.specs.declared.event.Event.{Event}
 use Rattle.blot_desk.specs.Keeping.{is_ask}
-use Rattle.blot_console.specs.declared.ask.Ask.{Ask}
-use Rattle.blot_console.specs.declared.ask.Ask.TheVariants.{Step}
-use Rattle.blot_console.specs.declared.fault.LineFault.{LineFault}
+use Rattle.blot_console.specs.declared.{ask.Ask.Ask, ask.Ask.TheVariants.Step, fault.LineFault.LineFault}
 use Rattle.blot_console.specs.Parsing.{parsed}
-use Rattle.blot_diary.specs.declared.kept.Content.{Content}
-use Rattle.blot_diary.specs.declared.kept.Kept.{Kept}
-use Rattle.blot_diary.specs.declared.kept.Noted.{Noted}
-use Rattle.blot_diary.specs.declared.kinds.Kind.{Kind}
+use Rattle.blot_diary.specs.declared.{kept.Kept.Kept, kept.Noted.Noted, kinds.Kind.Kind}
 use Rattle.blot_diary.specs.declared.kinds.Kind.TheVariants as kinds
 use Rattle.blot_diary.specs.Diary.{desk_events}
 use Rattle.blot_diary.specs.Events.{BringsNoAsk, events_in, noted_by, noted_of}

@@ -1,9 +1,7 @@
 -- Whole frames one behind the other, their events, and what a diary keeps after each of its calls.
-use Rattle.std.proofs.Common.{◌≡◌, inl, inr, ⊎_elim, ℕ, ◌<◌, ◌≤◌, Bool, true, false, List, [], ◌∷◌, ◌++◌, length, map, take, Option, Some, None, refl, sym, ap, subst, ◌∙◌, arith, append_assoc, length-append}
-use Rattle.std.specs.List.{cons_option, filter_map}
-use Rattle.std.specs.Prelude.{if◌then◌else◌, option_map}
-use Rattle.std.specs.Option.{option_and_then}
-use Rattle.std.proofs.lemmas.List.{append-nil, map-append}
+use Rattle.std.proofs.Common.{◌≡◌, inl, inr, ⊎_elim, ℕ, ◌<◌, ◌≤◌, Bool, true, false, List, [], ◌∷◌, ◌++◌, length, map, take, Option, Some, None, refl, sym, ap, subst, ◌∙◌, arith, append_assoc, length-append, filter_map, if◌then◌else◌, option_map, option_and_then, append-nil}
+use Rattle.std.specs.List.{cons_option}
+use Rattle.std.proofs.lemmas.List.{map-append}
 use Rattle.std.proofs.lemmas.List.Elements.{filter_map-append}
 use Rattle.std.proofs.Math.Seq.{take-append_seam}
 use Rattle.blot_tag.specs.Fields.{fields_of}
@@ -17,8 +15,7 @@ use Rattle.blot_desk.specs.Keeping.{IsBeginning}
 use Rattle.blot_journal.specs.Device.{LeavesOnly}
 use Rattle.blot_journal.specs.File.{Stands, StandsBeforeOrAfter}
 use Rattle.blot_journal.specs.Journal.{Open, text_in_journal}
-use Rattle.blot_diary.specs.declared.kept.Kept.{Kept}
-use Rattle.blot_diary.specs.declared.kept.Noted.{Noted}
+use Rattle.blot_diary.specs.declared.{kept.Kept.Kept, kept.Noted.Noted}
 use Rattle.blot_diary.specs.Diary.{Begins, Diarized, IsDiary, Keeps, Leaves, desk_events, diary_of, event_in}
 use Rattle.blot_diary.specs.Events.{events_in, noted_of}
 use Rattle.blot_diary.specs.Keeping.{kept_in, kept_of}
@@ -127,11 +124,11 @@ keeps_either durable waiting file whole all (inr after) = record {
 -- ---- the calls
 
 module _ {D : Type 0} (seen : D → List ℕ) (may_leave : D → List ℕ → Type 0) (left_since : D → ℕ → List ℕ → Type 0) (moment : D → ℕ) where
-  abbrev pub Holds : Diarized D → Type 0
-  Holds diary = IsDiary may_leave left_since moment diary
+  abbrev pub HoldsDiary : Diarized D → Type 0
+  HoldsDiary diary = IsDiary may_leave left_since moment diary
 
   -- no room matters
-  pub with_room : (diary : Diarized D) (room : ℕ) → Holds diary → Holds (record diary { room = room })
+  pub with_room : (diary : Diarized D) (room : ℕ) → HoldsDiary diary → HoldsDiary (record diary { room = room })
   with_room diary room holds = record {
     whole = holds.whole;
     durable = holds.durable;
@@ -142,8 +139,8 @@ module _ {D : Type 0} (seen : D → List ℕ) (may_leave : D → List ℕ → Ty
   }
 
   -- one frame more
-  pub appended : (diary : Diarized D) (frame : List ℕ) (room : ℕ) → IsFrame frame → Holds diary
-      → Holds (record diary { text = diary.text ++ frame; room = room })
+  pub appended : (diary : Diarized D) (frame : List ℕ) (room : ℕ) → IsFrame frame → HoldsDiary diary
+      → HoldsDiary (record diary { text = diary.text ++ frame; room = room })
   appended diary frame room valid holds = record {
     whole = (has_last diary.text frame valid holds.whole).whole;
     durable = begins_more diary.durable diary.text frame holds.durable;
@@ -167,8 +164,8 @@ module _ {D : Type 0} (seen : D → List ℕ) (may_leave : D → List ℕ → Ty
     pub unbroken : (journal : Open D) → journal.is_broken ≡ false → diary_in journal ≡ plain journal.device journal.waiting journal.room
     unbroken journal is = ap (λ (b : Bool). diary_in (record journal { is_broken = b })) is
 
-    pub with_next_room : (journal next : Open D) → next ≡ record journal { room = next.room } → Holds (diary_in journal) → Holds (diary_in next)
-    with_next_room journal next same holds = subst (λ j. Holds (diary_in j)) (sym same) (with_room (diary_in journal) _ holds)
+    pub with_next_room : (journal next : Open D) → next ≡ record journal { room = next.room } → HoldsDiary (diary_in journal) → HoldsDiary (diary_in next)
+    with_next_room journal next same holds = subst (λ j. HoldsDiary (diary_in j)) (sym same) (with_room (diary_in journal) _ holds)
 
     has_room : (broken : Bool) (room bytes : ℕ) → 0 < bytes → bytes ≤ (if broken then 0 else room) → broken ≡ false
     has_room true room bytes some fits = absurd (omega (arith, some, fits))
@@ -189,7 +186,7 @@ module _ {D : Type 0} (seen : D → List ℕ) (may_leave : D → List ℕ → Ty
   -- one that is opened
   pub begun : (journal opened last : Open D) → journal.is_broken ≡ false → journal.waiting ≡ [] → IsWhole (text_in_journal seen journal) → opened ≡ journal
       → ((file : List ℕ) → may_leave journal.device file → Stands (text_in_journal seen journal) file)
-      → ((file : List ℕ) → left_since journal.device (moment journal.device) file → may_leave journal.device file) → Holds (diary journal opened last)
+      → ((file : List ℕ) → left_since journal.device (moment journal.device) file → may_leave journal.device file) → HoldsDiary (diary journal opened last)
   begun journal opened last on none whole is crash only =
       let text = text_in_journal seen journal in
       let all : Begins text (text ++ []) = record { whole = whole; behind = []; is = refl } in
@@ -197,7 +194,7 @@ module _ {D : Type 0} (seen : D → List ℕ) (may_leave : D → List ℕ → Ty
       λ file left. record { part = text; enough = begins_itself text whole; within = all; stands = crash file left } in
       let same : diary journal opened last ≡ plain journal last journal.device [] journal.room =
       (λ i. diary journal (is i) last) ∙ unbroken journal last journal on ∙ (λ i. plain journal last journal.device (none i) journal.room) in
-      subst Holds (sym same) (record {
+      subst HoldsDiary (sym same) (record {
         whole = subst IsWhole (sym (append-nil text)) whole;
         durable = all;
         found = begins_itself text whole;
@@ -207,13 +204,13 @@ module _ {D : Type 0} (seen : D → List ℕ) (may_leave : D → List ℕ → Ty
       })
 
   -- after a sync
-  module _ (journal next opened : Open D) (last : Open D) (holds : Holds (diary journal opened last)) (on : journal.is_broken ≡ false)
+  module _ (journal next opened : Open D) (last : Open D) (holds : HoldsDiary (diary journal opened last)) (on : journal.is_broken ≡ false)
       (leaves : LeavesOnly moment left_since journal.device next.device (StandsBeforeOrAfter (text_in_journal seen journal) journal.waiting)) where
     abbrev text : List ℕ
     text = text_in_journal seen journal
 
-    was : Holds (plain opened last journal.device journal.waiting journal.room)
-    was = subst Holds (unbroken opened last journal on) holds
+    was : HoldsDiary (plain opened last journal.device journal.waiting journal.room)
+    was = subst HoldsDiary (unbroken opened last journal on) holds
 
     either : (file : List ℕ) → StandsBeforeOrAfter text journal.waiting file → Keeps text (text ++ journal.waiting) file
     either file stands = keeps_either text journal.waiting file was.durable.whole was.whole stands
@@ -247,8 +244,8 @@ module _ {D : Type 0} (seen : D → List ℕ) (may_leave : D → List ℕ → Ty
           ∙ ap (λ all. record after { text = all; durable = text_in_journal seen next }) (append-nil (text_in_journal seen next) ∙ text_is)
           ∙ ap (λ durable. record after { durable = durable }) text_is
 
-      pub synced : ((file : List ℕ) → may_leave next.device file → Stands whole_text file) → Holds (diary next opened before)
-      synced crash = subst Holds (sym same) (record {
+      pub synced : ((file : List ℕ) → may_leave next.device file → Stands whole_text file) → HoldsDiary (diary next opened before)
+      synced crash = subst HoldsDiary (sym same) (record {
         whole = was.whole;
         durable = begins_itself whole_text was.whole;
         found = begins_through (text_in_journal seen opened) text whole_text was.found was.durable;
@@ -283,8 +280,8 @@ module _ {D : Type 0} (seen : D → List ℕ) (may_leave : D → List ℕ → Ty
       same_broken = (λ i. diary next opened (before_is i)) ∙ ap (λ b. diary (record next { is_broken = b }) opened journal) broken
 
       pub stops : ((file : List ℕ) → moment journal.device ≤ moment next.device → may_leave next.device file
-          → left_since next.device (moment journal.device) file) → Holds (diary next opened before)
-      stops counts = subst Holds (sym same_broken) (record {
+          → left_since next.device (moment journal.device) file) → HoldsDiary (diary next opened before)
+      stops counts = subst HoldsDiary (sym same_broken) (record {
         whole = was.whole;
         durable = was.durable;
         found = was.found;

@@ -1,24 +1,17 @@
 -- The two folds over one frame more.
-use Rattle.std.proofs.Common.{◌≡◌, ℕ, List, [], ◌∷◌, ◌++◌, Option, Some, None, refl, ap, ◌∙◌}
-use Rattle.std.specs.Prelude.{fold}
-use Rattle.std.specs.List.{cons_option, filter_map}
-use Rattle.std.proofs.lemmas.List.{append-nil}
+use Rattle.std.proofs.Common.{◌≡◌, ℕ, List, [], ◌∷◌, ◌++◌, Option, Some, None, refl, ap, ◌∙◌, fold, filter_map, append-nil}
+use Rattle.std.specs.List.{cons_option}
 use Rattle.std.proofs.lemmas.List.Sums.{fold-append}
+use Rattle.blot_types.proofs.GeneralLemmas.{cons-append}
 use Rattle.blot_tag.specs.Fields.{fields_of}
-use Rattle.blot_diary.specs.declared.kept.Kept.{Kept}
-use Rattle.blot_diary.specs.declared.kept.Noted.{Noted}
-use Rattle.blot_diary.specs.declared.numbers.Numbers.{Numbers}
+use Rattle.blot_diary.specs.declared.{kept.Kept.Kept, kept.Noted.Noted, numbers.SequenceNumbers.SequenceNumbers}
 use Rattle.blot_diary.specs.Events.{BringsLast, events_in, noted_of, with_last}
 use Rattle.blot_diary.specs.Keeping.{kept_in, kept_of}
 use Rattle.blot_diary.specs.Numbering.{first_numbers, numbers_after, numbers_in}
 
-cons_option-append : {A : Type 0} (first : Option A) (front back : List A) → cons_option first (front ++ back) ≡ cons_option first front ++ back
-cons_option-append None front back = refl
-cons_option-append (Some x) front back = refl
-
 filter_map-last : {A B : Type 0} (h : A → Option B) (xs : List A) (x : A) → filter_map h (xs ++ x ∷ []) ≡ filter_map h xs ++ cons_option (h x) []
 filter_map-last h [] x = refl
-filter_map-last h (first ∷ xs) x = ap (cons_option (h first)) (filter_map-last h xs x) ∙ cons_option-append (h first) (filter_map h xs) (cons_option (h x) [])
+filter_map-last h (first ∷ xs) x = ap (cons_option (h first)) (filter_map-last h xs x) ∙ cons-append (h first) (filter_map h xs) (cons_option (h x) [])
 
 kept_in-last : (kept : Kept) (frames : List (List ℕ)) (frame : List ℕ) → kept_of (fields_of frame) ≡ Some kept → kept_in (frames ++ frame ∷ []) ≡ kept_in frames ++ kept ∷ []
 kept_in-last kept frames frame is =
@@ -32,7 +25,7 @@ pub brings_last : (kept : Kept) (frames : List (List ℕ)) (frame : List ℕ) �
 brings_last kept frames frame is =
     ap (filter_map noted_of) (kept_in-last kept frames frame is) ∙ filter_map-last noted_of (kept_in frames) kept ∙ with_last-cons (events_in frames) (noted_of kept)
 
-pub numbers_last : (own peer : List ℕ) (numbers : Numbers) (kept : Kept) (frames : List (List ℕ)) (frame : List ℕ)
+pub numbers_last : (own peer : List ℕ) (numbers : SequenceNumbers) (kept : Kept) (frames : List (List ℕ)) (frame : List ℕ)
     → kept_of (fields_of frame) ≡ Some kept → numbers_in own peer frames ≡ numbers
     → numbers_in own peer (frames ++ frame ∷ []) ≡ numbers_after own peer numbers kept
 numbers_last own peer numbers kept frames frame is before =

@@ -1,13 +1,10 @@
 -- A line's record spells its event.
-use Rattle.std.proofs.Common.{◌≡◌, ℕ, List, Option, Some, None, Result, Ok, Err, ap}
-use Rattle.std.specs.Prelude.{IfOk, IfSome, option_map}
-use Rattle.std.specs.Option.{option_and_then}
+use Rattle.std.proofs.Common.{◌≡◌, ℕ, List, Option, Some, None, Result, Ok, Err, ap, IfOk, IfSome, option_map, option_and_then}
 use Rattle.blot_tag.specs.Fields.{fields_of}
 use Rattle.blot_tag.specs.Frames.{IsFrame}
 use Rattle.blot_desk.specs.declared.event.Event.{Event}
 use Rattle.blot_desk.specs.Keeping.{IsSpelled}
-use Rattle.blot_diary.specs.declared.kept.Content.TheVariants.{Asked}
-use Rattle.blot_diary.specs.declared.kept.Noted.{Noted}
+use Rattle.blot_diary.specs.declared.{kept.Content.TheVariants.Asked, kept.Noted.Noted}
 use Rattle.blot_diary.specs.Diary.{event_in}
 use Rattle.blot_diary.specs.Events.{noted_of}
 use Rattle.blot_diary.specs.Keeping.{kept_of}

@@ -1,7 +1,5 @@
 -- A frame of fields without a fault that has no table is read again.
-use Rattle.std.proofs.Common.{◌≡◌, ℕ, ◌≤◌, true, List, [], ◌∷◌, length, map, Ok, ap, ◌∙◌}
-use Rattle.std.specs.Prelude.{ℤ}
-use Rattle.std.specs.Fmt.{decimal}
+use Rattle.std.proofs.Common.{◌≡◌, ℕ, ◌≤◌, true, List, [], ◌∷◌, length, map, Ok, ap, ◌∙◌, ℤ, decimal}
 use Rattle.blot_time.specs.Moment.{moment_text}
 use Rattle.blot_tag.specs.Frames.{IsFrame}
 use Rattle.blot_tag.specs.Writing.{Written, frame_fields, frame_of}

@@ -1,6 +1,5 @@
 -- What the frame of a command keeps.
-use Rattle.std.proofs.Common.{List, ap, ◌∙◌}
-use Rattle.std.specs.Option.{option_and_then}
+use Rattle.std.proofs.Common.{List, ap, ◌∙◌, option_and_then}
 use Rattle.blot_tag.specs.Fields.{Item}
 use Rattle.blot_diary.specs.Events.{IsItsSubmit, noted_by, noted_of}
 use Rattle.blot_diary.specs.Keeping.{content_by, kept_of, kept_said}

@@ -1,9 +1,6 @@
 -- A text that is one frame.
-use Rattle.std.proofs.Common.{◌≡◌, ℕ, ◌<◌, Bool, true, false, not, List, [], Option, Some, sym, ap, subst, ◌∙◌, arith, length, length-append}
-use Rattle.std.specs.Prelude.{◌↔◌, IsTrue, slice_get}
-use Rattle.std.specs.Str.{bytes_eq}
+use Rattle.std.proofs.Common.{◌≡◌, ℕ, ◌<◌, Bool, true, false, not, List, [], Option, Some, sym, ap, subst, ◌∙◌, arith, length, length-append, ◌↔◌, IsTrue, slice_get, bytes_eq, append-nil}
 use Rattle.std.proofs.lemmas.Bool.{false≢true, not-false}
-use Rattle.std.proofs.lemmas.List.{append-nil}
 use Rattle.std.proofs.lemmas.Slice.Eq.{bytes_eq-Decides}
 use Rattle.blot_tag.specs.Frames.{IsFrame, front_of, trailer_of}
 use Rattle.blot_tag.specs.Walking.{Walk, first_frame, walk_of}

@@ -1,17 +1,14 @@
 -- A message that is kept as it is brings no event, and counts itself.
-use Rattle.std.proofs.Common.{◌≡◌, ℕ, ◌+◌, Bool, true, false, not, List, Option, Some, None, Result, Ok, Err, refl, ap, ◌∙◌}
-use Rattle.std.specs.Prelude.{◌↔◌, ◌&&◌, IfOk, IsOk, IsTrue, if◌then◌else◌}
-use Rattle.std.specs.Option.{option_and_then, option_map_or}
+use Rattle.std.proofs.Common.{◌≡◌, ℕ, ◌+◌, Bool, true, false, not, List, Option, Some, None, Result, Ok, Err, refl, ap, ◌∙◌, ◌↔◌, ◌&&◌, IfOk, IsOk, IsTrue, if◌then◌else◌, option_and_then}
+use Rattle.std.specs.Option.{option_map_or}
 use Rattle.blot_tag.specs.Fields.{Item, fields_of}
 use Rattle.blot_types.specs.Keys.{same_text}
 use Rattle.blot_fields.specs.Decoding.{decoded}
-use Rattle.blot_fields.specs.declared.fault.FieldFault.{FieldFault}
-use Rattle.blot_fields.specs.declared.message.Message.{Message}
+use Rattle.blot_fields.specs.declared.{fault.FieldFault.FieldFault, message.Message.Message}
 use Rattle.blot_gateway.specs.Counting.{CountsItself}
 use Rattle.blot_diary.specs.declared.kept.Content.{Content}
 use Rattle.blot_diary.specs.declared.kept.Content.TheVariants as contents
 use Rattle.blot_diary.specs.declared.kept.Kept.{Kept}
-use Rattle.blot_diary.specs.declared.numbers.Numbers.{Numbers}
 use Rattle.blot_diary.specs.Events.{IsPlain, IsQuiet, is_message, noted_by, noted_of}
 use Rattle.blot_diary.specs.Keeping.{content_of, kept_of, kept_said}
 use Rattle.blot_diary.specs.Laws.{kept_from}

@@ -1,9 +1,7 @@
 -- What is read of the frames that a journal writes of its own.
-use Rattle.std.proofs.Common.{◌≡◌, ℕ, ◌^◌, ◌<◌, ◌≤◌, true, leb, List, [], ◌∷◌, length, map, None, Some, Ok, Err, refl, ap, sym, subst, ◌∙◌, arith}
-use Rattle.std.specs.Prelude.{codes, IfOk, IfSome, IsSome, Result, Option, is_some, ℤ}
-use Rattle.std.specs.Fmt.{decimal}
+use Rattle.std.proofs.Common.{◌≡◌, ℕ, ◌^◌, ◌<◌, ◌≤◌, true, leb, List, [], ◌∷◌, length, map, None, Some, Ok, Err, refl, ap, sym, subst, ◌∙◌, arith, codes, IfOk, IfSome, IsSome, Result, Option, is_some, ℤ, decimal, le-leb}
 use Rattle.std.proofs.lemmas.Fmt.{decimal_digit}
-use Rattle.std.proofs.lemmas.Bool.{and_from, cond-true, false≢true, le-leb}
+use Rattle.std.proofs.lemmas.Bool.{and_from, cond-true, false≢true}
 use Rattle.blot_time.specs.Day.{day_of, day_text}
 use Rattle.blot_tag.specs.Bytes.{is_number, number_of}
 use Rattle.blot_tag.specs.Fields.{Item, TagValue, field_of, fields_of}
@@ -15,7 +13,7 @@ use Rattle.blot_fields.specs.Kinds as fields
 use Rattle.blot_console.specs.Parsing as console
 use Rattle.blot_desk.specs.declared.event.Event.{Event}
 use Rattle.blot_diary.specs.declared.kept.Content.TheVariants as contents
-use Rattle.blot_diary.specs.declared.numbers.Numbers.{Numbers}
+use Rattle.blot_diary.specs.declared.numbers.SequenceNumbers.{SequenceNumbers}
 use Rattle.blot_diary.specs.Keeping.{IsInRange, content_under, kept_of, kept_said}
 use Rattle.blot_diary.specs.Kinds.{kind_of}
 use Rattle.blot_diary.specs.Own.{asked_by, beginning_by, event_of_line, next_form, numbers_by}
@@ -82,7 +80,7 @@ next_form-decimal n low high =
     let most = ap (λ k. leb k 1_000_000_000) number ∙ le-leb n 1_000_000_000 high in
     cond-true _ _ _ (and_from _ _ (and_from _ _ (is_number-decimal n (omega arith)) least) most) ∙ ap Some number
 
-pub numbers_kept : (own peer : List ℕ) (number : ℕ) (now : ℤ) (numbers : Numbers) → IsInRange numbers → IsReadable own peer number now
+pub numbers_kept : (own peer : List ℕ) (number : ℕ) (now : ℤ) (numbers : SequenceNumbers) → IsInRange numbers → IsReadable own peer number now
     → IsFrame (frame_of (numbers_message own peer number now numbers))
     → kept_of (items_of (numbers_message own peer number now numbers)) ≡ Some (keeps own peer number (contents.Numbers numbers))
 unfolding kind_of fields.kind_of
@@ -183,7 +181,7 @@ beginning_fits own day now text =
     fits-short (beginning_message own day now) short_kind.0 (omega arith)
     ((omega arith, name), ((omega arith, name), ((omega arith, one), ((omega arith, short_moment now), ((omega arith, short_day day), tt)))))
 
-pub numbers_fit : (own peer : List ℕ) (number : ℕ) (now : ℤ) (numbers : Numbers) → is_text own ≡ true → is_text peer ≡ true → number ≤ 999_999_999
+pub numbers_fit : (own peer : List ℕ) (number : ℕ) (now : ℤ) (numbers : SequenceNumbers) → is_text own ≡ true → is_text peer ≡ true → number ≤ 999_999_999
     → IsInRange numbers → fits (numbers_message own peer number now numbers) ≡ true
 numbers_fit own peer number now numbers own_text peer_text high range =
     let expected = short_decimal numbers.expected (omega (arith, range.0.1)) in

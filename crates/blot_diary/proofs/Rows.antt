@@ -1,9 +1,7 @@
 -- Frames of a journal, and texts of them, computed.
-use Rattle.std.proofs.Common.{◌≡◌, ap, ◌∙◌, Bool, ℕ, ℤ, ◌*◌, ◌^◌, List, [], ◌∷◌, ◌++◌, true, false, Some, None, refl}
-use Rattle.std.specs.Prelude.{codes, fold, slice_get, slice_range, map, pos, ◌==◌, if◌then◌else◌}
+use Rattle.std.proofs.Common.{◌≡◌, ap, ◌∙◌, Bool, ℕ, ℤ, ◌*◌, ◌^◌, List, [], ◌∷◌, ◌++◌, true, false, Some, None, refl, codes, fold, slice_get, slice_range, map, pos, ◌==◌, if◌then◌else◌, filter_map, option_and_then}
 use Rattle.std.specs.Fmt.{digits}
-use Rattle.std.specs.List.{concat, filter_map}
-use Rattle.std.specs.Option.{option_and_then}
+use Rattle.std.specs.List.{concat}
 use Rattle.blot_decimal.specs.Meaning.{size_of, qty_of, price_of}
 use Rattle.blot_decimal.specs.Text.{are_parts}
 use Rattle.blot_time.specs.Calendar.{day_number}
@@ -15,10 +13,8 @@ use Rattle.blot_tag.specs.Fields.{fields_of, items_behind, first_items, first_fi
 use Rattle.blot_tag.specs.Looking as looking
 use Rattle.blot_tag.specs.Walking.{frames_of, walk_behind}
 use Rattle.blot_tag.specs.Writing.{frame_of}
-use Rattle.blot_types.specs.declared.command.Command.{Command}
+use Rattle.blot_types.specs.declared.{command.Command.Command, fill.Sign.TheVariants.Buy, keys.ExecKey.ExecKey}
 use Rattle.blot_types.specs.declared.command.Command.TheVariants.{Trade, Bust, AllocNew}
-use Rattle.blot_types.specs.declared.fill.Sign.TheVariants.{Buy}
-use Rattle.blot_types.specs.declared.keys.ExecKey.{ExecKey}
 use Rattle.blot_fields.specs.Decoding.{decoded}
 use Rattle.blot_fields.specs.Forms.{text_form, number_form, moment_form, flag_form, zero_form, any_form, qty_form, positive_form, price_form, side_form, day_form}
 use Rattle.blot_fields.specs.Kinds as fields
@@ -35,10 +31,8 @@ use Rattle.blot_console.specs.Parsing as console
 use Rattle.blot_console.specs.Rows.{counted, value_at}
 use Rattle.blot_diary.specs.declared.kept.Content.{Content}
 use Rattle.blot_diary.specs.declared.kept.Content.TheVariants as contents
-use Rattle.blot_diary.specs.declared.kept.Kept.{Kept}
-use Rattle.blot_diary.specs.declared.kept.Noted.{Noted}
+use Rattle.blot_diary.specs.declared.{kept.Kept.Kept, kept.Noted.Noted, numbers.SequenceNumbers.SequenceNumbers}
 use Rattle.blot_diary.specs.declared.kept.Party.TheVariants.{Peer, Operator}
-use Rattle.blot_diary.specs.declared.numbers.Numbers.{Numbers}
 use Rattle.blot_diary.specs.Beginnings.{beginning_of, begun_by}
 use Rattle.blot_diary.specs.Diary.{desk_events}
 use Rattle.blot_diary.specs.Events.{events_in, events_of, keeps_message, noted_of}
@@ -234,7 +228,7 @@ others_numbers = numbers_by (codes "BRKB") longer kept_longer are_frames.2 are_k
 
 -- ---- single frames, behind numbers of 2 and 2
 
-abbrev after : Bool → ℕ → Content → Numbers
+abbrev after : Bool → ℕ → Content → SequenceNumbers
 after dup number content = numbers_after MO BRKA (record { expected = 2; next = 2 }) (record { from = MO; to = BRKA; number = number; dup = dup; content = content })
 
 sends_once : after false 7 contents.Message ≡ record { expected = 2; next = 8 }

@@ -1,12 +1,8 @@
 -- A frame of given fields: what is left of them at each field.
-use Rattle.std.proofs.Common.{◌≡◌, ℕ, suc, ◌+◌, ◌<◌, Bool, false, ◌&&◌, List, [], ◌∷◌, ◌++◌, length, drop, get_or, Option, Some, None, refl, sym, ap, subst, ◌∙◌, add-one, append_assoc}
-use Rattle.std.specs.Borrow.{Bor}
-use Rattle.std.specs.Prelude.{is_none}
-use Rattle.std.proofs.Math.Seq.{drop-cons}
+use Rattle.std.proofs.Common.{◌≡◌, ℕ, suc, ◌+◌, ◌<◌, Bool, false, ◌&&◌, List, [], ◌∷◌, ◌++◌, length, drop, get_or, Option, Some, None, refl, sym, ap, subst, ◌∙◌, add-one, append_assoc, Bor, is_none, drop-cons}
 use Rattle.blot_tag.specs.Fields.{TagValue, field_of}
 use Rattle.blot_tag.specs.Writing.{IsWriteFault, Written, begun, body_of, kind_field, last_field, last_of, refusal_of, with_field}
-use Rattle.blot_tag.specs.declared.write_fault.WriteFault.{WriteFault}
-use Rattle.blot_tag.specs.declared.write_fault.WriteFault.TheVariants.{NoMemory}
+use Rattle.blot_tag.specs.declared.{write_fault.WriteFault.WriteFault, write_fault.WriteFault.TheVariants.NoMemory}
 use Rattle.blot_diary.specs.Writing.{EachMayFollow, fields_in, fits, takes_all, written}
 
 -- where a field is refused the message can't be written

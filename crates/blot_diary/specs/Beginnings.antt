@@ -1,10 +1,8 @@
 -- Whose journal a text is, and of which day: what its first frame says.
-use Rattle.std.specs.Prelude.{ℕ, List, Option, Some, None}
-use Rattle.std.specs.Option.{option_and_then}
+use Rattle.std.specs.Prelude.{ℕ, List, Option, Some, None, option_and_then}
 use Rattle.blot_tag.specs.Fields.{fields_of}
 use Rattle.blot_tag.specs.Walking.{first_frame}
-use Rattle.blot_diary.specs.declared.kept.Beginning.{Beginning}
-use Rattle.blot_diary.specs.declared.kept.Content.{Content}
+use Rattle.blot_diary.specs.declared.{kept.Beginning.Beginning, kept.Content.Content}
 use Rattle.blot_diary.specs.declared.kept.Content.TheVariants as contents
 use Rattle.blot_diary.specs.declared.kept.Kept.{Kept}
 use Rattle.blot_diary.specs.Keeping.{kept_of}

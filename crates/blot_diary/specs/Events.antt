@@ -1,7 +1,6 @@
 -- The events of a journal: those that its frames bring, in their order, each with who brought it.
-use Rattle.std.specs.Prelude.{◌≡◌, ℕ, Bool, true, false, List, [], ◌∷◌, ◌++◌, Option, Some, None, Ok}
-use Rattle.std.specs.List.{filter_map}
-use Rattle.std.specs.Option.{option_and_then, option_map_or}
+use Rattle.std.specs.Prelude.{◌≡◌, ℕ, Bool, true, false, List, [], ◌∷◌, ◌++◌, Option, Some, None, Ok, filter_map, option_and_then}
+use Rattle.std.specs.Option.{option_map_or}
 use Rattle.blot_tag.specs.Fields.{Item, fields_of}
 use Rattle.blot_tag.specs.Frames.{IsFrame}
 use Rattle.blot_tag.specs.Walking.{frames_of}
@@ -13,8 +12,7 @@ use Rattle.blot_desk.specs.declared.event.Event.TheVariants.{Submit}
 use Rattle.blot_desk.specs.Keeping.{is_ask}
 use Rattle.blot_diary.specs.declared.kept.Content.{Content}
 use Rattle.blot_diary.specs.declared.kept.Content.TheVariants as contents
-use Rattle.blot_diary.specs.declared.kept.Kept.{Kept}
-use Rattle.blot_diary.specs.declared.kept.Noted.{Noted}
+use Rattle.blot_diary.specs.declared.{kept.Kept.Kept, kept.Noted.Noted}
 use Rattle.blot_diary.specs.declared.kept.Party.TheVariants.{Peer, Operator}
 use Rattle.blot_diary.specs.Keeping.{kept_in, kept_of}
 

@@ -1,21 +1,17 @@
 -- What a frame of a journal keeps, by its fields. No session is asked, and no list of peers. Source: this project's rule.
-use Rattle.std.specs.Prelude.{◌≤◌, ℕ, ◌+◌, List, Option, Some, None, Result, Ok, Err}
-use Rattle.std.specs.List.{filter_map}
+use Rattle.std.specs.Prelude.{◌≤◌, ℕ, ◌+◌, List, Option, Some, None, Result, Ok, Err, filter_map}
 use Rattle.blot_tag.specs.Fields.{Item, fields_of}
 use Rattle.blot_types.specs.declared.command.Command.{Command}
 use Rattle.blot_types.specs.declared.command.Command.TheVariants as commands
 use Rattle.blot_fields.specs.Commands.{command_of}
 use Rattle.blot_fields.specs.Decoding.{decoded}
-use Rattle.blot_fields.specs.declared.fault.FieldFault.{FieldFault}
-use Rattle.blot_fields.specs.declared.message.Message.{Message}
-use Rattle.blot_fields.specs.declared.TheConstants.{SEQUENCE_MAX}
+use Rattle.blot_fields.specs.declared.{fault.FieldFault.FieldFault, message.Message.Message, TheConstants.SEQUENCE_MAX}
 use Rattle.blot_console.specs.Asks.{SubmitsAllocNew}
 use Rattle.blot_diary.specs.declared.kept.Content.{Content}
 use Rattle.blot_diary.specs.declared.kept.Content.TheVariants as contents
-use Rattle.blot_diary.specs.declared.kept.Kept.{Kept}
-use Rattle.blot_diary.specs.declared.kinds.Kind.{Kind}
+use Rattle.blot_diary.specs.declared.{kept.Kept.Kept, kinds.Kind.Kind}
 use Rattle.blot_diary.specs.declared.kinds.Kind.TheVariants as kinds
-use Rattle.blot_diary.specs.declared.numbers.Numbers.{Numbers}
+use Rattle.blot_diary.specs.declared.numbers.SequenceNumbers.{SequenceNumbers}
 use Rattle.blot_diary.specs.Kinds.{kind_of}
 use Rattle.blot_diary.specs.Own.{asked_said, beginning_said, numbers_said, wrapped_said}
 
@@ -71,7 +67,7 @@ TakesMemory (contents.Asked operator event) = SubmitsAllocNew event
 TakesMemory content = ⊥
 
 -- each of the two numbers can be a session's
-abbrev pub IsInRange : Numbers → Type 0
+abbrev pub IsInRange : SequenceNumbers → Type 0
 IsInRange numbers = ((1 ≤ numbers.expected) × (numbers.expected ≤ SEQUENCE_MAX + 1)) × ((1 ≤ numbers.next) × (numbers.next ≤ SEQUENCE_MAX + 1))
 
 -- so can those that it says, if it says any

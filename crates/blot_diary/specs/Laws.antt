@@ -1,8 +1,8 @@
 -- What a diary's records spell.
-use Rattle.std.specs.Prelude.{◌≡◌, ◌+◌, ◌&&◌, ℕ, false, not, List, Option, Some, option_map, Result, Ok, Err, if◌then◌else◌}
+use Rattle.std.specs.Prelude.{◌≡◌, ◌+◌, ◌&&◌, ℕ, false, not, List, Option, Some, option_map, Result, Ok, Err, if◌then◌else◌, option_and_then, refl}
 use Rattle.std.specs.Cmp.Lexicographic.{nat_list_eq_equiv}
-use Rattle.std.specs.Option.{option_and_then, option_map_or}
-use Rattle.std.proofs.Common.{ap, refl, ◌∙◌}
+use Rattle.std.specs.Option.{option_map_or}
+use Rattle.std.proofs.Common.{ap, ◌∙◌}
 use Rattle.blot_tag.specs.Fields.{Item, fields_of}
 use Rattle.blot_tag.specs.Frames.{IsFrame}
 use Rattle.blot_types.specs.declared.command.Command.{Command}
@@ -10,15 +10,9 @@ use Rattle.blot_types.specs.Keys.{same_text}
 use Rattle.blot_fields.specs.Bringing.{brought, brought_by}
 use Rattle.blot_fields.specs.Commands.{command_of}
 use Rattle.blot_fields.specs.Decoding.{decoded}
-use Rattle.blot_fields.specs.declared.fault.FieldFault.{FieldFault}
-use Rattle.blot_fields.specs.declared.message.Message.{Message}
-use Rattle.blot_desk.specs.declared.event.Event.{Event}
-use Rattle.blot_desk.specs.declared.event.Event.TheVariants.{Submit}
-use Rattle.blot_diary.specs.declared.kept.Content.{Content}
-use Rattle.blot_diary.specs.declared.kept.Kept.{Kept}
-use Rattle.blot_diary.specs.declared.kept.Noted.{Noted}
-use Rattle.blot_diary.specs.declared.numbers.Numbers.{Numbers}
-use Rattle.blot_diary.specs.declared.kinds.Kind.{Kind}
+use Rattle.blot_fields.specs.declared.{fault.FieldFault.FieldFault, message.Message.Message}
+use Rattle.blot_desk.specs.declared.{event.Event.Event, event.Event.TheVariants.Submit}
+use Rattle.blot_diary.specs.declared.{kept.Content.Content, kept.Kept.Kept, kept.Noted.Noted, numbers.SequenceNumbers.SequenceNumbers, kinds.Kind.Kind}
 use Rattle.blot_diary.specs.Diary.{event_in}
 use Rattle.blot_diary.specs.Events.{noted_by, noted_of}
 use Rattle.blot_diary.specs.Keeping.{content_by, kept_of, kept_said}
@@ -68,7 +62,7 @@ unfolding kept_of
 counts_frames own text message command numbers is brings other =
     let items = fields_of text in
     let peer = message.head.sender in
-    let before : Numbers = record { expected = numbers.0; next = numbers.1 } in
+    let before : SequenceNumbers = record { expected = numbers.0; next = numbers.1 } in
     ap (λ found. pair_of (option_map_or (numbers_after own peer before) (kept_said found items) before)) is
     ∙ ap (λ found. pair_of (numbers_after own peer before (kept_from message (content_by found (kind_of message.head.kind) items)))) brings
     ∙ counted own message (kind_of message.head.kind) items command numbers other

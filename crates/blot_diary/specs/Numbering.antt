@@ -7,12 +7,11 @@ use Rattle.blot_tag.specs.Fields.{fields_of}
 use Rattle.blot_tag.specs.Walking.{frames_of}
 use Rattle.blot_diary.specs.declared.kept.Content.{Content}
 use Rattle.blot_diary.specs.declared.kept.Content.TheVariants as contents
-use Rattle.blot_diary.specs.declared.kept.Kept.{Kept}
-use Rattle.blot_diary.specs.declared.numbers.Numbers.{Numbers}
+use Rattle.blot_diary.specs.declared.{kept.Kept.Kept, numbers.SequenceNumbers.SequenceNumbers}
 use Rattle.blot_diary.specs.Keeping.{kept_in, kept_of}
 
 -- those of a peer that was never heard of
-abbrev pub first_numbers : Numbers
+abbrev pub first_numbers : SequenceNumbers
 first_numbers = record { expected = 1; next = 1 }
 
 -- the expected number: a UN to the peer sets it, and a command of the peer sets it to the number after its own
@@ -43,24 +42,24 @@ abbrev pub next_after : List ℕ → List ℕ → ℕ → Kept → ℕ
 next_after own peer next kept = next_by own peer next kept kept.content
 
 -- both after a frame
-abbrev pub numbers_after : List ℕ → List ℕ → Numbers → Kept → Numbers
+abbrev pub numbers_after : List ℕ → List ℕ → SequenceNumbers → Kept → SequenceNumbers
 numbers_after own peer numbers kept = record { expected = expected_after peer numbers.expected kept; next = next_after own peer numbers.next kept }
 
 -- both after a text that is one frame
-abbrev pub numbers_behind : List ℕ → List ℕ → List ℕ → Numbers → Numbers
+abbrev pub numbers_behind : List ℕ → List ℕ → List ℕ → SequenceNumbers → SequenceNumbers
 numbers_behind own peer text numbers = option_map_or (numbers_after own peer numbers) (kept_of (fields_of text)) numbers
 
 -- the same of two numbers in a pair
-abbrev pub pair_of : Numbers → ℕ × ℕ
+abbrev pub pair_of : SequenceNumbers → ℕ × ℕ
 pair_of numbers = (numbers.expected, numbers.next)
 
 abbrev pub pair_behind : List ℕ → List ℕ → List ℕ → ℕ × ℕ → ℕ × ℕ
 pair_behind own peer text pair = pair_of (numbers_behind own peer text (record { expected = pair.0; next = pair.1 }))
 
 -- both after frames
-abbrev pub numbers_in : List ℕ → List ℕ → List (List ℕ) → Numbers
+abbrev pub numbers_in : List ℕ → List ℕ → List (List ℕ) → SequenceNumbers
 numbers_in own peer frames = fold (numbers_after own peer) first_numbers (kept_in frames)
 
 -- both after a text
-abbrev pub numbers_of : List ℕ → List ℕ → List ℕ → Numbers
+abbrev pub numbers_of : List ℕ → List ℕ → List ℕ → SequenceNumbers
 numbers_of own peer text = numbers_in own peer (frames_of text)

@@ -1,6 +1,5 @@
 -- What a journal's own frames say, by the first field of each tag. Source: this project's rule.
-use Rattle.std.specs.Prelude.{ℕ, ℤ, ◌+◌, ◌&&◌, nat_le, List, Option, Some, None, option_map, Result, Ok, if◌then◌else◌}
-use Rattle.std.specs.Option.{option_and_then}
+use Rattle.std.specs.Prelude.{ℕ, ℤ, ◌+◌, ◌&&◌, nat_le, List, Option, Some, None, option_map, Result, Ok, if◌then◌else◌, option_and_then}
 use Rattle.blot_time.specs.Day.{day_of}
 use Rattle.blot_time.specs.declared.fault.TimeFault.{TimeFault}
 use Rattle.blot_tag.specs.Bytes.{is_number, number_of}
@@ -9,9 +8,7 @@ use Rattle.blot_fields.specs.First.{first_text, first_value}
 use Rattle.blot_fields.specs.declared.TheConstants.{SEQUENCE_MAX}
 use Rattle.blot_desk.specs.declared.event.Event.{Event}
 use Rattle.blot_desk.specs.Keeping.{is_ask}
-use Rattle.blot_console.specs.declared.ask.Ask.{Ask}
-use Rattle.blot_console.specs.declared.ask.Ask.TheVariants.{Step}
-use Rattle.blot_console.specs.declared.fault.LineFault.{LineFault}
+use Rattle.blot_console.specs.declared.{ask.Ask.Ask, ask.Ask.TheVariants.Step, fault.LineFault.LineFault}
 use Rattle.blot_console.specs.Parsing.{parsed}
 use Rattle.blot_diary.specs.declared.kept.Content.{Content}
 use Rattle.blot_diary.specs.declared.kept.Content.TheVariants as contents

@@ -1,13 +1,10 @@
 -- The messages that a journal writes of its own, and what is kept of them. Source: this project's rule.
-use Rattle.std.specs.Prelude.{ℕ, ℤ, false, List, [], ◌∷◌, codes, length}
-use Rattle.std.specs.Fmt.{decimal}
+use Rattle.std.specs.Prelude.{ℕ, ℤ, false, List, [], ◌∷◌, codes, length, decimal}
 use Rattle.blot_time.specs.Day.{day_text}
 use Rattle.blot_time.specs.Moment.{moment_text}
 use Rattle.blot_tag.specs.Fields.{field_of}
 use Rattle.blot_tag.specs.Writing.{Written}
-use Rattle.blot_diary.specs.declared.kept.Content.{Content}
-use Rattle.blot_diary.specs.declared.kept.Kept.{Kept}
-use Rattle.blot_diary.specs.declared.numbers.Numbers.{Numbers}
+use Rattle.blot_diary.specs.declared.{kept.Content.Content, kept.Kept.Kept, numbers.SequenceNumbers.SequenceNumbers}
 use Rattle.blot_diary.specs.Writing.{written}
 
 -- the beginning of a journal of a day
@@ -16,7 +13,7 @@ beginning_message own day now = written (codes "UD")
     (field_of 49 own ∷ field_of 56 own ∷ field_of 34 (codes "1") ∷ field_of 52 (moment_text now) ∷ field_of 75 (day_text day) ∷ [])
 
 -- the two numbers of a peer's session
-abbrev pub numbers_message : List ℕ → List ℕ → ℕ → ℤ → Numbers → Written
+abbrev pub numbers_message : List ℕ → List ℕ → ℕ → ℤ → SequenceNumbers → Written
 numbers_message own peer number now numbers = written (codes "UN")
     (field_of 49 own ∷ field_of 56 peer ∷ field_of 34 (decimal number) ∷ field_of 52 (moment_text now)
     ∷ field_of 789 (decimal numbers.expected) ∷ field_of 36 (decimal numbers.next) ∷ [])

@@ -8,7 +8,7 @@ ghost use Rattle.blot_diary.specs.Diary.{desk_events, event_in};
 
 use blot_desk::{Event, KeepFault, Keeper};
 use blot_journal::{Device, Journal, JournalFault};
-use blot_places::Remembered;
+use blot_places::GhostValue;
 use std::marker::Model;
 
 /// What keeps the events of a desk: a journal, whose text is whole frames. Nothing but the text says which events they are.
@@ -16,9 +16,9 @@ use std::marker::Model;
 pub struct Diary<D: Device> {
     journal: Journal<D>,
     // As it was when it was opened.
-    opened: Remembered<Journal<D>>,
+    opened: GhostValue<Journal<D>>,
     // As it was before the last sync.
-    last: Remembered<Journal<D>>,
+    last: GhostValue<Journal<D>>,
 }
 
 impl<D: Device> Model for Diary<D> {
@@ -46,7 +46,7 @@ impl<D: Device> Diary<D> {
     {
         // It is known that a crash now leaves the text.
         let _ = journal.len();
-        let (opened, last) = (Remembered::of(&journal), Remembered::of(&journal));
+        let (opened, last) = (GhostValue::of(&journal), GhostValue::of(&journal));
         Diary {
             journal,
             opened,
@@ -138,7 +138,7 @@ impl<D: Device + Drop> Keeper for Diary<D> {
         if self.journal.is_broken() {
             return Err(KeepFault::Broken);
         }
-        self.last = Remembered::of(&self.journal);
+        self.last = GhostValue::of(&self.journal);
         match self.journal.sync() {
             Ok(()) => Ok(()),
             Err(_) => Err(KeepFault::Broken),

@@ -6,7 +6,7 @@ ghost use Rattle.blot_diary.specs.Laws.{counts_frames, spells_frames};
 ghost use Rattle.blot_diary.specs.Numbering.{pair_behind};
 
 use crate::own::event_of_line;
-use crate::{Diary, Numbers, asked_record, is_plain, numbers_record, wrapped_record};
+use crate::{Diary, SequenceNumbers, asked_record, is_plain, numbers_record, wrapped_record};
 use blot_desk::Event;
 use blot_fields::SEQUENCE_MAX;
 use blot_gateway::{FrameKeeper, RecordHead};
@@ -46,7 +46,7 @@ impl<D: Device + Drop> FrameKeeper for Diary<D> {
         expected: u64,
         next: u64,
     ) -> Result<Option<Vec<u8>>, NoMemory> {
-        let numbers = Numbers { expected, next };
+        let numbers = SequenceNumbers { expected, next };
         if !is_number(head.number) || !are_in_range(numbers) {
             return Ok(None);
         }
@@ -94,7 +94,7 @@ fn is_number(number: u64) -> bool
 }
 
 // Whether two numbers can be a session's.
-fn are_in_range(numbers: Numbers) -> bool
+fn are_in_range(numbers: SequenceNumbers) -> bool
     ensures { result ≡ true → IsInRange numbers }
 {
     1 <= numbers.expected

@@ -5,7 +5,7 @@ ghost use Rattle.blot_diary.specs.Beginnings.{begun_by};
 ghost use Rattle.blot_diary.specs.Events.{BringsLast, noted_of};
 ghost use Rattle.blot_diary.specs.Keeping.{kept_of};
 
-use crate::Numbers;
+use crate::SequenceNumbers;
 use blot_desk::Event;
 use blot_time::Day;
 use blot_types::{Command, Text64};
@@ -44,7 +44,7 @@ pub enum Content {
     /// An operator's event: `35=UL`.
     Asked { operator: Text64, event: Event },
     /// The numbers of a peer's session: `35=UN`.
-    Numbers(Numbers),
+    Numbers(SequenceNumbers),
     /// A message that a peer's session didn't take: `35=UR`. It brings nothing.
     Wrapped,
     /// A frame of one of these four types that doesn't say what it has to.

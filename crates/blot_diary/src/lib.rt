@@ -17,7 +17,7 @@ mod writing;
 
 pub use diary::Diary;
 pub use kept::{Beginning, Content, Kept, Noted, Party};
-pub use numbers::Numbers;
+pub use numbers::SequenceNumbers;
 pub use plain::is_plain;
 pub use reading::read_kept;
 pub use records::{asked_record, beginning_record, numbers_record, wrapped_record};

@@ -10,21 +10,21 @@ use blot_types::Text64;
 
 /// The two numbers of a peer's session, each from 1 to one more than the largest number of a message.
 #[derive(Clone, Copy, Debug, PartialEq, Eq)]
-pub struct Numbers {
+pub struct SequenceNumbers {
     /// The number that the peer's next message is expected to have.
     pub expected: u64,
     /// The number of the next message to the peer.
     pub next: u64,
 }
 
-impl Numbers {
+impl SequenceNumbers {
     /// Those of a peer that was never heard of: 1 and 1.
-    pub fn first() -> Numbers
+    pub fn first() -> SequenceNumbers
         ensures value { result ≡ first_numbers }
         ensures none { (own peer : List ℕ) → numbers_in own peer [] ≡ result }
         ensures range { IsInRange result }
     {
-        Numbers {
+        SequenceNumbers {
             expected: 1,
             next: 1,
         }
@@ -32,7 +32,7 @@ impl Numbers {
 
     /// The numbers of a peer after a frame that keeps this.
     #[tactic(auto, using(crate::proofs::FoldLemmas::numbers_last))]
-    pub fn after(self, own: &Text64, peer: &Text64, kept: &Kept) -> Numbers
+    pub fn after(self, own: &Text64, peer: &Text64, kept: &Kept) -> SequenceNumbers
         requires { kept.now.number ≤ SEQUENCE_MAX }
         ensures value { result ≡ numbers_after own.now peer.now self kept.now }
 
@@ -41,7 +41,7 @@ impl Numbers {
             → numbers_in own.now peer.now (frames ++ frame ∷ []) ≡ numbers_after own.now peer.now self kept.now }
         ensures range { IsInRange self → IsKept kept.now → IsInRange result }
     {
-        Numbers {
+        SequenceNumbers {
             expected: expected_after(peer, self.expected, kept),
             next: next_after(own, peer, self.next, kept),
         }

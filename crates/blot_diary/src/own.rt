@@ -6,7 +6,7 @@ ghost use Rattle.blot_console.specs.Asks.{SubmitsAllocNew};
 ghost use Rattle.blot_diary.specs.Keeping.{SaysInRange, TakesMemory};
 ghost use Rattle.blot_diary.specs.Own.{asked_said, beginning_said, event_of_line, next_form, number_in, numbers_said, wrapped_said};
 
-use crate::{Content, Numbers};
+use crate::{Content, SequenceNumbers};
 use blot_console::{Ask, LineFault, parse_line};
 use blot_desk::Event;
 use blot_fields::{SEQUENCE_MAX, first_text, first_value};
@@ -45,7 +45,7 @@ pub(crate) fn numbers_said(frame: &Frame) -> Content
     ensures range { SaysInRange result }
 {
     match (number_in(frame, 789), number_in(frame, 36)) {
-        (Some(expected), Some(next)) => Content::Numbers(Numbers { expected, next }),
+        (Some(expected), Some(next)) => Content::Numbers(SequenceNumbers { expected, next }),
         _ => Content::Unclear,
     }
 }

@@ -12,7 +12,7 @@ ghost use Rattle.blot_diary.specs.Own.{event_of_line};
 ghost use Rattle.blot_diary.specs.Records.{asked_message, beginning_message, keeps, numbers_message, wrapped_message};
 ghost use Rattle.blot_diary.specs.Writing.{fits, written};
 
-use crate::Numbers;
+use crate::SequenceNumbers;
 use crate::writing::write;
 use blot_tag::Frame;
 use blot_time::{Day, Moment};
@@ -55,7 +55,7 @@ pub fn numbers_record<'a>(
     peer: &'a Text64,
     number: u64,
     now: Moment,
-    numbers: Numbers,
+    numbers: SequenceNumbers,
 ) -> Result<Vec<u8>, NoMemory>
     requires low { 1 ≤ number }
     requires high { number ≤ SEQUENCE_MAX }

@@ -2,8 +2,8 @@
 use Rattle.std.proofs.Common.{◌≡◌, ℕ, List, [], ◌∷◌, Result, Ok, Err, refl, ap, subst, ◌∙◌, eq-eqb}
 use Rattle.blot_tag.specs.Fields.{TagValue}
 use Rattle.blot_tag.specs.Results.{◌>>=◌}
-use Rattle.blot_types.specs.Making.{Made, Grows, Makes}
-use Rattle.blot_types.proofs.MakingLemmas.{with_first, IsFront, front_grows, front_faults, front_ends}
+use Rattle.blot_types.specs.ItemsBuilder.{Made, Grows, Makes}
+use Rattle.blot_types.proofs.BuilderLemmas.{with_first, IsFront, front_grows, front_faults, front_ends}
 use Rattle.blot_fields.specs.declared.fault.Wrong.{Wrong}
 use Rattle.blot_fields.specs.Forms.{text_form}
 use Rattle.blot_fields.specs.Groups.{ids_of}

@@ -1,17 +1,14 @@
 -- The groups of an allocation are as long as their counts say, and so no longer than a list may be.
-use Rattle.std.proofs.Common.{◌≡◌, ℕ, ℤ, ◌≤◌, ◌+◌, Bool, true, false, List, [], ◌∷◌, length, filter, take, drop, Option, Result, Ok, refl, sym, ap, ◌∙◌, suc, arith, length-append}
-use Rattle.std.specs.Prelude.{if◌then◌else◌, IfOk}
-use Rattle.std.proofs.lemmas.List.{length-map, take-append-drop}
+use Rattle.std.proofs.Common.{◌≡◌, ℕ, ℤ, ◌≤◌, ◌+◌, Bool, true, false, List, [], ◌∷◌, length, filter, take, drop, Option, Result, Ok, refl, sym, ap, ◌∙◌, suc, arith, length-append, if◌then◌else◌, IfOk, take-append-drop}
+use Rattle.std.proofs.lemmas.List.{length-map}
 use Rattle.std.proofs.lemmas.List.Elements.{filter-append}
 use Rattle.std.proofs.lemmas.List.Sums.{length-filter}
 use Rattle.std.specs.List.{position_or_len}
 use Rattle.blot_tag.specs.Fields.{TagValue}
 use Rattle.blot_tag.specs.Results.{◌>>=◌}
-use Rattle.blot_types.specs.Making.{Made, Makes, IsShort}
-use Rattle.blot_types.proofs.MakingLemmas.{makes_short}
-use Rattle.blot_fields.specs.declared.allocation.AllocationLine.{AllocationLine}
-use Rattle.blot_fields.specs.declared.allocation.TheConstants.{ENTRIES_MAX}
-use Rattle.blot_fields.specs.declared.fault.Wrong.{Wrong}
+use Rattle.blot_types.specs.ItemsBuilder.{Made, Makes, IsShort}
+use Rattle.blot_types.proofs.BuilderLemmas.{makes_short}
+use Rattle.blot_fields.specs.declared.{allocation.AllocationLine.AllocationLine, allocation.TheConstants.ENTRIES_MAX, fault.Wrong.Wrong}
 use Rattle.blot_fields.specs.Forms.{text_form}
 use Rattle.blot_fields.specs.Groups.{bears, before, behind, count_of, ids_of, line_of, lines_in, each_line_of}
 use Rattle.blot_fields.specs.Rows.{at, values}

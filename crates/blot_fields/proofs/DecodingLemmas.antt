@@ -1,20 +1,13 @@
 -- A message is well, or its first fault is answered.
-use Rattle.std.proofs.Common.{◌≡◌, ◌↔◌, ℕ, Bool, true, false, List, [], ◌∷◌, Option, Some, None, Result, Ok, Err, refl, sym, ap, ◌∙◌}
-use Rattle.std.specs.Prelude.{if◌then◌else◌, IsOk, IfErr}
+use Rattle.std.proofs.Common.{◌≡◌, ◌↔◌, ℕ, Bool, true, false, List, [], ◌∷◌, Option, Some, None, Result, Ok, Err, refl, sym, ap, ◌∙◌, if◌then◌else◌, IsOk, IfErr}
 use Rattle.std.specs.Option.{option_or}
 use Rattle.std.specs.Result.{result_err}
 use Rattle.blot_tag.specs.Fields.{TagValue, Item}
 use Rattle.blot_types.specs.Text.{is_text}
-use Rattle.blot_fields.specs.declared.fault.FieldFault.{FieldFault}
-use Rattle.blot_fields.specs.declared.fault.Flaw.TheVariants.{ValueIncorrect}
-use Rattle.blot_fields.specs.declared.fault.Wrong.{Wrong}
-use Rattle.blot_fields.specs.declared.head.Head.{Head}
-use Rattle.blot_fields.specs.declared.kinds.AllocType.{AllocType}
+use Rattle.blot_fields.specs.declared.{fault.FieldFault.FieldFault, fault.Flaw.TheVariants.ValueIncorrect, fault.Wrong.Wrong, head.Head.Head, kinds.AllocType.AllocType, message.Body.Body, message.Message.Message}
 use Rattle.blot_fields.specs.declared.kinds.AllocType.TheVariants as allocs
 use Rattle.blot_fields.specs.declared.kinds.Kind.{Kind}
 use Rattle.blot_fields.specs.declared.kinds.Kind.TheVariants as kinds
-use Rattle.blot_fields.specs.declared.message.Body.{Body}
-use Rattle.blot_fields.specs.declared.message.Message.{Message}
 use Rattle.blot_fields.specs.Allocations.{terms_of, allocation_by, allocation_of}
 use Rattle.blot_fields.specs.Decoding.{message_under, message_of, decoded_before, decoded}
 use Rattle.blot_fields.specs.Forms.{text_form, sequence_form, moment_form, flag_form}
@@ -22,7 +15,7 @@ use Rattle.blot_fields.specs.Kinds.{kind_of, alloc_type_form}
 use Rattle.blot_fields.specs.Messages.{head_of, body_of}
 use Rattle.blot_fields.specs.Rows.{needed, optional}
 use Rattle.blot_fields.specs.Tables.IsFault.{in_walk, in_header, in_table}
-use Rattle.blot_fields.specs.Tables.{Row, AreWell, IsFirstFault, IsWell, IsFault, first_value, header_rows, terms_rows, alloc_rows, allocation_rows, body_rows, message_rows}
+use Rattle.blot_fields.specs.Tables.{Row, AreWell, IsFirstFault, IsWell, IsFault, value_or_empty, header_rows, terms_rows, alloc_rows, allocation_rows, body_rows, message_rows}
 use Rattle.blot_fields.specs.Walk.{sound_fields, refused_field}
 use Rattle.blot_fields.proofs.GroupLemmas.{bound, form-said, average-row, groups-rows}
 use Rattle.blot_fields.proofs.TableLemmas.{first_fault, step, last, needs-row, head-rows, logon-rows, test_request-rows, resend_request-rows, sequence_reset-rows, report-rows}
@@ -100,7 +93,7 @@ read_head head = Ok head
 same_kind : (one other : Head) → read_head one ≡ read_head other → one.kind ≡ other.kind
 same_kind one other is = let same : one ≡ other = cc in ap (λ (head : Head). head.kind) same
 
-head-kind : (fields : List TagValue) (head : Head) → head_of fields ≡ Ok head → first_value 35 fields ≡ head.kind
+head-kind : (fields : List TagValue) (head : Head) → head_of fields ≡ Ok head → value_or_empty 35 fields ≡ head.kind
 unfolding head_of
 head-kind fields head is =
     let kind = bound (needed 35 text_form fields) _ head is in
@@ -109,7 +102,7 @@ head-kind fields head is =
     let number = bound (needed 34 sequence_form fields) _ head target.2 in
     let sending = bound (needed 52 moment_form fields) _ head number.2 in
     let dup = bound (optional 43 flag_form fields) _ head sending.2 in
-    text-said (first_value 35 fields) kind.0 (form-said 35 text_form fields kind.0 kind.1) ∙ same_kind _ head dup.2
+    text-said (value_or_empty 35 fields) kind.0 (form-said 35 text_form fields kind.0 kind.1) ∙ same_kind _ head dup.2
 
 -- ---- what is decoded
 

@@ -1,22 +1,20 @@
 -- The rows of an allocation's groups find their first fault.
-use Rattle.std.proofs.Common.{◌≡◌, ℕ, ℤ, Bool, true, false, List, [], ◌∷◌, ◌++◌, Option, Some, None, Result, Ok, Err, refl, sym, ap, ◌∙◌}
-use Rattle.std.specs.Prelude.{if◌then◌else◌, ◌&&◌, ◌||◌, ◌==◌, nat_le, is_none}
-use Rattle.std.specs.Option.{option_or, option_map, ok_or}
+use Rattle.std.proofs.Common.{◌≡◌, ℕ, ℤ, Bool, true, false, List, [], ◌∷◌, ◌++◌, Option, Some, None, Result, Ok, Err, refl, sym, ap, ◌∙◌, if◌then◌else◌, ◌&&◌, ◌||◌, ◌==◌, nat_le, is_none, option_map, ok_or}
+use Rattle.std.specs.Option.{option_or}
 use Rattle.std.specs.Result.{result_err}
 use Rattle.std.specs.List.{list_any}
+use Rattle.blot_types.proofs.GeneralLemmas.{or-none}
 use Rattle.blot_tag.specs.Bytes.{is_number, number_of}
 use Rattle.blot_tag.specs.Fields.{TagValue}
 use Rattle.blot_tag.specs.Results.{◌>>=◌}
-use Rattle.blot_fields.specs.declared.allocation.AllocationLine.{AllocationLine}
-use Rattle.blot_fields.specs.declared.fault.Flaw.{Flaw}
+use Rattle.blot_fields.specs.declared.{allocation.AllocationLine.AllocationLine, fault.Flaw.Flaw, fault.Wrong.Wrong}
 use Rattle.blot_fields.specs.declared.fault.Flaw.TheVariants.{RequiredTagMissing, ValueIncorrect, IncorrectDataFormat, IncorrectGroupCount}
-use Rattle.blot_fields.specs.declared.fault.Wrong.{Wrong}
 use Rattle.blot_fields.specs.Forms.{text_form, any_form, number_form, count_form, qty_form, price_form}
 use Rattle.blot_fields.specs.Groups.{bears, behind, are_executions, are_lines, lacks_price, lines_in, some_line_lacks_price, average_of, ids_of, executions_of, line_of, each_line_of, lines_of}
 use Rattle.blot_fields.specs.Rows.{wrong, at, values, one_of, only, there, needed, optional, optional_in}
-use Rattle.blot_fields.specs.Tables.{needs, may_have, value_wrong, first_value, needs_average, group_row, id_rows, line_rows, execution_group, line_group}
+use Rattle.blot_fields.specs.Tables.{needs, may_have, value_wrong, value_or_empty, needs_average, group_row, id_rows, line_rows, execution_group, line_group}
 use Rattle.blot_fields.proofs.IndexLemmas.{values-has, values-not}
-use Rattle.blot_fields.proofs.TableLemmas.{first_fault, step, last, option_or-or, option_or-none, then_done, needs-row, may_have-row, there-row, first-there, first_fault-append}
+use Rattle.blot_fields.proofs.TableLemmas.{first_fault, step, last, option_or-or, then_done, needs-row, may_have-row, there-row, first-there, first_fault-append}
 
 -- a step that gave a value
 pub bound : {A B : Type 0} (read : Result A Wrong) (next : A → Result B Wrong) (result : B) → (read >>= next) ≡ Ok result → (value : A) × (read ≡ Ok value) × (next value ≡ Ok result)
@@ -28,7 +26,7 @@ at_ok tag (Ok value) said is = cc
 at_ok tag (Err flaw) said is = absurd cc
 
 -- what a row says is what the first value of its tag says
-pub form-said : {A : Type 0} (tag : ℕ) (form : List ℕ → Result A Flaw) (fields : List TagValue) (said : A) → needed tag form fields ≡ Ok said → form (first_value tag fields) ≡ Ok said
+pub form-said : {A : Type 0} (tag : ℕ) (form : List ℕ → Result A Flaw) (fields : List TagValue) (said : A) → needed tag form fields ≡ Ok said → form (value_or_empty tag fields) ≡ Ok said
 unfolding needed
 form-said tag form fields said is =
     let value = bound (there tag fields) (λ value. at tag (form value)) said is in
@@ -73,7 +71,7 @@ pub executions-rows : (fields : List TagValue) → result_err (executions_of fie
 unfolding executions_of
 executions-rows fields =
     step (needed 124 count_form fields) (λ count. if are_executions count fields then ids_of (values 17 fields) else Err (wrong 124 IncorrectGroupCount)) (needs 124 count_form fields) (first_fault fields (group_row 124 are_executions ∷ id_rows (values 17 fields))) (needs-row 124 count_form fields)
-    (λ count is. rw (number-said 1 200 (first_value 124 fields) count (form-said 124 count_form fields count is)) (by_group (are_executions count fields)))
+    (λ count is. rw (number-said 1 200 (value_or_empty 124 fields) count (form-said 124 count_form fields count is)) (by_group (are_executions count fields)))
   where
     by_group : (whole : Bool) → result_err (if whole then ids_of (values 17 fields) else Err (wrong 124 IncorrectGroupCount))
         ≡ option_or (if whole then None else Some (wrong 124 IncorrectGroupCount)) (first_fault fields (id_rows (values 17 fields)))
@@ -101,7 +99,7 @@ no-own line is = rw (values-nil-any 366 line (none-optional 366 price_form (valu
 -- a step after which nothing is at fault
 never : {A B : Type 0} (read : Result A Wrong) (next : A → Result B Wrong) (found : Option Wrong)
     → result_err read ≡ found → ((value : A) → read ≡ Ok value → result_err (next value) ≡ None) → result_err (read >>= next) ≡ found
-never read next found is well = step read next found None is well ∙ option_or-none found
+never read next found is well = step read next found None is well ∙ or-none found
 
 -- a line's price, its own or the average
 line-priced : (average own : Option ℤ) (line : List TagValue) (done : ℤ → AllocationLine)
@@ -168,7 +166,7 @@ pub lines-rows : (fields : List TagValue) (average : Option ℤ) → average_of 
 unfolding lines_of
 lines-rows fields average is_average =
     step (needed 78 count_form fields) (λ count. if are_lines count fields then each_line_of average (lines_in (behind 78 fields)) else Err (wrong 78 IncorrectGroupCount)) (needs 78 count_form fields) (first_fault fields (group_row 78 are_lines ∷ line_rows (lines_in (behind 78 fields)))) (needs-row 78 count_form fields)
-    (λ count is. rw (number-said 1 200 (first_value 78 fields) count (form-said 78 count_form fields count is)) (by_group (are_lines count fields)))
+    (λ count is. rw (number-said 1 200 (value_or_empty 78 fields) count (form-said 78 count_form fields count is)) (by_group (are_lines count fields)))
   where
     by_group : (whole : Bool) → result_err (if whole then each_line_of average (lines_in (behind 78 fields)) else Err (wrong 78 IncorrectGroupCount))
         ≡ option_or (if whole then None else Some (wrong 78 IncorrectGroupCount)) (first_fault fields (line_rows (lines_in (behind 78 fields))))

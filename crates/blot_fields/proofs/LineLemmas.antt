@@ -1,20 +1,15 @@
 -- How the lines of an allocation are made.
-use Rattle.std.proofs.Common.{◌≡◌, ℕ, ℤ, Bool, true, false, List, [], ◌∷◌, Option, Some, None, Result, Ok, Err, refl, sym, ap, subst, ◌∙◌, suc, ◌+◌, take, arith, eq-eqb}
-use Rattle.std.proofs.lemmas.Bool.{eqb-true}
-use Rattle.std.specs.Prelude.{if◌then◌else◌, ◌==◌, not, MatchBool}
-use Rattle.std.specs.Option.{option_map}
+use Rattle.std.proofs.Common.{◌≡◌, ℕ, ℤ, Bool, true, false, List, [], ◌∷◌, Option, Some, None, Result, Ok, Err, refl, sym, ap, subst, ◌∙◌, suc, ◌+◌, take, arith, eq-eqb, eqb-true, if◌then◌else◌, ◌==◌, not, MatchBool, option_map}
 use Rattle.std.specs.List.{prefix_len}
 use Rattle.blot_tag.specs.Fields.{TagValue}
 use Rattle.blot_tag.specs.Results.{◌>>=◌}
-use Rattle.blot_types.specs.Making.{Made, Makes}
-use Rattle.blot_types.proofs.MakingLemmas.{with_first, IsFront, front_grows, front_faults, front_ends}
-use Rattle.blot_fields.specs.declared.allocation.AllocationLine.{AllocationLine}
-use Rattle.blot_fields.specs.declared.fault.Flaw.{Flaw}
-use Rattle.blot_fields.specs.declared.fault.Wrong.{Wrong}
+use Rattle.blot_types.specs.ItemsBuilder.{Made, Makes}
+use Rattle.blot_types.proofs.BuilderLemmas.{with_first, IsFront, front_grows, front_faults, front_ends}
+use Rattle.blot_fields.specs.declared.{allocation.AllocationLine.AllocationLine, fault.Flaw.Flaw, fault.Wrong.Wrong}
 use Rattle.blot_fields.specs.Drafts.{Draft, line_from, with_field, begun, Pushes, NextLine}
 use Rattle.blot_fields.specs.Groups.{bears, before, lines_in, line_of, each_line_of}
 use Rattle.blot_fields.specs.Index.{together}
-use Rattle.blot_fields.specs.Slots.{with_value}
+use Rattle.blot_fields.specs.Occurrences.{with_value}
 use Rattle.blot_fields.specs.Rows.{values, one_of, needed, there, optional, only, needed_in, optional_in}
 use Rattle.blot_fields.specs.Forms.{text_form, qty_form, price_form}
 use Rattle.blot_fields.proofs.IndexLemmas.{values-has, values-not, together-nil, together-next}
@@ -61,7 +56,7 @@ values-before tag (field ∷ fields) = by_same (bears tag field) refl (values-be
     by_same true is others = rw is refl
     by_same false is others = ap (values tag) (before-not tag field fields is) ∙ values-not tag field (before tag fields) is ∙ others
 
--- one slot, with a field that may be its own
+-- one occurrence, with a field that may be its own
 together-field : (tag : ℕ) (found : Result (Option (List ℕ)) Flaw) (field : TagValue) (later : List TagValue)
     → together found (values tag (field ∷ later)) ≡ together (if field.tag == tag then with_value found field.value else found) (values tag later)
 together-field tag found field later = by_same (field.tag == tag) refl

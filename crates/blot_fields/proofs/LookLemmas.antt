@@ -1,9 +1,7 @@
 -- What a walk sees of the groups is what their definitions say.
-use Rattle.std.proofs.Common.{◌≡◌, ℕ, ◌+◌, Bool, true, false, List, ◌∷◌, refl, sym, ap, subst, ◌∙◌, drop, suc, arith}
-use Rattle.std.specs.Prelude.{if◌then◌else◌, ◌&&◌, ◌||◌, not}
+use Rattle.std.proofs.Common.{◌≡◌, ℕ, ◌+◌, Bool, true, false, List, ◌∷◌, refl, sym, ap, subst, ◌∙◌, drop, suc, arith, if◌then◌else◌, ◌&&◌, ◌||◌, not, eqb-true}
 use Rattle.std.specs.List.{list_any, prefix_len}
 use Rattle.std.proofs.Math.Bool.{or_assoc}
-use Rattle.std.proofs.lemmas.Bool.{eqb-true}
 use Rattle.std.proofs.lemmas.List.Sums.{sum_by-cons}
 use Rattle.blot_tag.specs.Fields.{TagValue}
 use Rattle.blot_fields.specs.declared.groups.Look.{Look}

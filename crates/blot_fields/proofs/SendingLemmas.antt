@@ -1,14 +1,10 @@
 -- The header's SendingTime is the frame's first.
-use Rattle.std.proofs.Common.{◌≡◌, ℕ, ℤ, ◌+◌, ◌==◌, Bool, true, false, List, [], ◌∷◌, Option, Some, None, Result, Ok, Err, refl, sym, ap, ◌∙◌}
-use Rattle.std.specs.Prelude.{if◌then◌else◌, is_none, IfOk}
-use Rattle.std.specs.Option.{option_map, option_or}
+use Rattle.std.proofs.Common.{◌≡◌, ℕ, ℤ, ◌+◌, ◌==◌, Bool, true, false, List, [], ◌∷◌, Option, Some, None, Result, Ok, Err, refl, sym, ap, ◌∙◌, if◌then◌else◌, is_none, IfOk, option_map}
+use Rattle.std.specs.Option.{option_or}
 use Rattle.blot_time.specs.Moment.{moment_of}
 use Rattle.blot_time.specs.declared.fault.TimeFault.{TimeFault}
 use Rattle.blot_tag.specs.Fields.{TagValue, Item}
-use Rattle.blot_fields.specs.declared.fault.Flaw.{Flaw}
-use Rattle.blot_fields.specs.declared.fault.Wrong.{Wrong}
-use Rattle.blot_fields.specs.declared.head.Head.{Head}
-use Rattle.blot_fields.specs.declared.message.Body.{Body}
+use Rattle.blot_fields.specs.declared.{fault.Flaw.Flaw, fault.Wrong.Wrong, head.Head.Head, message.Body.Body}
 use Rattle.blot_fields.specs.Decoding.{message_under, message_of, decoded_before, decoded}
 use Rattle.blot_fields.specs.First.{first_value, IsSentAt}
 use Rattle.blot_fields.specs.Forms.{text_form, sequence_form, time_read, moment_form, flag_form}

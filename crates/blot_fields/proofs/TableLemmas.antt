@@ -1,20 +1,17 @@
 -- The rows of a message find its first fault.
-use Rattle.std.proofs.Common.{◌≡◌, ℕ, Bool, true, false, List, [], ◌∷◌, ◌++◌, Option, Some, None, Result, Ok, Err, refl, sym, ap, ◌∙◌}
-use Rattle.std.specs.Prelude.{if◌then◌else◌}
-use Rattle.std.specs.Option.{option_or, option_map}
+use Rattle.std.proofs.Common.{◌≡◌, ℕ, Bool, true, false, List, [], ◌∷◌, ◌++◌, Option, Some, None, Result, Ok, Err, refl, sym, ap, ◌∙◌, if◌then◌else◌, option_map}
+use Rattle.std.specs.Option.{option_or}
 use Rattle.std.specs.Result.{result_err}
 use Rattle.blot_tag.specs.Fields.{TagValue}
 use Rattle.blot_tag.specs.Results.{◌>>=◌}
-use Rattle.blot_fields.specs.declared.fault.Flaw.{Flaw}
-use Rattle.blot_fields.specs.declared.fault.Wrong.{Wrong}
+use Rattle.blot_fields.specs.declared.{fault.Flaw.Flaw, fault.Wrong.Wrong, kinds.ExecType.ExecType}
 use Rattle.blot_fields.specs.Messages.{head_of, logon_of, test_request_of, resend_request_of, sequence_reset_of, size_part, order_size_of, execution_of, trade_of, correct_of, bust_of, report_of, report_by}
 use Rattle.blot_fields.specs.Kinds.{exec_type_of}
-use Rattle.blot_fields.specs.declared.kinds.ExecType.{ExecType}
 use Rattle.blot_fields.specs.declared.kinds.ExecType.TheVariants as execs
 use Rattle.blot_fields.specs.Rows.{values, has, is_there, one_of, at, wrong, only, there, there_in, needed, optional, optional_in}
 use Rattle.blot_fields.specs.Forms.{any_form, qty_form}
 use Rattle.blot_fields.specs.declared.report.OrderSize.TheVariants.{Given}
-use Rattle.blot_fields.specs.Tables.{Row, needs, needs_size, may_have, needed_wrong, optional_wrong, header_rows, logon_rows, test_request_rows, resend_request_rows, sequence_reset_rows, execution_rows, trade_rows, correct_rows, bust_rows, exec_rows, report_rows, first_of, first_value}
+use Rattle.blot_fields.specs.Tables.{Row, needs, needs_size, may_have, needed_wrong, optional_wrong, header_rows, logon_rows, test_request_rows, resend_request_rows, sequence_reset_rows, execution_rows, trade_rows, correct_rows, bust_rows, exec_rows, report_rows, first_of, value_or_empty}
 
 -- the fault of the first row that finds one
 abbrev pub first_fault : List TagValue → List Row → Option Wrong
@@ -179,20 +176,15 @@ first_by tag [] value is = absurd cc
 first_by tag (first ∷ []) value is = cc
 first_by tag (first ∷ second ∷ more) value is = absurd cc
 
-pub first-there : (tag : ℕ) (fields : List TagValue) (value : List ℕ) → there tag fields ≡ Ok value → first_value tag fields ≡ value
+pub first-there : (tag : ℕ) (fields : List TagValue) (value : List ℕ) → there tag fields ≡ Ok value → value_or_empty tag fields ≡ value
 unfolding there only
 first-there tag fields value is = first_by tag (values tag fields) value is
 
 pub report-rows : (fields : List TagValue) → result_err (report_of fields) ≡ first_fault fields (report_rows fields)
 unfolding report_of
 report-rows fields =
-    step (there 150 fields) (λ value. report_by (exec_type_of value) fields) (needs 150 any_form fields) (first_fault fields (exec_rows (exec_type_of (first_value 150 fields)))) (there-row 150 fields)
+    step (there 150 fields) (λ value. report_by (exec_type_of value) fields) (needs 150 any_form fields) (first_fault fields (exec_rows (exec_type_of (value_or_empty 150 fields)))) (there-row 150 fields)
     (λ value is. rw (first-there 150 fields value is) (exec-rows (exec_type_of value) fields))
-
--- nothing more
-pub option_or-none : {A : Type 0} (a : Option A) → option_or a None ≡ a
-option_or-none None = refl
-option_or-none (Some x) = refl
 
 pub option_or-or : {A : Type 0} (a b c : Option A) → option_or (option_or a b) c ≡ option_or a (option_or b c)
 option_or-or None b c = refl

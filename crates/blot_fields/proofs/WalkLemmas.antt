@@ -1,11 +1,9 @@
 -- The walk ends at the first field that is refused.
-use Rattle.std.proofs.Common.{◌≡◌, ℕ, ◌+◌, ◌≤◌, ◌<◌, List, [], ◌∷◌, length, Option, Some, None, Ok, Err, refl, ap, arith}
-use Rattle.std.specs.Prelude.{is_none, Bool, true, false, if◌then◌else◌, nat_lt}
+use Rattle.std.proofs.Common.{◌≡◌, ℕ, ◌+◌, ◌≤◌, ◌<◌, List, [], ◌∷◌, length, Option, Some, None, Ok, Err, refl, ap, arith, is_none, Bool, true, false, if◌then◌else◌, nat_lt}
 use borrow.Author.Tests.{ltb-true}
 use Rattle.blot_tag.specs.Fields.{TagValue, Item}
-use Rattle.blot_fields.specs.declared.fault.Wrong.{Wrong}
+use Rattle.blot_fields.specs.declared.{fault.Wrong.Wrong, sound.TheConstants.FIELDS_MAX}
 use Rattle.blot_fields.specs.Walk.{field_wrong, sound_field, with_others, sound_behind}
-use Rattle.blot_fields.specs.declared.sound.TheConstants.{FIELDS_MAX}
 
 -- a choice that isn't its second answer
 is_first : {A : Type 0} (first : Bool) (a : Option A) (b : A) → (if first then a else Some b) ≡ None → first ≡ true

@@ -2,11 +2,8 @@
 use Rattle.std.specs.Prelude.{ℕ, List, Result, Ok}
 use Rattle.blot_tag.specs.Fields.{TagValue}
 use Rattle.blot_tag.specs.Results.{◌>>=◌}
-use Rattle.blot_fields.specs.declared.allocation.Allocation.{Allocation}
+use Rattle.blot_fields.specs.declared.{allocation.Allocation.Allocation, allocation.AllocationTerms.AllocationTerms, fault.Wrong.Wrong, kinds.AllocType.AllocType}
 use Rattle.blot_fields.specs.declared.allocation.Allocation.TheVariants.{New, Replace, Cancel}
-use Rattle.blot_fields.specs.declared.allocation.AllocationTerms.{AllocationTerms}
-use Rattle.blot_fields.specs.declared.fault.Wrong.{Wrong}
-use Rattle.blot_fields.specs.declared.kinds.AllocType.{AllocType}
 use Rattle.blot_fields.specs.declared.kinds.AllocType.TheVariants as types
 use Rattle.blot_fields.specs.Forms.{text_form, side_form, qty_form, day_form}
 use Rattle.blot_fields.specs.Groups.{average_of, executions_of, lines_of}

@@ -2,8 +2,7 @@
 use Rattle.std.specs.Prelude.{ℕ, List, Option, None, Result, Ok, Err}
 use Rattle.blot_tag.specs.Fields.{fields_of}
 use Rattle.blot_types.specs.declared.command.Command.{Command}
-use Rattle.blot_fields.specs.declared.fault.FieldFault.{FieldFault}
-use Rattle.blot_fields.specs.declared.message.Message.{Message}
+use Rattle.blot_fields.specs.declared.{fault.FieldFault.FieldFault, message.Message.Message}
 use Rattle.blot_fields.specs.Commands.{command_of}
 use Rattle.blot_fields.specs.Decoding.{decoded}
 

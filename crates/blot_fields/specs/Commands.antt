@@ -1,24 +1,13 @@
 -- The command that a message gives the book.
 use Rattle.std.specs.Prelude.{ℕ, ℤ, pos, ◌+ℤ◌, List, map, Option, Some, None}
 use Rattle.blot_time.specs.Moment.{utc_day}
-use Rattle.blot_types.specs.declared.allocation.Line.{Line}
-use Rattle.blot_types.specs.declared.allocation.Terms.{Terms}
-use Rattle.blot_types.specs.declared.command.Command.{Command}
+use Rattle.blot_types.specs.declared.{allocation.Line.Line, allocation.Terms.Terms, command.Command.Command, fill.Fill.Fill, keys.AllocKey.AllocKey, keys.ExecKey.ExecKey}
 use Rattle.blot_types.specs.declared.command.Command.TheVariants as commands
-use Rattle.blot_types.specs.declared.fill.Fill.{Fill}
-use Rattle.blot_types.specs.declared.keys.AllocKey.{AllocKey}
-use Rattle.blot_types.specs.declared.keys.ExecKey.{ExecKey}
 use Rattle.blot_fields.specs.declared.allocation.Allocation.{Allocation}
 use Rattle.blot_fields.specs.declared.allocation.Allocation.TheVariants as allocations
-use Rattle.blot_fields.specs.declared.allocation.AllocationLine.{AllocationLine}
-use Rattle.blot_fields.specs.declared.allocation.AllocationTerms.{AllocationTerms}
-use Rattle.blot_fields.specs.declared.message.Body.{Body}
+use Rattle.blot_fields.specs.declared.{allocation.AllocationLine.AllocationLine, allocation.AllocationTerms.AllocationTerms, message.Body.Body, message.Message.Message, report.Execution.Execution, report.OrderSize.OrderSize, report.Report.Report}
 use Rattle.blot_fields.specs.declared.message.Body.TheVariants as bodies
-use Rattle.blot_fields.specs.declared.message.Message.{Message}
-use Rattle.blot_fields.specs.declared.report.Execution.{Execution}
-use Rattle.blot_fields.specs.declared.report.OrderSize.{OrderSize}
 use Rattle.blot_fields.specs.declared.report.OrderSize.TheVariants.{Given, Filled}
-use Rattle.blot_fields.specs.declared.report.Report.{Report}
 use Rattle.blot_fields.specs.declared.report.Report.TheVariants as reports
 
 -- the size of an order: OrderQty, or else CumQty and LeavesQty together

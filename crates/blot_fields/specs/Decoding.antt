@@ -3,14 +3,8 @@
 use Rattle.std.specs.Prelude.{◌≡◌, Bool, true, false, List, Option, Some, None, Result, Ok, Err, IsOkAnd}
 use Rattle.std.specs.Result.{result_ok}
 use Rattle.blot_tag.specs.Fields.{TagValue, Item}
-use Rattle.blot_fields.specs.declared.fault.FieldFault.{FieldFault}
-use Rattle.blot_fields.specs.declared.fault.FieldReason.{FieldReason}
-use Rattle.blot_fields.specs.declared.fault.FieldReason.TheVariants.{NoMemory}
-use Rattle.blot_fields.specs.declared.fault.Refusal.{Refusal}
+use Rattle.blot_fields.specs.declared.{fault.FieldFault.FieldFault, fault.FieldReason.FieldReason, fault.FieldReason.TheVariants.NoMemory, fault.Refusal.Refusal, fault.Wrong.Wrong, head.Head.Head, message.Body.Body}
 use Rattle.blot_fields.specs.declared.fault.Refusal.TheVariants as refusals
-use Rattle.blot_fields.specs.declared.fault.Wrong.{Wrong}
-use Rattle.blot_fields.specs.declared.head.Head.{Head}
-use Rattle.blot_fields.specs.declared.message.Body.{Body}
 use Rattle.blot_fields.specs.declared.message.Body.TheVariants as bodies
 use Rattle.blot_fields.specs.declared.message.Message.{Message}
 use Rattle.blot_fields.specs.Faults.{fault_under, no_memory_under}

@@ -1,18 +1,13 @@
 -- A line of an allocation while its fields come.
-use Rattle.std.specs.Prelude.{◌≡◌, ℕ, ℤ, ◌==◌, List, Option, Some, None, Result, Ok, Err, MatchBool, if◌then◌else◌}
-use Rattle.std.specs.Option.{ok_or, option_or, option_map}
+use Rattle.std.specs.Prelude.{◌≡◌, ℕ, ℤ, ◌==◌, List, Option, Some, None, Result, Ok, Err, MatchBool, if◌then◌else◌, ok_or, option_map}
+use Rattle.std.specs.Option.{option_or}
 use Rattle.blot_tag.specs.Fields.{TagValue}
 use Rattle.blot_tag.specs.Results.{◌>>=◌}
-use Rattle.blot_types.specs.Making.{Made, Grows}
-use Rattle.blot_fields.specs.declared.allocation.AllocationLine.{AllocationLine}
-use Rattle.blot_fields.specs.declared.drafts.LineDraft.{LineDraft}
-use Rattle.blot_fields.specs.declared.fault.Flaw.{Flaw}
-use Rattle.blot_fields.specs.declared.fault.Flaw.TheVariants.{RequiredTagMissing}
-use Rattle.blot_fields.specs.declared.fault.Wrong.{Wrong}
-use Rattle.blot_fields.specs.declared.slot.Slot.TheVariants.{Missing}
+use Rattle.blot_types.specs.ItemsBuilder.{Made, Grows}
+use Rattle.blot_fields.specs.declared.{allocation.AllocationLine.AllocationLine, drafts.LineDraft.LineDraft, fault.Flaw.Flaw, fault.Flaw.TheVariants.RequiredTagMissing, fault.Wrong.Wrong, occurrence.Occurrence.TheVariants.Missing}
 use Rattle.blot_fields.specs.Forms.{text_form, qty_form, price_form}
 use Rattle.blot_fields.specs.Rows.{wrong, at, needed_in, optional_in}
-use Rattle.blot_fields.specs.Slots.{found_in, with_value}
+use Rattle.blot_fields.specs.Occurrences.{found_in, with_value}
 
 -- what is known of a line: its AllocAccount, and what is found of AllocQty and AllocPrice
 pub record Draft : Type 0 where

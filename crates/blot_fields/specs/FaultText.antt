@@ -1,8 +1,6 @@
 -- What a fault prints. Source: this project's rule.
-use Rattle.std.specs.Prelude.{ℕ, List, ◌++◌, codes}
-use Rattle.std.specs.Fmt.{decimal}
-use Rattle.blot_fields.specs.declared.fault.FieldFault.{FieldFault}
-use Rattle.blot_fields.specs.declared.fault.FieldReason.{FieldReason}
+use Rattle.std.specs.Prelude.{ℕ, List, ◌++◌, codes, decimal}
+use Rattle.blot_fields.specs.declared.{fault.FieldFault.FieldFault, fault.FieldReason.FieldReason}
 use Rattle.blot_fields.specs.declared.fault.FieldReason.TheVariants as reasons
 
 -- the standard's number of a reason (FIX 4.4 volume 2, SessionRejectReason); `NoMemory` is this project's rule

@@ -1,14 +1,11 @@
 -- Faults, as they are answered.
 use Rattle.std.specs.Prelude.{◌≡◌, Option, Some, Result, Ok, Err, IsOk}
-use Rattle.blot_fields.specs.declared.fault.FieldFault.{FieldFault}
-use Rattle.blot_fields.specs.declared.fault.FieldReason.{FieldReason}
+use Rattle.blot_fields.specs.declared.{fault.FieldFault.FieldFault, fault.FieldReason.FieldReason, fault.Wrong.Wrong, head.Head.Head}
 use Rattle.blot_fields.specs.declared.fault.FieldReason.TheVariants as reasons
 use Rattle.blot_fields.specs.declared.fault.Flaw.{Flaw}
 use Rattle.blot_fields.specs.declared.fault.Flaw.TheVariants as flaws
 use Rattle.blot_fields.specs.declared.fault.Refusal.{Refusal}
 use Rattle.blot_fields.specs.declared.fault.Refusal.TheVariants as refusals
-use Rattle.blot_fields.specs.declared.fault.Wrong.{Wrong}
-use Rattle.blot_fields.specs.declared.head.Head.{Head}
 
 -- the reason that the standard gives a fault of a field (FIX 4.4 volume 2, SessionRejectReason)
 abbrev pub reason_of : Flaw → FieldReason

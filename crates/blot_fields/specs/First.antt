@@ -1,6 +1,5 @@
 -- The first field of a tag.
-use Rattle.std.specs.Prelude.{◌≡◌, ℕ, List, [], ◌∷◌, ◌==◌, Option, Some, None, Ok, Err, if◌then◌else◌}
-use Rattle.std.specs.Option.{option_and_then, option_map}
+use Rattle.std.specs.Prelude.{◌≡◌, ℕ, List, [], ◌∷◌, ◌==◌, Option, Some, None, Ok, Err, if◌then◌else◌, option_and_then, option_map}
 use Rattle.blot_time.specs.Moment.{moment_of}
 use Rattle.blot_tag.specs.Fields.{Item}
 use Rattle.blot_types.specs.Text.{is_text}

@@ -13,11 +13,8 @@ use Rattle.blot_types.specs.Keys.{same_text}
 use Rattle.blot_types.specs.Text.{is_text}
 use Rattle.blot_types.specs.declared.fill.Sign.{Sign}
 use Rattle.blot_types.specs.declared.fill.Sign.TheVariants.{Buy, Sell}
-use Rattle.blot_fields.specs.declared.fault.Flaw.{Flaw}
+use Rattle.blot_fields.specs.declared.{fault.Flaw.Flaw, admin.TheConstants.HEARTBEAT_MAX, allocation.TheConstants.ENTRIES_MAX, TheConstants.SEQUENCE_MAX}
 use Rattle.blot_fields.specs.declared.fault.Flaw.TheVariants.{ValueIncorrect, IncorrectDataFormat}
-use Rattle.blot_fields.specs.declared.admin.TheConstants.{HEARTBEAT_MAX}
-use Rattle.blot_fields.specs.declared.allocation.TheConstants.{ENTRIES_MAX}
-use Rattle.blot_fields.specs.declared.TheConstants.{SEQUENCE_MAX}
 
 -- 1 to 64 printable bytes
 unfoldable pub text_form : List ℕ → Result (List ℕ) Flaw

@@ -1,12 +1,11 @@
 -- The groups of an Allocation Instruction: its executions and its lines (FIX 4.4 volume 5; the layout is this project's rule).
-use Rattle.std.specs.Prelude.{ℕ, ℤ, ◌==◌, ◌&&◌, ◌||◌, Bool, not, List, [], ◌∷◌, count_by, Option, Some, None, Result, Ok, Err, if◌then◌else◌}
-use Rattle.std.specs.Option.{ok_or, option_or}
+use Rattle.std.specs.Prelude.{ℕ, ℤ, ◌==◌, ◌&&◌, ◌||◌, Bool, not, List, [], ◌∷◌, count_by, Option, Some, None, Result, Ok, Err, if◌then◌else◌, ok_or}
+use Rattle.std.specs.Option.{option_or}
 use Rattle.std.specs.List.{before_first, after_first, list_any}
 use Rattle.blot_tag.specs.Fields.{TagValue}
 use Rattle.blot_tag.specs.Results.{◌>>=◌}
-use Rattle.blot_fields.specs.declared.allocation.AllocationLine.{AllocationLine}
+use Rattle.blot_fields.specs.declared.{allocation.AllocationLine.AllocationLine, fault.Wrong.Wrong}
 use Rattle.blot_fields.specs.declared.fault.Flaw.TheVariants.{RequiredTagMissing, IncorrectGroupCount}
-use Rattle.blot_fields.specs.declared.fault.Wrong.{Wrong}
 use Rattle.blot_fields.specs.Forms.{text_form, count_form, qty_form, price_form}
 use Rattle.blot_fields.specs.Rows.{wrong, at, values, there, needed, optional}
 

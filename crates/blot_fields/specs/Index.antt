@@ -3,11 +3,8 @@ use Rattle.std.specs.Prelude.{◌≡◌, ℕ, ◌<◌, ◌==◌, if◌then◌els
 use Rattle.std.specs.List.{position_or_len}
 use Rattle.blot_tag.specs.Fields.{TagValue}
 use Rattle.blot_fields.specs.Rows.{one_of, values}
-use Rattle.blot_fields.specs.Slots.{found_in, with_value}
-use Rattle.blot_fields.specs.declared.fault.Flaw.{Flaw}
-use Rattle.blot_fields.specs.declared.slot.Slot.{Slot}
-use Rattle.blot_fields.specs.declared.slot.Slot.TheVariants.{Missing}
-use Rattle.blot_fields.specs.declared.index.TheConstants.{ROWS}
+use Rattle.blot_fields.specs.Occurrences.{found_in, with_value}
+use Rattle.blot_fields.specs.declared.{fault.Flaw.Flaw, occurrence.Occurrence.Occurrence, occurrence.Occurrence.TheVariants.Missing, index.TheConstants.ROWS}
 
 -- the tags that have a row in some table
 abbrev pub row_tags : List ℕ
@@ -24,28 +21,28 @@ row_of tag = position_or_len (λ other. other == tag) row_tags
 abbrev pub HasRow : ℕ → Type 0
 HasRow tag = row_of tag < ROWS
 
--- what a slot keeps, together with the values that are still to come
+-- what is known of a tag, together with the values that are still to come
 abbrev pub together : Result (Option (List ℕ)) Flaw → List (List ℕ) → Result (Option (List ℕ)) Flaw
 together (Ok None) later = one_of later
 together (Ok (Some value)) later = one_of (value ∷ later)
 together (Err reason) later = Err reason
 
--- the slots, together with the fields that are still to come, know the value of each tag that has a row
-abbrev pub IsIndexBefore : List TagValue → List TagValue → List Slot → Type 0
-IsIndexBefore fields later slots =
-    (tag : ℕ) → HasRow tag → together (found_in (slice_index_or slots (row_of tag) Missing)) (values tag later) ≡ one_of (values tag fields)
+-- the occurrences, together with the fields that are still to come, know the value of each tag that has a row
+abbrev pub IsIndexBefore : List TagValue → List TagValue → List Occurrence → Type 0
+IsIndexBefore fields later occurrences =
+    (tag : ℕ) → HasRow tag → together (found_in (slice_index_or occurrences (row_of tag) Missing)) (values tag later) ≡ one_of (values tag fields)
 
--- the slots know the value of each tag that has a row
-abbrev pub IsIndex : List TagValue → List Slot → Type 0
-IsIndex fields slots = (tag : ℕ) → HasRow tag → found_in (slice_index_or slots (row_of tag) Missing) ≡ one_of (values tag fields)
+-- the occurrences know the value of each tag that has a row
+abbrev pub IsIndex : List TagValue → List Occurrence → Type 0
+IsIndex fields occurrences = (tag : ℕ) → HasRow tag → found_in (slice_index_or occurrences (row_of tag) Missing) ≡ one_of (values tag fields)
 
--- the slots, with one field more
-abbrev pub Notes : TagValue → List Slot → List Slot → Type 0
+-- the occurrences, with one field more
+abbrev pub Notes : TagValue → List Occurrence → List Occurrence → Type 0
 Notes field old new =
     (tag : ℕ) → HasRow tag
     → found_in (slice_index_or new (row_of tag) Missing)
     ≡ (if field.tag == tag then with_value (found_in (slice_index_or old (row_of tag) Missing)) field.value else found_in (slice_index_or old (row_of tag) Missing))
 
--- the slots know of no field
-abbrev pub KnowsNothing : List Slot → Type 0
-KnowsNothing slots = (tag : ℕ) → HasRow tag → found_in (slice_index_or slots (row_of tag) Missing) ≡ Ok None
+-- the occurrences know of no field
+abbrev pub KnowsNothing : List Occurrence → Type 0
+KnowsNothing occurrences = (tag : ℕ) → HasRow tag → found_in (slice_index_or occurrences (row_of tag) Missing) ≡ Ok None

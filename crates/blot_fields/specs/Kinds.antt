@@ -1,11 +1,8 @@
 -- The values that name a message (FIX 4.4 volume 1, MsgType; volume 4, ExecType).
-use Rattle.std.specs.Prelude.{ℕ, List, [], ◌∷◌, codes, unwrap_or, Result}
-use Rattle.std.specs.Option.{ok_or}
+use Rattle.std.specs.Prelude.{ℕ, List, [], ◌∷◌, codes, unwrap_or, Result, ok_or}
 use Rattle.std.specs.Map.{lookup}
 use Rattle.blot_types.specs.Keys.{same_text}
-use Rattle.blot_fields.specs.declared.fault.Flaw.{Flaw}
-use Rattle.blot_fields.specs.declared.fault.Flaw.TheVariants.{ValueIncorrect}
-use Rattle.blot_fields.specs.declared.kinds.AllocType.{AllocType}
+use Rattle.blot_fields.specs.declared.{fault.Flaw.Flaw, fault.Flaw.TheVariants.ValueIncorrect, kinds.AllocType.AllocType}
 use Rattle.blot_fields.specs.declared.kinds.AllocType.TheVariants as allocs
 use Rattle.blot_fields.specs.declared.kinds.Kind.{Kind}
 use Rattle.blot_fields.specs.declared.kinds.Kind.TheVariants as kinds

@@ -8,7 +8,7 @@ pub mod Drafts
 pub mod Allocations
 pub mod Messages
 pub mod Walk
-pub mod Slots
+pub mod Occurrences
 pub mod Index
 pub mod Tables
 pub mod Faults

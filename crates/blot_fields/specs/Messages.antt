@@ -2,20 +2,14 @@
 use Rattle.std.specs.Prelude.{ℕ, Bool, false, List, Option, Some, None, Result, Ok, unwrap_or, if◌then◌else◌}
 use Rattle.blot_tag.specs.Fields.{TagValue}
 use Rattle.blot_tag.specs.Results.{◌>>=◌}
-use Rattle.blot_fields.specs.declared.admin.Admin.{Admin}
+use Rattle.blot_fields.specs.declared.{admin.Admin.Admin, fault.Wrong.Wrong, head.Head.Head, kinds.Kind.Kind, report.Execution.Execution, report.OrderSize.OrderSize, report.Report.Report}
 use Rattle.blot_fields.specs.declared.admin.Admin.TheVariants.{Logon, Heartbeat, TestRequest, ResendRequest, Reject, SequenceReset, Logout}
-use Rattle.blot_fields.specs.declared.fault.Wrong.{Wrong}
-use Rattle.blot_fields.specs.declared.head.Head.{Head}
-use Rattle.blot_fields.specs.declared.kinds.Kind.{Kind}
 use Rattle.blot_fields.specs.declared.kinds.Kind.TheVariants as kinds
 use Rattle.blot_fields.specs.declared.kinds.ExecType.{ExecType}
 use Rattle.blot_fields.specs.declared.kinds.ExecType.TheVariants as types
 use Rattle.blot_fields.specs.declared.message.Body.{Body}
 use Rattle.blot_fields.specs.declared.message.Body.TheVariants as bodies
-use Rattle.blot_fields.specs.declared.report.Execution.{Execution}
-use Rattle.blot_fields.specs.declared.report.OrderSize.{OrderSize}
 use Rattle.blot_fields.specs.declared.report.OrderSize.TheVariants.{Given, Filled}
-use Rattle.blot_fields.specs.declared.report.Report.{Report}
 use Rattle.blot_fields.specs.declared.report.Report.TheVariants as reports
 use Rattle.blot_fields.specs.Allocations.{allocation_of}
 use Rattle.blot_fields.specs.Forms.{text_form, sequence_form, end_form, seconds_form, flag_form, zero_form, qty_form, positive_form, price_form, moment_form, day_form, side_form}

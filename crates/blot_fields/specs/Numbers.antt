@@ -1,13 +1,7 @@
 -- The ranges of the numbers that a message gives (FIX 4.4 volume 1, "SeqNum"; the largest number is this project's rule).
 use Rattle.std.specs.Prelude.{◌≤◌, Option, Some, Result, Ok, Err, IfSome, IfOk}
-use Rattle.blot_fields.specs.declared.admin.Admin.{Admin}
-use Rattle.blot_fields.specs.declared.admin.Admin.TheVariants.{SequenceReset}
-use Rattle.blot_fields.specs.declared.fault.FieldFault.{FieldFault}
-use Rattle.blot_fields.specs.declared.head.Head.{Head}
-use Rattle.blot_fields.specs.declared.message.Body.{Body}
+use Rattle.blot_fields.specs.declared.{admin.Admin.Admin, admin.Admin.TheVariants.SequenceReset, fault.FieldFault.FieldFault, head.Head.Head, message.Body.Body, message.Message.Message, TheConstants.SEQUENCE_MAX}
 use Rattle.blot_fields.specs.declared.message.Body.TheVariants as bodies
-use Rattle.blot_fields.specs.declared.message.Message.{Message}
-use Rattle.blot_fields.specs.declared.TheConstants.{SEQUENCE_MAX}
 
 -- the number that a Sequence Reset names is a sequence number
 abbrev pub NamesNumber : Admin → Type 0

@@ -1,11 +1,9 @@
 -- The rows of a table: the value of the only field with a tag, read by its form (FIX 4.4 volume 2, SessionRejectReason).
-use Rattle.std.specs.Prelude.{ℕ, ◌==◌, Bool, true, false, List, [], ◌∷◌, map, filter, Option, Some, None, Result, Ok, Err}
-use Rattle.std.specs.Option.{ok_or}
+use Rattle.std.specs.Prelude.{ℕ, ◌==◌, Bool, true, false, List, [], ◌∷◌, map, filter, Option, Some, None, Result, Ok, Err, ok_or}
 use Rattle.blot_tag.specs.Fields.{TagValue}
 use Rattle.blot_tag.specs.Results.{◌>>=◌}
-use Rattle.blot_fields.specs.declared.fault.Flaw.{Flaw}
+use Rattle.blot_fields.specs.declared.{fault.Flaw.Flaw, fault.Wrong.Wrong}
 use Rattle.blot_fields.specs.declared.fault.Flaw.TheVariants.{RequiredTagMissing, TagRepeated}
-use Rattle.blot_fields.specs.declared.fault.Wrong.{Wrong}
 
 -- a field's fault
 abbrev pub wrong : ℕ → Flaw → Wrong

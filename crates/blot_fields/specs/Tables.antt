@@ -1,16 +1,11 @@
 -- The tables of the standard as lists of rows, and what it means that a message is well or at fault by them.
-use Rattle.std.specs.Prelude.{◌≡◌, ℕ, Bool, List, [], ◌∷◌, ◌++◌, Option, Some, None, Result, Ok, Err, if◌then◌else◌}
-use Rattle.std.specs.Option.{option_map}
+use Rattle.std.specs.Prelude.{◌≡◌, ℕ, Bool, List, [], ◌∷◌, ◌++◌, Option, Some, None, Result, Ok, Err, if◌then◌else◌, option_map}
 use Rattle.std.specs.Result.{result_ok, result_err}
 use Rattle.std.specs.List.{AllByRecursion}
 use Rattle.blot_tag.specs.Bytes.{number_of}
 use Rattle.blot_tag.specs.Fields.{TagValue, Item}
-use Rattle.blot_fields.specs.declared.fault.FieldFault.{FieldFault}
-use Rattle.blot_fields.specs.declared.fault.Flaw.{Flaw}
+use Rattle.blot_fields.specs.declared.{fault.FieldFault.FieldFault, fault.Flaw.Flaw, fault.Wrong.Wrong, head.Head.Head, kinds.AllocType.AllocType}
 use Rattle.blot_fields.specs.declared.fault.Flaw.TheVariants.{RequiredTagMissing, TagRepeated, IncorrectGroupCount}
-use Rattle.blot_fields.specs.declared.fault.Wrong.{Wrong}
-use Rattle.blot_fields.specs.declared.head.Head.{Head}
-use Rattle.blot_fields.specs.declared.kinds.AllocType.{AllocType}
 use Rattle.blot_fields.specs.declared.kinds.AllocType.TheVariants as allocs
 use Rattle.blot_fields.specs.declared.kinds.ExecType.{ExecType}
 use Rattle.blot_fields.specs.declared.kinds.ExecType.TheVariants as execs
@@ -116,8 +111,8 @@ first_of [] = []
 first_of (value ∷ more) = value
 
 -- the first value of a tag
-abbrev pub first_value : ℕ → List TagValue → List ℕ
-first_value tag fields = first_of (values tag fields)
+abbrev pub value_or_empty : ℕ → List TagValue → List ℕ
+value_or_empty tag fields = first_of (values tag fields)
 
 -- the rows of a type of Execution Report
 abbrev pub exec_rows : ExecType → List Row
@@ -128,7 +123,7 @@ exec_rows execs.Other = []
 
 -- an Execution Report: its rows go by ExecType
 abbrev pub report_rows : List TagValue → List Row
-report_rows fields = needs 150 any_form ∷ exec_rows (exec_type_of (first_value 150 fields))
+report_rows fields = needs 150 any_form ∷ exec_rows (exec_type_of (value_or_empty 150 fields))
 
 -- AvgPx, whose value counts only where some line has no AllocPrice
 unfoldable pub needs_average : Row
@@ -137,7 +132,7 @@ needs_average fields = if some_line_lacks_price fields then needs 6 price_form f
 -- a group has as many entries as its count says, in the right place
 abbrev pub group_row : ℕ → (ℕ → List TagValue → Bool) → Row
 group_row tag are_entries fields =
-    if are_entries (number_of (first_value tag fields)) fields then None else Some (wrong tag IncorrectGroupCount)
+    if are_entries (number_of (value_or_empty tag fields)) fields then None else Some (wrong tag IncorrectGroupCount)
 
 -- each ExecID
 abbrev pub id_rows : List (List ℕ) → List Row
@@ -175,7 +170,7 @@ alloc_rows (Err flaw) fields = []
 -- an Allocation Instruction: its rows go by AllocTransType
 abbrev pub allocation_rows : List TagValue → List Row
 allocation_rows fields =
-    needs 70 text_form ∷ needs 71 alloc_type_form ∷ alloc_rows (alloc_type_form (first_value 71 fields)) fields
+    needs 70 text_form ∷ needs 71 alloc_type_form ∷ alloc_rows (alloc_type_form (value_or_empty 71 fields)) fields
 
 -- the table of a message type
 abbrev pub body_rows : Kind → List TagValue → List Row
@@ -192,7 +187,7 @@ body_rows kinds.Other fields = []
 
 -- the table of a message, after the header
 abbrev pub message_rows : List TagValue → List Row
-message_rows fields = body_rows (kind_of (first_value 35 fields)) fields
+message_rows fields = body_rows (kind_of (value_or_empty 35 fields)) fields
 
 -- a message is well: no field is refused from the left, and each row is well
 pub record IsWell (items : List Item) : Type 0 where

@@ -2,14 +2,11 @@
 use Rattle.std.specs.Prelude.{ℕ, ◌+◌, ◌==◌, nat_lt, List, [], ◌∷◌, length, Option, Some, None, is_none, Ok, Err, if◌then◌else◌}
 use Rattle.std.specs.Option.{option_or}
 use Rattle.blot_tag.specs.Fields.{TagValue, Item}
-use Rattle.blot_tag.specs.declared.field.SplitFault.{SplitFault}
-use Rattle.blot_tag.specs.declared.field.SplitReason.{SplitReason}
+use Rattle.blot_tag.specs.declared.{field.SplitFault.SplitFault, field.SplitReason.SplitReason}
 use Rattle.blot_tag.specs.declared.field.SplitReason.TheVariants as splits
-use Rattle.blot_fields.specs.declared.fault.Flaw.{Flaw}
+use Rattle.blot_fields.specs.declared.{fault.Flaw.Flaw, fault.Wrong.Wrong, sound.TheConstants.FIELDS_MAX}
 use Rattle.blot_fields.specs.declared.fault.Flaw.TheVariants.{InvalidTagNumber, TagWithoutValue, IncorrectDataFormat}
-use Rattle.blot_fields.specs.declared.fault.Wrong.{Wrong}
 use Rattle.blot_fields.specs.Rows.{wrong}
-use Rattle.blot_fields.specs.declared.sound.TheConstants.{FIELDS_MAX}
 
 -- why a field can't be split off
 abbrev pub split_flaw : SplitReason → Flaw

@@ -1,8 +1,7 @@
 //! Allocation Instructions. FIX 4.4 volume 5, "Allocation Instruction".
-ghost use Rattle.std.specs.Prelude.{◌≡◌, IfOk};
-ghost use Rattle.std.specs.Option.{option_map};
+ghost use Rattle.std.specs.Prelude.{◌≡◌, IfOk, option_map};
 ghost use Rattle.blot_tag.specs.Views.{tag_value};
-ghost use Rattle.blot_types.specs.Making.{Makes, IsShort};
+ghost use Rattle.blot_types.specs.ItemsBuilder.{Makes, IsShort};
 ghost use Rattle.blot_fields.specs.Drafts.{draft_of, next_draft, Pushes, NextLine};
 ghost use Rattle.blot_fields.specs.Allocations.{allocation_of, terms_of};
 ghost use Rattle.blot_fields.specs.Faults.{Gives};
@@ -22,7 +21,7 @@ use crate::text::Text;
 use blot_decimal::{Price, Qty};
 use blot_tag::Field;
 use blot_time::Day;
-use blot_types::{ITEMS_MAX, Items, Making, Sign};
+use blot_types::{ITEMS_MAX, Items, ItemsBuilder, Sign};
 use std::alloc::Global;
 
 // The most entries of a group: the most items of a list.
@@ -150,7 +149,7 @@ fn executions_of<'a>(
     alloc: Global,
     look: Look,
     fields: &FieldIndex<'a, '_>,
-) -> Result<Making<Text<'a>>, Wrong>
+) -> Result<ItemsBuilder<Text<'a>>, Wrong>
     requires { IsLook look fields.now }
     ensures made { Makes result (executions_of fields.now) }
     ensures few { IfOk result IsShort }
@@ -169,7 +168,7 @@ fn lines_of<'a>(
     look: Look,
     average: &Option<Price>,
     fields: &FieldIndex<'a, '_>,
-) -> Result<Making<AllocationLine<'a>>, Wrong>
+) -> Result<ItemsBuilder<AllocationLine<'a>>, Wrong>
     requires { IsLook look fields.now }
     ensures made { Makes result (lines_of average.now fields.now) }
     ensures few { IfOk result IsShort }
@@ -182,10 +181,10 @@ fn lines_of<'a>(
 }
 
 // The ExecIDs among the fields.
-fn ids_of<'a>(alloc: Global, fields: &FieldIndex<'a, '_>) -> Result<Making<Text<'a>>, Wrong>
+fn ids_of<'a>(alloc: Global, fields: &FieldIndex<'a, '_>) -> Result<ItemsBuilder<Text<'a>>, Wrong>
     ensures { Makes result (ids_of (values 17 fields.now)) }
 {
-    let mut ids = Making::new(alloc);
+    let mut ids = ItemsBuilder::new(alloc);
     for field in fields.walk() {
         if field.tag == 17 {
             ids.push(at(17, Text::from_value(field.value))?);
@@ -199,10 +198,10 @@ fn each_line_of<'a>(
     alloc: Global,
     average: &Option<Price>,
     fields: SoundFields<'a>,
-) -> Result<Making<AllocationLine<'a>>, Wrong>
+) -> Result<ItemsBuilder<AllocationLine<'a>>, Wrong>
     ensures { Makes result (each_line_of average.now (lines_in fields.entry)) }
 {
-    let mut lines = Making::new(alloc);
+    let mut lines = ItemsBuilder::new(alloc);
     let mut line: Option<LineDraft> = None;
     for field in fields {
         line = next_line(average, line, field, &mut lines)?;
@@ -217,7 +216,7 @@ fn next_line<'a>(
     average: &Option<Price>,
     line: Option<LineDraft<'a>>,
     field: Field<'a>,
-    lines: &mut Making<AllocationLine<'a>>,
+    lines: &mut ItemsBuilder<AllocationLine<'a>>,
 ) -> Result<Option<LineDraft<'a>>, Wrong>
     ensures { NextLine average.now (option_map draft_of line.entry) (tag_value field.entry)
         lines.old (next_draft result) lines.new }
@@ -236,7 +235,7 @@ fn next_line<'a>(
 fn push_line<'a>(
     average: &Option<Price>,
     line: Option<LineDraft<'a>>,
-    lines: &mut Making<AllocationLine<'a>>,
+    lines: &mut ItemsBuilder<AllocationLine<'a>>,
 ) -> Result<(), Wrong>
     ensures { Pushes average.now (option_map draft_of line.entry) lines.old result lines.new }
 {

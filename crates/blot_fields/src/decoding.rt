@@ -11,7 +11,7 @@ use crate::admin::{logon_of, resend_request_of, sequence_reset_of, test_request_
 use crate::allocation::allocation_of;
 use crate::fault::Refusal;
 use crate::head::head_of;
-use crate::index::{FieldIndex, no_slots, note_fields};
+use crate::index::{FieldIndex, no_occurrences, note_fields};
 use crate::kinds::{Kind, kind_of};
 use crate::report::report_of;
 use crate::{Admin, Body, FieldFault, FieldReason, Message};
@@ -37,9 +37,9 @@ pub fn decode<'a>(alloc: Global, frame: &Frame<'a>) -> Result<Message<'a>, Field
     ensures well { IsOk (decoded (items_of frame.now)) ↔ IsWell (items_of frame.now) }
     ensures first { IfErr (decoded (items_of frame.now)) (IsFault (items_of frame.now)) }
 {
-    let mut slots = no_slots();
-    let refused = note_fields(&mut slots, frame);
-    let fields = FieldIndex::new(frame, &slots);
+    let mut occurrences = no_occurrences();
+    let refused = note_fields(&mut occurrences, frame);
+    let fields = FieldIndex::new(frame, &occurrences);
     let head = head_of(&fields);
     if let Some(wrong) = refused {
         return Err(wrong.under(head.ok()));

@@ -3,13 +3,13 @@ ghost use Rattle.std.specs.Prelude.{◌≡◌};
 ghost use Rattle.blot_tag.specs.Views.{tag_value};
 ghost use Rattle.blot_fields.specs.Forms.{price_form};
 ghost use Rattle.blot_fields.specs.Rows.{optional_in};
-ghost use Rattle.blot_fields.specs.Slots.{found_in};
+ghost use Rattle.blot_fields.specs.Occurrences.{found_in};
 
 use crate::allocation::AllocationLine;
 use crate::fault::{Flaw, Wrong};
 use crate::forms::Form;
+use crate::occurrence::Occurrence;
 use crate::rows::at;
-use crate::slot::Slot;
 use crate::text::Text;
 use blot_decimal::{Price, Qty};
 use blot_tag::Field;
@@ -18,8 +18,8 @@ use blot_tag::Field;
 #[derive(Clone, Copy)]
 pub(crate) struct LineDraft<'a> {
     account: &'a [u8],
-    qty: Slot<'a>,
-    price: Slot<'a>,
+    qty: Occurrence<'a>,
+    price: Occurrence<'a>,
 }
 
 impl<'a> LineDraft<'a> {
@@ -31,8 +31,8 @@ impl<'a> LineDraft<'a> {
     {
         LineDraft {
             account,
-            qty: Slot::Missing,
-            price: Slot::Missing,
+            qty: Occurrence::Missing,
+            price: Occurrence::Missing,
         }
     }
 
@@ -74,7 +74,7 @@ impl<'a> LineDraft<'a> {
 }
 
 // A line's own price, if it has one.
-fn own_price(price: Slot) -> Result<Option<Price>, Wrong>
+fn own_price(price: Occurrence) -> Result<Option<Price>, Wrong>
     ensures { result ≡ optional_in 366 price_form (found_in price.entry) }
 {
     match at(366, price.lone())? {

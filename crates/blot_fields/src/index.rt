@@ -4,12 +4,12 @@ ghost use Rattle.blot_tag.specs.Fields.{fields_of};
 ghost use Rattle.blot_tag.specs.Views.{items_of, tag_value, text_of};
 ghost use Rattle.blot_fields.specs.declared.sound.TheConstants.{FIELDS_MAX};
 ghost use Rattle.blot_fields.specs.Rows.{only};
-ghost use Rattle.blot_fields.specs.Slots.{found_in};
+ghost use Rattle.blot_fields.specs.Occurrences.{found_in};
 ghost use Rattle.blot_fields.specs.Index.{HasRow, IsIndex, KnowsNothing, Notes, row_of};
 ghost use Rattle.blot_fields.specs.Walk.{sound_fields, refused_field};
 
 use crate::fault::Wrong;
-use crate::slot::Slot;
+use crate::occurrence::Occurrence;
 use crate::sound::{SoundFields, field_wrong};
 use blot_tag::{Field, Frame};
 use std::marker::Model;
@@ -35,7 +35,7 @@ static ROW_OF_TAG: [u8; TAGS] = [
 #[derive(Drop)]
 pub(crate) struct FieldIndex<'a, 's> {
     frame: &'s Frame<'a>,
-    slots: &'s [Slot<'a>; ROWS],
+    occurrences: &'s [Occurrence<'a>; ROWS],
 }
 
 impl<'a, 's> Model for FieldIndex<'a, 's> {
@@ -50,7 +50,7 @@ impl<'a, 's> Model for FieldIndex<'a, 's> {
     ghost view = { λ index. sound_fields (fields_of (text_of index.frame.now)) };
 
     ghost invariant = { λ index.
-        IsIndex (sound_fields (fields_of (text_of index.frame.now))) index.slots.now };
+        IsIndex (sound_fields (fields_of (text_of index.frame.now))) index.occurrences.now };
 }
 
 // The place of a tag among those that have a row, and their number where it has none.
@@ -67,12 +67,15 @@ fn row_of(tag: u32) -> usize
 }
 
 impl<'a, 's> FieldIndex<'a, 's> {
-    /// The fields of a frame, over the slots that know them.
-    pub(crate) fn new(frame: &'s Frame<'a>, slots: &'s [Slot<'a>; ROWS]) -> FieldIndex<'a, 's>
-        requires { IsIndex (sound_fields (items_of frame.now)) slots.now }
+    /// The fields of a frame, over what is known of each tag.
+    pub(crate) fn new(
+        frame: &'s Frame<'a>,
+        occurrences: &'s [Occurrence<'a>; ROWS],
+    ) -> FieldIndex<'a, 's>
+        requires { IsIndex (sound_fields (items_of frame.now)) occurrences.now }
         ensures { result ≡ sound_fields (items_of frame.now) }
     {
-        FieldIndex { frame, slots }
+        FieldIndex { frame, occurrences }
     }
 
     /// The fields from left to right.
@@ -86,25 +89,28 @@ impl<'a, 's> FieldIndex<'a, 's> {
     /// What is known of a tag that has a row.
     #[inline(always)]
     #[tactic(auto, unfolding(crate::specs::Rows::only))]
-    pub(crate) fn slot(&self, tag: u32) -> Slot<'a>
+    pub(crate) fn occurrence(&self, tag: u32) -> Occurrence<'a>
         requires { HasRow tag }
         ensures { found_in result ≡ only tag self.now }
     {
-        self.slots[row_of(tag)]
+        self.occurrences[row_of(tag)]
     }
 }
 
-/// The slots before any field is noted.
-pub(crate) fn no_slots<'a>() -> [Slot<'a>; ROWS]
+/// What is known of each tag before any field is noted.
+pub(crate) fn no_occurrences<'a>() -> [Occurrence<'a>; ROWS]
     ensures { KnowsNothing result }
 {
-    [Slot::Missing; ROWS]
+    [Occurrence::Missing; ROWS]
 }
 
 /// Notes the fields of a frame up to the first that is refused, and gives its fault.
-pub(crate) fn note_fields<'a>(slots: &mut [Slot<'a>; ROWS], frame: &Frame<'a>) -> Option<Wrong>
-    requires { KnowsNothing slots.old }
-    ensures known { IsIndex (sound_fields (items_of frame.now)) slots.new }
+pub(crate) fn note_fields<'a>(
+    occurrences: &mut [Occurrence<'a>; ROWS],
+    frame: &Frame<'a>,
+) -> Option<Wrong>
+    requires { KnowsNothing occurrences.old }
+    ensures known { IsIndex (sound_fields (items_of frame.now)) occurrences.new }
     ensures refused { result ≡ refused_field (items_of frame.now) }
 {
     let mut before = 0;
@@ -116,21 +122,21 @@ pub(crate) fn note_fields<'a>(slots: &mut [Slot<'a>; ROWS], frame: &Frame<'a>) -
         if let Some(wrong) = field_wrong(before, field) {
             return Some(wrong);
         }
-        note(slots, field);
+        note(occurrences, field);
         before += 1;
     }
     None
 }
 
 // Notes a field at the row of its tag, if that has one.
-fn note<'a>(slots: &mut [Slot<'a>; ROWS], field: Field<'a>)
-    ensures { Notes (tag_value field.entry) slots.old slots.new }
+fn note<'a>(occurrences: &mut [Occurrence<'a>; ROWS], field: Field<'a>)
+    ensures { Notes (tag_value field.entry) occurrences.old occurrences.new }
 {
     let row = row_of(field.tag);
     if row < ROWS {
-        match slots[row] {
-            Slot::Missing => slots[row] = Slot::Once(field.value),
-            Slot::Once(_) | Slot::Repeated => slots[row] = Slot::Repeated,
+        match occurrences[row] {
+            Occurrence::Missing => occurrences[row] = Occurrence::Once(field.value),
+            Occurrence::Once(_) | Occurrence::Repeated => occurrences[row] = Occurrence::Repeated,
         }
     }
 }

@@ -16,10 +16,10 @@ mod head;
 mod index;
 mod kinds;
 mod message;
+mod occurrence;
 mod report;
 mod rows;
 mod sender;
-mod slot;
 mod sound;
 mod text;
 

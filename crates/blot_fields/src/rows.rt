@@ -3,12 +3,12 @@ ghost use Rattle.std.specs.Prelude.{◌≡◌, ◌<◌, ◌≤◌, ◌^◌, IfOk
 ghost use Rattle.blot_fields.specs.Index.{HasRow};
 ghost use Rattle.blot_fields.specs.Forms.{number_form, zero_form, positive_form};
 ghost use Rattle.blot_fields.specs.Rows.{at, has, there, needed, optional};
-ghost use Rattle.blot_fields.specs.Slots.{lent_value};
+ghost use Rattle.blot_fields.specs.Occurrences.{lent_value};
 
 use crate::fault::{Flaw, Wrong};
 use crate::forms::{Form, number_form, positive_form, zero_form};
 use crate::index::FieldIndex;
-use crate::slot::Slot;
+use crate::occurrence::Occurrence;
 use blot_decimal::Qty;
 
 /// What is found at a tag, with the tag beside its fault.
@@ -29,7 +29,7 @@ pub(crate) fn has(fields: &FieldIndex, tag: u32) -> bool
     requires { HasRow tag }
     ensures { result ≡ has tag fields.now }
 {
-    !matches!(fields.slot(tag), Slot::Missing)
+    !matches!(fields.occurrence(tag), Occurrence::Missing)
 }
 
 /// The value of a field that must be there.
@@ -39,10 +39,10 @@ pub(crate) fn there<'a>(fields: &FieldIndex<'a, '_>, tag: u32) -> Result<&'a [u8
     requires { HasRow tag }
     ensures { lent_value result ≡ there tag fields.now }
 {
-    match fields.slot(tag) {
-        Slot::Missing => Err(Wrong::new(tag, Flaw::RequiredTagMissing)),
-        Slot::Once(value) => Ok(value),
-        Slot::Repeated => Err(Wrong::new(tag, Flaw::TagRepeated)),
+    match fields.occurrence(tag) {
+        Occurrence::Missing => Err(Wrong::new(tag, Flaw::RequiredTagMissing)),
+        Occurrence::Once(value) => Ok(value),
+        Occurrence::Repeated => Err(Wrong::new(tag, Flaw::TagRepeated)),
     }
 }
 
@@ -66,10 +66,10 @@ pub(crate) fn optional<'a, T: Form<'a>>(
     requires { HasRow tag }
     ensures { result ≡ optional tag T.form fields.now }
 {
-    match fields.slot(tag) {
-        Slot::Missing => Ok(None),
-        Slot::Once(value) => Ok(Some(at(tag, T::from_value(value))?)),
-        Slot::Repeated => Err(Wrong::new(tag, Flaw::TagRepeated)),
+    match fields.occurrence(tag) {
+        Occurrence::Missing => Ok(None),
+        Occurrence::Once(value) => Ok(Some(at(tag, T::from_value(value))?)),
+        Occurrence::Repeated => Err(Wrong::new(tag, Flaw::TagRepeated)),
     }
 }
 

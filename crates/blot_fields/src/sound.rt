@@ -1,6 +1,5 @@
 //! The fields of a frame before the first that is refused.
-ghost use Rattle.std.specs.Prelude.{◌≡◌, ◌<◌, ◌≤◌, length, IfSome, IfNone};
-ghost use Rattle.std.specs.Option.{option_map};
+ghost use Rattle.std.specs.Prelude.{◌≡◌, ◌<◌, ◌≤◌, length, IfSome, IfNone, option_map};
 ghost use Rattle.std.specs.Iterator.{YieldsFirstBy, item_count};
 ghost use Rattle.blot_tag.specs.Views.{item_of, items_of, tag_value};
 ghost use Rattle.blot_fields.specs.Walk.{field_wrong, sound_field, sound_fields};

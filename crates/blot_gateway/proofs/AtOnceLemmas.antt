@@ -1,19 +1,14 @@
 -- What comes of wires that are served at once.
-use Rattle.std.proofs.Common.{◌≡◌, ℕ, ◌<◌, List, [], ◌∷◌, ◌++◌, length, map, Option, Some, None, Result, Ok, Err, refl, sym, ap, subst, ◌∙◌, inl, inr, append_assoc, arith, slice_index_or, suc, take, drop}
-use Rattle.std.specs.Prelude.{ℤ, IfSome, ◌&&◌}
+use Rattle.std.proofs.Common.{◌≡◌, ℕ, ◌<◌, List, [], ◌∷◌, ◌++◌, length, map, Option, Some, None, Result, Ok, Err, refl, sym, ap, subst, ◌∙◌, inl, inr, append_assoc, arith, slice_index_or, suc, take, drop, ℤ, IfSome, ◌&&◌, append-nil}
 use Rattle.std.specs.List.{list_all}
 use Rattle.std.proofs.Math.Seq.{take-append_seam}
-use Rattle.std.proofs.lemmas.List.{append-nil}
 use Rattle.std.proofs.lemmas.List.Folds.{list_all-append}
 use Rattle.blot_types.specs.declared.command.Command.{Command}
-use Rattle.blot_desk.specs.declared.event.Event.TheVariants.{Submit}
-use Rattle.blot_desk.specs.declared.event.Reply.{Reply}
-use Rattle.blot_desk.specs.declared.fault.DeskFault.{DeskFault}
-use Rattle.blot_desk.specs.declared.receipt.Receipt.{Receipt}
+use Rattle.blot_desk.specs.declared.{event.Event.TheVariants.Submit, event.Reply.Reply, fault.DeskFault.DeskFault, receipt.Receipt.Receipt}
 use Rattle.blot_gateway.specs.declared.ended.Ended.{Ended}
-use Rattle.blot_gateway.specs.Wires.{Did, Notice, Steps, hands}
+use Rattle.blot_gateway.specs.Wires.{Did, Notice, StepByStep, hands}
 use Rattle.blot_gateway.specs.Wires.Notice.{Handed, HeardOf}
-use Rattle.blot_gateway.specs.AtOnce.{AddsSubmits, EachAdds, EachServed, Follows, IsServed, Keeps, Line, TakesReceipt, is_submit}
+use Rattle.blot_gateway.specs.AtOnce.{AddsSubmits, EachAdds, EachServed, Follows, IsServed, Keeps, WireParts, TakesReceipt, is_submit}
 
 -- ---- the receipts of a seat
 
@@ -38,13 +33,13 @@ adds-notice : (notice : Notice) (before after : List Receipt) → hands TakesRec
 adds-notice (Handed answered) before after takes = adds-one before after answered.command answered.answer takes
 adds-notice (HeardOf text heard) before after same = adds-none before after same
 
-adds-steps : (notices : List Notice) (before after : List Receipt) → Steps (hands TakesReceipt) before notices after → AddsSubmits before after
+adds-steps : (notices : List Notice) (before after : List Receipt) → StepByStep (hands TakesReceipt) before notices after → AddsSubmits before after
 adds-steps [] before after same = adds-none before after same
 adds-steps (notice ∷ notices) before after steps =
     adds-on before steps.0 after (adds-notice notice before steps.0 steps.1) (adds-steps notices steps.0 after steps.2)
 
 adds-follows : {W C : Type 0} (does : W → Did → W → Type 0) (ticks : C → ℤ → C → Type 0) (answer : Result (List ℕ) Ended) (end : Ended) (unread : List ℕ)
-    (before after : Line W C (List Receipt)) → Follows does ticks TakesReceipt answer end unread before after → AddsSubmits before.sink after.sink
+    (before after : WireParts W C (List Receipt)) → Follows does ticks TakesReceipt answer end unread before after → AddsSubmits before.sink after.sink
 adds-follows does ticks (Err cause) end unread before after follows = adds-none before.sink after.sink (ap (λ line. line.sink) follows.1)
 adds-follows does ticks (Ok peer) end unread before after follows =
     elim follows [

@@ -1,18 +1,16 @@
 -- Calls, one after the other.
-use Rattle.std.proofs.Common.{◌≡◌, ℕ, List, [], ◌∷◌, ◌++◌, map, None, refl, sym, ap, subst, ◌∙◌, inl, inr, append_assoc}
-use Rattle.std.specs.Prelude.{ℤ}
-use Rattle.std.specs.List.{flat_map, list_all}
+use Rattle.std.proofs.Common.{◌≡◌, ℕ, List, [], ◌∷◌, ◌++◌, map, None, refl, sym, ap, subst, ◌∙◌, inl, inr, append_assoc, ℤ, flat_map}
+use Rattle.std.specs.List.{list_all}
 use Rattle.std.proofs.lemmas.Bool.{and_from}
 use Rattle.std.proofs.lemmas.List.{map-append}
 use Rattle.std.proofs.lemmas.List.Concat.{flat_map-append}
 use Rattle.std.proofs.lemmas.List.Folds.{list_all-append}
-use Rattle.blot_session.specs.declared.action.Action.{Action}
+use Rattle.blot_session.specs.declared.{action.Action.Action, state.State.State}
 use Rattle.blot_session.specs.declared.action.Action.TheVariants.{Send, Deliver, Close}
-use Rattle.blot_session.specs.declared.state.State.{State}
 use Rattle.blot_session.specs.Runs.{Call, AreMet, outcome, actions_of, behind_calls, delivered_by, delivered_of, sent_of}
 use Rattle.blot_gateway.specs.declared.ended.Ended.{Ended}
 use Rattle.blot_gateway.specs.declared.ended.Ended.TheVariants as ended
-use Rattle.blot_gateway.specs.Wires.{Read, Did, Notice, Steps, command_in, commands_of, read_in}
+use Rattle.blot_gateway.specs.Wires.{Read, Did, Notice, StepByStep, command_in, commands_of, read_in}
 use Rattle.blot_gateway.specs.declared.parties.Parties.{Parties}
 use Rattle.blot_gateway.specs.Serving.{Due, Turn, Happens, InTurn, Runs, Ends, GoesOn, HasLast, Stops, EndsWith, Cause, Wrote, call_in, did_in, due_in, reads_behind, written_in, texts_of, close_in, closed_by, moment_by, moments_of, is_served, has_memory, told_by, told_in, told_of}
 use Rattle.blot_gateway.proofs.SendingLemmas.{steps-on}
@@ -137,7 +135,7 @@ happens-on does ticks takes a b c calls calls_b dids dids_b notices notices_b on
       session = two.session ∙ ap (λ (state : State). behind_calls state calls_b) one.session ∙ sym (behind-on calls calls_b a.session);
       served = list_all-append is_served calls calls_b ∙ and_from (list_all is_served calls) (list_all is_served calls_b) one.served two.served;
       met = met-on calls calls_b a.session one.met (subst (λ state. AreMet state calls_b) one.session two.met);
-      clock = subst (λ moments. Steps ticks a.clock moments c.clock) (sym (flat_map-append moment_by calls calls_b))
+      clock = subst (λ moments. StepByStep ticks a.clock moments c.clock) (sym (flat_map-append moment_by calls calls_b))
           (steps-on ticks (moments_of calls) (moments_of calls_b) a.clock b.clock c.clock one.clock two.clock);
       sink = steps-on takes notices notices_b a.sink b.sink c.sink one.sink two.sink;
       told = map-append told_by notices notices_b ∙ appended one.told (two.told ∙ ap (λ (state : State). told_of state calls_b) one.session) ∙ sym (told-on calls calls_b a.session);

@@ -1,19 +1,18 @@
 -- The reads up to the first message.
-use Rattle.std.proofs.Common.{◌≡◌, ℕ, ◌+◌, ◌≤◌, List, [], ◌∷◌, ◌++◌, length, map, Option, Some, None, Err, refl, sym, ap, subst, ◌∙◌, inl, inr, length-append}
-use Rattle.std.specs.Prelude.{slice_get}
-use Rattle.std.proofs.lemmas.List.{append-nil, map-append}
+use Rattle.std.proofs.Common.{◌≡◌, ℕ, ◌+◌, ◌≤◌, List, [], ◌∷◌, ◌++◌, length, map, Option, Some, None, Err, refl, sym, ap, subst, ◌∙◌, inl, inr, length-append, slice_get, append-nil}
+use Rattle.std.proofs.lemmas.List.{map-append}
 use Rattle.blot_tag.specs.Walking.{frames_of, rest_of}
 use Rattle.blot_tag.proofs.WalkLemmas.{walk_of-append}
 use Rattle.blot_gateway.specs.declared.ended.Ended.{Ended}
 use Rattle.blot_gateway.specs.declared.ended.Ended.TheVariants as ended
-use Rattle.blot_gateway.specs.Wires.{Read, Did, Steps}
+use Rattle.blot_gateway.specs.Wires.{Read, Did, StepByStep}
 use Rattle.blot_gateway.specs.Wires.Did.{Gave}
 use Rattle.blot_gateway.specs.Wires.Read.{AtEnd, Failed}
 use Rattle.blot_gateway.specs.Serving.{EndsWith}
-use Rattle.blot_gateway.specs.Greeting.{AwaitsFrame, Feeds, FeedsLast, Greeted, Holds, bytes_in, fed, held}
+use Rattle.blot_gateway.specs.Greeting.{AwaitsFrame, Feeds, FeedsLast, Greeted, HoldsReads, bytes_in, fed, bytes_held}
 use Rattle.blot_gateway.proofs.SendingLemmas.{steps-on, steps-one}
 
-held-on : (unread : List ℕ) (reads : List Read) (read : Read) → held unread (reads ++ read ∷ []) ≡ rest_of (held unread reads) ++ bytes_in read
+held-on : (unread : List ℕ) (reads : List Read) (read : Read) → bytes_held unread (reads ++ read ∷ []) ≡ rest_of (bytes_held unread reads) ++ bytes_in read
 held-on unread [] read = refl
 held-on unread (first ∷ reads) read = held-on (rest_of unread ++ bytes_in first) reads read
 
@@ -30,7 +29,7 @@ rest-behind : (text piece : List ℕ) → rest_of (text ++ piece) ≡ rest_of (r
 rest-behind text piece = ap (λ walk. walk.rest) (walk_of-append text piece)
 
 held-frames : (some all : List ℕ) (reads : List Read) → frames_of some ≡ frames_of all → rest_of some ≡ rest_of all → AwaitsFrame all reads
-    → frames_of (held some reads) ≡ frames_of (fed all reads)
+    → frames_of (bytes_held some reads) ≡ frames_of (fed all reads)
 held-frames some all [] frames rest awaits = frames
 held-frames some all (read ∷ reads) frames rest awaits =
     let bytes = bytes_in read in
@@ -39,21 +38,21 @@ held-frames some all (read ∷ reads) frames rest awaits =
     (ap (λ text. rest_of (text ++ bytes)) rest ∙ sym (rest-behind all bytes))
     awaits.1
 
-holds-by : (unread left : List ℕ) (reads : List Read) → AwaitsFrame unread reads → left ≡ held unread reads → Holds unread reads left
+holds-by : (unread left : List ℕ) (reads : List Read) → AwaitsFrame unread reads → left ≡ bytes_held unread reads → HoldsReads unread reads left
 holds-by unread left reads awaits is = record { bytes = is; frames = ap frames_of is ∙ held-frames unread unread reads refl refl awaits }
 
 -- so many reads, before each of which no frame stood there
 pub record Reads {W : Type 0} (does : W → Did → W → Type 0) (before : W) (unread : List ℕ) (count : ℕ) (after : W) (left : List ℕ) : Type 0 where
   pub reads : List Read
   pub many : length reads ≡ count
-  pub steps : Steps does before (map Gave reads) after
+  pub steps : StepByStep does before (map Gave reads) after
   pub awaits : AwaitsFrame unread reads
-  pub holds : Holds unread reads left
+  pub holds : HoldsReads unread reads left
 
-steps-more : {W : Type 0} (does : W → Did → W → Type 0) (a b c : W) (reads : List Read) (read : Read) → Steps does a (map Gave reads) b → does b (Gave read) c
-    → Steps does a (map Gave (reads ++ read ∷ [])) c
+steps-more : {W : Type 0} (does : W → Did → W → Type 0) (a b c : W) (reads : List Read) (read : Read) → StepByStep does a (map Gave reads) b → does b (Gave read) c
+    → StepByStep does a (map Gave (reads ++ read ∷ [])) c
 steps-more does a b c reads read steps gave =
-    subst (λ dids. Steps does a dids c) (sym (map-append Gave reads (read ∷ []))) (steps-on does (map Gave reads) (Gave read ∷ []) a b c steps (steps-one does (Gave read) b c gave))
+    subst (λ dids. StepByStep does a dids c) (sym (map-append Gave reads (read ∷ []))) (steps-on does (map Gave reads) (Gave read ∷ []) a b c steps (steps-one does (Gave read) b c gave))
 
 -- and no frame stands there now
 awaits-more : {W : Type 0} (does : W → Did → W → Type 0) (a b : W) (unread left : List ℕ) (count : ℕ) (read : Read) (one : Reads does a unread count b left)
@@ -79,9 +78,9 @@ reads-more does a b c unread left middle next count same one none feeds =
 with-last : (last read : Read) (reads : List Read) → read ≡ last → EndsWith last (reads ++ read ∷ [])
 with-last last read reads is = record { earlier = reads; joined = ap (λ (found : Read). reads ++ found ∷ []) is }
 
-nothing-more : (unread : List ℕ) (reads : List Read) (read last : Read) → read ≡ last → bytes_in last ≡ [] → held unread (reads ++ read ∷ []) ≡ rest_of (held unread reads)
+nothing-more : (unread : List ℕ) (reads : List Read) (read last : Read) → read ≡ last → bytes_in last ≡ [] → bytes_held unread (reads ++ read ∷ []) ≡ rest_of (bytes_held unread reads)
 nothing-more unread reads read last is none =
-    held-on unread reads read ∙ ap (λ bytes. rest_of (held unread reads) ++ bytes) (ap bytes_in is ∙ none) ∙ append-nil (rest_of (held unread reads))
+    held-on unread reads read ∙ ap (λ bytes. rest_of (bytes_held unread reads) ++ bytes) (ap bytes_in is ∙ none) ∙ append-nil (rest_of (bytes_held unread reads))
 
 few-more : {W : Type 0} (does : W → Did → W → Type 0) (a b : W) (unread left : List ℕ) (count : ℕ) (read : Read) (most : ℕ) (one : Reads does a unread count b left)
     → count + 1 ≤ most → length (one.reads ++ read ∷ []) ≤ most

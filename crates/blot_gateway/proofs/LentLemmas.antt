@@ -1,21 +1,19 @@
 -- What is lent does as what is behind it.
-use Rattle.std.proofs.Common.{◌≡◌, List, [], ◌∷◌, MutBor, ap, subst, ◌∙◌}
-use Rattle.std.specs.Prelude.{ℕ, ℤ}
+use Rattle.std.proofs.Common.{◌≡◌, List, [], ◌∷◌, MutBor, ap, subst, ◌∙◌, ℕ, ℤ}
 use Rattle.blot_session.specs.declared.state.State.{State}
-use Rattle.blot_gateway.specs.declared.ended.Ended.{Ended}
-use Rattle.blot_gateway.specs.declared.parties.Parties.{Parties}
+use Rattle.blot_gateway.specs.declared.{ended.Ended.Ended, parties.Parties.Parties}
 use Rattle.blot_gateway.specs.Serving.{Served, parties}
-use Rattle.blot_gateway.specs.Wires.{Did, Notice, Steps}
+use Rattle.blot_gateway.specs.Wires.{Did, Notice, StepByStep}
 
 -- one step of what is behind a reference, which stays the same one
 abbrev pub Lent : {S E : Type 0} → (S → E → S → Type 0) → MutBor S → E → MutBor S → Type 0
 Lent does before event after = does before.now event after.now × (after.ghost_name ≡ before.ghost_name)
 
-pub steps-behind : {S E : Type 0} (does : S → E → S → Type 0) (before after : MutBor S) (events : List E) → Steps (Lent does) before events after → Steps does before.now events after.now
+pub steps-behind : {S E : Type 0} (does : S → E → S → Type 0) (before after : MutBor S) (events : List E) → StepByStep (Lent does) before events after → StepByStep does before.now events after.now
 steps-behind does before after [] same = ap (λ it. it.now) same
 steps-behind does before after (event ∷ events) steps = (steps.0.now, steps.1.0, steps-behind does steps.0 after events steps.2)
 
-pub same-behind : {S E : Type 0} (does : S → E → S → Type 0) (before after : MutBor S) (events : List E) → Steps (Lent does) before events after → after.ghost_name ≡ before.ghost_name
+pub same-behind : {S E : Type 0} (does : S → E → S → Type 0) (before after : MutBor S) (events : List E) → StepByStep (Lent does) before events after → after.ghost_name ≡ before.ghost_name
 same-behind does before after [] same = ap (λ it. it.ghost_name) same
 same-behind does before after (event ∷ events) steps = same-behind does steps.0 after events steps.2 ∙ steps.1.1
 

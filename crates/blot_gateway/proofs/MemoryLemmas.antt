@@ -1,6 +1,5 @@
 -- The bytes that a wire in memory has left.
-use Rattle.std.proofs.Common.{◌≡◌, ℕ, ◌+◌, List, ◌++◌, take, drop, sym, ◌∙◌, ap}
-use Rattle.std.proofs.lemmas.List.{take-append-drop, drop-drop}
+use Rattle.std.proofs.Common.{◌≡◌, ℕ, ◌+◌, List, ◌++◌, take, drop, sym, ◌∙◌, ap, take-append-drop, drop-drop}
 
 -- after a piece that was given, the rest is left
 pub left_given : (count given : ℕ) (bytes buffer : List ℕ) → take count buffer ≡ take count (drop given bytes)

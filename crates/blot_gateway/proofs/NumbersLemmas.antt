@@ -1,15 +1,12 @@
 -- What is kept of a session says the truth of its numbers.
-use Rattle.std.proofs.Common.{◌≡◌, ℕ, ◌+◌, ◌<◌, ◌≤◌, Bool, true, false, List, [], ◌∷◌, ◌++◌, map, Option, Some, None, Ok, Err, refl, sym, ap, subst, ◌∙◌, inl, inr, arith}
-use Rattle.std.specs.Prelude.{◌≢◌, ◌⊎◌, ◌==◌, All, nat_lt, not, is_some, ℤ, ◌&&◌, ◌||◌, if◌then◌else◌}
-use Rattle.std.specs.List.{Contains, flat_map, list_all}
-use Rattle.std.proofs.lemmas.Bool.{and_parts, cases_Bool, cond-false, cond-true, cond_both, eqb-true, false≢true}
-use Rattle.std.proofs.lemmas.List.{append-nil}
+use Rattle.std.proofs.Common.{◌≡◌, ℕ, ◌+◌, ◌<◌, ◌≤◌, Bool, true, false, List, [], ◌∷◌, ◌++◌, map, Option, Some, None, Ok, Err, refl, sym, ap, subst, ◌∙◌, inl, inr, arith, ◌≢◌, ◌⊎◌, ◌==◌, All, nat_lt, not, is_some, ℤ, ◌&&◌, ◌||◌, if◌then◌else◌, Contains, flat_map, eqb-true, append-nil}
+use Rattle.std.specs.List.{list_all}
+use Rattle.std.proofs.lemmas.Bool.{and_parts, cases_Bool, cond-false, cond-true, cond_both, false≢true}
 use Rattle.std.proofs.lemmas.List.Concat.{flat_map-append}
 use Rattle.std.proofs.lemmas.List.Elements.{All-append, All-cons, All-nil, All-weaker, Contains-append_right}
 use Rattle.std.proofs.lemmas.List.Sums.{fold-append}
-use Rattle.blot_session.specs.declared.action.Action.{Action}
+use Rattle.blot_session.specs.declared.{action.Action.Action, state.Phase.Phase}
 use Rattle.blot_session.specs.declared.action.Action.TheVariants.{Close, Deliver, Send}
-use Rattle.blot_session.specs.declared.state.Phase.{Phase}
 use Rattle.blot_session.specs.declared.state.Phase.TheVariants as phases
 use Rattle.blot_session.specs.declared.state.State.{State}
 use Rattle.blot_session.specs.Runs.{AreMet, Call, HasNoReset, Meets, Numbered, delivered_by, delivered_of, outcome, said_by}
@@ -17,8 +14,7 @@ use Rattle.blot_session.specs.Runs.Call.{Closing, Frame, Reply, Stop, Tick, Wait
 use Rattle.blot_session.specs.Sending.{CountUp, is_of_connection, numbers_sent}
 use Rattle.blot_session.specs.States.{IsAwaiting, IsIdle, awaited_of, phase_of}
 use Rattle.blot_session.proofs.SendingLemmas.{IsUnspent, MovesNumbers, closed_idle, moves-numbers}
-use Rattle.blot_gateway.specs.declared.calling.Before.{Before}
-use Rattle.blot_gateway.specs.declared.wire.Heard.{Heard}
+use Rattle.blot_gateway.specs.declared.{calling.Before.Before, wire.Heard.Heard}
 use Rattle.blot_gateway.specs.Hearing.{before_frame, heard, heard_by, is_on, is_renumbered, word_of}
 use Rattle.blot_gateway.specs.Numbers.{AreKept, Entry, KeepsNumbers, entries_in, entries_of, expected_after, expected_by, kept_by, next_after, next_by, sent_number, sent_numbers}
 use Rattle.blot_gateway.specs.Numbers.Entry.{Taken, Numbers, Sent}

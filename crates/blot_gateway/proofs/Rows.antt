@@ -1,6 +1,5 @@
 -- What bears on a session's two numbers, on worked cases that compute.
-use Rattle.std.proofs.Common.{◌≡◌, true, false, List, [], ◌∷◌, map, take, Ok, Err, refl, inl, inr}
-use Rattle.std.specs.Prelude.{codes, pos}
+use Rattle.std.proofs.Common.{◌≡◌, true, false, List, [], ◌∷◌, map, take, Ok, Err, refl, inl, inr, codes, pos}
 use Rattle.blot_session.specs.declared.met.Met.TheVariants as met
 use Rattle.blot_session.specs.declared.replies.SeenReply.TheVariants as seen
 use Rattle.blot_session.specs.declared.state.State.{State}

@@ -1,8 +1,6 @@
 -- A call, and what it comes to.
-use Rattle.std.proofs.Common.{◌≡◌, ℕ, Bool, true, false, List, [], ◌∷◌, ◌++◌, map, Option, Some, None, refl, sym, ap, subst, ◌∙◌, inl, inr}
-use Rattle.std.specs.Prelude.{ℤ, option_to_list}
-use Rattle.std.specs.List.{flat_map}
-use Rattle.std.proofs.lemmas.List.{append-nil, map-append}
+use Rattle.std.proofs.Common.{◌≡◌, ℕ, Bool, true, false, List, [], ◌∷◌, ◌++◌, map, Option, Some, None, refl, sym, ap, subst, ◌∙◌, inl, inr, ℤ, option_to_list, flat_map, append-nil}
+use Rattle.std.proofs.lemmas.List.{map-append}
 use Rattle.std.proofs.lemmas.List.Concat.{flat_map-append}
 use Rattle.blot_types.specs.declared.command.Command.{Command}
 use Rattle.blot_session.specs.declared.state.State.{State}
@@ -14,13 +12,12 @@ use Rattle.blot_gateway.specs.declared.ended.Ended.TheVariants as ended
 use Rattle.blot_gateway.specs.declared.ended.Stop.{Stop}
 use Rattle.blot_gateway.specs.declared.ended.Stop.TheVariants as stops
 use Rattle.blot_gateway.specs.Endings.{ended_by}
-use Rattle.blot_gateway.specs.declared.wire.Heard.{Heard}
+use Rattle.blot_gateway.specs.declared.{wire.Heard.Heard, parties.Parties.Parties}
 use Rattle.blot_gateway.specs.Hearing.{word_in, word_of}
-use Rattle.blot_gateway.specs.Wires.{Read, Did, Answered, Notice, Steps, command_in, commands_of, reads_of, written_of}
+use Rattle.blot_gateway.specs.Wires.{Read, Did, Answered, Notice, StepByStep, command_in, commands_of, reads_of, written_of}
 use Rattle.blot_gateway.specs.Wires.Notice.{Handed}
 use Rattle.blot_gateway.specs.Wires.Did.{Gave}
 use Rattle.blot_gateway.specs.Wires.Read.{AtEnd, Failed}
-use Rattle.blot_gateway.specs.declared.parties.Parties.{Parties}
 use Rattle.blot_gateway.specs.Serving.{Due, EndsWith, parties, Happens, InTurn, Runs, Ends, GoesOn, HasLast, Stops, Cause, IsFront, Wrote, close_in, due_by, moment_by, is_served, has_memory, seen_reply, told_by, told_in, texts_of, written_in}
 use Rattle.blot_gateway.specs.Serving.Due.{Fed, Came, Passed}
 use Rattle.blot_gateway.specs.Serving.Turn.{Reads, Calls}
@@ -65,14 +62,14 @@ reply-call answered state awaiting =
 happens-one : {W C S : Type 0} (does : W → Did → W → Type 0) (ticks : C → ℤ → C → Type 0) (takes : S → Notice → S → Type 0)
     (call : ℤ → Bool → Call) (now : ℤ) (memory : Bool) (a b : Parties W C S) (due : List Due) (handed : List Command) (notices : ℤ → Bool → List Notice) (dids : List Did)
     → IsCall call a.session due handed notices → b.session ≡ (outcome a.session (call now memory)).state → ticks a.clock now b.clock
-    → Steps takes a.sink (notices now memory) b.sink → Steps does a.wire dids b.wire
+    → StepByStep takes a.sink (notices now memory) b.sink → StepByStep does a.wire dids b.wire
     → Happens does ticks takes a (call now memory ∷ []) dids (notices now memory) b
 happens-one does ticks takes call now memory a b due handed notices dids is led ticked taken steps =
     record {
       session = led;
       served = rw (is.served now memory) refl;
       met = (is.meets now memory, tt);
-      clock = subst (λ moments. Steps ticks a.clock moments b.clock) (sym (append-nil (moment_by (call now memory)) ∙ is.moment now memory)) (steps-one ticks now a.clock b.clock ticked);
+      clock = subst (λ moments. StepByStep ticks a.clock moments b.clock) (sym (append-nil (moment_by (call now memory)) ∙ is.moment now memory)) (steps-one ticks now a.clock b.clock ticked);
       sink = taken;
       told = is.told now memory ∙ sym (append-nil (told_in a.session (call now memory)));
       wire = steps;
@@ -110,7 +107,7 @@ commands-one state call command delivers =
 pub runs-one : {W C S : Type 0} (does : W → Did → W → Type 0) (ticks : C → ℤ → C → Type 0) (takes : S → Notice → S → Type 0)
     (call : ℤ → Bool → Call) (a b : Parties W C S) (due more : List Due) (notices : ℤ → Bool → List Notice)
     → IsCall call a.session due [] notices → (called : Called does ticks None call a.wire a.clock a.session b.wire b.clock b.session)
-    → Steps takes a.sink (notices called.now true) b.sink → Runs does ticks takes a (due ++ more) [] more b
+    → StepByStep takes a.sink (notices called.now true) b.sink → Runs does ticks takes a (due ++ more) [] more b
 runs-one does ticks takes call a b due more notices is called taken =
     let made = call called.now true in
     record {
@@ -129,7 +126,7 @@ runs-one does ticks takes call a b due more notices is called taken =
 -- what the wire did when a call stopped the session
 pub record Broke {W : Type 0} (does : W → Did → W → Type 0) (stop : Stop) (before : W) (state : State) (call : Call) (after : W) : Type 0 where
   pub dids : List Did
-  pub steps : Steps does before dids after
+  pub steps : StepByStep does before dids after
   pub read : reads_of dids ≡ []
   pub written : Wrote (ended_by stop) (written_of dids ∷ []) (sent_of state (call ∷ []) ∷ [])
   pub stops : Stops (ended_by stop) state (call ∷ [])
@@ -194,7 +191,7 @@ halted-broke does ticks stop call before clock state after clock_after next due 
 pub ends-one : {W C S : Type 0} (does : W → Did → W → Type 0) (ticks : C → ℤ → C → Type 0) (takes : S → Notice → S → Type 0)
     (stop : Stop) (call : ℤ → Bool → Call) (a b : Parties W C S) (due more : List Due) (notices : ℤ → Bool → List Notice)
     → IsCall call a.session due [] notices → (halted : Halted does ticks call a.wire a.clock a.session b.wire b.clock b.session stop)
-    → Steps takes a.sink (notices halted.now halted.memory) b.sink → Ends does ticks takes (ended_by stop) a (due ++ more) [] b
+    → StepByStep takes a.sink (notices halted.now halted.memory) b.sink → Ends does ticks takes (ended_by stop) a (due ++ more) [] b
 ends-one does ticks takes stop call a b due more notices is halted taken =
     let made = call halted.now halted.memory in
     let broken = halted-broke does ticks stop call a.wire a.clock a.session b.wire b.clock b.session due [] notices is halted in

@@ -1,25 +1,22 @@
 -- What is written, piece by piece.
-use Rattle.std.proofs.Common.{◌≡◌, ℕ, ◌+◌, Result, Ok, Err, get_or, ◌<◌, List, [], ◌∷◌, ◌++◌, length, take, drop, refl, sym, ap, subst, ◌∙◌, arith, length-append, append_assoc}
-use Rattle.std.specs.Prelude.{OnErr}
-use Rattle.std.specs.List.{flat_map}
-use Rattle.std.proofs.Math.Seq.{take-add}
-use Rattle.std.proofs.lemmas.List.{append-nil, take-append-drop, length-drop, take_more, at_drop_more}
+use Rattle.std.proofs.Common.{◌≡◌, ℕ, ◌+◌, Result, Ok, Err, get_or, ◌<◌, List, [], ◌∷◌, ◌++◌, length, take, drop, refl, sym, ap, subst, ◌∙◌, arith, length-append, append_assoc, OnErr, flat_map, take-add, append-nil, take-append-drop, length-drop}
+use Rattle.std.proofs.lemmas.List.{take_more, at_drop_more}
 use Rattle.std.proofs.lemmas.List.Concat.{flat_map-append}
 use Rattle.blot_session.specs.declared.action.Action.{Action}
 use Rattle.blot_session.specs.Runs.{bytes_of}
-use Rattle.blot_gateway.specs.Wires.{Did, Steps, read_in, taken_in, reads_of, written_of}
+use Rattle.blot_gateway.specs.Wires.{Did, StepByStep, read_in, taken_in, reads_of, written_of}
 use Rattle.blot_gateway.specs.Wires.Did.{Took, Refused}
 use Rattle.blot_gateway.specs.Sending.{Writes, WritesFront}
 
 -- ---- steps
 
 -- one after the other
-pub steps-on : {S E : Type 0} (does : S → E → S → Type 0) (first second : List E) (a b c : S) → Steps does a first b → Steps does b second c → Steps does a (first ++ second) c
-steps-on does [] second a b c one two = subst (λ start. Steps does start second c) one two
+pub steps-on : {S E : Type 0} (does : S → E → S → Type 0) (first second : List E) (a b c : S) → StepByStep does a first b → StepByStep does b second c → StepByStep does a (first ++ second) c
+steps-on does [] second a b c one two = subst (λ start. StepByStep does start second c) one two
 steps-on does (event ∷ first) second a b c one two = (one.0, one.1, steps-on does first second one.0 b c one.2 two)
 
 -- a single one
-pub steps-one : {S E : Type 0} (does : S → E → S → Type 0) (event : E) (a b : S) → does a event b → Steps does a (event ∷ []) b
+pub steps-one : {S E : Type 0} (does : S → E → S → Type 0) (event : E) (a b : S) → does a event b → StepByStep does a (event ∷ []) b
 steps-one does event a b step = (b, step, refl)
 
 -- ---- what is written

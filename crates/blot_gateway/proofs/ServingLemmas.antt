@@ -1,7 +1,5 @@
 -- What is due by the reads of a wire, done read by read.
-use Rattle.std.proofs.Common.{◌≡◌, ℕ, ◌+◌, ◌-◌, ◌^◌, ◌<◌, ◌≤◌, ◌⊎◌, inl, inr, List, [], ◌∷◌, ◌++◌, length, map, None, refl, sym, ap, subst, ◌∙◌, append_assoc, length-append, arith}
-use Rattle.std.specs.Prelude.{ℤ, ◌≢◌}
-use Rattle.std.proofs.lemmas.List.{append-nil}
+use Rattle.std.proofs.Common.{◌≡◌, ℕ, ◌+◌, ◌-◌, ◌^◌, ◌<◌, ◌≤◌, ◌⊎◌, inl, inr, List, [], ◌∷◌, ◌++◌, length, map, None, refl, sym, ap, subst, ◌∙◌, append_assoc, length-append, arith, ℤ, ◌≢◌, append-nil}
 use Rattle.blot_tag.specs.Reading.{Reading, TakesFirst, FindsNone}
 use Rattle.blot_tag.specs.Walking.{frames_of, rest_of}
 use Rattle.blot_session.specs.declared.state.State.{State}

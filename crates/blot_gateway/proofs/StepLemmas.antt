@@ -1,22 +1,18 @@
 -- One call of a session.
-use Rattle.std.proofs.Common.{◌≡◌, Bool, true, List, map, Option, None, Result, Ok, Err, refl, sym, ap, subst}
-use Rattle.std.specs.Prelude.{ℕ, ℤ, IfErr, IsErrAnd, IsOk, OnOk}
+use Rattle.std.proofs.Common.{◌≡◌, Bool, true, List, map, Option, None, Result, Ok, Err, refl, sym, ap, subst, ℕ, ℤ, IfErr, IsErrAnd, IsOk, OnOk, flat_map}
 use Rattle.std.proofs.lemmas.Bool.{false≢true}
-use Rattle.std.specs.List.{flat_map}
 use Rattle.blot_types.specs.declared.command.Command.{Command}
-use Rattle.blot_session.specs.declared.action.Action.{Action}
-use Rattle.blot_session.specs.declared.state.State.{State}
+use Rattle.blot_session.specs.declared.{action.Action.Action, state.State.State}
 use Rattle.blot_session.specs.Calls.{Outcome, Awaits}
 use Rattle.blot_session.specs.Runs.{Call, DeliversJust, outcome, bytes_of}
 use Rattle.blot_session.specs.Runs.Call.{Frame}
 use Rattle.blot_session.specs.States.{IsIdle}
-use Rattle.blot_gateway.specs.declared.ended.Ended.{Ended}
-use Rattle.blot_gateway.specs.declared.ended.Stop.{Stop}
+use Rattle.blot_gateway.specs.declared.{ended.Ended.Ended, ended.Stop.Stop}
 use Rattle.blot_gateway.specs.declared.ended.Stop.TheVariants as stops
 use Rattle.blot_gateway.specs.Endings.{ended_by}
 use Rattle.blot_gateway.specs.declared.parties.Parties.{Parties}
 use Rattle.blot_gateway.specs.Hearing.{word_in}
-use Rattle.blot_gateway.specs.Wires.{Did, Notice, Steps}
+use Rattle.blot_gateway.specs.Wires.{Did, Notice, StepByStep}
 use Rattle.blot_gateway.specs.Serving.{close_in}
 use Rattle.blot_gateway.specs.Sending.{Writes, Halts, Called, Comes, ComesLast, StopsAt, Halted}
 use Rattle.blot_session.proofs.ActionLemmas.{delivered-idle}
@@ -91,7 +87,7 @@ pub comes : {W C S : Type 0} (does : W → Did → W → Type 0) (ticks : C → 
     (before after : Parties W C S) (now : ℤ) (actions : List Action)
     → record { state = after.session; actions = actions } ≡ outcome before.session (Frame text now true) → ticks before.clock now after.clock
     → Writes does before.wire (flat_map bytes_of actions) after.wire → close_in actions ≡ None → DeliversJust command actions
-    → Steps takes before.sink (word_in before.session (Frame text now true)) after.sink
+    → StepByStep takes before.sink (word_in before.session (Frame text now true)) after.sink
     → Comes does ticks takes command text before after
 unfolding called
 comes does ticks takes command text before after now actions is ticked writes stays delivers heard =
@@ -105,7 +101,7 @@ pub comes-last : {W C S : Type 0} (does : W → Did → W → Type 0) (ticks : C
     (before after : Parties W C S) (now : ℤ) (slice actions : List Action) → slice ≡ actions
     → record { state = after.session; actions = actions } ≡ outcome before.session (Frame text now true) → ticks before.clock now after.clock
     → Halts does stop before.wire slice after.wire → DeliversJust None actions
-    → Steps takes before.sink (word_in before.session (Frame text now true)) after.sink
+    → StepByStep takes before.sink (word_in before.session (Frame text now true)) after.sink
     → ComesLast does ticks takes text before after stop
 unfolding halted
 comes-last does ticks takes stop text before after now slice actions same is ticked halts delivers heard =

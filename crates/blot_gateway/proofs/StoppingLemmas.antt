@@ -1,6 +1,5 @@
 -- A session that is served until its watch ends the day.
-use Rattle.std.proofs.Common.{◌≡◌, ℕ, List, [], ◌++◌, map, subst}
-use Rattle.std.specs.Prelude.{ℤ}
+use Rattle.std.proofs.Common.{◌≡◌, ℕ, List, [], ◌++◌, map, subst, ℤ}
 use Rattle.blot_tag.specs.Walking.{frames_of, rest_of}
 use Rattle.blot_gateway.specs.declared.parties.Parties.{Parties}
 use Rattle.blot_gateway.specs.Progress.{Handles}

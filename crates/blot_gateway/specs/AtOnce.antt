@@ -2,11 +2,7 @@
 use Rattle.std.specs.Prelude.{◌≡◌, ◌⊎◌, ℕ, ℤ, Bool, true, false, List, [], ◌∷◌, ◌++◌, Result, Ok, Err}
 use Rattle.std.specs.List.{list_all}
 use Rattle.blot_types.specs.declared.command.Command.{Command}
-use Rattle.blot_desk.specs.declared.event.Event.{Event}
-use Rattle.blot_desk.specs.declared.event.Event.TheVariants.{Submit}
-use Rattle.blot_desk.specs.declared.event.Reply.{Reply}
-use Rattle.blot_desk.specs.declared.fault.DeskFault.{DeskFault}
-use Rattle.blot_desk.specs.declared.receipt.Receipt.{Receipt}
+use Rattle.blot_desk.specs.declared.{event.Event.Event, event.Event.TheVariants.Submit, event.Reply.Reply, fault.DeskFault.DeskFault, receipt.Receipt.Receipt}
 use Rattle.blot_desk.specs.Receipts.{IsOneMore}
 use Rattle.blot_session.specs.declared.action.CloseReason.TheVariants as reasons
 use Rattle.blot_session.specs.declared.state.State.{State}
@@ -49,14 +45,14 @@ pub record AddsSubmits (before after : List Receipt) : Type 0 where
 -- ---- one wire
 
 -- a wire with its clock and its sink, as they are
-pub record Line (W C S : Type 0) : Type 0 where
+pub record WireParts (W C S : Type 0) : Type 0 where
   pub wire : W
   pub clock : C
   pub sink : S
 
--- these three, as a line
-abbrev pub line : {W C S : Type 0} → W → C → S → Line W C S
-line wire clock sink = record { wire = wire; clock = clock; sink = sink }
+-- these three, together
+abbrev pub wire_parts : {W C S : Type 0} → W → C → S → WireParts W C S
+wire_parts wire clock sink = record { wire = wire; clock = clock; sink = sink }
 
 -- the ending of a wire whose peer's session is refused with this fault
 abbrev pub turned_by : SlotFault → Ended
@@ -65,14 +61,14 @@ turned_by fault = ended.Closed reasons.CompId
 
 -- the session of a peer is handed out as it waits for a Logon, and served
 pub record ServesPeer {W C S : Type 0} (does : W → Did → W → Type 0) (ticks : C → ℤ → C → Type 0) (takes : S → Answered → S → Type 0)
-    (end : Ended) (peer unread : List ℕ) (before after : Line W C S) : Type 0 where
+    (end : Ended) (peer unread : List ℕ) (before after : WireParts W C S) : Type 0 where
   pub session : State
   pub last : State
   pub waits : IsWaiting peer session
   pub served : Served does ticks (hands takes) READS_MAX end (parties before.wire before.clock before.sink session) unread (parties after.wire after.clock after.sink last)
 
 -- it is refused with one of two faults, and nothing is done. Which of them, and whether it had to be, isn't said: the table is under a lock
-pub record TurnsAway {W C S : Type 0} (end : Ended) (before after : Line W C S) : Type 0 where
+pub record TurnsAway {W C S : Type 0} (end : Ended) (before after : WireParts W C S) : Type 0 where
   pub fault : SlotFault
   pub why : (fault ≡ faults.UnknownPeer) ⊎ (fault ≡ faults.AlreadyOn)
   pub ends : end ≡ turned_by fault
@@ -80,13 +76,13 @@ pub record TurnsAway {W C S : Type 0} (end : Ended) (before after : Line W C S) 
 
 -- what follows a greeting: nothing, where it is itself the ending; else the peer's session is refused or served
 abbrev pub Follows : {W C S : Type 0} → (W → Did → W → Type 0) → (C → ℤ → C → Type 0) → (S → Answered → S → Type 0)
-    → Result (List ℕ) Ended → Ended → List ℕ → Line W C S → Line W C S → Type 0
+    → Result (List ℕ) Ended → Ended → List ℕ → WireParts W C S → WireParts W C S → Type 0
 Follows does ticks takes (Err cause) end unread before after = (end ≡ cause) × (after ≡ before)
 Follows does ticks takes (Ok peer) end unread before after = TurnsAway end before after ⊎ ServesPeer does ticks takes end peer unread before after
 
 -- a wire is greeted, and then its peer's session served
-pub record ServesLine {W C S : Type 0} (does : W → Did → W → Type 0) (ticks : C → ℤ → C → Type 0) (takes : S → Answered → S → Type 0)
-    (own : List ℕ) (end : Ended) (before after : Line W C S) : Type 0 where
+pub record ServesWire {W C S : Type 0} (does : W → Did → W → Type 0) (ticks : C → ℤ → C → Type 0) (takes : S → Answered → S → Type 0)
+    (own : List ℕ) (end : Ended) (before after : WireParts W C S) : Type 0 where
   pub answer : Result (List ℕ) Ended
   pub greeted : W
   pub unread : List ℕ
@@ -100,7 +96,7 @@ pub record IsServed {W C : Type 0} (does : W → Did → W → Type 0) (ticks : 
     (wire : W) (clock : C) (receipts : List Receipt) (end : Ended) (receipts_after : List Receipt) : Type 0 where
   pub wire_after : W
   pub clock_after : C
-  pub serves : ServesLine does ticks TakesReceipt own end (line wire clock receipts) (line wire_after clock_after receipts_after)
+  pub serves : ServesWire does ticks TakesReceipt own end (wire_parts wire clock receipts) (wire_parts wire_after clock_after receipts_after)
   pub counted : IsCounted (failures wire) (failures wire_after) end
 
 -- each of these wires did, in their order

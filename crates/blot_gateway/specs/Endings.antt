@@ -4,7 +4,7 @@ use Rattle.blot_gateway.specs.declared.ended.Ended.{Ended}
 use Rattle.blot_gateway.specs.declared.ended.Ended.TheVariants as ended
 use Rattle.blot_gateway.specs.declared.ended.Stop.{Stop}
 use Rattle.blot_gateway.specs.declared.ended.Stop.TheVariants as stops
-use Rattle.blot_session.specs.Told.{close_name}
+use Rattle.blot_session.specs.CloseNames.{close_name}
 
 -- the number of an ending
 abbrev pub ended_number : Ended → ℕ

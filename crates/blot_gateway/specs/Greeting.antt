@@ -3,8 +3,7 @@ use Rattle.std.specs.Prelude.{◌≡◌, ◌≤◌, ◌⊎◌, ℕ, List, [], �
 use Rattle.blot_tag.specs.Walking.{frames_of, rest_of}
 use Rattle.blot_types.specs.Keys.{same_text}
 use Rattle.blot_fields.specs.declared.admin.Admin.TheVariants as admin
-use Rattle.blot_fields.specs.declared.fault.FieldFault.{FieldFault}
-use Rattle.blot_fields.specs.declared.message.Body.{Body}
+use Rattle.blot_fields.specs.declared.{fault.FieldFault.FieldFault, message.Body.Body}
 use Rattle.blot_fields.specs.declared.message.Body.TheVariants as bodies
 use Rattle.blot_fields.specs.declared.message.Message.{Message}
 use Rattle.blot_session.specs.declared.action.CloseReason.{CloseReason}
@@ -13,7 +12,7 @@ use Rattle.blot_session.specs.Runs.{said_by}
 use Rattle.blot_gateway.specs.declared.ended.Ended.{Ended}
 use Rattle.blot_gateway.specs.declared.ended.Ended.TheVariants as ended
 use Rattle.blot_gateway.specs.Serving.{EndsWith}
-use Rattle.blot_gateway.specs.Wires.{Read, Did, Steps}
+use Rattle.blot_gateway.specs.Wires.{Read, Did, StepByStep}
 use Rattle.blot_gateway.specs.Wires.Did.{Gave}
 use Rattle.blot_gateway.specs.Wires.Read.{Piece, AtEnd, Failed}
 
@@ -42,13 +41,13 @@ fed unread [] = unread
 fed unread (read ∷ reads) = fed (unread ++ bytes_in read) reads
 
 -- what a reader holds of them: before each read it passes over what can't become a frame
-abbrev pub held : List ℕ → List Read → List ℕ
-held unread [] = unread
-held unread (read ∷ reads) = held (rest_of unread ++ bytes_in read) reads
+abbrev pub bytes_held : List ℕ → List Read → List ℕ
+bytes_held unread [] = unread
+bytes_held unread (read ∷ reads) = bytes_held (rest_of unread ++ bytes_in read) reads
 
 -- a reader holds that, and so the same frames as stand in all the bytes
-pub record Holds (unread : List ℕ) (reads : List Read) (left : List ℕ) : Type 0 where
-  pub bytes : left ≡ held unread reads
+pub record HoldsReads (unread : List ℕ) (reads : List Read) (left : List ℕ) : Type 0 where
+  pub bytes : left ≡ bytes_held unread reads
   pub frames : frames_of left ≡ frames_of (fed unread reads)
 
 -- no frame stands in all the bytes before any of the reads
@@ -106,7 +105,7 @@ GreetsBy own most (Err ended.WriteFault) reads bytes = ⊥
 pub record Greeted {W : Type 0} (does : W → Did → W → Type 0) (own : List ℕ) (most : ℕ) (answer : Result (List ℕ) Ended) (before : W) (unread : List ℕ) (after : W) (left : List ℕ) : Type 0 where
   pub reads : List Read
   pub few : length reads ≤ most
-  pub steps : Steps does before (map Gave reads) after
+  pub steps : StepByStep does before (map Gave reads) after
   pub awaits : AwaitsFrame unread reads
-  pub holds : Holds unread reads left ⊎ (answer ≡ Err ended.NoMemory)
+  pub holds : HoldsReads unread reads left ⊎ (answer ≡ Err ended.NoMemory)
   pub greets : GreetsBy own most answer reads (fed unread reads)

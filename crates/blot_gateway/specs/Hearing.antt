@@ -1,7 +1,6 @@
 -- What a sink hears of a frame of which no command was delivered.
 use Rattle.std.specs.Prelude.{◌==◌, nat_lt, ℕ, ℤ, Bool, true, false, ◌&&◌, ◌||◌, not, List, [], ◌∷◌, Option, Some, None, Result, is_some, if◌then◌else◌}
-use Rattle.blot_fields.specs.declared.fault.FieldFault.{FieldFault}
-use Rattle.blot_fields.specs.declared.message.Message.{Message}
+use Rattle.blot_fields.specs.declared.{fault.FieldFault.FieldFault, message.Message.Message}
 use Rattle.blot_session.specs.Calls.{on_frame}
 use Rattle.blot_session.specs.Met.{met_of}
 use Rattle.blot_session.specs.Runs.{Call, said_by}
@@ -10,8 +9,7 @@ use Rattle.blot_session.specs.declared.state.Phase.{Phase}
 use Rattle.blot_session.specs.declared.state.Phase.TheVariants as phases
 use Rattle.blot_session.specs.declared.state.State.{State}
 use Rattle.blot_session.specs.States.{awaited_of, phase_of}
-use Rattle.blot_gateway.specs.declared.calling.Before.{Before}
-use Rattle.blot_gateway.specs.declared.wire.Heard.{Heard}
+use Rattle.blot_gateway.specs.declared.{calling.Before.Before, wire.Heard.Heard}
 use Rattle.blot_gateway.specs.Wires.{Notice}
 use Rattle.blot_gateway.specs.Wires.Notice.{HeardOf}
 

@@ -1,8 +1,7 @@
 -- The kinds that serve tests: a wire in memory, a clock that tells a list of moments, a sink that answers by a list.
 use Rattle.std.specs.Prelude.{◌≡◌, ◌⊎◌, ℕ, ℤ, pos, List, [], ◌∷◌, ◌++◌, length, slice_get, unwrap_or, Result, Err}
 use Rattle.blot_types.specs.declared.command.Command.{Command}
-use Rattle.blot_desk.specs.declared.event.Reply.{Reply}
-use Rattle.blot_desk.specs.declared.fault.DeskFault.{DeskFault}
+use Rattle.blot_desk.specs.declared.{event.Reply.Reply, fault.DeskFault.DeskFault}
 use Rattle.blot_desk.specs.declared.fault.DeskFault.TheVariants.{Full, NoMemory}
 use Rattle.blot_gateway.specs.Wires.{Did, Answered}
 use Rattle.blot_gateway.specs.Wires.Did.{Gave, Took, Refused}

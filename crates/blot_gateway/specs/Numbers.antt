@@ -1,10 +1,8 @@
 -- What bears on a session's two numbers over the calls of a connection, and what it says of them. Source: this project's rule.
-use Rattle.std.specs.Prelude.{◌≡◌, ◌<◌, ◌≤◌, ◌⊎◌, All, ℕ, ◌+◌, true, List, [], ◌∷◌, ◌++◌, map, Result, Ok, Err, if◌then◌else◌}
-use Rattle.std.specs.List.{Contains, flat_map, fold, list_all}
+use Rattle.std.specs.Prelude.{◌≡◌, ◌<◌, ◌≤◌, ◌⊎◌, All, ℕ, ◌+◌, true, List, [], ◌∷◌, ◌++◌, map, Result, Ok, Err, if◌then◌else◌, Contains, flat_map, fold}
+use Rattle.std.specs.List.{list_all}
 use Rattle.std.proofs.Common.{inl, inr}
-use Rattle.blot_session.specs.declared.replies.NotTaken.{NotTaken}
-use Rattle.blot_session.specs.declared.replies.SeenReply.{SeenReply}
-use Rattle.blot_session.specs.declared.state.State.{State}
+use Rattle.blot_session.specs.declared.{replies.NotTaken.NotTaken, replies.SeenReply.SeenReply, state.State.State}
 use Rattle.blot_session.specs.Runs.{AreMet, Call, HasNoReset, Numbered, behind_calls, delivered_of, outcome}
 use Rattle.blot_session.specs.Sending.{is_of_connection, numbers_sent}
 use Rattle.blot_session.specs.States.{IsIdle}

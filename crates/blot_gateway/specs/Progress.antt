@@ -1,7 +1,6 @@
 -- What is due to a session, done part by part, whatever is due after each part.
 use Rattle.std.specs.Prelude.{◌≡◌, ℕ, ℤ, List, [], ◌∷◌, ◌++◌}
-use Rattle.blot_gateway.specs.declared.ended.Ended.{Ended}
-use Rattle.blot_gateway.specs.declared.ended.Stop.{Stop}
+use Rattle.blot_gateway.specs.declared.{ended.Ended.Ended, ended.Stop.Stop}
 use Rattle.blot_gateway.specs.declared.ended.Stop.TheVariants as stops
 use Rattle.blot_gateway.specs.Endings.{ended_by}
 use Rattle.blot_gateway.specs.declared.parties.Parties.{Parties}

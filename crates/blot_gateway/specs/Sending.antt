@@ -1,17 +1,14 @@
 -- What is written to a wire, and how one call of a session ends.
-use Rattle.std.specs.Prelude.{◌≡◌, ℕ, ℤ, Bool, true, false, List, [], Option, Some, None, Result}
-use Rattle.std.specs.List.{flat_map}
+use Rattle.std.specs.Prelude.{◌≡◌, ℕ, ℤ, Bool, true, false, List, [], Option, Some, None, Result, flat_map}
 use Rattle.blot_types.specs.declared.command.Command.{Command}
-use Rattle.blot_desk.specs.declared.event.Reply.{Reply as DeskReply}
-use Rattle.blot_desk.specs.declared.fault.DeskFault.{DeskFault}
-use Rattle.blot_session.specs.declared.action.Action.{Action}
-use Rattle.blot_session.specs.declared.state.State.{State}
+use Rattle.blot_desk.specs.declared.{event.Reply.Reply as DeskReply, fault.DeskFault.DeskFault}
+use Rattle.blot_session.specs.declared.{action.Action.Action, state.State.State}
 use Rattle.blot_session.specs.Runs.{Call, DeliversJust, outcome, bytes_of}
 use Rattle.blot_session.specs.Runs.Call.{Frame, Reply}
 use Rattle.blot_gateway.specs.declared.ended.Stop.{Stop}
 use Rattle.blot_gateway.specs.declared.ended.Stop.TheVariants as stops
 use Rattle.blot_gateway.specs.Hearing.{word_in}
-use Rattle.blot_gateway.specs.Wires.{Did, Notice, Steps, reads_of, written_of}
+use Rattle.blot_gateway.specs.Wires.{Did, Notice, StepByStep, reads_of, written_of}
 use Rattle.blot_gateway.specs.Wires.Notice.{Handed}
 use Rattle.blot_gateway.specs.declared.parties.Parties.{Parties}
 use Rattle.blot_gateway.specs.Serving.{IsFront, close_in, seen_reply}
@@ -19,7 +16,7 @@ use Rattle.blot_gateway.specs.Serving.{IsFront, close_in, seen_reply}
 -- a wire takes just these bytes
 pub record Writes {W : Type 0} (does : W → Did → W → Type 0) (before : W) (text : List ℕ) (after : W) : Type 0 where
   pub dids : List Did
-  pub steps : Steps does before dids after
+  pub steps : StepByStep does before dids after
   pub read : reads_of dids ≡ []
   pub written : written_of dids ≡ text
 
@@ -65,13 +62,13 @@ pub record Halted {W C : Type 0} (does : W → Did → W → Type 0) (ticks : C 
 pub record Comes {W C S : Type 0} (does : W → Did → W → Type 0) (ticks : C → ℤ → C → Type 0) (takes : S → Notice → S → Type 0)
     (command : Option Command) (text : List ℕ) (before after : Parties W C S) : Type 0 where
   pub called : Called does ticks command (Frame text) before.wire before.clock before.session after.wire after.clock after.session
-  pub heard : Steps takes before.sink (word_in before.session (Frame text called.now true)) after.sink
+  pub heard : StepByStep takes before.sink (word_in before.session (Frame text called.now true)) after.sink
 
 -- and that stops it
 pub record ComesLast {W C S : Type 0} (does : W → Did → W → Type 0) (ticks : C → ℤ → C → Type 0) (takes : S → Notice → S → Type 0)
     (text : List ℕ) (before after : Parties W C S) (stop : Stop) : Type 0 where
   pub halted : Halted does ticks (Frame text) before.wire before.clock before.session after.wire after.clock after.session stop
-  pub heard : Steps takes before.sink (word_in before.session (Frame text halted.now halted.memory)) after.sink
+  pub heard : StepByStep takes before.sink (word_in before.session (Frame text halted.now halted.memory)) after.sink
 
 -- a command is handed to the sink, and the session told the answer
 pub record Submitted {W C S : Type 0} (does : W → Did → W → Type 0) (ticks : C → ℤ → C → Type 0) (takes : S → Notice → S → Type 0)

@@ -1,17 +1,13 @@
 -- One session, served over a wire: which calls it gets, in which order, and what comes of them.
-use Rattle.std.specs.Prelude.{◌≡◌, ℕ, ℤ, ◌<◌, ◌≤◌, ◌⊎◌, Bool, true, false, List, [], ◌∷◌, ◌++◌, length, map, Option, Some, None, Result, Ok, Err}
-use Rattle.std.specs.List.{flat_map, list_all}
+use Rattle.std.specs.Prelude.{◌≡◌, ℕ, ℤ, ◌<◌, ◌≤◌, ◌⊎◌, Bool, true, false, List, [], ◌∷◌, ◌++◌, length, map, Option, Some, None, Result, Ok, Err, flat_map}
+use Rattle.std.specs.List.{list_all}
 use Rattle.std.proofs.Common.{inl, inr}
 use Rattle.blot_tag.specs.Walking.{frames_of, rest_of}
-use Rattle.blot_types.specs.Told.{refused_number}
+use Rattle.blot_types.specs.RefusalNames.{refused_number}
 use Rattle.blot_desk.specs.declared.event.Reply.{Reply as DeskReply}
 use Rattle.blot_desk.specs.declared.event.Reply.TheVariants as replies
 use Rattle.blot_desk.specs.declared.fault.DeskFault.{DeskFault}
-use Rattle.blot_session.specs.declared.action.Action.{Action}
-use Rattle.blot_session.specs.declared.action.Action.TheVariants.{Close}
-use Rattle.blot_session.specs.declared.action.CloseReason.{CloseReason}
-use Rattle.blot_session.specs.declared.replies.NotTaken.{NotTaken}
-use Rattle.blot_session.specs.declared.replies.SeenReply.{SeenReply}
+use Rattle.blot_session.specs.declared.{action.Action.Action, action.Action.TheVariants.Close, action.CloseReason.CloseReason, replies.NotTaken.NotTaken, replies.SeenReply.SeenReply}
 use Rattle.blot_session.specs.declared.replies.SeenReply.TheVariants as seen
 use Rattle.blot_session.specs.declared.state.State.{State}
 use Rattle.blot_session.specs.Runs.{Call, AreMet, actions_of, behind_calls, delivered_of, outcome, sent_of}
@@ -19,10 +15,9 @@ use Rattle.blot_session.specs.Runs.Call.{Frame, Reply, Tick}
 use Rattle.blot_session.specs.States.{closed}
 use Rattle.blot_gateway.specs.declared.ended.Ended.{Ended}
 use Rattle.blot_gateway.specs.declared.ended.Ended.TheVariants as ended
-use Rattle.blot_gateway.specs.declared.parties.Parties.{Parties}
-use Rattle.blot_gateway.specs.declared.wire.Heard.{Heard}
+use Rattle.blot_gateway.specs.declared.{parties.Parties.Parties, wire.Heard.Heard}
 use Rattle.blot_gateway.specs.Hearing.{word_in}
-use Rattle.blot_gateway.specs.Wires.{Read, Did, Notice, Counts, Steps, commands_of, reads_of, written_of}
+use Rattle.blot_gateway.specs.Wires.{Read, Did, Notice, Counts, StepByStep, commands_of, reads_of, written_of}
 use Rattle.blot_gateway.specs.Wires.Did.{Gave}
 use Rattle.blot_gateway.specs.Wires.Notice.{Handed, HeardOf}
 use Rattle.blot_gateway.specs.Wires.Read.{Piece, Silence, AtEnd, Failed}
@@ -252,10 +247,10 @@ pub record Happens {W C S : Type 0} (does : W → Did → W → Type 0) (ticks :
   pub session : after.session ≡ behind_calls before.session calls
   pub served : list_all is_served calls ≡ true
   pub met : AreMet before.session calls
-  pub clock : Steps ticks before.clock (moments_of calls) after.clock
-  pub sink : Steps takes before.sink notices after.sink
+  pub clock : StepByStep ticks before.clock (moments_of calls) after.clock
+  pub sink : StepByStep takes before.sink notices after.sink
   pub told : map told_by notices ≡ told_of before.session calls
-  pub wire : Steps does before.wire dids after.wire
+  pub wire : StepByStep does before.wire dids after.wire
 
 -- calls that go on, in turn; the sink is handed what the session delivers, in order, each once; and all is written that is sent
 pub record Runs {W C S : Type 0} (does : W → Did → W → Type 0) (ticks : C → ℤ → C → Type 0) (takes : S → Notice → S → Type 0)

@@ -1,11 +1,8 @@
 -- What a wire gives and takes, and what a sink answers.
-use Rattle.std.specs.Prelude.{◌≡◌, ℕ, ◌≤◌, ◌<◌, ◌-◌, ◌^◌, ◌⊎◌, List, [], ◌∷◌, take, Result}
-use Rattle.std.specs.List.{flat_map}
+use Rattle.std.specs.Prelude.{◌≡◌, ℕ, ◌≤◌, ◌<◌, ◌-◌, ◌^◌, ◌⊎◌, List, [], ◌∷◌, take, Result, flat_map}
 use Rattle.blot_types.specs.declared.command.Command.{Command}
-use Rattle.blot_desk.specs.declared.event.Reply.{Reply}
-use Rattle.blot_desk.specs.declared.fault.DeskFault.{DeskFault}
-use Rattle.blot_gateway.specs.declared.wire.Heard.{Heard}
-use Rattle.blot_gateway.specs.declared.wire.Reading.{Reading}
+use Rattle.blot_desk.specs.declared.{event.Reply.Reply, fault.DeskFault.DeskFault}
+use Rattle.blot_gateway.specs.declared.{wire.Heard.Heard, wire.Reading.Reading}
 use Rattle.blot_gateway.specs.declared.wire.Reading.TheVariants as reading
 use Rattle.blot_gateway.specs.declared.wire.Writing.{Writing}
 use Rattle.blot_gateway.specs.declared.wire.Writing.TheVariants as writing
@@ -83,9 +80,9 @@ CountsWrite writing.Fault before after = Counts before after
 CountsWrite (writing.Wrote count) before after = after ≡ before
 
 -- these things happen step by step, one after the other
-abbrev pub Steps : {S E : Type 0} → (S → E → S → Type 0) → S → List E → S → Type 0
-Steps does before [] after = after ≡ before
-Steps {S = S} does before (event ∷ events) after = (between : S) × does before event between × Steps does between events after
+abbrev pub StepByStep : {S E : Type 0} → (S → E → S → Type 0) → S → List E → S → Type 0
+StepByStep does before [] after = after ≡ before
+StepByStep {S = S} does before (event ∷ events) after = (between : S) × does before event between × StepByStep does between events after
 
 -- the reads among what a wire did
 abbrev pub read_in : Did → List Read

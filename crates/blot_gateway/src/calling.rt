@@ -11,7 +11,7 @@ ghost use Rattle.blot_gateway.specs.Sending.{Called, Comes, ComesLast, Halted, S
 ghost use Rattle.blot_gateway.specs.Hearing.{heard, is_renumbered, word_in};
 ghost use Rattle.blot_gateway.specs.Serving.{parties, seen_reply};
 ghost use Rattle.blot_gateway.specs.Serving.Due.{Came};
-ghost use Rattle.blot_gateway.specs.Wires.{Steps};
+ghost use Rattle.blot_gateway.specs.Wires.{StepByStep};
 
 use crate::ended::Stop;
 use crate::writing::carry_out;
@@ -164,7 +164,7 @@ fn decide<S: FrameSink>(
     ensures awaits { IfOk result (λ actions. Awaits session.new actions.items) }
     ensures alone { IfOk result (λ actions. DeliversAlone actions.items) }
     ensures own { IfOk result (λ actions. DeliversOwn (text_of frame.now) actions.items) }
-    ensures heard { OnOk result (Steps S.takes sink.old (word_in session.old (FrameCall (text_of frame.now) now true)) sink.new) }
+    ensures heard { OnOk result (StepByStep S.takes sink.old (word_in session.old (FrameCall (text_of frame.now) now true)) sink.new) }
     ensures unheard { OnErr result (sink.new ≡ sink.old) }
 {
     let said = decode(alloc, frame);

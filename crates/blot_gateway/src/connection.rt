@@ -1,6 +1,6 @@
 //! One wire, whole: it is greeted, and then its peer's session is checked out, served and checked in again.
 ghost use Rattle.std.specs.Prelude.{◌≡◌, IfSome};
-ghost use Rattle.blot_gateway.specs.AtOnce.{IsServed, ServesLine, line, turned_by};
+ghost use Rattle.blot_gateway.specs.AtOnce.{IsServed, ServesWire, turned_by, wire_parts};
 ghost use Rattle.blot_gateway.specs.Serving.{IsCounted};
 
 use crate::{Clock, Ended, Gate, SeatSink, Sink, Wire, greet, serve_session};
@@ -41,7 +41,7 @@ fn serve_wire<R: Wait, W: Wire, C: Clock, S: Sink>(
     clock: &mut C,
     sink: &mut S,
 ) -> Ended
-    ensures serves { ServesLine W.does C.ticks S.takes slots.now result (line wire.old clock.old sink.old) (line wire.new clock.new sink.new) }
+    ensures serves { ServesWire W.does C.ticks S.takes slots.now result (wire_parts wire.old clock.old sink.old) (wire_parts wire.new clock.new sink.new) }
     ensures counted { IsCounted (W.failures wire.old) (W.failures wire.new) result }
 {
     let mut reader = Reader::new(alloc);

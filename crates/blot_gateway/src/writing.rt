@@ -1,6 +1,5 @@
 //! What a session sends, written to a wire.
-ghost use Rattle.std.specs.Prelude.{◌≡◌, ◌<◌, ◌≤◌, [], length, take, IfErr, IfOk, None, OnErr, OnOk};
-ghost use Rattle.std.specs.List.{flat_map};
+ghost use Rattle.std.specs.Prelude.{◌≡◌, ◌<◌, ◌≤◌, [], length, take, IfErr, IfOk, None, OnErr, OnOk, flat_map};
 ghost use Rattle.blot_session.specs.Runs.{bytes_of};
 ghost use Rattle.blot_gateway.specs.Progress.{CountsStop};
 ghost use Rattle.blot_gateway.specs.Wires.{Counts};

@@ -1,9 +1,8 @@
 -- The steps of a sync.
-use Rattle.std.proofs.Common.{◌≡◌, inl, inr, ℕ, zero, suc, ◌+◌, ◌<◌, ◌≤◌, ◌^◌, ◌==◌, Bool, true, false, not, List, [], ◌∷◌, ◌++◌, length, take, drop, refl, sym, ◌∙◌, ap, subst, arith, zero-add, length-drop}
-use Rattle.std.proofs.lemmas.List.{drop-drop, take_all}
+use Rattle.std.proofs.Common.{◌≡◌, inl, inr, ℕ, zero, suc, ◌+◌, ◌<◌, ◌≤◌, ◌^◌, ◌==◌, Bool, true, false, not, List, [], ◌∷◌, ◌++◌, length, take, drop, refl, sym, ◌∙◌, ap, subst, arith, zero-add, length-drop, drop-drop, take_all, w64}
 use Rattle.std.proofs.lemmas.Nat.{from_le_bytes-to_le_bytes_8}
-use Rattle.std.specs.Int.{w64, from_le_bytes, to_le_bytes}
-use Rattle.blot_journal.specs.Device.{Holds, Torn, Follows, Only}
+use Rattle.std.specs.Int.{from_le_bytes, to_le_bytes}
+use Rattle.blot_journal.specs.Device.{HasWritten, Torn, Follows, Only}
 use Rattle.blot_journal.specs.File.{is_second, switch_for, place, size_in, text_in, text_of, IsWhole, SameText, StandsBeforeOrAfter, HasHead, IsStaged, Turned}
 use Rattle.blot_journal.proofs.WriteLemmas.{part_less, written, torn, no_shorter}
 use Rattle.blot_journal.proofs.HeadLemmas.{place_low, text_is, same_head, head_whole, torn_behind, kept_place, torn_place, same_text, eight_same, signed_same, text_same, torn_switch}
@@ -21,7 +20,7 @@ module _ (old : List ℕ) (second : Bool) (size : ℕ) (head : HasHead second si
       same_text old mid file (torn_behind old second size head count mid first)
       (torn_place second mid file (same_head old second size head mid first.before long).switch later (omega (arith, long)))
 
-  pub staged : (more mid new : List ℕ) → Holds old (size + 4096) more mid → Holds mid (place (not second)) (to_le_bytes w64 (size + length more)) new → size + length more < 2 ^ 62
+  pub staged : (more mid new : List ℕ) → HasWritten old (size + 4096) more mid → HasWritten mid (place (not second)) (to_le_bytes w64 (size + length more)) new → size + length more < 2 ^ 62
       → IsStaged second size (text_of old) more new
   staged more mid new holds holds_next few =
       let first = torn old (size + 4096) more mid head.room holds in
@@ -56,7 +55,7 @@ module _ (old : List ℕ) (second : Bool) (size : ℕ) (head : HasHead second si
       subst (λ f. Torn (size + 4096) count f file) (only from.0 from.1) from.2
 
 -- the switch is turned
-pub turned : (other : Bool) (old new : List ℕ) → IsWhole old → size_in other old + 4096 ≤ length old → Holds old 0 (switch_for other ∷ []) new
+pub turned : (other : Bool) (old new : List ℕ) → IsWhole old → size_in other old + 4096 ≤ length old → HasWritten old 0 (switch_for other ∷ []) new
     → HasHead other (size_in other old) new × (text_of new ≡ text_in other old)
 turned other old new whole room holds =
     let after : drop 1 new ≡ drop 1 old = ap (λ (l : List ℕ). drop 1 l) holds in

@@ -1,5 +1,5 @@
 -- What a file is after some calls, and the text that it stands for, computed.
-use Rattle.std.specs.Prelude.{◌≡◌, ℕ, ◌-◌, true, false, List, [], ◌∷◌, ◌++◌, length, map, replicate, codes, refl}
+use Rattle.std.proofs.Common.{◌≡◌, ℕ, ◌-◌, true, false, List, [], ◌∷◌, ◌++◌, length, map, replicate, codes, refl}
 use Rattle.blot_journal.specs.Calls.{seen_after}
 use Rattle.blot_journal.specs.Calls.Call.{Began, Wrote, CutTo, Synced}
 use Rattle.blot_journal.specs.File.{text_of}

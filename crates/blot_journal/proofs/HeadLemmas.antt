@@ -1,8 +1,7 @@
 -- What a file stands for after each write to it.
-use Rattle.std.proofs.Common.{◌≡◌, inl, inr, ℕ, ◌+◌, ◌≤◌, ◌==◌, Bool, true, false, not, List, length, get_or, take, drop, replicate, [], ◌++◌, subst, refl, sym, ◌∙◌, ap, arith}
-use Rattle.std.proofs.lemmas.List.{get_or-take, take-take, length-take-le}
+use Rattle.std.proofs.Common.{◌≡◌, inl, inr, ℕ, ◌+◌, ◌≤◌, ◌==◌, Bool, true, false, not, List, length, get_or, take, drop, replicate, [], ◌++◌, subst, refl, sym, ◌∙◌, ap, arith, get_or-take, take-take, length-take-le, w64}
 use Rattle.std.proofs.lemmas.Bool.{cases_Bool}
-use Rattle.std.specs.Int.{w64, from_le_bytes}
+use Rattle.std.specs.Int.{from_le_bytes}
 use Rattle.blot_journal.specs.Device.{Torn, Cut}
 use Rattle.blot_journal.specs.File.{is_second, place, signed_in, signature, size_in, text_in, text_of, IsWhole, SameText, Stands, HasHead, Turned}
 use Rattle.blot_journal.proofs.WriteLemmas.{part_less, drop_less, torn}

@@ -1,6 +1,6 @@
 -- What an open journal keeps.
-use Rattle.std.proofs.Common.{◌≡◌, ℕ, zero, suc, ◌+◌, ◌-◌, ◌<◌, ◌≤◌, Bool, List, length, take, drop, refl, sym, ◌∙◌, ap, subst, arith, length-drop}
-use Rattle.std.proofs.lemmas.List.{drop-drop, drop-take, length-take-le, take-take}
+use Rattle.std.proofs.Common.{◌≡◌, ℕ, zero, suc, ◌+◌, ◌-◌, ◌<◌, ◌≤◌, Bool, List, length, take, drop, refl, sym, ◌∙◌, ap, subst, arith, length-drop, drop-drop, length-take-le, take-take}
+use Rattle.std.proofs.lemmas.List.{drop-take}
 use Rattle.blot_journal.specs.File.{HasHead, Stands, text_of}
 use Rattle.blot_journal.specs.Journal.{IsOpen}
 use Rattle.blot_journal.proofs.HeadLemmas.{head_whole, text_is}

@@ -1,8 +1,7 @@
 -- What a recovery finds.
-use Rattle.std.proofs.Common.{◌≡◌, ℕ, ◌+◌, ◌≤◌, Bool, true, false, List, length, take, drop, Result, Ok, Err, IfErr, nat_eq, refl, sym, ◌∙◌, ap, subst, arith}
+use Rattle.std.proofs.Common.{◌≡◌, ℕ, ◌+◌, ◌≤◌, Bool, true, false, List, length, take, drop, Result, Ok, Err, IfErr, nat_eq, refl, sym, ◌∙◌, ap, subst, arith, take-take, take_all, w64}
 use Rattle.std.specs.Cmp.Lexicographic.{pointwise, same_text, other_text}
-use Rattle.std.proofs.lemmas.List.{take-take, take_all}
-use Rattle.std.specs.Int.{w64, from_le_bytes}
+use Rattle.std.specs.Int.{from_le_bytes}
 use Rattle.blot_journal.specs.Device.{Cut, Follows, Only}
 use Rattle.blot_journal.specs.File.{is_second, place, signed_in, size_in, text_of, IsWhole, HasHead}
 use Rattle.blot_journal.specs.Recovery.{IsCounted, IsCutBehind, IsHeadFault, IsFaultOf, trimmed}

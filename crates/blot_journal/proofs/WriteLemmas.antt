@@ -1,9 +1,9 @@
 -- What a write at a place leaves.
-use Rattle.std.proofs.Common.{◌≡◌, ℕ, ◌+◌, ◌-◌, ◌≤◌, List, ◌++◌, length, take, drop, sym, ◌∙◌, ap, arith, append_assoc, length-append, length-drop}
-use Rattle.std.proofs.lemmas.List.{take_at, drop_at, take-take, drop-drop, drop-take, length-take-le}
-use Rattle.blot_journal.specs.Device.{Holds, Torn}
+use Rattle.std.proofs.Common.{◌≡◌, ℕ, ◌+◌, ◌-◌, ◌≤◌, List, ◌++◌, length, take, drop, sym, ◌∙◌, ap, arith, append_assoc, length-append, length-drop, take_at, drop_at, take-take, drop-drop, length-take-le}
+use Rattle.std.proofs.lemmas.List.{drop-take}
+use Rattle.blot_journal.specs.Device.{HasWritten, Torn}
 
-module _ (old : List ℕ) (at : ℕ) (bytes new : List ℕ) (within : at ≤ length old) (holds : Holds old at bytes new) where
+module _ (old : List ℕ) (at : ℕ) (bytes new : List ℕ) (within : at ≤ length old) (holds : HasWritten old at bytes new) where
   size : length (take at old) ≡ at
   size = length-take-le at old within
 

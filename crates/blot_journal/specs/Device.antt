@@ -1,11 +1,10 @@
 -- A file on a disk: what its calls do to it, and what a crash may leave of them.
 use Rattle.std.specs.Prelude.{◌≡◌, ◌⊎◌, ℕ, ◌+◌, ◌<◌, ◌≤◌, max, min, List, ◌++◌, length, take, drop, Result, IsErrOf}
-use Rattle.blot_journal.specs.declared.device.DeviceFault.{DeviceFault}
-use Rattle.blot_journal.specs.declared.device.DeviceFault.TheVariants.{Failed}
+use Rattle.blot_journal.specs.declared.{device.DeviceFault.DeviceFault, device.DeviceFault.TheVariants.Failed}
 
 -- a file with these bytes written at this place
-abbrev pub Holds : List ℕ → ℕ → List ℕ → List ℕ → Type 0
-Holds old at bytes new = new ≡ take at old ++ bytes ++ drop (at + length bytes) old
+abbrev pub HasWritten : List ℕ → ℕ → List ℕ → List ℕ → Type 0
+HasWritten old at bytes new = new ≡ take at old ++ bytes ++ drop (at + length bytes) old
 
 -- a write of so many bytes that a crash cut short: any bytes in its range and past the old end, and all else as it was
 pub record Torn (at count : ℕ) (old new : List ℕ) : Type 0 where

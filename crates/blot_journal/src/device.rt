@@ -1,7 +1,7 @@
 //! A file as the journal sees it: what a read returns, and what a crash may leave.
 ghost use Rattle.std.specs.Prelude.{◌≡◌, ◌+◌, ◌<◌, ◌≤◌, Bool, List, ℕ, length, take, drop, IsErr, IsTrue, OnOk};
 ghost use Rattle.blot_journal.specs.declared.device.DeviceFault.TheVariants.{NoMemory as OutOfMemory};
-ghost use Rattle.blot_journal.specs.Device.{Cut, Elapses, Follows, HasCause, Holds, Only, Torn};
+ghost use Rattle.blot_journal.specs.Device.{Cut, Elapses, Follows, HasCause, HasWritten, Only, Torn};
 
 use std::alloc::AllocError as NoMemory;
 
@@ -61,7 +61,7 @@ pub trait Device {
     /// Writes over what is there, and past the end. Until a sync, a crash may leave any bytes in the range.
     fn write_at(&mut self, at: usize, bytes: &[u8]) -> Result<(), DeviceFault>
         requires { at ≤ length (seen self.old) }
-        ensures written { OnOk result (Holds (seen self.old) at bytes.now (seen self.new)) }
+        ensures written { OnOk result (HasWritten (seen self.old) at bytes.now (seen self.new)) }
         ensures crash { Follows (Torn at (length bytes.now)) (may_leave self.old) (may_leave self.new) }
         ensures stays { 0 < failures self.old → IsErr result }
         ensures time { Elapses (moment self.old) (moment self.new) (left_since self.old) (left_since self.new) (may_leave self.new) }

@@ -5,8 +5,8 @@ ghost use Rattle.blot_journal.specs.declared.file.FileFault.TheVariants.{NoMemor
 ghost use Rattle.blot_journal.specs.Device.{Only};
 ghost use Rattle.blot_journal.specs.Calls.{counts_now, failures_in, is_readable_after, leaves_after, left_after, only_now, seen_after};
 
+use crate::ghost_calls::{BEGAN, CUT, GhostCalls, SYNCED, WROTE};
 use crate::head::zeros;
-use crate::record::{BEGAN, CUT, Record, SYNCED, WROTE};
 use crate::{Device, DeviceFault};
 use std::alloc::{AllocError as NoMemory, Global};
 use std::fs::File;
@@ -54,7 +54,7 @@ pub struct FileDevice {
     read: Vec<u8>,
     // Why a call failed. From then on none is made.
     failure: Option<io::Error>,
-    noted: Record,
+    noted: GhostCalls,
 }
 
 impl Model for FileDevice {
@@ -85,7 +85,7 @@ impl FileDevice {
     {
         file.sync_all()?;
         let read = read_all(alloc, &file)?;
-        let mut noted = Record::new();
+        let mut noted = GhostCalls::new();
         noted.note(&[BEGAN, 0, 1], &read);
         Ok(FileDevice {
             alloc,

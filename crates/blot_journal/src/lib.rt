@@ -5,11 +5,11 @@
 mod batch;
 mod device;
 mod file;
+mod ghost_calls;
 mod head;
 mod journal;
 mod memory;
 mod opening;
-mod record;
 mod recovery;
 
 pub use device::{Device, DeviceFault};

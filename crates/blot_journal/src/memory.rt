@@ -1,10 +1,10 @@
 //! A file in memory, for tests.
 ghost use Rattle.std.specs.Prelude.{◌≡◌, ◌≤◌, [], ◌∷◌, List, Some, length, true, IfOk, IsTrue};
-ghost use Rattle.blot_journal.specs.Device.{Holds};
+ghost use Rattle.blot_journal.specs.Device.{HasWritten};
 ghost use Rattle.blot_journal.specs.Calls.{counts_now, durable_after, failures_in, leaves_after, left_after, only_now, seen_after};
 ghost use Rattle.blot_journal.specs.Calls.Call.{Began};
 
-use crate::record::{BEGAN, CUT, READ, Record, SYNCED, WROTE};
+use crate::ghost_calls::{BEGAN, CUT, GhostCalls, READ, SYNCED, WROTE};
 use crate::{Device, DeviceFault};
 use std::alloc::{AllocError as NoMemory, Global};
 use std::marker::Model;
@@ -26,7 +26,7 @@ pub struct MemoryDevice {
     durable: Vec<u8>,
     changes: Vec<Change>,
     fails_in: Option<u64>,
-    noted: Record,
+    noted: GhostCalls,
 }
 
 impl Model for MemoryDevice {
@@ -50,7 +50,7 @@ impl MemoryDevice {
     pub fn new(alloc: Global, bytes: &[u8], fails_in: Option<u64>) -> Result<MemoryDevice, NoMemory>
         ensures { IfOk result (λ device. device ≡ Began bytes.now ∷ []) }
     {
-        let mut noted = Record::new();
+        let mut noted = GhostCalls::new();
         noted.note(&[BEGAN, 0, 1], bytes);
         Ok(MemoryDevice {
             alloc,
@@ -100,7 +100,7 @@ fn is_due(fails_in: &mut Option<u64>) -> bool
 // A file with these bytes written at this place.
 fn written(alloc: Global, old: &[u8], at: usize, bytes: &[u8]) -> Result<Vec<u8>, NoMemory>
     requires { at ≤ length old.now }
-    ensures { IfOk result (λ new. Holds old.now at bytes.now new.items) }
+    ensures { IfOk result (λ new. HasWritten old.now at bytes.now new.items) }
 {
     let mut new = old[..at].to_vec(alloc)?;
     new.extend_from_slice(bytes)?;

@@ -1,6 +1,6 @@
 -- A connection of an open day, put together.
-use Rattle.std.proofs.Common.{◌≡◌, ℕ, ◌≤◌, List, [], Result, Ok, Err, refl, sym, ap, subst, ◌∙◌, inl, inr}
-use Rattle.std.specs.Prelude.{ℤ, ◌⊎◌, ⊤, true}
+use Rattle.std.proofs.Common.{◌≡◌, ℕ, ◌≤◌, List, [], Result, Ok, Err, refl, sym, ap, subst, ◌∙◌, inl, inr, ℤ, ◌⊎◌, true}
+use Rattle.std.specs.Prelude.{⊤}
 use Rattle.blot_session.specs.declared.state.State.{State}
 use Rattle.blot_slots.specs.Slots.{IsWaiting}
 use Rattle.blot_slots.specs.declared.slot_fault.SlotFault.{SlotFault}

@@ -1,10 +1,10 @@
 -- Listed peers, taken from the front.
-use Rattle.std.proofs.Common.{◌≡◌, ◌↔◌, ℕ, ◌+◌, ◌<◌, Bool, true, false, is_some, IsSomeAnd, List, [], ◌∷◌, ◌++◌, Some, length, get_or, take, drop, cond, Option, if◌then◌else◌, refl, ap, sym, subst, ◌∙◌}
+use Rattle.std.proofs.Common.{◌≡◌, ◌↔◌, ℕ, ◌+◌, ◌<◌, Bool, true, false, is_some, IsSomeAnd, List, [], ◌∷◌, ◌++◌, Some, length, get_or, take, drop, cond, Option, if◌then◌else◌, refl, ap, sym, subst, ◌∙◌, append_assoc, take-append-drop}
 use Rattle.std.specs.Cmp.Lexicographic.{nat_list_eq_equiv}
 use Rattle.std.specs.List.{AllByRecursion, IsDistinct, list_any}
 use Rattle.std.specs.Map.{lookup, set_value}
 use Rattle.std.proofs.lemmas.Bool.{both_ways, or_from, or_parts}
-use Rattle.std.proofs.lemmas.List.{append_assoc, drop_more, map-append, take_more, take-append-drop}
+use Rattle.std.proofs.lemmas.List.{drop_more, map-append, take_more}
 use Rattle.std.proofs.lemmas.Map.Keys.{IsDistinct-cons, IsDistinct-head, IsDistinct-tail}
 use Rattle.blot_types.specs.Keys.{same_text}
 use Rattle.blot_session.specs.declared.state.State.{State}

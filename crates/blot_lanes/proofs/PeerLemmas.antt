@@ -3,9 +3,8 @@ use Rattle.std.proofs.Common.{◌≡◌, ℕ, Bool, true, false, List, [], ◌�
 use Rattle.std.specs.Map.{lookup, set_value}
 use Rattle.std.proofs.lemmas.Map.Steps.{set_value_same}
 use Rattle.blot_types.specs.Keys.{same_text}
-use Rattle.blot_session.specs.declared.state.State.{State}
-use Rattle.blot_session.specs.declared.state.Link.{Link}
-use Rattle.blot_session.specs.declared.state.Link.TheVariants as links
+use Rattle.blot_session.specs.declared.{state.State.State, state.LinkState.LinkState}
+use Rattle.blot_session.specs.declared.state.LinkState.TheVariants as links
 use Rattle.blot_session.specs.declared.state.Phase.TheVariants as phases
 use Rattle.blot_session.specs.States.{phase_by, waiting_again}
 use Rattle.blot_slots.specs.Slots.{IsWaiting, Slots, answer_of, checked_out, slot_of, with_slot}
@@ -53,7 +52,7 @@ handed-neither answer seat session is none = sym (ap (λ answer. handed_out answ
 pub ruleset handing = (handed-fault, handed-both, handed-neither)
 
 -- a session that waits is put back as it is
-link-waits : (link : Link) → phase_by link ≡ phases.Waiting → links.Waiting ≡ link
+link-waits : (link : LinkState) → phase_by link ≡ phases.Waiting → links.Waiting ≡ link
 link-waits links.Waiting is = refl
 link-waits (links.On live) is = absurd cc
 link-waits links.Closed is = absurd cc

@@ -1,12 +1,8 @@
 -- Receipts of submits.
-use Rattle.std.proofs.Common.{◌≡◌, true, List, [], ◌∷◌, Result, Ok, Err, OnErr, IfOk, ap, ◌∙◌}
-use Rattle.std.specs.Prelude.{◌&&◌}
+use Rattle.std.proofs.Common.{◌≡◌, true, List, [], ◌∷◌, Result, Ok, Err, OnErr, IfOk, ap, ◌∙◌, ◌&&◌}
 use Rattle.std.proofs.lemmas.List.Folds.{list_all-append}
 use Rattle.blot_types.specs.declared.command.Command.{Command}
-use Rattle.blot_desk.specs.declared.event.Event.TheVariants.{Submit}
-use Rattle.blot_desk.specs.declared.event.Reply.{Reply}
-use Rattle.blot_desk.specs.declared.fault.DeskFault.{DeskFault}
-use Rattle.blot_desk.specs.declared.receipt.Receipt.{Receipt}
+use Rattle.blot_desk.specs.declared.{event.Event.TheVariants.Submit, event.Reply.Reply, fault.DeskFault.DeskFault, receipt.Receipt.Receipt}
 use Rattle.blot_desk.specs.Receipts.{IsOneMore}
 use Rattle.blot_gateway.specs.AtOnce.{Keeps, are_submits, is_submit}
 

@@ -1,6 +1,6 @@
 //! The listed peers as a day begins with them.
-ghost use Rattle.std.specs.List.{IsDistinct, list_any};
 ghost use Rattle.std.specs.Prelude.{◌≡◌, ◌↔◌, ◌⊎◌, ◌≤◌, ◌+◌, is_some, true, Err, Some, IfOk, IfErr, IsSomeAnd, IsTrue};
+ghost use Rattle.std.specs.List.{IsDistinct, list_any};
 ghost use Rattle.blot_types.specs.Keys.{same_text};
 ghost use Rattle.blot_fields.specs.declared.TheConstants.{SEQUENCE_MAX};
 ghost use Rattle.blot_session.specs.States.{resumed};

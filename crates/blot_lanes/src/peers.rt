@@ -1,6 +1,6 @@
 //! The listed peers of an open day, each with its session and its seat.
-ghost use Rattle.std.specs.List.{All, IsDistinct};
-ghost use Rattle.std.specs.Prelude.{◌≡◌, ◌↔◌, ◌⊎◌, [], true, Err, Some, None, IfOk, IfErr, IfSome, OnOk, OnErr};
+ghost use Rattle.std.specs.Prelude.{All, ◌≡◌, ◌↔◌, ◌⊎◌, [], true, Err, Some, None, IfOk, IfErr, IfSome, OnOk, OnErr};
+ghost use Rattle.std.specs.List.{IsDistinct};
 ghost use Rattle.blot_types.specs.Keys.{same_text};
 ghost use Rattle.blot_gateway.specs.AtOnce.{are_submits};
 ghost use Rattle.blot_lanes.specs.Listing.{all_resumed, peers_of};

@@ -1,10 +1,8 @@
 -- What a book's lists have: few entries, and allocations whose lines book their block.
-use Rattle.std.proofs.Common.{◌≡◌, ℕ, ◌+◌, ◌<◌, ◌≤◌, true, List, length, get_or, sym, subst}
-use Rattle.std.specs.Prelude.{IsTrue}
+use Rattle.std.proofs.Common.{◌≡◌, ℕ, ◌+◌, ◌<◌, ◌≤◌, true, List, length, get_or, sym, subst, IsTrue}
 use Rattle.std.proofs.lemmas.Bool.{and_parts}
 use Rattle.std.proofs.lemmas.List.Elements.{All-get_or}
-use Rattle.blot_types.specs.declared.command.Entry.{Entry}
-use Rattle.blot_types.specs.declared.TheConstants.{EVENTS_MAX}
+use Rattle.blot_types.specs.declared.{command.Entry.Entry, TheConstants.EVENTS_MAX}
 use Rattle.blot_types.specs.Legal.{is_numbered, is_legal, is_book}
 use Rattle.blot_types.proofs.LegalLemmas.{length_numbered}
 use Rattle.blot_types.proofs.QuantityLemmas.{EntryBooks, all_book}

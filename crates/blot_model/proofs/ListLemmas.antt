@@ -1,9 +1,9 @@
 -- What loops have gathered, with one item more.
-use Rattle.std.proofs.Common.{◌≡◌, ℕ, ◌+◌, ◌<◌, ◌≤◌, pos, ◌+ℤ◌, arith, Bool, true, false, List, [], ◌∷◌, ◌++◌, take, get_or, length, Option, Some, None, refl, sym, ap, ◌∙◌}
-use Rattle.std.specs.Prelude.{filter}
-use Rattle.std.specs.List.{cons_option, filter_map, flat_map}
-use Rattle.std.proofs.lemmas.List.{take_more, append_assoc, append-nil, length-append}
+use Rattle.std.proofs.Common.{◌≡◌, ℕ, ◌+◌, ◌<◌, ◌≤◌, pos, ◌+ℤ◌, arith, Bool, true, false, List, [], ◌∷◌, ◌++◌, take, get_or, length, Option, Some, None, refl, sym, ap, ◌∙◌, filter, filter_map, flat_map, append-nil, length-append}
+use Rattle.std.specs.List.{cons_option}
+use Rattle.std.proofs.lemmas.List.{take_more}
 use Rattle.std.proofs.lemmas.List.Elements.{filter_map-append, filter-append}
+use Rattle.std.proofs.lemmas.Grind.{flat_map-append}
 use Rattle.blot_types.specs.declared.fill.Fill.{Fill}
 use Rattle.blot_types.specs.Order.{cum_of}
 use Rattle.blot_types.proofs.SumLemmas.{total-append}
@@ -45,11 +45,6 @@ pub cum_of-more :
 cum_of-more f items index item within is =
     ap cum_of (found-more f items index item within is) ∙ total-append (λ fill. pos fill.qty) (filter_map f (take index items)) (cons_option (f item) [])
 
--- what the items of two lists hold
-pub flat-append : {A B : Type 0} (f : A → List B) (xs ys : List A) → flat_map f (xs ++ ys) ≡ flat_map f xs ++ flat_map f ys
-flat-append f [] ys = refl
-flat-append f (x ∷ xs) ys = ap (λ rest. f x ++ rest) (flat-append f xs ys) ∙ sym (append_assoc (f x) (flat_map f xs) (flat_map f ys))
-
 -- what the items that pass a test hold, with one item more
 kept-more :
     {A B : Type 0} (f : A → List B) (p : A → Bool) (items : List A) (index : ℕ) (item : A) (front : List B) → index < length items → item ≡ get_or items index item
@@ -57,7 +52,7 @@ kept-more :
 kept-more f p items index item front within is so_far =
     let more : take (index + 1) items ≡ take index items ++ item ∷ [] = rw is (take_more items index item within) in
     ap (λ xs. flat_map f (filter p xs)) more ∙ ap (flat_map f) (filter-append p (take index items) (item ∷ []))
-    ∙ flat-append f (filter p (take index items)) (filter p (item ∷ [])) ∙ ap (λ xs. xs ++ flat_map f (filter p (item ∷ []))) (sym so_far)
+    ∙ flat_map-append f (filter p (take index items)) (filter p (item ∷ [])) ∙ ap (λ xs. xs ++ flat_map f (filter p (item ∷ []))) (sym so_far)
 
 pub kept-passed :
     {A B : Type 0} (f : A → List B) (p : A → Bool) (items : List A) (index : ℕ) (item : A) (before after : List B) → index < length items → item ≡ get_or items index item

@@ -1,17 +1,11 @@
 -- The sums of the parts of a position, joined piece by piece.
-use Rattle.std.proofs.Common.{◌≡◌, ℕ, ◌+◌, ◌*◌, ◌^◌, ◌<◌, ◌≤◌, pos, ◌+ℤ◌, arith, List, [], ◌∷◌, ◌++◌, take, get_or, length, Option, Some, None, refl, sym, ap, subst, ◌∙◌}
-use Rattle.std.specs.Prelude.{filter, is_none, unsigned_abs}
-use Rattle.std.specs.List.{flat_map, filter_map}
+use Rattle.std.proofs.Common.{◌≡◌, ℕ, ◌+◌, ◌*◌, ◌^◌, ◌<◌, ◌≤◌, pos, ◌+ℤ◌, arith, List, [], ◌∷◌, ◌++◌, take, get_or, length, Option, Some, None, refl, sym, ap, subst, ◌∙◌, filter, is_none, unsigned_abs, flat_map, filter_map, append-nil}
 use Rattle.std.proofs.lemmas.Int.{ints}
-use Rattle.std.proofs.lemmas.List.{take_more, append-nil}
+use Rattle.std.proofs.lemmas.List.{take_more}
 use Rattle.std.proofs.lemmas.List.Elements.{filter-append, filter_map-append}
 use Rattle.std.proofs.lemmas.List.Sums.{sum_by-cons, sum_by_more}
-use Rattle.blot_types.specs.declared.allocation.Instruction.{Instruction}
-use Rattle.blot_types.specs.declared.allocation.Line.{Line}
-use Rattle.blot_types.specs.declared.allocation.Terms.{Terms}
-use Rattle.blot_types.specs.declared.command.Entry.{Entry}
-use Rattle.blot_types.specs.declared.part.Part.{Part}
-use Rattle.blot_types.specs.declared.lines.PositionLine.{PositionLine}
+use Rattle.std.proofs.lemmas.Grind.{flat_map-append}
+use Rattle.blot_types.specs.declared.{allocation.Instruction.Instruction, allocation.Line.Line, allocation.Terms.Terms, command.Entry.Entry, part.Part.Part, lines.PositionLine.PositionLine}
 use Rattle.blot_types.specs.Allocations.{Allocation, allocation_of}
 use Rattle.blot_types.specs.Instructions.{ended_in}
 use Rattle.blot_types.specs.Position.{IsSmall, from_house, part_of_line, moves_of_line, moves_of, is_at, position_by}
@@ -19,7 +13,6 @@ use Rattle.blot_types.specs.Refusals.{booked}
 use Rattle.blot_types.proofs.PartLemmas.{neg-size, signed-size}
 use Rattle.blot_types.proofs.SumLemmas.{total-append, total-cons}
 use Rattle.blot_model.specs.Sums.{sums_at, joined, live_moves, moves_by, units_of, IsUpTo, AreUpTo}
-use Rattle.blot_model.proofs.ListLemmas.{flat-append}
 
 -- ---- sums
 
@@ -93,7 +86,7 @@ live_moves-append instructions xs ys =
     let live = λ (allocation : Allocation). is_none (ended_in instructions allocation.key) in
     ap (live_moves instructions) (filter_map-append brought xs ys)
     ∙ ap (flat_map (λ a. moves_of a.terms)) (filter-append live (filter_map brought xs) (filter_map brought ys))
-    ∙ flat-append (λ a. moves_of a.terms) (filter live (filter_map brought xs)) (filter live (filter_map brought ys))
+    ∙ flat_map-append (λ a. moves_of a.terms) (filter live (filter_map brought xs)) (filter live (filter_map brought ys))
 
 -- ---- how large they are
 

@@ -1,9 +1,6 @@
 -- An entry as the chains and the allocations see it.
 use Rattle.std.specs.Prelude.{Bool, List, Option, Some, None, if◌then◌else◌}
-use Rattle.blot_types.specs.declared.allocation.Instruction.{Instruction}
-use Rattle.blot_types.specs.declared.command.Entry.{Entry}
-use Rattle.blot_types.specs.declared.keys.ExecKey.{ExecKey}
-use Rattle.blot_types.specs.declared.link.Link.{Link}
+use Rattle.blot_types.specs.declared.{allocation.Instruction.Instruction, command.Entry.Entry, keys.ExecKey.ExecKey, link.Link.Link}
 use Rattle.blot_types.specs.Allocations.{instruction_by}
 use Rattle.blot_types.specs.Chains.{is_root, own_root, root_in, takes_up}
 use Rattle.blot_types.specs.Survivors.{links_of}

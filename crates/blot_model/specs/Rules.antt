@@ -1,9 +1,7 @@
 -- What a rule of refusal asks of one execution.
 use Rattle.std.specs.Prelude.{Bool, false, List, reverse}
 use Rattle.std.specs.Option.{option_map_or}
-use Rattle.blot_types.specs.declared.allocation.Terms.{Terms}
-use Rattle.blot_types.specs.declared.command.Entry.{Entry}
-use Rattle.blot_types.specs.declared.keys.ExecKey.{ExecKey}
+use Rattle.blot_types.specs.declared.{allocation.Terms.Terms, command.Entry.Entry, keys.ExecKey.ExecKey}
 use Rattle.blot_types.specs.Refusals.{current_fill, differs}
 
 -- whether the last version of an execution is of another instrument or side than the terms

@@ -1,14 +1,7 @@
 -- The sums of the parts of a position, joined piece by piece, and how large they are.
-use Rattle.std.specs.Prelude.{◌≡◌, ℕ, ◌*◌, ◌^◌, ◌≤◌, ℤ, pos, ◌+ℤ◌, List, [], ◌∷◌, filter, map, Option, Some, None, unsigned_abs, is_none}
-use Rattle.std.specs.List.{filter_map, flat_map, sum_by}
+use Rattle.std.specs.Prelude.{◌≡◌, ℕ, ◌*◌, ◌^◌, ◌≤◌, ℤ, pos, ◌+ℤ◌, List, [], ◌∷◌, filter, map, Option, Some, None, unsigned_abs, is_none, filter_map, flat_map, sum_by}
 use Rattle.std.specs.Option.{option_map_or}
-use Rattle.blot_types.specs.declared.allocation.Instruction.{Instruction}
-use Rattle.blot_types.specs.declared.allocation.Line.{Line}
-use Rattle.blot_types.specs.declared.allocation.Terms.{Terms}
-use Rattle.blot_types.specs.declared.command.Entry.{Entry}
-use Rattle.blot_types.specs.declared.keys.AllocKey.{AllocKey}
-use Rattle.blot_types.specs.declared.part.Part.{Part}
-use Rattle.blot_types.specs.declared.lines.PositionLine.{PositionLine}
+use Rattle.blot_types.specs.declared.{allocation.Instruction.Instruction, allocation.Line.Line, allocation.Terms.Terms, command.Entry.Entry, keys.AllocKey.AllocKey, part.Part.Part, lines.PositionLine.PositionLine}
 use Rattle.blot_types.specs.Allocations.{Allocation, allocation_of}
 use Rattle.blot_types.specs.Instructions.{ended_in}
 use Rattle.blot_types.specs.Position.{is_at, moves_of, part_of, position_by}

@@ -1,6 +1,6 @@
 //! The quantities that an allocation has to come to.
-ghost use Rattle.std.specs.Prelude.{◌≡◌, ◌^◌, ◌≤ℤ◌, pos, [], reverse};
-ghost use Rattle.std.specs.List.{cons_option, filter_map};
+ghost use Rattle.std.specs.Prelude.{◌≡◌, ◌^◌, ◌≤ℤ◌, pos, [], reverse, filter_map};
+ghost use Rattle.std.specs.List.{cons_option};
 ghost use Rattle.blot_types.specs.Order.{cum_of};
 ghost use Rattle.blot_types.specs.Refusals.{version_in, current_fill};
 

@@ -12,9 +12,9 @@ ghost use Rattle.blot_model.specs.Sums.{sums_at, survivor_parts, moves_by, moves
 
 use crate::allocations::{ended_by, named_roots};
 use crate::chains::root_of;
-use crate::executions::survivors;
 use crate::instructions::instructions;
 use crate::parts::{joined, moves_of_line, shown};
+use crate::surviving::survivors;
 use blot_types::{
     AllocKey, Command, Entry, ExecKey, Instruction, Part, PositionLine, Terms, Text64,
 };

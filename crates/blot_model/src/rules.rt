@@ -1,7 +1,6 @@
 //! Why a list refuses a command: one function a rule, in the order of the rules.
-ghost use Rattle.std.specs.Prelude.{◌≡◌, ◌==◌, [], pos, find, is_none, reverse};
+ghost use Rattle.std.specs.Prelude.{◌≡◌, ◌==◌, [], pos, find, is_none, reverse, option_copied};
 ghost use Rattle.std.specs.List.{list_any};
-ghost use Rattle.std.specs.Option.{option_copied};
 ghost use Rattle.blot_types.specs.Allocations.{instructions_of};
 ghost use Rattle.blot_types.specs.Chains.{root_in};
 ghost use Rattle.blot_types.specs.Refusals.{is_live, never_entry, duplicate_exec, duplicate_alloc, unknown_alloc, dead_alloc, unknown_exec, busted_exec, repeated_exec, exec_taken, instrument, quantity, first_of, bust_of_key, same_chain, repeated_in, other_holder};

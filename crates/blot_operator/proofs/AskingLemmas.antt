@@ -1,18 +1,15 @@
 -- The line that withdraws an entry asks for that withdrawal.
-use Rattle.std.proofs.Common.{◌≡◌, ℕ, ◌+◌, ◌-◌, ◌*◌, ◌^◌, ◌<◌, true, false, leb, List, [], ◌∷◌, length, Ok, Some, None, refl, ap, ◌∙◌, arith, lit<, rules}
-use Rattle.std.specs.Prelude.{fold, codes}
+use Rattle.std.proofs.Common.{◌≡◌, ℕ, ◌+◌, ◌-◌, ◌*◌, ◌^◌, ◌<◌, true, false, leb, List, [], ◌∷◌, length, Ok, Some, None, refl, ap, ◌∙◌, arith, lit<, rules, fold, codes, decimal, le-leb, leb-true, ne_eqb}
 use Rattle.std.specs.Char.{is_ascii_digit}
-use Rattle.std.specs.Fmt.{decimal}
 use Rattle.std.specs.List.{list_all}
-use Rattle.std.proofs.lemmas.Bool.{and_from, and_parts, cond-true, le-leb, leb-true, ne_eqb}
+use Rattle.std.proofs.lemmas.Bool.{and_from, and_parts, cond-true}
 use Rattle.std.proofs.lemmas.Fmt.{decimal_nonempty, digits_decimal, digits_value-decimal, length-decimal-le}
 use Rattle.std.proofs.lemmas.List.Splits.{slice_split_none}
 use Rattle.std.proofs.lemmas.List.Sums.{AllPass-from_list_all}
 use Rattle.std.proofs.lemmas.Str.Parse.{IsNumeralModel, numerals_by_fold}
 use Rattle.blot_types.specs.declared.command.Command.TheVariants.{Withdraw}
 use Rattle.blot_desk.specs.declared.event.Event.TheVariants.{Submit}
-use Rattle.blot_console.specs.declared.ask.Ask.TheVariants.{Step}
-use Rattle.blot_console.specs.declared.parsing.TheConstants.{LINE_MAX}
+use Rattle.blot_console.specs.declared.{ask.Ask.TheVariants.Step, parsing.TheConstants.LINE_MAX}
 use Rattle.blot_console.specs.Forms.{number_form}
 use Rattle.blot_console.specs.Lines.{withdraw_line}
 use Rattle.blot_console.specs.Parsing.{ask_of, kind_of, parsed, told, words_line}

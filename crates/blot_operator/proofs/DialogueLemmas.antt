@@ -1,21 +1,16 @@
 -- What is told of lines at a desk of any kind, as the bytes of an input come.
-use Rattle.std.proofs.Common.{◌≡◌, ◌≢◌, ℕ, ◌+◌, Bool, true, false, List, [], ◌∷◌, ◌++◌, length, take, Option, Some, None, Result, Ok, Err, refl, sym, ap, ◌∙◌, subst, inl, inr, arith}
-use Rattle.std.specs.Prelude.{◌==◌, nat_le, IfOk, if◌then◌else◌}
+use Rattle.std.proofs.Common.{◌≡◌, ◌≢◌, ℕ, ◌+◌, Bool, true, false, List, [], ◌∷◌, ◌++◌, length, take, Option, Some, None, Result, Ok, Err, refl, sym, ap, ◌∙◌, subst, inl, inr, arith, ◌==◌, nat_le, IfOk, if◌then◌else◌, leb-true, leb-false, append_assoc, append-nil, take_all, length-take-le}
 use Rattle.std.specs.Io.KnownBytes.{Appends}
 use Rattle.std.specs.List.{list_any}
 use Rattle.std.proofs.KnownBytes.{Appends-nil, Appends-trans, Keeps-refl}
-use Rattle.std.proofs.lemmas.Bool.{cases_Bool, leb-true, leb-false, lt-leb}
-use Rattle.std.proofs.lemmas.List.{append_assoc, append-nil, take_all, length-take-le, flat_map_more}
+use Rattle.std.proofs.lemmas.Bool.{cases_Bool, lt-leb}
+use Rattle.std.proofs.lemmas.List.{flat_map_more}
 use Rattle.blot_types.specs.declared.refused.Refused.{Refused}
 use Rattle.blot_types.specs.Legal.{refusal_of}
-use Rattle.blot_desk.specs.declared.event.Event.{Event}
+use Rattle.blot_desk.specs.declared.{event.Event.Event, event.Reply.Reply}
 use Rattle.blot_desk.specs.declared.event.Event.TheVariants.{Submit, Undo, Redo, AskOrder, AskPosition}
-use Rattle.blot_desk.specs.declared.event.Reply.{Reply}
 use Rattle.blot_desk.specs.Desk.{DeskBook, IsReply, run_of, step_of, submit_by, undo_by, redo_by}
-use Rattle.blot_console.specs.declared.parsing.TheConstants.{LINE_MAX}
-use Rattle.blot_console.specs.declared.answer.Answer.{Answer}
-use Rattle.blot_console.specs.declared.fault.LineFault.{LineFault}
-use Rattle.blot_console.specs.declared.open_day.DayAsk.{DayAsk}
+use Rattle.blot_console.specs.declared.{parsing.TheConstants.LINE_MAX, answer.Answer.Answer, fault.LineFault.LineFault, open_day.DayAsk.DayAsk}
 use Rattle.blot_console.specs.Answers.{CanBeTold, answer_text}
 use Rattle.blot_console.specs.Parsing.{parsed, ask_of, told}
 use Rattle.blot_operator.specs.declared.answering.Asked.TheVariants as asks

@@ -1,8 +1,7 @@
 -- The lines of a text, as its bytes come.
-use Rattle.std.proofs.Common.{◌≡◌, ◌≢◌, ℕ, ◌+◌, ◌<◌, ◌≤◌, true, false, zero, suc, List, [], ◌∷◌, ◌++◌, length, take, refl, sym, ap, ◌∙◌, inl, inr, arith}
-use Rattle.std.specs.Prelude.{◌==◌, nat_le, fold, codes, if◌then◌else◌}
-use Rattle.std.proofs.lemmas.Bool.{cases_Bool, eqb-true, leb-true, leb-false, lt-leb}
-use Rattle.std.proofs.lemmas.List.{append_assoc, append-nil, take_all, take-append-le, length-take-le, length-append, nil_from_length}
+use Rattle.std.proofs.Common.{◌≡◌, ◌≢◌, ℕ, ◌+◌, ◌<◌, ◌≤◌, true, false, zero, suc, List, [], ◌∷◌, ◌++◌, length, take, refl, sym, ap, ◌∙◌, inl, inr, arith, ◌==◌, nat_le, fold, codes, if◌then◌else◌, eqb-true, leb-true, leb-false, append_assoc, append-nil, take_all, length-take-le, length-append}
+use Rattle.std.proofs.lemmas.Bool.{cases_Bool, lt-leb}
+use Rattle.std.proofs.lemmas.List.{take-append-le, nil_from_length}
 use Rattle.std.proofs.lemmas.List.Sums.{fold-append}
 use Rattle.blot_console.specs.declared.parsing.TheConstants.{LINE_MAX}
 use Rattle.blot_operator.specs.Lines.{onto_first, lines_of, Split, split_on, split_of, kept}

@@ -1,8 +1,7 @@
 -- The line by which an operator's event is kept: the one that asks for it, or the withdrawal that `mine` came to. Source: this project's rule.
 use Rattle.std.specs.Prelude.{◌≡◌, ◌⊎◌, ℕ, List, ◌++◌, Ok, codes}
 use Rattle.blot_types.specs.declared.command.Command.TheVariants.{Withdraw}
-use Rattle.blot_desk.specs.declared.event.Event.{Event}
-use Rattle.blot_desk.specs.declared.event.Event.TheVariants.{Submit}
+use Rattle.blot_desk.specs.declared.{event.Event.Event, event.Event.TheVariants.Submit}
 use Rattle.blot_console.specs.declared.ask.Ask.TheVariants.{Step}
 use Rattle.blot_console.specs.Parsing.{parsed}
 use Rattle.blot_console.specs.Replies.{number_text}

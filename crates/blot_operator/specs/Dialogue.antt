@@ -1,23 +1,15 @@
 -- What is told at a desk, one's own or one of many: each line is answered by what the desk replies, and its answer is told before
 -- the next line is taken. Source: this project's rule.
-use Rattle.std.specs.Prelude.{◌≡◌, ◌↔◌, ℕ, ℤ, Bool, true, false, List, [], ◌∷◌, ◌++◌, length, IsTrue, IfOk, IfSome, OnOk, OnErr, Option, Some, None, option_to_list, Result, Ok, Err, ◌⊎◌}
+use Rattle.std.specs.Prelude.{◌≡◌, ◌↔◌, ℕ, ℤ, Bool, true, false, List, [], ◌∷◌, ◌++◌, length, IsTrue, IfOk, IfSome, OnOk, OnErr, Option, Some, None, option_to_list, Result, Ok, Err, ◌⊎◌, flat_map}
 use Rattle.std.specs.Io.KnownBytes.{Appends, Keeps}
-use Rattle.std.specs.List.{flat_map, list_any}
-use Rattle.blot_types.specs.declared.command.Command.TheVariants.{Withdraw}
-use Rattle.blot_types.specs.declared.command.Entry.{Entry}
-use Rattle.blot_types.specs.declared.TheConstants.{EVENTS_MAX}
+use Rattle.std.specs.List.{list_any}
+use Rattle.blot_types.specs.declared.{command.Command.TheVariants.Withdraw, command.Entry.Entry, TheConstants.EVENTS_MAX}
 use Rattle.blot_types.specs.Legal.{is_book}
-use Rattle.blot_desk.specs.declared.event.Event.{Event}
-use Rattle.blot_desk.specs.declared.event.Event.TheVariants.{Submit}
-use Rattle.blot_desk.specs.declared.event.Reply.{Reply}
-use Rattle.blot_desk.specs.declared.fault.DeskFault.{DeskFault}
+use Rattle.blot_desk.specs.declared.{event.Event.Event, event.Event.TheVariants.Submit, event.Reply.Reply, fault.DeskFault.DeskFault, receipt.Receipt.Receipt, question.Found.Found, question.Question.Question}
 use Rattle.blot_desk.specs.declared.fault.DeskFault.TheVariants.{Broken, Full, NoMemory, Unsettled}
-use Rattle.blot_desk.specs.declared.receipt.Receipt.{Receipt}
-use Rattle.blot_desk.specs.Desk.{Journal, newest_entry_of, step_of, recorded_of}
+use Rattle.blot_desk.specs.Desk.{DeskState, newest_entry_of, step_of, recorded_of}
 use Rattle.blot_desk.specs.Keeping.{is_ask}
 use Rattle.blot_desk.specs.Receipts.{IsOneMore, newest_of}
-use Rattle.blot_desk.specs.declared.question.Found.{Found}
-use Rattle.blot_desk.specs.declared.question.Question.{Question}
 use Rattle.blot_desk.specs.Makers.{IsFoundBy}
 use Rattle.blot_desk.specs.Questions.{IsFound, found_of}
 use Rattle.blot_report.specs.Lines.{day_lines_of, order_lines_of, position_lines_of}
@@ -25,9 +17,7 @@ use Rattle.blot_console.specs.declared.answer.Answer.{Answer}
 use Rattle.blot_console.specs.declared.answer.Answer.TheVariants as answers
 use Rattle.blot_console.specs.declared.ask.Ask.{Ask}
 use Rattle.blot_console.specs.declared.ask.Ask.TheVariants as asks
-use Rattle.blot_console.specs.declared.fault.LineFault.{LineFault}
-use Rattle.blot_console.specs.declared.fault.LineFault.TheVariants.{TooLong}
-use Rattle.blot_console.specs.declared.open_day.DayAsk.{DayAsk}
+use Rattle.blot_console.specs.declared.{fault.LineFault.LineFault, fault.LineFault.TheVariants.TooLong, open_day.DayAsk.DayAsk}
 use Rattle.blot_console.specs.declared.open_day.DayAsk.TheVariants as day
 use Rattle.blot_console.specs.declared.open_day.SessionLine.{SessionLine}
 use Rattle.blot_console.specs.Answers.{answer_text}
@@ -263,23 +253,23 @@ StopsOf ways before known after old new = IfSome known (λ bytes. StopsAmong way
 -- ---- kinds of desk
 
 -- an event at a desk of one's own
-pub record OwnStep (before : Journal) (event : Event) (given : Result Reply DeskFault) (after : Journal) : Type 0 where
+pub record OwnStep (before : DeskState) (event : Event) (given : Result Reply DeskFault) (after : DeskState) : Type 0 where
   pub reply : IfOk given (λ reply. reply ≡ (step_of before.book event).reply)
   pub taken : OnOk given (after ≡ recorded_of before event)
   pub full : (given ≡ Err Full) ↔ (length before.history ≡ EVENTS_MAX)
   pub err : OnErr given (after ≡ before)
 
 -- it shows its live list
-abbrev pub OwnList : Journal → List Entry → Type 0
-OwnList journal list = list ≡ journal.book.list
+abbrev pub OwnList : DeskState → List Entry → Type 0
+OwnList desk list = list ≡ desk.book.list
 
 -- its ways
-abbrev pub own_ways : Ways Journal
+abbrev pub own_ways : Ways DeskState
 own_ways = record {
   steps = OwnStep;
-  newest = λ journal. newest_entry_of journal.book.list;
+  newest = λ desk. newest_entry_of desk.book.list;
   shows = OwnList;
-  finds = λ journal question found makers. (found ≡ found_of journal question) × (makers ≡ None);
+  finds = λ desk question found makers. (found ≡ found_of desk question) × (makers ≡ None);
   is_open = false;
   IsKept = ⊥;
 }

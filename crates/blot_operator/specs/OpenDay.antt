@@ -2,11 +2,7 @@
 use Rattle.std.specs.Prelude.{◌≡◌, ℕ, Bool, true, false, List, [], ◌∷◌, IfSome, Option, Some, None, Result, Ok, ◌⊎◌, if◌then◌else◌}
 use Rattle.std.specs.List.{list_any}
 use Rattle.std.specs.Io.KnownBytes.{IsAtEnd}
-use Rattle.blot_console.specs.declared.answer.Answer.{Answer}
-use Rattle.blot_console.specs.declared.answer.Answer.TheVariants.{Closed}
-use Rattle.blot_console.specs.declared.fault.LineFault.{LineFault}
-use Rattle.blot_console.specs.declared.open_day.DayAsk.{DayAsk}
-use Rattle.blot_console.specs.declared.open_day.DayAsk.TheVariants.{Close}
+use Rattle.blot_console.specs.declared.{answer.Answer.Answer, answer.Answer.TheVariants.Closed, fault.LineFault.LineFault, open_day.DayAsk.DayAsk, open_day.DayAsk.TheVariants.Close}
 use Rattle.blot_console.specs.OpenDay.{day_parsed}
 use Rattle.blot_operator.specs.Lines.{lines_of}
 

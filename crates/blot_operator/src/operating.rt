@@ -33,7 +33,7 @@ pub fn desk_lines<R: Read, W: Write>(
     output: &mut W,
     held: &mut Held,
 ) -> Result<(), ReplayFault>
-    ensures journal { OnOk result (IfSome (R.remaining input.old) (λ bytes. held.new ≡ (told_over held.old (lines_of bytes)).journal)) }
+    ensures desk { OnOk result (IfSome (R.remaining input.old) (λ bytes. held.new ≡ (told_over held.old (lines_of bytes)).desk)) }
     ensures wrote { OnOk result (AppendsOf (answers_of held.old) (R.remaining input.old) (W.contents output.old) (W.contents output.new)) }
     ensures read_to_the_end { OnOk result (IsAtEnd (R.remaining input.new)) }
 

@@ -1,23 +1,20 @@
 -- The fills by number: what stands under a number after a change, and the fills that are put.
-use Rattle.std.proofs.Common.{◌≡◌, ◌≢◌, ℕ, ◌+◌, ◌<◌, ◌≤◌, List, [], ◌∷◌, map, Option, Some, None, Bool, true, false, ◌&&◌, refl, sym, ap, ◌∙◌, arith, inl, inr}
-use Rattle.std.specs.Prelude.{◌==◌, T, find, nat_le, nat_lt, if◌then◌else◌}
+use Rattle.std.proofs.Common.{◌≡◌, ◌≢◌, ℕ, ◌+◌, ◌<◌, ◌≤◌, List, [], ◌∷◌, map, Option, Some, None, Bool, true, false, ◌&&◌, refl, sym, ap, ◌∙◌, arith, inl, inr, ◌==◌, T, find, nat_le, nat_lt, if◌then◌else◌}
 use Rattle.std.specs.Cmp.{nat_cmp_total, unsigned_tied}
 use Rattle.std.specs.FinMap as finite
+use Rattle.std.proofs.Common.{filter_map, option_map, option_and_then, nat_cmp, is_lt, leb-true, ltb-true, ltb-false, ne_eqb, eq-eqb, eqb-true}
 use Rattle.std.specs.FinMap.Entries.{below_all}
-use Rattle.std.specs.List.{filter_map}
-use Rattle.std.specs.Option.{option_map, option_and_then}
-use Rattle.std.specs.Ordering.{nat_cmp, eq_by_cmp, is_lt}
-use Rattle.std.proofs.lemmas.Bool.{cases_Bool, and_parts, leb-true, ltb-true, ltb-false, ne_eqb, eq-eqb, eqb-true, eqb-false}
-use Rattle.blot_types.specs.declared.fill.Fill.{Fill}
-use Rattle.blot_types.specs.declared.lines.Version.{Version}
-use Rattle.blot_order.specs.declared.held.Held.{Held}
-use Rattle.blot_order.specs.declared.held.Held.TheVariants.{Kept, Put}
+use Rattle.std.specs.Ordering.{eq_by_cmp}
+use Rattle.std.proofs.lemmas.Bool.{cases_Bool, and_parts, eqb-false}
+use Rattle.blot_types.specs.declared.{fill.Fill.Fill, lines.Version.Version}
+use Rattle.blot_order.specs.declared.stored_fill.FillState.{FillState}
+use Rattle.blot_order.specs.declared.stored_fill.FillState.TheVariants.{Kept, Put}
 use Rattle.blot_order.specs.Fills.{Fills, fill_put, fill_kept, fill_held, put_at, kept_at, held_at, with_put, with_kept, fills_put}
 
 -- ---- what stands under a number after a change
 
 -- what a map with one more entry has under a number
-pub get-insert : (fills : Fills) (n k : ℕ) (held : Held) → finite.get (finite.insert fills n held) k ≡ (if k == n then Some held else finite.get fills k)
+pub get-insert : (fills : Fills) (n k : ℕ) (held : FillState) → finite.get (finite.insert fills n held) k ≡ (if k == n then Some held else finite.get fills k)
 get-insert fills n k held =
     finite.get-insert nat_cmp_total fills n held k ∙ ap (λ test. if test then Some held else finite.get fills k) (unsigned_tied k n)
 
@@ -78,19 +75,19 @@ held_at-with_kept_other n k fill fills other = held_at-with_kept n k fill fills 
 -- ---- put, kept and held
 
 pub put_at-empty : (n : ℕ) → put_at finite.empty n ≡ None
-put_at-empty n = ap (option_and_then fill_put) (finite.get-empty {X = Held} nat_cmp n)
+put_at-empty n = ap (option_and_then fill_put) (finite.get-empty {X = FillState} nat_cmp n)
 
-put_is_held : (here : Option Held) (fill : Fill) → option_and_then fill_put here ≡ Some fill → option_map fill_held here ≡ Some fill
+put_is_held : (here : Option FillState) (fill : Fill) → option_and_then fill_put here ≡ Some fill → option_map fill_held here ≡ Some fill
 put_is_held None fill is = cc
 put_is_held (Some (Kept kept)) fill is = cc
 put_is_held (Some (Put put)) fill is = is
 
-kept_is_held : (here : Option Held) (fill : Fill) → option_and_then fill_kept here ≡ Some fill → option_map fill_held here ≡ Some fill
+kept_is_held : (here : Option FillState) (fill : Fill) → option_and_then fill_kept here ≡ Some fill → option_map fill_held here ≡ Some fill
 kept_is_held None fill is = cc
 kept_is_held (Some (Kept kept)) fill is = is
 kept_is_held (Some (Put put)) fill is = cc
 
-held_is_kept : (here : Option Held) (fill : Fill) → option_and_then fill_put here ≡ None → option_map fill_held here ≡ Some fill → option_and_then fill_kept here ≡ Some fill
+held_is_kept : (here : Option FillState) (fill : Fill) → option_and_then fill_put here ≡ None → option_map fill_held here ≡ Some fill → option_and_then fill_kept here ≡ Some fill
 held_is_kept None fill unput is = cc
 held_is_kept (Some (Kept kept)) fill unput is = is
 held_is_kept (Some (Put put)) fill unput is = cc
@@ -134,7 +131,7 @@ fill_numbered-later : (n : ℕ) (version : Version) (later : List Version) → v
 fill_numbered-later n version later other = let test : (version.number == n) ≡ false = ne_eqb version.number n other in rw test refl
 
 -- what entries have put under a number
-abbrev put_in : List (ℕ × Held) → ℕ → Option Fill
+abbrev put_in : List (ℕ × FillState) → ℕ → Option Fill
 put_in entries n = option_and_then fill_put (finite.find nat_cmp n entries)
 
 -- an order of numbers is that of their sizes
@@ -150,11 +147,11 @@ lt-nat_cmp m n test =
     ]
 
 -- whether each number of entries is above one
-abbrev pub are_above : ℕ → List (ℕ × Held) → Bool
+abbrev pub are_above : ℕ → List (ℕ × FillState) → Bool
 are_above n entries = below_all nat_cmp n entries
 
 -- nothing stands under a number that is not above one below all of them
-find-above : (k n : ℕ) (entries : List (ℕ × Held)) → are_above n entries ≡ true → k ≤ n → finite.find nat_cmp k entries ≡ None
+find-above : (k n : ℕ) (entries : List (ℕ × FillState)) → are_above n entries ≡ true → k ≤ n → finite.find nat_cmp k entries ≡ None
 find-above k n [] above low = refl
 find-above k n (entry ∷ entries) above low =
     let parts : (is_lt (nat_cmp n entry.0) ≡ true) × (are_above n entries ≡ true) = and_parts _ _ above in
@@ -163,15 +160,15 @@ find-above k n (entry ∷ entries) above low =
     rw other (find-above k n entries parts.1 low)
 
 -- the first entry, and the later ones
-find-first : (n : ℕ) (held : Held) (entries : List (ℕ × Held)) → finite.find nat_cmp n ((n, held) ∷ entries) ≡ Some held
+find-first : (n : ℕ) (held : FillState) (entries : List (ℕ × FillState)) → finite.find nat_cmp n ((n, held) ∷ entries) ≡ Some held
 find-first n held entries = let same : eq_by_cmp nat_cmp n n ≡ true = unsigned_tied n n ∙ eq-eqb n n refl in rw same refl
 
-find-later : (k n : ℕ) (held : Held) (entries : List (ℕ × Held)) → k ≢ n → finite.find nat_cmp k ((n, held) ∷ entries) ≡ finite.find nat_cmp k entries
+find-later : (k n : ℕ) (held : FillState) (entries : List (ℕ × FillState)) → k ≢ n → finite.find nat_cmp k ((n, held) ∷ entries) ≡ finite.find nat_cmp k entries
 find-later k n held entries apart = let other : eq_by_cmp nat_cmp k n ≡ false = unsigned_tied k n ∙ ne_eqb k n apart in rw other refl
 
 -- what entries and versions have alike, those behind their first ones have alike, where both lie above it
 alike_behind :
-    (n : ℕ) (held : Held) (entries : List (ℕ × Held)) (version : Version) (later : List Version)
+    (n : ℕ) (held : FillState) (entries : List (ℕ × FillState)) (version : Version) (later : List Version)
     → are_above n entries ≡ true → rise_from (n + 1) later ≡ true → version.number ≡ n
     → ((k : ℕ) → put_in ((n, held) ∷ entries) k ≡ fill_numbered k (version ∷ later))
     → (k : ℕ) → put_in entries k ≡ fill_numbered k later
@@ -188,7 +185,7 @@ alike_behind n held entries version later above rise is alike k =
 
 -- a kept fill is no version's
 alike_kept :
-    (n : ℕ) (fill : Fill) (entries : List (ℕ × Held)) (versions : List Version) → are_above n entries ≡ true
+    (n : ℕ) (fill : Fill) (entries : List (ℕ × FillState)) (versions : List Version) → are_above n entries ≡ true
     → ((k : ℕ) → put_in ((n, Kept fill) ∷ entries) k ≡ fill_numbered k versions)
     → (k : ℕ) → put_in entries k ≡ fill_numbered k versions
 alike_kept n fill entries versions above alike k =
@@ -202,7 +199,7 @@ alike_kept n fill entries versions above alike k =
 
 -- the first fill that is put is that of the first version
 first_number :
-    (n : ℕ) (fill : Fill) (entries : List (ℕ × Held)) (version : Version) (later : List Version)
+    (n : ℕ) (fill : Fill) (entries : List (ℕ × FillState)) (version : Version) (later : List Version)
     → are_above n entries ≡ true → rise_from (version.number + 1) later ≡ true
     → ((k : ℕ) → put_in ((n, Put fill) ∷ entries) k ≡ fill_numbered k (version ∷ later)) → version.number ≡ n
 first_number n fill entries version later above rise alike =
@@ -228,7 +225,7 @@ first_number n fill entries version later above rise alike =
 
 -- entries that put the fill of each version under its number, and no others, put the fills of the versions
 put-by_versions :
-    (entries : List (ℕ × Held)) (versions : List Version) (from : ℕ) → finite.is_sorted nat_cmp entries ≡ true → rise_from from versions ≡ true
+    (entries : List (ℕ × FillState)) (versions : List Version) (from : ℕ) → finite.is_sorted nat_cmp entries ≡ true → rise_from from versions ≡ true
     → ((k : ℕ) → put_in entries k ≡ fill_numbered k versions) → filter_map fill_put (map (λ entry. entry.1) entries) ≡ map (λ v. v.fill) versions
 put-by_versions [] [] from sorted rise alike = refl
 put-by_versions [] (version ∷ later) from sorted rise alike =

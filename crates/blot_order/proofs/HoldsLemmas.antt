@@ -1,17 +1,12 @@
 -- The cells of the fills in slots: what they say, and that they hold where room is made, and where a fill is kept, put or taken.
-use Rattle.std.proofs.Common.{◌≡◌, ℕ, ◌+◌, ◌<◌, ◌≤◌, true, false, List, length, set, Option, Some, None, refl, sym, ap, subst, ◌∙◌, arith, inl, inr, if◌then◌else◌}
-use Rattle.std.specs.Prelude.{◌==◌, Bool, Contains, IfSome}
-use Rattle.std.specs.Option.{option_and_then, option_map}
-use Rattle.std.proofs.lemmas.Bool.{cases_Bool, eqb-true, eqb-false, false≢true}
+use Rattle.std.proofs.Common.{◌≡◌, ℕ, ◌+◌, ◌<◌, ◌≤◌, true, false, List, length, set, Option, Some, None, refl, sym, ap, subst, ◌∙◌, arith, inl, inr, if◌then◌else◌, ◌==◌, Bool, Contains, IfSome, option_and_then, option_map, eqb-true, get_or-set_same, get_or-set_other, length-set}
+use Rattle.std.proofs.lemmas.Bool.{cases_Bool, eqb-false, false≢true}
 use Rattle.std.proofs.lemmas.Int.{ints}
-use Rattle.std.proofs.lemmas.List.{get_or-set_same, get_or-set_other, length-set}
-use Rattle.blot_types.specs.declared.TheConstants.{EVENTS_MAX}
-use Rattle.blot_types.specs.declared.fill.Fill.{Fill}
-use Rattle.blot_types.specs.declared.keys.OrderKey.{OrderKey}
+use Rattle.blot_types.specs.declared.{TheConstants.EVENTS_MAX, fill.Fill.Fill, keys.OrderKey.OrderKey}
 use Rattle.blot_types.specs.Keys.{same_order}
 use Rattle.blot_types.specs.Order.{fills_of, line_of, line_by}
-use Rattle.blot_order.specs.declared.held.Held.{Held}
-use Rattle.blot_order.specs.declared.held.Held.TheVariants.{Kept, Put}
+use Rattle.blot_order.specs.declared.stored_fill.FillState.{FillState}
+use Rattle.blot_order.specs.declared.stored_fill.FillState.TheVariants.{Kept, Put}
 use Rattle.blot_order.specs.Cells.{Tally, tally_at, tally_of, line_in, with_one_kept, without_one_kept, with_fill_put, with_fill_taken, Changes, ChangesWhere, CountsKept, CanPut, CanTake, HoldsOrders}
 use Rattle.blot_order.specs.Fills.{Fills, fill_put, fill_kept, fills_put}
 use Rattle.blot_order.specs.Slots.{held_by, slot_at, fills_in_slots, put_under, kept_under, puts, keeps, keeps_under, numbers_from, reaching}
@@ -33,7 +28,7 @@ either_way false tally = refl
 
 -- ---- what cells that hold say
 
-module _ (cells : List (OrderKey × Tally)) (slots : List (Option Held)) (are : HoldsOrders cells slots) where
+module _ (cells : List (OrderKey × Tally)) (slots : List (Option FillState)) (are : HoldsOrders cells slots) where
   -- no sum is large
   pub small : (order : OrderKey) → AreSmall (tally_at cells order).totals
   small order =
@@ -85,7 +80,7 @@ module _ (cells : List (OrderKey × Tally)) (slots : List (Option Held)) (are : 
 
   -- the line of an order, as it is read
   pub line-read :
-      (read : List (Option Held)) (fills : Fills) (order : OrderKey) (tally : Tally) → held_by slots ≡ fills → read ≡ slots → tally ≡ tally_at cells order
+      (read : List (Option FillState)) (fills : Fills) (order : OrderKey) (tally : Tally) → held_by slots ≡ fills → read ≡ slots → tally ≡ tally_at cells order
       → line_in read tally ≡ line_of (fills_of (fills_put fills) order)
   line-read read fills order tally view same is =
       let tallies : tally ≡ tally_of slots order = is ∙ are.tallies order in
@@ -96,7 +91,7 @@ module _ (cells : List (OrderKey × Tally)) (slots : List (Option Held)) (are : 
   -- ---- room
 
   -- more empty slots
-  pub reached : (n : ℕ) → n ≤ EVENTS_MAX → (new : List (Option Held)) → new ≡ reaching n slots → HoldsOrders cells new
+  pub reached : (n : ℕ) → n ≤ EVENTS_MAX → (new : List (Option FillState)) → new ≡ reaching n slots → HoldsOrders cells new
   reached n within new is =
       subst (HoldsOrders cells) (sym is) (record {
         few = few-reaching n (EVENTS_MAX + 1) slots (omega arith) are.few;
@@ -116,7 +111,7 @@ module _ (cells : List (OrderKey × Tally)) (slots : List (Option Held)) (are : 
 
   module _ (new : List (OrderKey × Tally)) (n : ℕ) (within : n < length slots) where
     holds-set :
-        (held : Held) → IfSome (fill_put held) Fits → ((order : OrderKey) → tally_at new order ≡ tally_of (set slots n (Some held)) order)
+        (held : FillState) → IfSome (fill_put held) Fits → ((order : OrderKey) → tally_at new order ≡ tally_of (set slots n (Some held)) order)
         → HoldsOrders new (set slots n (Some held))
     holds-set held fits tallies =
         let after = set slots n (Some held) in
@@ -159,7 +154,7 @@ module _ (cells : List (OrderKey × Tally)) (slots : List (Option Held)) (are : 
     -- a fill is kept where none is put: its order has one more, and then that of the fill that was kept there has one less
     pub holds-kept :
         (counted : List (OrderKey × Tally)) (fill : Fill) → put_under slots n ≡ None → Changes fill.order with_one_kept cells counted
-        → (read : List (Option Held)) → read ≡ slots
+        → (read : List (Option FillState)) → read ≡ slots
         → ChangesWhere (keeps_under read n) without_one_kept counted new
         → HoldsOrders new (set slots n (Some (Kept fill)))
     holds-kept counted fill unput one_more read same one_less =
@@ -172,7 +167,7 @@ module _ (cells : List (OrderKey × Tally)) (slots : List (Option Held)) (are : 
 
   -- the order of a fill that is kept has one, also once one more is counted of some order
   one-counted :
-      (counted : List (OrderKey × Tally)) (key : OrderKey) (n : ℕ) → Changes key with_one_kept cells counted → (slot : Option Held) → slot_at slots n ≡ slot
+      (counted : List (OrderKey × Tally)) (key : OrderKey) (n : ℕ) → Changes key with_one_kept cells counted → (slot : Option FillState) → slot_at slots n ≡ slot
       → CountsKept counted (option_and_then fill_kept slot)
   one-counted counted key n changes None is = search
   one-counted counted key n changes (Some (Put fill)) is = search
@@ -182,6 +177,6 @@ module _ (cells : List (OrderKey × Tally)) (slots : List (Option Held)) (are : 
       search
 
   pub has_one-counted :
-      (counted : List (OrderKey × Tally)) (key : OrderKey) (n : ℕ) (read : List (Option Held)) → read ≡ slots → Changes key with_one_kept cells counted
+      (counted : List (OrderKey × Tally)) (key : OrderKey) (n : ℕ) (read : List (Option FillState)) → read ≡ slots → Changes key with_one_kept cells counted
       → CountsKept counted (kept_under read n)
   has_one-counted counted key n read same changes = one-counted counted key n changes (slot_at read n) (ap (λ these. slot_at these n) (sym same))

@@ -1,16 +1,13 @@
 -- The sums of the fills of an order that are put in slots, when one slot changes, and that they are never large.
-use Rattle.std.proofs.Common.{◌≡◌, ℕ, zero, suc, ◌*◌, ◌^◌, ◌<◌, pos, ◌+ℤ◌, ◌-ℤ◌, ◌*ℤ◌, ◌≤ℤ◌, List, [], ◌∷◌, length, set, Option, Some, None, arith, inl, inr, if◌then◌else◌}
-use Rattle.std.specs.Prelude.{ℤ, neg_ℤ, IfSome}
-use Rattle.std.specs.Option.{option_and_then}
+use Rattle.std.proofs.Common.{◌≡◌, ℕ, zero, suc, ◌*◌, ◌^◌, ◌<◌, pos, ◌+ℤ◌, ◌-ℤ◌, ◌*ℤ◌, ◌≤ℤ◌, List, [], ◌∷◌, length, set, Option, Some, None, arith, inl, inr, if◌then◌else◌, ℤ, neg_ℤ, IfSome, option_and_then}
 use Rattle.std.proofs.lemmas.Bool.{cases_Bool}
 use Rattle.std.proofs.lemmas.Int.{ints}
-use Rattle.blot_types.specs.declared.fill.Fill.{Fill}
-use Rattle.blot_types.specs.declared.keys.OrderKey.{OrderKey}
+use Rattle.blot_types.specs.declared.{fill.Fill.Fill, keys.OrderKey.OrderKey}
 use Rattle.blot_types.specs.Keys.{same_order}
 use Rattle.blot_types.specs.Order.{total, fills_of, cum_of, value_of}
 use Rattle.blot_types.proofs.SumLemmas.{total-cons}
-use Rattle.blot_order.specs.declared.held.Held.{Held}
-use Rattle.blot_order.specs.declared.held.Held.TheVariants.{Kept, Put}
+use Rattle.blot_order.specs.declared.stored_fill.FillState.{FillState}
+use Rattle.blot_order.specs.declared.stored_fill.FillState.TheVariants.{Kept, Put}
 use Rattle.blot_order.specs.Fills.{fill_put}
 use Rattle.blot_order.specs.Slots.{fills_in_slots, put_under}
 use Rattle.blot_order.specs.Totals.{Fits}
@@ -18,7 +15,7 @@ use Rattle.blot_order.specs.Totals.{Fits}
 -- ---- sums
 
 -- the sum of an amount over the fills of an order in slots
-abbrev pub sum_in : (Fill → ℤ) → OrderKey → List (Option Held) → ℤ
+abbrev pub sum_in : (Fill → ℤ) → OrderKey → List (Option FillState) → ℤ
 sum_in amount order slots = total amount (fills_of (fills_in_slots slots) order)
 
 -- the amount of a fill, where it is put and of an order
@@ -28,7 +25,7 @@ counted amount order (Some fill) = if same_order fill.order order then amount fi
 
 -- the amount of the first slot, and of the later ones
 sum_in-cons :
-    (amount : Fill → ℤ) (order : OrderKey) (slot : Option Held) (slots : List (Option Held))
+    (amount : Fill → ℤ) (order : OrderKey) (slot : Option FillState) (slots : List (Option FillState))
     → sum_in amount order (slot ∷ slots) ≡ (counted amount order (option_and_then fill_put slot) +ℤ sum_in amount order slots)
 sum_in-cons amount order None slots = omega (arith, ints)
 sum_in-cons amount order (Some (Kept fill)) slots = omega (arith, ints)
@@ -40,7 +37,7 @@ sum_in-cons amount order (Some (Put fill)) slots =
 
 -- one slot changed
 pub sum_in-set :
-    (amount : Fill → ℤ) (order : OrderKey) (slots : List (Option Held)) (n : ℕ) (slot : Option Held) → n < length slots
+    (amount : Fill → ℤ) (order : OrderKey) (slots : List (Option FillState)) (n : ℕ) (slot : Option FillState) → n < length slots
     → sum_in amount order (set slots n slot) ≡ ((sum_in amount order slots -ℤ counted amount order (put_under slots n)) +ℤ counted amount order (option_and_then fill_put slot))
 sum_in-set amount order [] n slot within = absurd (omega arith)
 sum_in-set amount order (first ∷ slots) zero slot within =
@@ -86,13 +83,13 @@ small_count order (Some fill) fits =
     ]
 
 -- the sums over slots are those of at most as many fills
-pub record IsWithinSlots (order : OrderKey) (slots : List (Option Held)) : Type 0 where
+pub record IsWithinSlots (order : OrderKey) (slots : List (Option FillState)) : Type 0 where
   pub cum_low : pos 0 ≤ℤ cum_of (fills_of (fills_in_slots slots) order)
   pub cum_high : cum_of (fills_of (fills_in_slots slots) order) ≤ℤ pos (length slots * 10 ^ 16)
   pub value_low : neg_ℤ (pos (length slots * 10 ^ 32)) ≤ℤ value_of (fills_of (fills_in_slots slots) order)
   pub value_high : value_of (fills_of (fills_in_slots slots) order) ≤ℤ pos (length slots * 10 ^ 32)
 
-pub within_slots : (order : OrderKey) (slots : List (Option Held)) → ((n : ℕ) → IfSome (put_under slots n) Fits) → IsWithinSlots order slots
+pub within_slots : (order : OrderKey) (slots : List (Option FillState)) → ((n : ℕ) → IfSome (put_under slots n) Fits) → IsWithinSlots order slots
 within_slots order [] fits = record {
   cum_low = omega (arith, ints);
   cum_high = omega (arith, ints);

@@ -1,19 +1,16 @@
 -- What the fills of an order in slots come to, when one slot changes.
-use Rattle.std.proofs.Common.{◌≡◌, ℕ, zero, suc, ◌+◌, ◌-◌, ◌<◌, ◌≤◌, pos, ◌+ℤ◌, ◌-ℤ◌, ◌*ℤ◌, Bool, true, false, List, [], ◌∷◌, ◌++◌, length, set, get_or, replicate, Option, Some, None, refl, sym, ap, subst, ◌∙◌, arith, inl, inr, if◌then◌else◌}
-use Rattle.std.specs.Prelude.{ℤ, Contains, nat_lt, ◌⊎◌}
+use Rattle.std.proofs.Common.{◌≡◌, ℕ, zero, suc, ◌+◌, ◌-◌, ◌<◌, ◌≤◌, pos, ◌+ℤ◌, ◌-ℤ◌, ◌*ℤ◌, Bool, true, false, List, [], ◌∷◌, ◌++◌, length, set, get_or, replicate, Option, Some, None, refl, sym, ap, subst, ◌∙◌, arith, inl, inr, if◌then◌else◌, ℤ, Contains, nat_lt, ◌⊎◌, option_and_then, lt-ltb, le-ltb, eq-eqb, ne_eqb}
 use Rattle.std.specs.List.{last_or}
-use Rattle.std.specs.Option.{option_and_then}
-use Rattle.std.proofs.lemmas.Bool.{cases_Bool, lt-ltb, le-ltb, eq-eqb, ne_eqb}
+use Rattle.std.proofs.lemmas.Bool.{cases_Bool}
 use Rattle.std.proofs.lemmas.Int.{ints}
-use Rattle.blot_types.specs.declared.fill.Fill.{Fill}
-use Rattle.blot_types.specs.declared.keys.OrderKey.{OrderKey}
+use Rattle.blot_types.specs.declared.{fill.Fill.Fill, keys.OrderKey.OrderKey}
 use Rattle.blot_types.specs.Keys.{same_order}
 use Rattle.blot_types.specs.Order.{fills_of, cum_of, value_of}
-use Rattle.blot_order.specs.declared.held.Held.{Held}
-use Rattle.blot_order.specs.declared.held.Held.TheVariants.{Kept, Put}
+use Rattle.blot_order.specs.declared.stored_fill.FillState.{FillState}
+use Rattle.blot_order.specs.declared.stored_fill.FillState.TheVariants.{Kept, Put}
 use Rattle.blot_order.specs.Cells.{Tally, tally_of, with_one_kept, without_one_kept, with_fill_put, with_fill_taken}
 use Rattle.blot_order.specs.Fills.{fill_put}
-use Rattle.blot_order.specs.Numbers.{with_number, without_number}
+use Rattle.blot_order.specs.FillNumbers.{with_number, without_number}
 use Rattle.blot_order.specs.Slots.{fills_in_slots, slot_at, is_of, put_under, puts, keeps, numbers_from, count_kept, reaching}
 use Rattle.blot_order.proofs.SlotLemmas.{fills_in_slots-reaching}
 use Rattle.blot_order.proofs.SumLemmas.{counted, sum_in, sum_in-set}
@@ -35,7 +32,7 @@ module _ (order : OrderKey) where
   listed-later false first others number there = there
   listed-later true first others number there = (suc there.0, omega (arith, there.1), there.2)
 
-  pub listed-number : (first n : ℕ) (slots : List (Option Held)) → puts order (slot_at slots n) ≡ true → Contains (numbers_from first order slots) (first + n)
+  pub listed-number : (first n : ℕ) (slots : List (Option FillState)) → puts order (slot_at slots n) ≡ true → Contains (numbers_from first order slots) (first + n)
   listed-number first n [] put = absurd (cc put)
   listed-number first zero (slot ∷ slots) put =
       let others = numbers_from (first + 1) order slots in
@@ -46,7 +43,7 @@ module _ (order : OrderKey) where
       listed-later (puts order slot) first others (first + suc n) (subst (Contains others) next (listed-number (first + 1) n slots put))
 
   -- a number that is among them is that of a slot that puts a fill
-  pub slot-listed : (first : ℕ) (slots : List (Option Held)) (number : ℕ) → Contains (numbers_from first order slots) number
+  pub slot-listed : (first : ℕ) (slots : List (Option FillState)) (number : ℕ) → Contains (numbers_from first order slots) number
       → (n : ℕ) × (first + n ≡ number) × (puts order (slot_at slots n) ≡ true)
   slot-listed first [] number there = absurd (omega (arith, there.1))
   slot-listed first (slot ∷ slots) number there =
@@ -65,7 +62,7 @@ module _ (order : OrderKey) where
 
   -- one slot changed, which puts a fill of the order as little or as much as before
   numbers-same :
-      (first n : ℕ) (slots : List (Option Held)) (slot : Option Held) → n < length slots → puts order slot ≡ puts order (slot_at slots n)
+      (first n : ℕ) (slots : List (Option FillState)) (slot : Option FillState) → n < length slots → puts order slot ≡ puts order (slot_at slots n)
       → numbers_from first order (set slots n slot) ≡ numbers_from first order slots
   numbers-same first n [] slot within same = absurd (omega (arith, within))
   numbers-same first zero (was ∷ slots) slot within same =
@@ -74,7 +71,7 @@ module _ (order : OrderKey) where
       ap (λ others. if puts order was then first ∷ others else others) (numbers-same (first + 1) n slots slot (omega (arith, within)) same)
 
   -- a lower number comes first
-  with-lower : (number first : ℕ) (slots : List (Option Held)) → number < first → with_number number (numbers_from first order slots) ≡ number ∷ numbers_from first order slots
+  with-lower : (number first : ℕ) (slots : List (Option FillState)) → number < first → with_number number (numbers_from first order slots) ≡ number ∷ numbers_from first order slots
   with-lower number first [] less = refl
   with-lower number first (slot ∷ slots) less =
       let others = numbers_from (first + 1) order slots in
@@ -86,7 +83,7 @@ module _ (order : OrderKey) where
 
   -- one slot that comes to put a fill
   numbers-put :
-      (first n : ℕ) (slots : List (Option Held)) (slot : Option Held) → n < length slots → puts order (slot_at slots n) ≡ false → puts order slot ≡ true
+      (first n : ℕ) (slots : List (Option FillState)) (slot : Option FillState) → n < length slots → puts order (slot_at slots n) ≡ false → puts order slot ≡ true
       → numbers_from first order (set slots n slot) ≡ with_number (first + n) (numbers_from first order slots)
   numbers-put first n [] slot within before now = absurd (omega (arith, within))
   numbers-put first zero (was ∷ slots) slot within before now =
@@ -105,7 +102,7 @@ module _ (order : OrderKey) where
 
   -- one slot that no longer puts a fill
   numbers-taken :
-      (first n : ℕ) (slots : List (Option Held)) (slot : Option Held) → n < length slots → puts order (slot_at slots n) ≡ true → puts order slot ≡ false
+      (first n : ℕ) (slots : List (Option FillState)) (slot : Option FillState) → n < length slots → puts order (slot_at slots n) ≡ true → puts order slot ≡ false
       → numbers_from first order (set slots n slot) ≡ without_number (first + n) (numbers_from first order slots)
   numbers-taken first n [] slot within before now = absurd (omega (arith, within))
   numbers-taken first zero (was ∷ slots) slot within before now =
@@ -122,7 +119,7 @@ module _ (order : OrderKey) where
 
   -- the last fill is that under the last number
   last-found :
-      (read : ℕ → Option Fill) (first : ℕ) (slots : List (Option Held)) → ((k : ℕ) → read (first + k) ≡ put_under slots k)
+      (read : ℕ → Option Fill) (first : ℕ) (slots : List (Option FillState)) → ((k : ℕ) → read (first + k) ≡ put_under slots k)
       → (before : Option Fill) (number : Option ℕ) → before ≡ option_and_then read number
       → last_or before (fills_of (fills_in_slots slots) order) ≡ option_and_then read (last_or number (numbers_from first order slots))
   last-found read first [] reads before number is = is
@@ -136,12 +133,12 @@ module _ (order : OrderKey) where
         | inr other ↦ rw other (last-found read (first + 1) slots later before number is)
       ]
 
-  pub last_fill-is : (slots : List (Option Held)) → last_or None (fills_of (fills_in_slots slots) order) ≡ option_and_then (put_under slots) (last_or None (numbers_from 0 order slots))
+  pub last_fill-is : (slots : List (Option FillState)) → last_or None (fills_of (fills_in_slots slots) order) ≡ option_and_then (put_under slots) (last_or None (numbers_from 0 order slots))
   last_fill-is slots = last-found (put_under slots) 0 slots (λ k. ap (put_under slots) (omega arith)) None None refl
 
   -- ---- how many fills are kept
 
-  count-first : (slot : Option Held) (slots : List (Option Held)) → count_kept order (slot ∷ slots) ≡ count (keeps order slot) + count_kept order slots
+  count-first : (slot : Option FillState) (slots : List (Option FillState)) → count_kept order (slot ∷ slots) ≡ count (keeps order slot) + count_kept order slots
   count-first slot slots =
       elim (cases_Bool (keeps order slot)) [
         | inl put ↦ rw put (omega arith)
@@ -149,7 +146,7 @@ module _ (order : OrderKey) where
       ]
 
   count-set :
-      (n : ℕ) (slots : List (Option Held)) (slot : Option Held) → n < length slots
+      (n : ℕ) (slots : List (Option FillState)) (slot : Option FillState) → n < length slots
       → count_kept order (set slots n slot) + count (keeps order (slot_at slots n)) ≡ count_kept order slots + count (keeps order slot)
   count-set n [] slot within = absurd (omega (arith, within))
   count-set zero (was ∷ slots) slot within =
@@ -162,7 +159,7 @@ module _ (order : OrderKey) where
       let rest = count-set n slots slot (omega (arith, within)) in
       omega (arith, new, old, rest)
 
-  pub count-few : (slots : List (Option Held)) → count_kept order slots ≤ length slots
+  pub count-few : (slots : List (Option FillState)) → count_kept order slots ≤ length slots
   count-few [] = omega arith
   count-few (slot ∷ slots) =
       let one = count-first slot slots in
@@ -172,7 +169,7 @@ module _ (order : OrderKey) where
         | inr other ↦ let is : count (keeps order slot) ≡ 0 = ap count other in omega (arith, one, rest, is)
       ]
 
-  pub count-some : (n : ℕ) (slots : List (Option Held)) → n < length slots → keeps order (slot_at slots n) ≡ true → 0 < count_kept order slots
+  pub count-some : (n : ℕ) (slots : List (Option FillState)) → n < length slots → keeps order (slot_at slots n) ≡ true → 0 < count_kept order slots
   count-some n slots within kept =
       let one : count (keeps order (slot_at slots n)) ≡ 1 = ap count kept in
       let without = count-set n slots None within in
@@ -184,7 +181,7 @@ module _ (order : OrderKey) where
   numbers-empty first zero = refl
   numbers-empty first (suc m) = numbers-empty (first + 1) m
 
-  numbers-reaching : (first m : ℕ) (slots : List (Option Held)) → numbers_from first order (slots ++ replicate m None) ≡ numbers_from first order slots
+  numbers-reaching : (first m : ℕ) (slots : List (Option FillState)) → numbers_from first order (slots ++ replicate m None) ≡ numbers_from first order slots
   numbers-reaching first m [] = numbers-empty first m
   numbers-reaching first m (slot ∷ slots) = ap (λ others. if puts order slot then first ∷ others else others) (numbers-reaching (first + 1) m slots)
 
@@ -192,7 +189,7 @@ module _ (order : OrderKey) where
   count-empty zero = refl
   count-empty (suc m) = count-empty m
 
-  count-reaching : (m : ℕ) (slots : List (Option Held)) → count_kept order (slots ++ replicate m None) ≡ count_kept order slots
+  count-reaching : (m : ℕ) (slots : List (Option FillState)) → count_kept order (slots ++ replicate m None) ≡ count_kept order slots
   count-reaching m [] = count-empty m
   count-reaching m (slot ∷ slots) =
       let new = count-first slot (slots ++ replicate m None) in
@@ -200,7 +197,7 @@ module _ (order : OrderKey) where
       let rest = count-reaching m slots in
       omega (arith, new, old, rest)
 
-  pub tally-reaching : (n : ℕ) (slots : List (Option Held)) → tally_of (reaching n slots) order ≡ tally_of slots order
+  pub tally-reaching : (n : ℕ) (slots : List (Option FillState)) → tally_of (reaching n slots) order ≡ tally_of slots order
   tally-reaching n slots =
       let fills = fills_in_slots-reaching n slots in
       λ i. record {
@@ -220,21 +217,21 @@ recounted old new true false totals numbers counts = let kept : new.kept ≡ old
 recounted old new false true totals numbers counts = let kept : new.kept ≡ old.kept + 1 = omega (arith, counts) in λ i. record { totals = totals i; numbers = numbers i; kept = kept i }
 recounted old new false false totals numbers counts = let kept : new.kept ≡ old.kept = omega (arith, counts) in λ i. record { totals = totals i; numbers = numbers i; kept = kept i }
 
-module _ (order : OrderKey) (n : ℕ) (slots : List (Option Held)) (within : n < length slots) where
+module _ (order : OrderKey) (n : ℕ) (slots : List (Option FillState)) (within : n < length slots) where
   -- the slots after the change
-  abbrev after : Held → List (Option Held)
+  abbrev after : FillState → List (Option FillState)
   after held = set slots n (Some held)
 
   -- a sum in which a slot counts for something else
   sum-after :
-      (amount : Fill → ℤ) (held : Held) (before now : ℤ) → counted amount order (put_under slots n) ≡ before → counted amount order (fill_put held) ≡ now
+      (amount : Fill → ℤ) (held : FillState) (before now : ℤ) → counted amount order (put_under slots n) ≡ before → counted amount order (fill_put held) ≡ now
       → sum_in amount order (after held) ≡ ((sum_in amount order slots -ℤ before) +ℤ now)
   sum-after amount held before now was is =
       let sums = sum_in-set amount order slots n (Some held) within in
       omega (arith, ints, sums, was, is)
 
   -- the same sums where it counts for the same
-  totals-same : (held : Held) → ((amount : Fill → ℤ) → counted amount order (put_under slots n) ≡ counted amount order (fill_put held)) → (tally_of (after held) order).totals ≡ (tally_of slots order).totals
+  totals-same : (held : FillState) → ((amount : Fill → ℤ) → counted amount order (put_under slots n) ≡ counted amount order (fill_put held)) → (tally_of (after held) order).totals ≡ (tally_of slots order).totals
   totals-same held same =
       let each : (amount : Fill → ℤ) → sum_in amount order (after held) ≡ sum_in amount order slots =
       λ amount. (let sums = sum_in-set amount order slots n (Some held) within in let is = same amount in omega (arith, ints, sums, is)) in

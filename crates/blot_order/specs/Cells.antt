@@ -1,17 +1,12 @@
 -- The cells of the orders: what the fills of an order come to, those that are put and those that are kept.
-use Rattle.std.specs.Prelude.{◌≡◌, ℕ, ◌+◌, ◌-◌, ◌<◌, ◌≤◌, Bool, List, [], length, slice_get, Contains, Option, None, Some, IfSome, if◌then◌else◌}
+use Rattle.std.specs.Prelude.{◌≡◌, ℕ, ◌+◌, ◌-◌, ◌<◌, ◌≤◌, Bool, List, [], length, slice_get, Contains, Option, None, Some, IfSome, if◌then◌else◌, option_and_then, option_map, unwrap_or}
 use Rattle.std.specs.List.{last_or}
 use Rattle.std.specs.Map.{keys_of, lookup}
-use Rattle.std.specs.Option.{option_and_then, option_map, unwrap_or}
-use Rattle.blot_types.specs.declared.TheConstants.{EVENTS_MAX}
-use Rattle.blot_types.specs.declared.fill.Fill.{Fill}
-use Rattle.blot_types.specs.declared.keys.OrderKey.{OrderKey}
-use Rattle.blot_types.specs.declared.lines.OrderLine.{OrderLine}
+use Rattle.blot_types.specs.declared.{TheConstants.EVENTS_MAX, fill.Fill.Fill, keys.OrderKey.OrderKey, lines.OrderLine.OrderLine}
 use Rattle.blot_types.specs.Keys.{same_order}
 use Rattle.blot_types.specs.Order.{fills_of, cum_of, value_of}
-use Rattle.blot_order.specs.declared.held.Held.{Held}
-use Rattle.blot_order.specs.declared.totals.Totals.{Totals}
-use Rattle.blot_order.specs.Numbers.{with_number, without_number}
+use Rattle.blot_order.specs.declared.{stored_fill.FillState.FillState, totals.Totals.Totals}
+use Rattle.blot_order.specs.FillNumbers.{with_number, without_number}
 use Rattle.blot_order.specs.Slots.{Placed, held_in_slots, placed_at, fills_in_slots, put_under, numbers_from, count_kept}
 use Rattle.blot_order.specs.Totals.{no_fills, with_one, without_one, line_with, Fits, AreSmall}
 
@@ -26,7 +21,7 @@ abbrev pub no_tally : Tally
 no_tally = record { totals = no_fills; numbers = []; kept = 0 }
 
 -- the tally of an order, by the fills in slots
-abbrev pub tally_of : List (Option Held) → OrderKey → Tally
+abbrev pub tally_of : List (Option FillState) → OrderKey → Tally
 tally_of slots order = record {
   totals = record { cum = cum_of (fills_of (fills_in_slots slots) order); value = value_of (fills_of (fills_in_slots slots) order) };
   numbers = numbers_from 0 order slots;
@@ -48,7 +43,7 @@ abbrev pub with_fill_taken : ℕ → Fill → Tally → Tally
 with_fill_taken number fill tally = record { totals = without_one fill tally.totals; numbers = without_number number tally.numbers; kept = tally.kept + 1 }
 
 -- the line of a tally whose fills are in slots: its sums, and what the fill under its last number says; none where no fill is put
-abbrev pub line_in : List (Option Held) → Tally → Option OrderLine
+abbrev pub line_in : List (Option FillState) → Tally → Option OrderLine
 line_in slots tally = option_map (line_with tally.totals) (option_and_then (put_under slots) (last_or None tally.numbers))
 
 -- a fill that is kept can be put: one is counted, its number is within the range and not listed, and the sums are small
@@ -92,9 +87,9 @@ abbrev pub CountsKept : List (OrderKey × Tally) → Option Fill → Type 0
 CountsKept cells kept = IfSome kept (λ fill. 0 < (tally_at cells fill.order).kept)
 
 -- The cells are those of the fills in slots: the cell of each order has the sums of its fills that are put, their numbers, and the
--- count of those that are kept, for which it has room (that is the invariant of `Numbers`). What is put is small, and there are few
+-- count of those that are kept, for which it has room (that is the invariant of `FillNumbers`). What is put is small, and there are few
 -- slots, so no sum is large.
-pub record HoldsOrders (cells : List (OrderKey × Tally)) (slots : List (Option Held)) : Type 0 where
+pub record HoldsOrders (cells : List (OrderKey × Tally)) (slots : List (Option FillState)) : Type 0 where
   pub few : length slots ≤ EVENTS_MAX + 1
   pub fits : (number : ℕ) → IfSome (put_under slots number) Fits
   pub tallies : (order : OrderKey) → tally_at cells order ≡ tally_of slots order

@@ -2,34 +2,33 @@
 use Rattle.std.specs.Prelude.{ℕ, List, Option, Some, None}
 use Rattle.std.specs.Coded.{Coded, coded_ℕ}
 use Rattle.std.specs.FinMap as map
-use Rattle.std.specs.List.{filter_map}
-use Rattle.std.specs.Option.{option_map, option_and_then}
+use Rattle.std.specs.Prelude.{filter_map, option_map, option_and_then}
 use Rattle.std.specs.Ordering.{nat_cmp}
 use Rattle.blot_types.specs.declared.fill.Fill.{Fill}
-use Rattle.blot_order.specs.contracts.held.Held as held_rust
-use Rattle.blot_order.specs.declared.held.Held.{Held}
-use Rattle.blot_order.specs.declared.held.Held.TheVariants.{Kept, Put}
+use Rattle.blot_order.specs.contracts.stored_fill.FillState as held_rust
+use Rattle.blot_order.specs.declared.stored_fill.FillState.{FillState}
+use Rattle.blot_order.specs.declared.stored_fill.FillState.TheVariants.{Kept, Put}
 
 -- the fills by number
 abbrev pub Fills : Type 0
-Fills = map.FinMap nat_cmp Held
+Fills = map.FinMap nat_cmp FillState
 
 -- how such a map is stored as a value
 abbrev pub fills_code : Coded Fills
 fills_code = map.code coded_ℕ held_rust.the_row.coded
 
 -- the fill that is put, if it is
-abbrev pub fill_put : Held → Option Fill
+abbrev pub fill_put : FillState → Option Fill
 fill_put (Kept fill) = None
 fill_put (Put fill) = Some fill
 
 -- the fill that is kept after it was taken, if it is
-abbrev pub fill_kept : Held → Option Fill
+abbrev pub fill_kept : FillState → Option Fill
 fill_kept (Kept fill) = Some fill
 fill_kept (Put fill) = None
 
 -- the fill that is held, put or kept
-abbrev pub fill_held : Held → Fill
+abbrev pub fill_held : FillState → Fill
 fill_held (Kept fill) = fill
 fill_held (Put fill) = fill
 

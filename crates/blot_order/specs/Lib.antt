@@ -1,5 +1,5 @@
 pub mod Cells
+pub mod FillNumbers
 pub mod Fills
-pub mod Numbers
 pub mod Slots
 pub mod Totals

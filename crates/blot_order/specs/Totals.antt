@@ -1,8 +1,7 @@
 -- What the fills of an order that are put come to, as they come and go.
 use Rattle.std.specs.Prelude.{◌≤◌, ◌^◌, ℤ, pos, neg_ℤ, ◌+ℤ◌, ◌-ℤ◌, ◌*ℤ◌, ◌≤ℤ◌}
 use Rattle.std.specs.Int.{int_max}
-use Rattle.blot_types.specs.declared.fill.Fill.{Fill}
-use Rattle.blot_types.specs.declared.lines.OrderLine.{OrderLine}
+use Rattle.blot_types.specs.declared.{fill.Fill.Fill, lines.OrderLine.OrderLine}
 use Rattle.blot_order.specs.declared.totals.Totals.{Totals}
 
 -- the totals of no fills

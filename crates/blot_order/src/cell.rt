@@ -5,9 +5,9 @@ ghost use Rattle.blot_order.specs.Cells.{no_tally, line_in, with_one_kept, witho
 ghost use Rattle.blot_order.specs.Slots.{held_in_slots};
 ghost use Rattle.blot_order.specs.Totals.{Fits};
 
-use crate::held::HeldFill;
-use crate::numbers::Numbers;
+use crate::fill_numbers::FillNumbers;
 use crate::slots::put_at;
+use crate::stored_fill::StoredFill;
 use crate::totals::Totals;
 use blot_types::OrderLine;
 use std::alloc::{AllocError as NoMemory, Global};
@@ -17,7 +17,7 @@ use std::marker::Model;
 #[derive(Drop)]
 pub(crate) struct Cell {
     totals: Totals,
-    numbers: Numbers,
+    numbers: FillNumbers,
 }
 
 impl Model for Cell {
@@ -35,7 +35,7 @@ impl Cell {
     {
         Cell {
             totals: Totals::none(),
-            numbers: Numbers::new(alloc),
+            numbers: FillNumbers::new(alloc),
         }
     }
 
@@ -57,7 +57,7 @@ impl Cell {
     }
 
     /// Puts a fill that is kept under its number. It needs no memory.
-    pub(crate) fn put(&mut self, number: u64, held: &HeldFill)
+    pub(crate) fn put(&mut self, number: u64, held: &StoredFill)
         requires { CanPut number self.old }
         ensures tally { self.new ≡ with_fill_put number held.now.fill self.old }
         ensures fits { Fits held.now.fill }
@@ -67,7 +67,7 @@ impl Cell {
     }
 
     /// Takes a fill that is put under a number, and keeps it. It needs no memory.
-    pub(crate) fn take(&mut self, number: u64, held: &HeldFill)
+    pub(crate) fn take(&mut self, number: u64, held: &StoredFill)
         requires { CanTake number self.old }
         ensures { self.new ≡ with_fill_taken number held.now.fill self.old }
     {
@@ -76,7 +76,7 @@ impl Cell {
     }
 
     /// The line of the order; none where no fill is put.
-    pub(crate) fn line(&self, slots: &[Option<HeldFill>]) -> Option<OrderLine>
+    pub(crate) fn line(&self, slots: &[Option<StoredFill>]) -> Option<OrderLine>
         requires { pos 0 ≤ℤ self.now.totals.cum }
         ensures { result ≡ line_in (held_in_slots slots.now) self.now }
     {

@@ -7,7 +7,7 @@ ghost use Rattle.blot_order.specs.Cells.{order_at, tally_at, with_one_kept, with
 ghost use Rattle.blot_order.specs.Totals.{Fits};
 
 use crate::cell::Cell;
-use crate::held::HeldFill;
+use crate::stored_fill::StoredFill;
 use blot_types::OrderKey;
 use indexmap::IndexMap;
 use std::alloc::{AllocError as NoMemory, Global};
@@ -54,7 +54,7 @@ fn make_cell(cells: &mut Cells, alloc: Global, order: &OrderKey) -> Result<usize
 }
 
 /// Counts one fill less that is kept, in the cell of its order.
-pub(crate) fn sub_kept(cells: &mut Cells, held: &HeldFill)
+pub(crate) fn sub_kept(cells: &mut Cells, held: &StoredFill)
     requires placed { IsPlaced cells.old.entries held.now }
     requires kept { 0 < (tally_at cells.old.entries held.now.fill.order).kept }
     ensures tallies { Changes held.now.fill.order without_one_kept cells.old.entries cells.new.entries }
@@ -67,7 +67,7 @@ pub(crate) fn sub_kept(cells: &mut Cells, held: &HeldFill)
 }
 
 /// Puts a fill that is kept under its number, in the cell of its order.
-pub(crate) fn put_fill(cells: &mut Cells, number: u64, held: &HeldFill)
+pub(crate) fn put_fill(cells: &mut Cells, number: u64, held: &StoredFill)
     requires placed { IsPlaced cells.old.entries held.now }
     requires can { CanPut number (tally_at cells.old.entries held.now.fill.order) }
     ensures tallies { Changes held.now.fill.order (with_fill_put number held.now.fill) cells.old.entries cells.new.entries }
@@ -81,7 +81,7 @@ pub(crate) fn put_fill(cells: &mut Cells, number: u64, held: &HeldFill)
 }
 
 /// Takes a fill that is put under a number and keeps it, in the cell of its order.
-pub(crate) fn take_fill(cells: &mut Cells, number: u64, held: &HeldFill)
+pub(crate) fn take_fill(cells: &mut Cells, number: u64, held: &StoredFill)
     requires placed { IsPlaced cells.old.entries held.now }
     requires can { CanTake number (tally_at cells.old.entries held.now.fill.order) }
     ensures tallies { Changes held.now.fill.order (with_fill_taken number held.now.fill) cells.old.entries cells.new.entries }

@@ -5,11 +5,11 @@
 
 mod cell;
 mod cells;
-mod held;
-mod numbers;
+mod fill_numbers;
 mod orders;
 mod slots;
+mod stored_fill;
 mod totals;
 
-pub use held::Held;
 pub use orders::Orders;
+pub use stored_fill::FillState;

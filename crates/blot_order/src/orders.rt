@@ -8,8 +8,8 @@ ghost use Rattle.blot_order.specs.Fills.{put_at, kept_at, with_put, with_kept, f
 ghost use Rattle.blot_order.specs.Slots.{held_by, held_in_slots, kept_under, keeps_under, placed_at, put_under};
 
 use crate::cells::{Cells, add_kept, put_fill, sub_kept, take_fill};
-use crate::held::HeldFill;
 use crate::slots::{fill_at, mark, reach};
+use crate::stored_fill::StoredFill;
 use blot_types::{EVENTS_MAX, Fill, OrderKey, OrderLine};
 use indexmap::IndexMap;
 use std::alloc::{AllocError as NoMemory, Global};
@@ -21,7 +21,7 @@ use std::marker::Model;
 pub struct Orders {
     alloc: Global,
     // Slot n is that of number n; the numbers past the last slot hold nothing.
-    slots: Vec<Option<HeldFill>>,
+    slots: Vec<Option<StoredFill>>,
     // What the fills of each order come to.
     cells: Cells,
 }
@@ -111,7 +111,7 @@ impl Orders {
 
 // Keeps a fill under a number that has none put, in place of one that is kept there. What may fail comes first.
 fn keep_fill(
-    slots: &mut Vec<Option<HeldFill>>,
+    slots: &mut Vec<Option<StoredFill>>,
     cells: &mut Cells,
     alloc: Global,
     number: u64,
@@ -128,12 +128,12 @@ fn keep_fill(
     reach(slots, index)?;
     let place = add_kept(cells, alloc, &fill.order)?;
     forget_kept(cells, slots, number);
-    slots[index] = Some(HeldFill::kept(fill, place));
+    slots[index] = Some(StoredFill::kept(fill, place));
     Ok(())
 }
 
 // Counts one less of the order whose fill is kept under a number that has none put, if one is.
-fn forget_kept(cells: &mut Cells, slots: &[Option<HeldFill>], number: u64)
+fn forget_kept(cells: &mut Cells, slots: &[Option<StoredFill>], number: u64)
     requires placed { IfSome (placed_at slots.now number) (IsPlaced cells.old.entries) }
     requires unput { put_under (held_in_slots slots.now) number ≡ None }
     requires kept { CountsKept cells.old.entries (kept_under (held_in_slots slots.now) number) }
@@ -146,7 +146,7 @@ fn forget_kept(cells: &mut Cells, slots: &[Option<HeldFill>], number: u64)
 }
 
 // Puts the fill that is kept under a number.
-fn put_kept(slots: &mut Vec<Option<HeldFill>>, cells: &mut Cells, number: u64)
+fn put_kept(slots: &mut Vec<Option<StoredFill>>, cells: &mut Cells, number: u64)
     requires holds { HoldsSlots cells.old.entries slots.old.items }
     requires kept { IsSome (kept_under (held_in_slots slots.old.items) number) }
     ensures holds { HoldsSlots cells.new.entries slots.new.items }

@@ -2,7 +2,7 @@
 ghost use Rattle.std.specs.Prelude.{◌≡◌, pos, ◌≤ℤ◌};
 ghost use Rattle.blot_order.specs.Totals.{no_fills, with_one, without_one, line_with, Fits, AreSmall};
 
-use crate::held::HeldFill;
+use crate::stored_fill::StoredFill;
 use blot_decimal::{QtySum, Value, minus, plus};
 use blot_types::{OrderLine, leaves_of};
 
@@ -24,7 +24,7 @@ impl Totals {
     }
 
     /// The totals with one more fill.
-    pub(crate) fn with_one(self, held: &HeldFill) -> Totals
+    pub(crate) fn with_one(self, held: &StoredFill) -> Totals
         requires { AreSmall self }
         ensures totals { result ≡ with_one held.now.fill self }
         ensures fits { Fits held.now.fill }
@@ -36,7 +36,7 @@ impl Totals {
     }
 
     /// The totals with one fill less.
-    pub(crate) fn without_one(self, held: &HeldFill) -> Totals
+    pub(crate) fn without_one(self, held: &StoredFill) -> Totals
         requires { AreSmall self }
         ensures { result ≡ without_one held.now.fill self }
     {
@@ -47,7 +47,7 @@ impl Totals {
     }
 
     /// The line of an order with these totals, whose last fill is this one.
-    pub(crate) fn line_with(self, last: &HeldFill) -> OrderLine
+    pub(crate) fn line_with(self, last: &StoredFill) -> OrderLine
         requires { pos 0 ≤ℤ self.cum }
         ensures { result ≡ line_with self last.now.fill }
     {

@@ -1,14 +1,13 @@
 -- What stands on either side of a number among the places of the items that pass a test.
-use Rattle.std.proofs.Common.{◌≡◌, ℕ, ◌+◌, ◌<◌, ◌≤◌, Bool, true, false, cond, not, ◌&&◌, List, [], ◌∷◌, ◌++◌, length, reverse, get_or, Option, Some, None, refl, sym, ap, subst, ◌∙◌, inl, inr, ⊎_elim, arith}
-use Rattle.std.specs.Prelude.{filter, find, nat_le, nat_lt, slice_get}
-use Rattle.std.specs.List.{All, cons_option, filter_map}
+use Rattle.std.proofs.Common.{◌≡◌, ℕ, ◌+◌, ◌<◌, ◌≤◌, Bool, true, false, cond, not, ◌&&◌, List, [], ◌∷◌, ◌++◌, length, reverse, get_or, Option, Some, None, refl, sym, ap, subst, ◌∙◌, inl, inr, ⊎_elim, arith, filter, find, nat_le, nat_lt, slice_get, All, filter_map, option_and_then, option_map, le-leb, leb-true, lt-ltb, ltb-false, ltb-true, append-nil}
+use Rattle.std.specs.List.{cons_option}
 use Rattle.std.specs.List.Sorted.{IsPartitionedBy}
-use Rattle.std.specs.Option.{option_and_then, option_map, option_map_or}
-use Rattle.std.proofs.lemmas.Bool.{and_parts, cases_Bool, cases_lt, le-leb, leb-true, lt-ltb, ltb-false, ltb-true}
-use Rattle.std.proofs.lemmas.List.{append-nil, get_or_append_left, get_or_push, length_push, reverse-append, reverse-reverse}
-use Rattle.std.proofs.lemmas.List.Elements.{All-append, All-cons, All-get_or, All-head, All-nil, All-tail, filter_map-append}
+use Rattle.std.specs.Option.{option_map_or}
+use Rattle.std.proofs.lemmas.Bool.{and_parts, cases_Bool, cases_lt}
+use Rattle.std.proofs.lemmas.List.{get_or_append_left, get_or_push, length_push, reverse-append, reverse-reverse}
+use Rattle.std.proofs.lemmas.List.Elements.{All-cons, All-get_or, All-nil, filter_map-append}
 use Rattle.blot_types.proofs.StayLemmas.{filter-reverse}
-use Rattle.blot_types.proofs.NeedLemmas.{and-true}
+use Rattle.blot_types.proofs.GeneralLemmas.{and-true, all-reversed}
 use Rattle.blot_places.specs.declared.slots.Slot.{Slot}
 use Rattle.blot_places.specs.Slots.{is_above, is_below, is_live_at, is_up_to, items, live, live_item, live_items, newest_live, numbers_fall, places_by}
 use Rattle.blot_places.proofs.ShownLemmas.{falling-parts}
@@ -31,12 +30,6 @@ parted-push p xs y parted all i j d le within passes =
     (λ (also : length xs ≤ i). ap p (get_or_push xs y d i (omega (arith, len))) ∙ at_end)
     (cases_lt i (length xs)))
     (cases_lt j (length xs))
-
-all-reversed : {X : Type 0} (P : X → Type 0) (xs : List X) → All P xs → All P (reverse xs)
-all-reversed P [] all = all
-all-reversed P (x ∷ xs) all =
-    subst (All P) (sym (reverse-append (x ∷ []) xs))
-    (All-append P (reverse xs) (x ∷ []) (all-reversed P xs (All-tail P x xs all)) (All-cons P x [] (All-head P x xs all) (All-nil P)))
 
 find-kept : {X : Type 0} (r p : X → Bool) (xs : List X) → find r (filter p xs) ≡ find (λ x. p x && r x) xs
 find-kept r p [] = refl

@@ -1,15 +1,15 @@
 -- The first item that passes a test. The items stand newest first, and their numbers fall.
-use Rattle.std.proofs.Common.{◌≡◌, ℕ, ◌<◌, ◌≤◌, min, Bool, true, false, cond, ◌&&◌, ◌||◌, List, [], ◌∷◌, ◌++◌, map, reverse, Option, Some, None, refl, sym, ap, subst, ◌∙◌, inl, inr, arith}
-use Rattle.std.specs.Prelude.{All, find, nat_lt}
-use Rattle.std.specs.Option.{option_map, option_map_or, option_or}
-use Rattle.std.proofs.lemmas.Bool.{and_parts, cases_Bool, lt-ltb, ltb-false, ltb-true}
+use Rattle.std.proofs.Common.{◌≡◌, ℕ, ◌<◌, ◌≤◌, min, Bool, true, false, cond, ◌&&◌, ◌||◌, List, [], ◌∷◌, map, reverse, Option, Some, None, refl, sym, ap, subst, ◌∙◌, inl, inr, arith, All, find, nat_lt, option_map, lt-ltb, ltb-false, ltb-true}
+use Rattle.std.specs.Option.{option_map_or, option_or}
+use Rattle.std.proofs.lemmas.Bool.{and_parts, cases_Bool}
 use Rattle.std.proofs.lemmas.List.{reverse-append}
-use Rattle.std.proofs.lemmas.List.Elements.{All-append, All-cons, All-head, All-nil, All-tail, All-weaker}
+use Rattle.std.proofs.lemmas.List.Elements.{All-cons, All-head, All-nil, All-tail, All-weaker}
 use Rattle.std.proofs.lemmas.List.Folds.{find-append}
 use Rattle.std.proofs.lemmas.Option.{same_Some}
 use Rattle.blot_types.specs.Numbers.{lesser}
 use Rattle.blot_types.proofs.ChainLemmas.{clash, differing}
 use Rattle.blot_types.proofs.StayLemmas.{find-agree}
+use Rattle.blot_types.proofs.GeneralLemmas.{and-false, none-both, all-reversed}
 use Rattle.blot_places.specs.Slots.{is_above, numbers_fall}
 use Rattle.blot_places.proofs.ShownLemmas.{falling-parts}
 
@@ -40,22 +40,10 @@ one_of_two (Some a) (Some b) p q n under_a under_b = refl
 
 -- ---- lists
 
-all-push : {T : Type 0} (P : T → Type 0) (items : List T) (item : T) → All P items → P item → All P (items ++ item ∷ [])
-all-push P items item all own = All-append P items (item ∷ []) all (All-cons P item [] own (All-nil P))
-
-pub all-reversed : {T : Type 0} (P : T → Type 0) (items : List T) → All P items → All P (reverse items)
-all-reversed P [] all = all
-all-reversed P (item ∷ earlier) all =
-    subst (All P) (sym (reverse-append (item ∷ []) earlier)) (all-push P (reverse earlier) item (all-reversed P earlier (All-tail P item earlier all)) (All-head P item earlier all))
-
 pub All-zip : {T : Type 0} (P Q R : T → Type 0) → ((x : T) → P x → Q x → R x) → (items : List T) → All P items → All Q items → All R items
 All-zip P Q R both [] all also = All-nil R
 All-zip P Q R both (item ∷ earlier) all also =
     All-cons R item earlier (both item (All-head P item earlier all) (All-head Q item earlier also)) (All-zip P Q R both earlier (All-tail P item earlier all) (All-tail Q item earlier also))
-
-pub none-and : (b : Bool) → (b && false) ≡ false
-none-and true = refl
-none-and false = refl
 
 -- ---- the first that passes
 
@@ -109,16 +97,10 @@ module _ {T : Type 0} (number_of : T → ℕ) where
       first-more test item earlier ∙ ap (λ b. option_or (first_by test earlier) (cond b (Some (number_of item)) None)) (All-head (λ x. test x ≡ false) item earlier none)
       ∙ ap (λ found. option_or found None) (first-none test earlier (All-tail (λ x. test x ≡ false) item earlier none))
 
-  -- where none passes, each fails
-  none-parts : (found : Option ℕ) (b : Bool) (n : ℕ) → option_or found (cond b (Some n) None) ≡ None → (found ≡ None) × (b ≡ false)
-  none-parts (Some m) b n none = cc
-  none-parts None true n none = cc
-  none-parts None false n none = (refl, refl)
-
   pub none-first : (test : T → Bool) (items : List T) → first_by test items ≡ None → All (λ x. test x ≡ false) items
   none-first test [] none = All-nil (λ x. test x ≡ false)
   none-first test (item ∷ earlier) none =
-      let parts = none-parts (first_by test earlier) (test item) (number_of item) (sym (first-more test item earlier) ∙ none) in
+      let parts = none-both (first_by test earlier) (test item) (number_of item) (sym (first-more test item earlier) ∙ none) in
       All-cons (λ x. test x ≡ false) item earlier parts.1 (none-first test earlier parts.0)
 
   fails-too : (p q : T → Bool) (x : T) → (q x ≡ true → p x ≡ true) → p x ≡ false → q x ≡ false
@@ -191,7 +173,7 @@ module _ {T : Type 0} (number_of : T → ℕ) where
             | inr under ↦ ap (λ b. b && q x) (under ∙ sym before)
           ]
         ]
-        | inr other ↦ ap (λ b. nat_lt bound (number_of x) && b) other ∙ none-and (nat_lt bound (number_of x)) ∙ sym (ap (λ b. nat_lt n (number_of x) && b) other ∙ none-and (nat_lt n (number_of x)))
+        | inr other ↦ ap (λ b. nat_lt bound (number_of x) && b) other ∙ and-false (nat_lt bound (number_of x)) ∙ sym (ap (λ b. nat_lt n (number_of x) && b) other ∙ and-false (nat_lt n (number_of x)))
       ]
 
   pub first-next :

@@ -1,10 +1,10 @@
 -- What a mark changes: a slot is live or lifted, and nothing else.
+use Rattle.std.proofs.Common.{◌≡◌, ℕ, Bool, Vec, true, false, cond, List, [], ◌∷◌, ◌++◌, length, reverse, Some, None, refl, sym, ap, subst, ◌∙◌, inl, inr, filter, not, nat_eq, nat_lt, ltb-true, eqb-true}
 use Rattle.std.specs.Vec.{with_items}
-use Rattle.std.proofs.Common.{◌≡◌, ℕ, Bool, Vec, true, false, cond, List, [], ◌∷◌, ◌++◌, length, reverse, Some, None, refl, sym, ap, subst, ◌∙◌, inl, inr}
-use Rattle.std.specs.Prelude.{filter, not, nat_eq, nat_lt}
 use Rattle.std.specs.List.{list_all}
-use Rattle.std.proofs.lemmas.Bool.{cases_Bool, and_parts, and_from, ltb-true, eqb-true}
+use Rattle.std.proofs.lemmas.Bool.{cases_Bool, and_parts, and_from}
 use Rattle.std.proofs.lemmas.List.{length-map, map-append, reverse-append, with_items_is}
+use Rattle.blot_types.proofs.GeneralLemmas.{not-not}
 use Rattle.blot_places.specs.declared.slots.Slot.{Slot}
 use Rattle.blot_places.specs.Slots.{items, live, lifted, places_by, is_above, numbers_fall, mark, marked}
 use Rattle.blot_places.specs.Shown.{shown_of, item_at, without, with_some, lifted_out, put_back}
@@ -66,10 +66,6 @@ module _ {T : Type 0} (number_of : T → ℕ) (n : ℕ) (b : Bool) where
       ap reverse (with_items_is v slots (ap length is ∙ length-map v.items (mark number_of n b) ∙ sym len) ∙ is) ∙ reverse-marked v.items
 
 -- ---- the two sides: the live items, and the lifted ones
-
-not-not : (t : Bool) → not (not t) ≡ t
-not-not true = refl
-not-not false = refl
 
 module _ {T : Type 0} where
   abbrev pub on : Bool → Slot T → Bool

@@ -1,7 +1,7 @@
 -- Under each key a stack of places.
-use Rattle.std.specs.Prelude.{◌≡◌, ℕ, ◌<◌, Bool, false, List, [], ◌∷◌, drop, if◌then◌else◌}
+use Rattle.std.specs.Prelude.{◌≡◌, ℕ, ◌<◌, Bool, false, List, [], ◌∷◌, drop, if◌then◌else◌, IsSomeAnd}
 use Rattle.std.specs.Map.{lookup}
-use Rattle.std.specs.Option.{option_map_or, IsSomeAnd}
+use Rattle.std.specs.Option.{option_map_or}
 use Rattle.blot_places.specs.Stack.{Stack}
 
 -- what a contract sees of the places: the stack of each key that was there once

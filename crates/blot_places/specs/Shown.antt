@@ -1,6 +1,5 @@
 -- What a contract sees of slots: a list of items, and the items that are lifted out of it, whose slots are kept. Both stand newest first.
-use Rattle.std.specs.Prelude.{ℕ, not, nat_eq, nat_lt, List, [], ◌∷◌, find, Option, Some, None, if◌then◌else◌}
-use Rattle.std.specs.List.{filter}
+use Rattle.std.specs.Prelude.{ℕ, not, nat_eq, nat_lt, List, [], ◌∷◌, find, Option, Some, None, if◌then◌else◌, filter}
 use Rattle.blot_places.specs.declared.slots.Slot.{Slot}
 use Rattle.blot_places.specs.Slots.{lifted, live}
 

@@ -1,7 +1,7 @@
 -- Slots, newest first: after a slot stand the earlier ones. A slot is live, or lifted out of what the list shows.
-use Rattle.std.specs.Prelude.{ℕ, ◌<◌, ◌≤◌, Bool, true, false, ◌&&◌, not, nat_eq, nat_le, nat_lt, List, [], ◌∷◌, map, find, length, slice_get, slice_index_or, Option, Some, None, if◌then◌else◌}
-use Rattle.std.specs.List.{filter, filter_map, list_all}
-use Rattle.std.specs.Option.{option_and_then, option_map, option_map_or}
+use Rattle.std.specs.Prelude.{ℕ, ◌<◌, ◌≤◌, Bool, true, false, ◌&&◌, not, nat_eq, nat_le, nat_lt, List, [], ◌∷◌, map, find, length, slice_get, slice_index_or, Option, Some, None, if◌then◌else◌, filter, filter_map, option_and_then, option_map}
+use Rattle.std.specs.List.{list_all}
+use Rattle.std.specs.Option.{option_map_or}
 use Rattle.blot_places.specs.declared.slots.Slot.{Slot}
 
 module _ {T : Type 0} where

@@ -4,13 +4,13 @@
 #![tactic(auto)]
 
 mod around;
+mod ghost_value;
 mod places;
-mod remembered;
 mod slots;
 mod stack;
 
 pub use around::{places_above, places_below};
+pub use ghost_value::GhostValue;
 pub use places::Places;
-pub use remembered::Remembered;
 pub use slots::{Slot, live_at, live_numbered, mark, newest_live, oldest_live};
 pub use stack::Stack;

@@ -1,6 +1,5 @@
 //! Slots, each with one item.
-ghost use Rattle.std.specs.Prelude.{◌≡◌, ◌≤◌, find, length, reverse, IsTrue};
-ghost use Rattle.std.specs.Option.{option_copied};
+ghost use Rattle.std.specs.Prelude.{◌≡◌, ◌≤◌, find, length, reverse, IsTrue, option_copied};
 ghost use Rattle.blot_places.specs.Shown.{item_at};
 ghost use Rattle.blot_places.specs.Slots.{AreBelow, NoneBelow, is_live_at, items, live, live_item, mark, marked, newest_live, numbers_fall};
 

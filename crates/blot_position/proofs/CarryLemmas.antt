@@ -1,6 +1,5 @@
 -- The cells after parts were put and taken.
-use Rattle.std.proofs.Common.{◌≡◌, ℕ, ◌+◌, ◌*◌, ◌^◌, ◌<◌, ◌≤◌, pos, ◌+ℤ◌, ◌-ℤ◌, ◌≤ℤ◌, arith, Bool, true, false, List, refl, sym, ap, subst, ◌∙◌}
-use Rattle.std.specs.Prelude.{ℤ, unsigned_abs, if◌then◌else◌}
+use Rattle.std.proofs.Common.{◌≡◌, ℕ, ◌+◌, ◌*◌, ◌^◌, ◌<◌, ◌≤◌, pos, ◌+ℤ◌, ◌-ℤ◌, ◌≤ℤ◌, arith, Bool, true, false, List, refl, sym, ap, subst, ◌∙◌, ℤ, unsigned_abs, if◌then◌else◌}
 use Rattle.std.proofs.lemmas.Int.{ints}
 use Rattle.blot_decimal.specs.Sums.{FitsSum}
 use Rattle.blot_types.specs.declared.part.Part.{Part}

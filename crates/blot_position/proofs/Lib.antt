@@ -1,4 +1,3 @@
 pub mod CarryLemmas
 pub mod CellLemmas
-pub mod PlaceLemmas
 pub mod PositionLemmas

@@ -1,12 +1,11 @@
 -- The positions after a change: the sums and the cell of the same position, and of another one.
-use Rattle.std.proofs.Common.{◌≡◌, ℕ, ℤ, List, Option, Some, Bool, true, false, ◌||◌, refl, sym, ap, ◌∙◌, inl, inr}
-use Rattle.std.specs.Prelude.{if◌then◌else◌, is_some}
+use Rattle.std.proofs.Common.{◌≡◌, ℕ, ℤ, List, Option, Some, Bool, true, false, ◌||◌, refl, sym, ap, ◌∙◌, inl, inr, if◌then◌else◌, is_some}
 use Rattle.std.specs.Cmp.{tied_then}
 use Rattle.std.specs.Cmp.Lexicographic.{slice_cmp, nat_list_eq_equiv, texts_ties, same_text as text_told}
 use Rattle.std.specs.FinMap as finite
-use Rattle.std.specs.Option.{unwrap_or}
-use Rattle.std.specs.Ordering.{nat_cmp, eq_by_cmp}
-use Rattle.std.proofs.lemmas.Bool.{cases_Bool, and_from, and_parts}
+use Rattle.std.proofs.Common.{unwrap_or, nat_cmp}
+use Rattle.std.specs.Ordering.{eq_by_cmp}
+use Rattle.std.proofs.lemmas.Bool.{cases_Bool, and_from, and_parts, or_right}
 use Rattle.blot_types.specs.Keys.{same_text, position_at, position_cmp}
 use Rattle.blot_types.proofs.KeyLemmas.{position_cmp-total, position_cmp-exact}
 use Rattle.blot_position.specs.declared.sums.Sums.{Sums}
@@ -113,24 +112,20 @@ pub has_cell-without_part :
     (a s a' s' : List ℕ) (qty value : ℤ) (cells : Cells) → has_cell (without_part a s qty value cells) a' s' ≡ (same_position a s a' s' || has_cell cells a' s')
 has_cell-without_part a s a' s' qty value cells = has_cell-insert cells a s a' s' (without_one qty value (sums_at cells a s))
 
-or_true : (test : Bool) (has : Bool) → has ≡ true → (test || has) ≡ true
-or_true true has is = refl
-or_true false has is = is
-
 -- a cell that was made stays
 
 pub has_cell-stays_with_cell : (a s a' s' : List ℕ) (cells : Cells) → has_cell cells a' s' ≡ true → has_cell (with_cell a s cells) a' s' ≡ true
-has_cell-stays_with_cell a s a' s' cells has = has_cell-with_cell a s a' s' cells ∙ or_true (same_position a s a' s') (has_cell cells a' s') has
+has_cell-stays_with_cell a s a' s' cells has = has_cell-with_cell a s a' s' cells ∙ or_right (same_position a s a' s') (has_cell cells a' s') has
 
 pub has_cell-stays_with_part :
     (a s a' s' : List ℕ) (qty value : ℤ) (cells : Cells) → has_cell cells a' s' ≡ true → has_cell (with_part a s qty value cells) a' s' ≡ true
 has_cell-stays_with_part a s a' s' qty value cells has =
-    has_cell-with_part a s a' s' qty value cells ∙ or_true (same_position a s a' s') (has_cell cells a' s') has
+    has_cell-with_part a s a' s' qty value cells ∙ or_right (same_position a s a' s') (has_cell cells a' s') has
 
 pub has_cell-stays_without_part :
     (a s a' s' : List ℕ) (qty value : ℤ) (cells : Cells) → has_cell cells a' s' ≡ true → has_cell (without_part a s qty value cells) a' s' ≡ true
 has_cell-stays_without_part a s a' s' qty value cells has =
-    has_cell-without_part a s a' s' qty value cells ∙ or_true (same_position a s a' s') (has_cell cells a' s') has
+    has_cell-without_part a s a' s' qty value cells ∙ or_right (same_position a s a' s') (has_cell cells a' s') has
 
 -- the position that was changed has a cell
 

@@ -1,7 +1,6 @@
 -- The cells as they are stored: a map of sums by position, as the list of its entries.
-use Rattle.std.specs.Prelude.{ℕ, ℤ, Bool, List, Option, slice_get}
+use Rattle.std.specs.Prelude.{ℤ, Bool, List}
 use Rattle.std.specs.FinMap as finite
-use Rattle.std.specs.Map.{keys_of}
 use Rattle.blot_types.specs.declared.keys.PositionKey.{PositionKey}
 use Rattle.blot_position.specs.declared.sums.Sums.{Sums}
 use Rattle.blot_position.specs.Positions.{Cells, has_cell, sums_at, with_cell, with_part, without_part}
@@ -16,10 +15,6 @@ sums_in entries position = sums_at (cells_in entries) position.account position.
 
 abbrev pub has_cell_in : List (PositionKey × Sums) → PositionKey → Bool
 has_cell_in entries position = has_cell (cells_in entries) position.account position.symbol
-
--- the position whose cell is at a place
-abbrev pub key_at : List (PositionKey × Sums) → ℕ → Option PositionKey
-key_at entries place = slice_get (keys_of entries) place
 
 -- the map with a cell for a position; with one part more of it; with one part less
 abbrev pub opened_in : PositionKey → List (PositionKey × Sums) → Cells

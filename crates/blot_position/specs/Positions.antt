@@ -2,8 +2,8 @@
 use Rattle.std.specs.Prelude.{◌≡◌, ℕ, ℤ, Bool, ◌&&◌, List}
 use Rattle.std.specs.Coded.{Coded}
 use Rattle.std.specs.FinMap as map
+use Rattle.std.specs.Prelude.{unwrap_or}
 use Rattle.std.specs.List.{list_any, IsDistinct}
-use Rattle.std.specs.Option.{unwrap_or}
 use Rattle.blot_types.specs.contracts.keys.PositionKey as position_rust
 use Rattle.blot_types.specs.declared.keys.PositionKey.{PositionKey}
 use Rattle.blot_types.specs.Keys.{same_text, position_at, position_cmp}

@@ -2,8 +2,7 @@
 use Rattle.std.specs.Prelude.{◌+◌, ◌-◌, ◌<◌, ◌==◌, ℤ, pos, ◌+ℤ◌, ◌-ℤ◌, Option, Some, None, if◌then◌else◌}
 use Rattle.blot_decimal.specs.Sums.{FitsSum}
 use Rattle.blot_types.specs.declared.lines.PositionLine.{PositionLine}
-use Rattle.blot_position.specs.declared.sums.Sums.{Sums}
-use Rattle.blot_position.specs.declared.TheConstants.{PARTS_MAX}
+use Rattle.blot_position.specs.declared.{sums.Sums.Sums, TheConstants.PARTS_MAX}
 
 -- the sums of no parts
 abbrev pub no_parts : Sums

@@ -1,8 +1,8 @@
 //! The cells in which the sums are stored, by position.
-ghost use Rattle.std.specs.Prelude.{◌≡◌, is_some, Some, IfOk, IfSome, IsTrue, OnOk, OnErr};
+ghost use Rattle.std.specs.Prelude.{◌≡◌, IsTrue, IfOk, OnOk, OnErr};
 ghost use Rattle.std.specs.List.{IsDistinct};
 ghost use Rattle.std.specs.Map.{keys_of};
-ghost use Rattle.blot_position.specs.Cells.{added_in, cells_in, has_cell_in, key_at, opened_in, sums_in, taken_in};
+ghost use Rattle.blot_position.specs.Cells.{added_in, cells_in, has_cell_in, opened_in, sums_in, taken_in};
 ghost use Rattle.blot_position.specs.Positions.{same_key};
 ghost use Rattle.blot_position.specs.Sums.{HasRoom, HasPart};
 
@@ -12,7 +12,7 @@ use blot_types::PositionKey;
 use indexmap::IndexMap;
 use std::alloc::{AllocError as NoMemory, Global};
 
-/// The sums of the positions for which a cell was made. A cell that was made stays, and stays at its place.
+/// The sums of the positions for which a cell was made. A cell that was made stays.
 pub(crate) type Cells = IndexMap<PositionKey, Sums>;
 
 /// The sums of a position; without a cell those of no parts.
@@ -33,29 +33,22 @@ pub(crate) fn keys_of(alloc: Global, cells: &Cells) -> Result<Vec<PositionKey>, 
     cells.keys().copied().collect(alloc)
 }
 
-/// The place of the cell of a position, if one was made. Where that is near, it needs no look-up.
-pub(crate) fn place_near(cells: &Cells, near: usize, position: &PositionKey) -> Option<usize>
-    ensures place { IfSome result (λ place. key_at cells.now.entries place ≡ Some position.now) }
-    ensures found { is_some result ≡ has_cell_in cells.now.entries position.now }
+/// Whether a cell was made for a position.
+pub(crate) fn is_made(cells: &Cells, position: &PositionKey) -> bool
+    ensures { result ≡ has_cell_in cells.now.entries position.now }
 {
-    match cells.get_index(near) {
-        Some((there, _)) if *position == *there => Some(near),
-        _ => cells.get_index_of(position),
-    }
+    cells.contains_key(position)
 }
 
-/// The place of the cell of a position, which is made where there is none. An error leaves the cells as they were.
-pub(crate) fn make_cell(cells: &mut Cells, position: &PositionKey) -> Result<usize, NoMemory>
-    ensures place { IfOk result (λ place. key_at cells.new.entries place ≡ Some position.now) }
+/// Makes a cell for a position that has none. An error leaves the cells as they were.
+pub(crate) fn make_cell(cells: &mut Cells, position: &PositionKey) -> Result<(), NoMemory>
     ensures ok { OnOk result (cells_in cells.new.entries ≡ opened_in position.now cells.old.entries) }
     ensures err { OnErr result (cells_in cells.new.entries ≡ cells_in cells.old.entries) }
 {
-    if let Some(place) = cells.get_index_of(position) {
-        return Ok(place);
+    if cells.get(position).is_none() {
+        cells.insert(*position, Sums::none())?;
     }
-    let place = cells.len();
-    cells.insert(*position, Sums::none())?;
-    Ok(place)
+    Ok(())
 }
 
 /// Adds a part to a position, for which a cell is made where it has none. An error leaves the cells as they were.
@@ -74,42 +67,24 @@ pub(crate) fn put_part(
     Ok(())
 }
 
-/// Adds a part to a position for which a cell was made. Where that is near, it needs no look-up.
-pub(crate) fn add_part(
-    cells: &mut Cells,
-    near: usize,
-    position: &PositionKey,
-    qty: QtySum,
-    value: Value,
-)
+/// Adds a part to a position for which a cell was made.
+pub(crate) fn add_part(cells: &mut Cells, position: &PositionKey, qty: QtySum, value: Value)
     requires made { IsTrue (has_cell_in cells.old.entries position.now) }
     requires room { HasRoom (sums_in cells.old.entries position.now) qty value }
     ensures { cells_in cells.new.entries ≡ added_in position.now qty value cells.old.entries }
 {
-    let Some(place) = place_near(cells, near, position) else {
-        unreachable!()
-    };
-    match cells.get_index_mut(place) {
+    match cells.get_mut(position) {
         Some(sums) => sums.add(qty, value),
         None => unreachable!(),
     }
 }
 
-/// Takes a part of a position away. Its cell stays, and where that is near, it needs no look-up.
-pub(crate) fn sub_part(
-    cells: &mut Cells,
-    near: usize,
-    position: &PositionKey,
-    qty: QtySum,
-    value: Value,
-)
+/// Takes a part of a position away. Its cell stays.
+pub(crate) fn sub_part(cells: &mut Cells, position: &PositionKey, qty: QtySum, value: Value)
     requires { HasPart (sums_in cells.old.entries position.now) qty value }
     ensures { cells_in cells.new.entries ≡ taken_in position.now qty value cells.old.entries }
 {
-    let Some(place) = place_near(cells, near, position) else {
-        unreachable!()
-    };
-    match cells.get_index_mut(place) {
+    match cells.get_mut(position) {
         Some(sums) => *sums = sums.without_part(qty, value),
         None => unreachable!(),
     }

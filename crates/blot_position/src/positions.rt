@@ -5,7 +5,7 @@ ghost use Rattle.blot_types.specs.Keys.{position_at};
 ghost use Rattle.blot_position.specs.Positions.{sums_at, has_cell, with_cell, with_part, without_part, AreKeysOf};
 ghost use Rattle.blot_position.specs.Sums.{line_by, HasRoom, HasPart};
 
-use crate::cell::{Cells, add_part, keys_of, make_cell, place_near, put_part, sub_part, sums_of};
+use crate::cell::{Cells, add_part, is_made, keys_of, make_cell, put_part, sub_part, sums_of};
 use blot_decimal::{QtySum, Value};
 use blot_types::{PositionKey, PositionLine, Text64};
 use indexmap::IndexMap;
@@ -17,8 +17,6 @@ use std::marker::Model;
 #[derive(Drop)]
 pub struct Positions {
     cells: Cells,
-    // The place of the cell that was opened or found last. The next one is looked for there first.
-    near: usize,
 }
 
 impl Model for Positions {
@@ -39,7 +37,6 @@ impl Positions {
     {
         Positions {
             cells: IndexMap::new(alloc),
-            near: 0,
         }
     }
 
@@ -49,18 +46,14 @@ impl Positions {
         ensures ok { OnOk result (self.new ≡ with_cell account.now symbol.now self.old) }
         ensures err { OnErr result (self.new ≡ self.old) }
     {
-        self.near = make_cell(&mut self.cells, &position_at(account, symbol))?;
-        Ok(())
+        make_cell(&mut self.cells, &position_at(account, symbol))
     }
 
-    /// Whether a cell was made for a position. A part that then comes to it needs no look-up.
-    pub fn is_open(&mut self, account: &Text64, symbol: &Text64) -> bool
-        ensures made { result ≡ has_cell self.old account.now symbol.now }
-        ensures kept { self.new ≡ self.old }
+    /// Whether a cell was made for a position.
+    pub fn is_open(&self, account: &Text64, symbol: &Text64) -> bool
+        ensures { result ≡ has_cell self.now account.now symbol.now }
     {
-        let place = place_near(&self.cells, self.near, &position_at(account, symbol));
-        self.near = place.unwrap_or(self.near);
-        place.is_some()
+        is_made(&self.cells, &position_at(account, symbol))
     }
 
     /// Adds a part to a position. Out of memory is the only error, and then nothing has changed.
@@ -83,8 +76,7 @@ impl Positions {
         requires part { HasPart (sums_at self.old account.now symbol.now) qty value }
         ensures { self.new ≡ without_part account.now symbol.now qty value self.old }
     {
-        let position = position_at(account, symbol);
-        sub_part(&mut self.cells, self.near, &position, qty, value);
+        sub_part(&mut self.cells, &position_at(account, symbol), qty, value);
     }
 
     /// Adds a part to a position for which a cell was made. It needs no memory.
@@ -93,8 +85,7 @@ impl Positions {
         requires room { HasRoom (sums_at self.old account.now symbol.now) qty value }
         ensures { self.new ≡ with_part account.now symbol.now qty value self.old }
     {
-        let position = position_at(account, symbol);
-        add_part(&mut self.cells, self.near, &position, qty, value);
+        add_part(&mut self.cells, &position_at(account, symbol), qty, value);
     }
 
     /// The positions for which a cell was made, each once, in no order. An error is out of memory.

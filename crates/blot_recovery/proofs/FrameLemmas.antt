@@ -1,16 +1,14 @@
 -- What one frame more adds to what the frames of a text say.
-use Rattle.std.proofs.Common.{◌≡◌, ℕ, Bool, List, [], ◌∷◌, ◌++◌, map, Option, Some, None, refl, ap, ◌∙◌}
-use Rattle.std.specs.List.{cons_option, filter, filter_map, fold}
-use Rattle.std.proofs.lemmas.List.{append-nil, map-append}
+use Rattle.std.proofs.Common.{◌≡◌, ℕ, Bool, List, [], ◌∷◌, ◌++◌, map, Option, Some, None, refl, ap, ◌∙◌, filter, filter_map, fold, append-nil}
+use Rattle.std.specs.List.{cons_option}
+use Rattle.std.proofs.lemmas.List.{map-append}
 use Rattle.std.proofs.lemmas.List.Elements.{filter-append, filter_map-append}
 use Rattle.std.proofs.lemmas.List.Sums.{fold-append}
 use Rattle.blot_tag.specs.Fields.{fields_of}
 use Rattle.blot_tag.specs.Joined.{IsWhole}
 use Rattle.blot_tag.specs.Walking.{frames_of, walk_behind}
 use Rattle.blot_desk.specs.declared.event.Event.{Event}
-use Rattle.blot_diary.specs.declared.kept.Kept.{Kept}
-use Rattle.blot_diary.specs.declared.kept.Noted.{Noted}
-use Rattle.blot_diary.specs.declared.kept.Party.{Party}
+use Rattle.blot_diary.specs.declared.{kept.Kept.Kept, kept.Noted.Noted, kept.Party.Party}
 use Rattle.blot_diary.specs.Diary.{desk_events}
 use Rattle.blot_diary.specs.Events.{events_in, events_of, noted_of}
 use Rattle.blot_diary.specs.Keeping.{kept_in, kept_of}

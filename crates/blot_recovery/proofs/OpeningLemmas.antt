@@ -1,6 +1,5 @@
 -- A day that is opened over a file.
-use Rattle.std.proofs.Common.{◌≡◌, ◌⊎◌, ◌<◌, inl, inr, ⊎_elim, ◌+◌, true, ap, sym, ℕ, ℤ, Option, List, [], ◌∷◌, length, take, refl, subst, ◌∙◌, arith}
-use Rattle.std.proofs.lemmas.List.{append-nil, take-take}
+use Rattle.std.proofs.Common.{◌≡◌, ◌⊎◌, ◌<◌, inl, inr, ⊎_elim, ◌+◌, true, ap, sym, ℕ, ℤ, Option, List, [], ◌∷◌, length, take, refl, subst, ◌∙◌, arith, append-nil, take-take}
 use Rattle.blot_tag.proofs.JoinedLemmas.{has_last}
 use Rattle.blot_journal.specs.Device.{LeavesOnly}
 use Rattle.blot_journal.specs.File.{StandsBeforeOrAfter, text_of}
@@ -9,8 +8,7 @@ use Rattle.blot_journal.specs.Recovery.{IsCutBehind, IsLeft, IsOrWas, trimmed}
 use Rattle.blot_journal.specs.declared.journal.JournalFault.{JournalFault}
 use Rattle.blot_journal.specs.declared.journal.JournalFault.TheVariants as writing
 use Rattle.blot_journal.specs.declared.recovery.RecoveryFault.TheVariants as reading
-use Rattle.blot_diary.specs.declared.kept.Content.TheVariants.{Beginning}
-use Rattle.blot_diary.specs.declared.kept.Kept.{Kept}
+use Rattle.blot_diary.specs.declared.{kept.Content.TheVariants.Beginning, kept.Kept.Kept}
 use Rattle.blot_diary.specs.Diary.{desk_events}
 use Rattle.blot_diary.specs.Records.{keeps}
 use Rattle.blot_recovery.specs.declared.opening.OpenFault.{OpenFault}

@@ -1,20 +1,18 @@
 -- The operators of a journal, after one frame more.
-use Rattle.std.proofs.Common.{◌≡◌, ◌⊎◌, inl, inr, ℕ, zero, suc, ◌+◌, ◌<◌, Bool, true, false, ◌||◌, List, [], ◌∷◌, ◌++◌, length, get_or, take, Option, Some, None, refl, sym, ap, subst, ◌∙◌, arith}
-use Rattle.std.specs.List.{All, list_any, slice_get}
-use Rattle.std.proofs.Math.ListN.{set}
+use Rattle.std.proofs.Common.{◌≡◌, ◌⊎◌, inl, inr, ℕ, zero, suc, ◌+◌, ◌<◌, Bool, true, false, ◌||◌, List, [], ◌∷◌, ◌++◌, length, get_or, take, Option, Some, None, refl, sym, ap, subst, ◌∙◌, arith, All, slice_get, set, get_or-set_other, length-set}
+use Rattle.std.specs.List.{list_any}
 use Rattle.std.proofs.Math.Seq.{map-set_same}
 use Rattle.std.proofs.lemmas.Bool.{cases_order, false≢true}
 use Rattle.std.proofs.lemmas.Grind.{get_or-set_at}
-use Rattle.std.proofs.lemmas.List.{get_or-map, get_or-set_other, length-map, length-set, map-append}
+use Rattle.std.proofs.lemmas.List.{get_or-map, length-map, map-append, get_or_append_left, length_push, get_or_push}
 use Rattle.std.proofs.lemmas.List.Elements.{All-push}
 use Rattle.std.proofs.lemmas.Option.{get_or_from_slice_get}
 use Rattle.blot_types.specs.Keys.{same_text}
+use Rattle.blot_types.proofs.GeneralLemmas.{all-front}
 use Rattle.blot_desk.specs.declared.receipt.Receipt.{Receipt}
-use Rattle.blot_diary.specs.declared.kept.Beginning.{Beginning}
-use Rattle.blot_diary.specs.declared.kept.Kept.{Kept}
+use Rattle.blot_diary.specs.declared.{kept.Beginning.Beginning, kept.Kept.Kept}
 use Rattle.blot_diary.specs.Beginnings.{begun_by}
-use Rattle.blot_recovery.specs.declared.operators.KeptOperators.{KeptOperators}
-use Rattle.blot_recovery.specs.declared.parties.KeptOperator.{KeptOperator}
+use Rattle.blot_recovery.specs.declared.{operators.KeptOperators.KeptOperators, parties.KeptOperator.KeptOperator}
 use Rattle.blot_recovery.specs.Parties.{AreDifferent, AreKeptOperators, GivesSeat, HasSeat, IsFirst, IsKeptOperator, operator_names}
 use Rattle.blot_recovery.specs.Taking.{IsAskedBy, KeepsLast, stands_for}
 use Rattle.blot_recovery.proofs.PartyLemmas.{operator-asked, operator-begun, operator-comes, operator-other, unheard-asked, unheard-begun, unheard-first, unheard-other}
@@ -56,46 +54,21 @@ differs names at name other within found none =
     not_same name other (λ is. are_other other name
     (subst (λ it. same_text other it ≡ false) (get_or_from_slice_get names at name other found) (none-of (same_text other) names at other none within)) (sym is))
 
--- different names with one more
-get_or-front : {X : Type 0} (xs ys : List X) (k : ℕ) (d : X) → k < length xs → get_or (xs ++ ys) k d ≡ get_or xs k d
-get_or-front [] ys k d less = absurd (omega (arith, less))
-get_or-front (x ∷ xs) ys zero d less = refl
-get_or-front (x ∷ xs) ys (suc k) d less = get_or-front xs ys k d (omega (arith, less))
-
-get_or-last : {X : Type 0} (xs : List X) (x d : X) → get_or (xs ++ x ∷ []) (length xs) d ≡ x
-get_or-last [] x d = refl
-get_or-last (y ∷ xs) x d = get_or-last xs x d
-
-length-more : {X : Type 0} (xs : List X) (x : X) → length (xs ++ x ∷ []) ≡ length xs + 1
-length-more [] x = refl
-length-more (y ∷ xs) x = omega (arith, length-more xs x)
-
 different-more : (names : List (List ℕ)) (name : List ℕ) → AreDifferent names → list_any (same_text name) names ≡ false → AreDifferent (names ++ name ∷ [])
 different-more names name apart none j k d before within same =
     by (cases_order k (length names))
   where
     short : j < length names
-    short = omega (arith, before, within, length-more names name)
+    short = omega (arith, before, within, length_push names name)
 
     by : (k ≡ length names) ⊎ ((k < length names) ⊎ (length names < k)) → ⊥
     by (inl last) =
         are_other name (get_or names j d) (none-of (same_text name) names j d none short)
-        (sym (get_or-last names name d) ∙ ap (λ n. get_or (names ++ name ∷ []) n d) (sym last) ∙ sym same ∙ get_or-front names (name ∷ []) j d short)
-    by (inr (inl less)) = apart j k d before less (sym (get_or-front names (name ∷ []) j d short) ∙ same ∙ get_or-front names (name ∷ []) k d less)
-    by (inr (inr more)) = absurd (omega (arith, within, more, length-more names name))
+        (sym (get_or_push names name d (length names) refl) ∙ ap (λ n. get_or (names ++ name ∷ []) n d) (sym last) ∙ sym same ∙ get_or_append_left names (name ∷ []) d j short)
+    by (inr (inl less)) = apart j k d before less (sym (get_or_append_left names (name ∷ []) d j short) ∙ same ∙ get_or_append_left names (name ∷ []) d k less)
+    by (inr (inr more)) = absurd (omega (arith, within, more, length_push names name))
 
 -- ---- an operator comes
-
-all-before : {X : Type 0} (P : X → Type 0) (xs ys : List X) → All P (xs ++ ys) → All P xs
-all-before {X = X} P xs ys all k d less =
-    subst P (get_or-front xs ys k d less) (all k d (omega (arith, less, length-append)))
-  where
-    length-both : (xs ys : List X) → length (xs ++ ys) ≡ length xs + length ys
-    length-both [] ys = omega arith
-    length-both (x ∷ xs) ys = omega (arith, length-both xs ys)
-
-    length-append : length (xs ++ ys) ≡ length xs + length ys
-    length-append = length-both xs ys
 
 all-last : {X : Type 0} (P : X → Type 0) (front : List X) (x : X) → All P (front ++ x ∷ []) → P x
 all-last P [] x all = all 0 x (omega arith)
@@ -113,7 +86,7 @@ operators-more text old new operator seat more fewer given records none holds =
       named = subst (All (IsKeptOperator text)) (sym more) (All-push (IsKeptOperator text) old.named.items operator holds.named
           (operator-comes text operator (holds.others operator.name none) (given ∙ all-last (λ receipts. receipts ≡ []) new.spare.items seat all) records));
       others = λ name none. holds.others name (none-before (same_text name) names (operator.name ∷ []) (ap (list_any (same_text name)) (sym are) ∙ none));
-      spare = all-before (λ receipts. receipts ≡ []) new.spare.items (seat ∷ []) all;
+      spare = all-front (λ receipts. receipts ≡ []) new.spare.items (seat ∷ []) all;
     }
 
 -- the first stays
@@ -216,7 +189,7 @@ all-more P old new x is all holds = subst (All P) (sym is) (All-push P old x all
 pub seat-put : {L : Type 0} (old new : KeptOperators L) (operator : KeptOperator L) (seat : List Receipt) (name : List ℕ) → operator.name ≡ name
     → new.named.items ≡ old.named.items ++ operator ∷ [] → old.spare.items ≡ new.spare.items ++ seat ∷ [] → GivesSeat name old new
 seat-put old new operator seat name is more fewer = record {
-  total = omega (arith, ap length more, ap length fewer, length-more old.named.items operator, length-more new.spare.items seat);
+  total = omega (arith, ap length more, ap length fewer, length_push old.named.items operator, length_push new.spare.items seat);
   each = λ named text all has. all-more (HasSeat named text) (operator_names old.named.items) (operator_names new.named.items) operator.name
       (ap operator_names more ∙ map-append (λ operator. operator.name) old.named.items (operator ∷ [])) all (subst (HasSeat named text) (sym is) has);
 }

@@ -1,25 +1,19 @@
 -- What a frame says to a party, and to every other.
-use Rattle.std.proofs.Common.{◌≡◌, ◌⊎◌, inl, inr, ℕ, ◌+◌, ◌≤◌, Bool, true, false, ◌&&◌, ◌||◌, not, List, [], ◌∷◌, Option, Some, refl, sym, ap, subst, ◌∙◌, cond, arith}
-use Rattle.std.specs.Prelude.{ℤ, fold, if◌then◌else◌}
-use Rattle.std.specs.List.{cons_option, filter, list_all}
+use Rattle.std.proofs.Common.{◌≡◌, ◌⊎◌, inl, inr, ℕ, ◌+◌, ◌≤◌, Bool, true, false, ◌&&◌, ◌||◌, not, List, [], ◌∷◌, Option, Some, refl, sym, ap, subst, ◌∙◌, cond, arith, ℤ, fold, if◌then◌else◌, filter}
+use Rattle.std.specs.List.{cons_option, list_all}
 use Rattle.std.proofs.lemmas.Bool.{and_from, and_parts, false≢true}
 use Rattle.std.proofs.lemmas.List.Folds.{list_all-append}
 use Rattle.blot_types.specs.Keys.{same_text}
 use Rattle.blot_fields.specs.declared.TheConstants.{SEQUENCE_MAX}
-use Rattle.blot_desk.specs.declared.event.Event.TheVariants.{Submit}
-use Rattle.blot_desk.specs.declared.receipt.Receipt.{Receipt}
-use Rattle.blot_diary.specs.declared.kept.Content.{Content}
+use Rattle.blot_desk.specs.declared.{event.Event.TheVariants.Submit, receipt.Receipt.Receipt}
+use Rattle.blot_diary.specs.declared.{kept.Content.Content, kept.Kept.Kept, kept.Noted.Noted, kept.Beginning.Beginning as Begun}
 use Rattle.blot_diary.specs.declared.kept.Content.TheVariants.{Command, Beginning, Asked, Numbers, Wrapped, Unclear, Message}
-use Rattle.blot_diary.specs.declared.kept.Kept.{Kept}
-use Rattle.blot_diary.specs.declared.kept.Noted.{Noted}
 use Rattle.blot_diary.specs.declared.kept.Party.TheVariants.{Operator, Peer}
-use Rattle.blot_diary.specs.declared.kept.Beginning.{Beginning as Begun}
 use Rattle.blot_diary.specs.Beginnings.{begun_by, begun_said}
 use Rattle.blot_diary.specs.Events.{noted_by, noted_of}
 use Rattle.blot_diary.specs.Keeping.{IsInRange, IsKept, kept_in}
 use Rattle.blot_diary.specs.Numbering.{expected_by, first_numbers, next_by, numbers_after, numbers_in, numbers_of, sent_after}
-use Rattle.blot_recovery.specs.declared.parties.KeptOperator.{KeptOperator}
-use Rattle.blot_recovery.specs.declared.parties.KeptPeer.{KeptPeer}
+use Rattle.blot_recovery.specs.declared.{parties.KeptOperator.KeptOperator, parties.KeptPeer.KeptPeer}
 use Rattle.blot_gateway.specs.AtOnce.{are_submits, is_submit}
 use Rattle.blot_recovery.specs.Parties.{IsKeptOperator, IsKeptPeer, IsUnheard, brought_by, events_told, is_operator, is_peer, operator_record_after, operator_record_by, operator_records_of, peer_record_after, peer_record_by, peer_records_of}
 use Rattle.blot_recovery.specs.Taking.{IsAskedBy, KeepsLast, event_noted, stands_by, stands_for, with_event}

@@ -1,18 +1,15 @@
 -- What one frame more adds to what was received.
-use Rattle.std.proofs.Common.{◌≡◌, inl, inr, ℕ, Bool, true, false, List, [], ◌∷◌, ◌++◌, Some, None, refl, sym, ap, subst, ◌∙◌}
-use Rattle.std.specs.List.{flat_map}
+use Rattle.std.proofs.Common.{◌≡◌, inl, inr, ℕ, Bool, true, false, List, [], ◌∷◌, ◌++◌, Some, None, refl, sym, ap, subst, ◌∙◌, flat_map, append-nil}
 use Rattle.std.proofs.lemmas.Grind.{flat_map-append}
-use Rattle.std.proofs.lemmas.List.{append-nil}
 use Rattle.blot_tag.specs.Fields.{fields_of}
 use Rattle.blot_tag.specs.Joined.{HasLastFrame}
 use Rattle.blot_tag.specs.Walking.{frames_of}
 use Rattle.blot_diary.specs.declared.kept.Kept.{Kept}
 use Rattle.blot_diary.specs.Beginnings.{begun_by}
 use Rattle.blot_diary.specs.Keeping.{kept_of}
-use Rattle.blot_recovery.specs.declared.fault.RecoverFault.{RecoverFault}
+use Rattle.blot_recovery.specs.declared.{fault.RecoverFault.RecoverFault, receiving.Receiving.Receiving}
 use Rattle.blot_recovery.specs.declared.fault.RecoverFault.TheVariants.{NoMemory, Unreadable, Another, Unlisted, Damaged}
 use Rattle.blot_recovery.specs.Faults.{BeginsOtherwise}
-use Rattle.blot_recovery.specs.declared.receiving.Receiving.{Receiving}
 use Rattle.blot_recovery.specs.Received.{HasReceived, IsJournalOf, IsReceiveFault, MayBeReceived, RefusesReceived, RefusesReceiving, begins_none, received_by, received_in, received_of}
 use Rattle.blot_recovery.specs.Taking.{begun_on}
 use Rattle.blot_recovery.specs.Walking.{IsFaultIn, IsTakenBy, RefusesBehind}

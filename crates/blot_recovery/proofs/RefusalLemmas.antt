@@ -1,23 +1,19 @@
 -- What a fault says of a text, by what was taken up before it.
-use Rattle.std.proofs.Common.{◌≡◌, ◌⊎◌, inl, inr, ℕ, zero, suc, ◌<◌, Bool, true, false, ◌&&◌, ◌||◌, List, [], ◌∷◌, drop, get_or, length, take, Option, Some, None, refl, sym, ap, subst, ◌∙◌, arith}
-use Rattle.std.specs.Prelude.{ℤ, IfSome, IsSome, option_map, if◌then◌else◌}
-use Rattle.std.specs.List.{All, list_any, slice_get}
+use Rattle.std.proofs.Common.{◌≡◌, ◌⊎◌, inl, inr, ℕ, zero, suc, ◌<◌, Bool, true, false, ◌&&◌, ◌||◌, List, [], ◌∷◌, drop, get_or, length, take, Option, Some, None, refl, sym, ap, subst, ◌∙◌, arith, ℤ, IfSome, IsSome, option_map, if◌then◌else◌, All, slice_get}
+use Rattle.std.specs.List.{list_any}
 use Rattle.std.proofs.lemmas.Bool.{and_parts, false≢true, or_parts}
 use Rattle.std.proofs.lemmas.List.{length-map}
 use Rattle.blot_types.specs.Keys.{same_text}
 use Rattle.blot_tag.specs.Fields.{fields_of}
-use Rattle.blot_diary.specs.declared.kept.Beginning.{Beginning}
-use Rattle.blot_diary.specs.declared.kept.Content.{Content}
+use Rattle.blot_diary.specs.declared.{kept.Beginning.Beginning, kept.Content.Content}
 use Rattle.blot_diary.specs.declared.kept.Content.TheVariants as contents
 use Rattle.blot_diary.specs.declared.kept.Kept.{Kept}
 use Rattle.blot_diary.specs.Beginnings.{beginning_of}
 use Rattle.blot_diary.specs.Diary.{desk_events}
 use Rattle.blot_diary.specs.Events.{noted_of}
 use Rattle.blot_diary.specs.Keeping.{kept_of}
-use Rattle.blot_recovery.specs.declared.fault.RecoverFault.{RecoverFault}
+use Rattle.blot_recovery.specs.declared.{fault.RecoverFault.RecoverFault, parties.KeptPeer.KeptPeer, taking.Taking.Taking}
 use Rattle.blot_recovery.specs.declared.fault.RecoverFault.TheVariants.{NoMemory, Unreadable, Another, Unlisted, Damaged}
-use Rattle.blot_recovery.specs.declared.parties.KeptPeer.{KeptPeer}
-use Rattle.blot_recovery.specs.declared.taking.Taking.{Taking}
 use Rattle.blot_recovery.specs.Faults.{BeginsOtherwise, HasNoFrame, HasRefused, IsFaultOf, IsWanted}
 use Rattle.blot_recovery.specs.Parties.{HasSeat, operator_names}
 use Rattle.blot_recovery.specs.Refusals.{AsksWithoutSeat, BeginsIts, HasNoSeat, IsDamage, IsMisplaced, IsOfNoParty, IsOfUnlisted, IsOneTooMany, IsRecoverFault, RefusesFrame, RefusesKept, RefusesNext, StandsSoFar, other_of}
@@ -227,15 +223,6 @@ listed-not (first ∷ names) zero name other listed none is =
     are_other other first (or_parts (same_text other first) (list_any (same_text other) names) none).0 (sym (same ∙ is))
 listed-not (first ∷ names) (suc at) name other listed none is =
     listed-not names at name other listed (or_parts (same_text other first) (list_any (same_text other) names) none).1 is
-
-may-stand : (content : Content) (received sent : Bool) → stands_by content received sent ≡ true → stands_by content true true ≡ true
-may-stand (contents.Command command) received sent is = refl
-may-stand (contents.Beginning day) received sent is = absurd (false≢true is)
-may-stand (contents.Asked operator event) received sent is = absurd (false≢true is)
-may-stand (contents.Numbers numbers) received sent is = refl
-may-stand contents.Wrapped received sent is = refl
-may-stand contents.Unclear received sent is = absurd (false≢true is)
-may-stand contents.Message received sent is = refl
 
 module _ {L : Type 0} (taking : Taking L) (kept : Kept) where
   -- a frame of the blotter's to itself, or one that doesn't stand for the party that it names

@@ -1,14 +1,10 @@
 -- The frames of a journal, taken up one by one.
-use Rattle.std.proofs.Common.{◌≡◌, ◌⊎◌, inl, inr, ℕ, zero, suc, ◌+◌, ◌<◌, true, ◌||◌, List, [], ◌∷◌, ◌++◌, drop, length, get_or, Option, Some, None, refl, sym, ap, subst, ◌∙◌, arith}
-use Rattle.std.specs.Prelude.{ℤ, IfSome, IsSome, option_map}
-use Rattle.std.specs.Bool.{Decides}
-use Rattle.std.specs.List.{All, list_any, slice_get}
-use Rattle.std.specs.Option.{option_and_then, option_to_list}
-use Rattle.std.proofs.Math.ListN.{set}
+use Rattle.std.proofs.Common.{◌≡◌, ◌⊎◌, inl, inr, ℕ, zero, suc, ◌+◌, ◌<◌, true, ◌||◌, List, [], ◌∷◌, ◌++◌, drop, length, get_or, Option, Some, None, refl, sym, ap, subst, ◌∙◌, arith, ℤ, IfSome, IsSome, option_map, Decides, All, slice_get, option_and_then, option_to_list, set, append-nil, get_or-set_other, length-set}
+use Rattle.std.specs.List.{list_any}
 use Rattle.std.proofs.Math.Seq.{map-set_same}
 use Rattle.std.proofs.lemmas.Bool.{cases_order, or_right}
 use Rattle.std.proofs.lemmas.Grind.{get_or-set_at}
-use Rattle.std.proofs.lemmas.List.{append-nil, get_or-map, get_or-set_other, length-map, length-set}
+use Rattle.std.proofs.lemmas.List.{get_or-map, length-map}
 use Rattle.std.proofs.lemmas.List.Elements.{All-push}
 use Rattle.std.proofs.lemmas.Map.Made.{AllPairs-from_IsDistinct}
 use Rattle.std.proofs.lemmas.Option.{get_or_from_slice_get}
@@ -16,20 +12,16 @@ use Rattle.blot_types.specs.Keys.{same_text}
 use Rattle.blot_tag.specs.Fields.{fields_of}
 use Rattle.blot_tag.specs.Joined.{FrameComesFirst, HasLastFrame}
 use Rattle.blot_tag.specs.Walking.{Walk, frames_of}
-use Rattle.blot_desk.specs.Desk.{IsRun, Journal, empty_journal, events_of}
-use Rattle.blot_diary.specs.declared.kept.Beginning.{Beginning}
+use Rattle.blot_desk.specs.Desk.{DeskState, IsRun, empty_desk, events_of}
+use Rattle.blot_diary.specs.declared.{kept.Beginning.Beginning, kept.Content.Content}
 use Rattle.blot_desk.specs.declared.event.Event.{Event}
-use Rattle.blot_diary.specs.declared.kept.Content.{Content}
 use Rattle.blot_diary.specs.declared.kept.Content.TheVariants as contents
 use Rattle.blot_diary.specs.declared.kept.Kept.{Kept}
-use Rattle.blot_recovery.specs.declared.operators.TheConstants.{OPERATOR_SEATS}
+use Rattle.blot_recovery.specs.declared.{operators.TheConstants.OPERATOR_SEATS, operators.KeptOperators.KeptOperators, parties.KeptPeer.KeptPeer, taking.Taking.Taking}
 use Rattle.blot_diary.specs.Beginnings.{beginning_of, begun_by}
 use Rattle.blot_diary.specs.Diary.{desk_events}
 use Rattle.blot_diary.specs.Events.{noted_by, noted_of}
 use Rattle.blot_diary.specs.Keeping.{kept_of}
-use Rattle.blot_recovery.specs.declared.operators.KeptOperators.{KeptOperators}
-use Rattle.blot_recovery.specs.declared.parties.KeptPeer.{KeptPeer}
-use Rattle.blot_recovery.specs.declared.taking.Taking.{Taking}
 use Rattle.blot_recovery.specs.Faults.{BeginsOtherwise, IsWanted}
 use Rattle.blot_recovery.specs.Parties.{AreKeptOperators, AreSeated, GivesSeat, HasSeat, IsKeptPeer, brought_by, is_operator, operator_names}
 use Rattle.blot_recovery.specs.Taking.{AreApart, AreInPlace, AsksSame, HasTaken, IsAskedBy, IsInPlace, IsOfParty, KeepsLast, TakesUp, TakesUpAll, begun_on, names_of, stands_for, with_event}
@@ -135,7 +127,7 @@ place-behind P (first ∷ frames) frame found begun all holds = All-push P frame
 
 -- ---- one frame more
 
-events-more : (text more : List ℕ) (kept : Kept) → KeepsLast text kept more → (before after : Journal) → TakesUp before after (noted_of kept)
+events-more : (text more : List ℕ) (kept : Kept) → KeepsLast text kept more → (before after : DeskState) → TakesUp before after (noted_of kept)
     → events_of before.history ≡ desk_events text → events_of after.history ≡ desk_events more
 events-more text more kept last before after up events =
     up.events ∙ ap (λ events. with_event events (noted_of kept)) events ∙ sym (desk_events-last text more kept last)
@@ -273,10 +265,10 @@ is-one (name ∷ names) (suc k) d less = or_right (same_text (get_or names k d) 
 all-seated : (names : List (List ℕ)) → All (HasSeat names []) names
 all-seated names = λ k d less. inl (is-one names k d less)
 
-empty-run : IsRun empty_journal
+empty-run : IsRun empty_desk
 empty-run = refl
 
-pub none-taken : {L : Type 0} (made : Taking L) → made.begun ≡ None → made.opening ≡ empty_journal → AreApart made.own (names_of made.peers.items)
+pub none-taken : {L : Type 0} (made : Taking L) → made.begun ≡ None → made.opening ≡ empty_desk → AreApart made.own (names_of made.peers.items)
     → All (IsKeptPeer made.own []) made.peers.items → AreKeptOperators [] made.operators → length made.operators.named.items + length made.operators.spare.items ≡ OPERATOR_SEATS
     → TakesUpAll made [] made
 none-taken made none empty apart peers operators total = record {
@@ -290,7 +282,7 @@ none-taken made none empty apart peers operators total = record {
     in_place = subst (λ frames. All (IsInPlace made.own (names_of made.peers.items)) (drop 1 frames)) (sym frames_of-nil)
         (none-behind (IsInPlace made.own (names_of made.peers.items)));
     has = record {
-      events = ap (λ (opening : Journal). events_of opening.history) empty ∙ sym desk_events-nil;
+      events = ap (λ (opening : DeskState). events_of opening.history) empty ∙ sym desk_events-nil;
       run = subst IsRun (sym empty) empty-run;
       peers = peers;
       operators = operators;
@@ -304,7 +296,7 @@ pub same-names : {L : Type 0} (peers : List (KeptPeer L)) (at : ℕ) (old new : 
 same-names peers at old new is name = map-set_same (λ peer. peer.peer) peers at new old (name ∙ ap (λ peer. peer.peer) is)
 
 -- an operator's event
-pub asked-taken : {L : Type 0} (old : Taking L) (opening : Journal) (operators : KeptOperators L) (name text more : List ℕ) (kept : Kept) → KeepsLast text kept more
+pub asked-taken : {L : Type 0} (old : Taking L) (opening : DeskState) (operators : KeptOperators L) (name text more : List ℕ) (kept : Kept) → KeepsLast text kept more
     → IsAskedBy name kept.content → TakesUp old.opening opening (noted_of kept)
     → AreKeptOperators more operators → HasTaken text old → HasTaken more (record old { opening = opening; operators = operators })
 asked-taken old opening operators name text more kept last is up holds has = record {

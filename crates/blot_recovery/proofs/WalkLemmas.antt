@@ -1,8 +1,6 @@
 -- The frames of a text, taken one by one.
-use Rattle.std.proofs.Common.{◌≡◌, inl, inr, ℕ, ◌+◌, ◌<◌, ◌≤◌, List, [], ◌∷◌, ◌++◌, Option, Some, None, Result, Ok, Err, length, take, drop, refl, sym, ap, subst, ◌∙◌, arith, append_assoc, length-append}
-use Rattle.std.specs.Prelude.{IfErr, IfOk, IfSome, OnOk}
+use Rattle.std.proofs.Common.{◌≡◌, inl, inr, ℕ, ◌+◌, ◌<◌, ◌≤◌, List, [], ◌∷◌, ◌++◌, Option, Some, None, Result, Ok, Err, length, take, drop, refl, sym, ap, subst, ◌∙◌, arith, append_assoc, length-append, IfErr, IfOk, IfSome, OnOk, append-nil, drop-drop, take-append-drop}
 use Rattle.std.proofs.Math.Seq.{take-append_seam}
-use Rattle.std.proofs.lemmas.List.{append-nil, drop-drop, take-append-drop}
 use Rattle.blot_tag.specs.Frames.{BeginsWithFrame, IsFrame, IsFramePrefix, IsGarbled}
 use Rattle.blot_tag.specs.Looking.{look_of}
 use Rattle.blot_tag.proofs.FrameLemmas.{look_of-frame, look_of-neither, look_of-not_garbled, look_of-ok, look_of-prefix}

@@ -1,6 +1,6 @@
 -- What a crash may leave of a file while a day is opened.
-use Rattle.std.proofs.Common.{inr, ⊎_elim, ◌∙◌}
 use Rattle.std.specs.Prelude.{◌≡◌, ◌⊎◌, ℕ, ℤ, List, []}
+use Rattle.std.proofs.Common.{inr, ⊎_elim, ◌∙◌}
 use Rattle.std.proofs.Math.Nat.{le_trans}
 use Rattle.blot_journal.specs.Device.{LeavesOnly}
 use Rattle.blot_journal.specs.File.{StandsBeforeOrAfter, text_of}

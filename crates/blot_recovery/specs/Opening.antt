@@ -1,7 +1,5 @@
 -- A day that is opened over a file.
-use Rattle.std.specs.Prelude.{◌≡◌, ℕ, ℤ, Bool, true, false, List, [], Option, Some}
-use Rattle.std.specs.List.{All}
-use Rattle.std.specs.Option.{option_to_list}
+use Rattle.std.specs.Prelude.{◌≡◌, ℕ, ℤ, Bool, true, false, List, [], Option, Some, All, option_to_list}
 use Rattle.blot_tag.specs.Fields.{fields_of}
 use Rattle.blot_tag.specs.Frames.{IsFrame}
 use Rattle.blot_desk.specs.Desk.{IsRun, events_of}
@@ -15,10 +13,8 @@ use Rattle.blot_diary.specs.declared.kept.Content.TheVariants.{Beginning}
 use Rattle.blot_diary.specs.Diary.{desk_events}
 use Rattle.blot_diary.specs.Keeping.{kept_of}
 use Rattle.blot_diary.specs.Records.{keeps}
-use Rattle.blot_recovery.specs.declared.fault.RecoverFault.{RecoverFault}
-use Rattle.blot_recovery.specs.declared.opening.OpenFault.{OpenFault}
+use Rattle.blot_recovery.specs.declared.{fault.RecoverFault.RecoverFault, opening.OpenFault.OpenFault, recovering.Recovered.Recovered}
 use Rattle.blot_recovery.specs.declared.opening.OpenFault.TheVariants.{File, Text, Write}
-use Rattle.blot_recovery.specs.declared.recovering.Recovered.{Recovered}
 use Rattle.blot_recovery.specs.Parties.{AreKeptOperators, IsFirst, IsKeptPeer, operator_names}
 use Rattle.blot_recovery.specs.Refusals.{IsRecoverFault}
 use Rattle.blot_recovery.specs.Taking.{names_of}

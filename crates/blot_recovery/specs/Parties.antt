@@ -1,24 +1,19 @@
 -- What each party of a journal brought, and where its records of its own kinds stand.
-use Rattle.std.specs.Prelude.{◌≡◌, ◌⊎◌, ℕ, ◌+◌, ◌<◌, ◌≤◌, Bool, true, false, List, [], Option, None, Some, fold, get_or, length, map, filter, if◌then◌else◌}
-use Rattle.std.specs.List.{All, list_any, slice_get}
+use Rattle.std.specs.Prelude.{◌≡◌, ◌⊎◌, ℕ, ◌+◌, ◌<◌, ◌≤◌, Bool, true, false, List, [], Option, None, Some, fold, get_or, length, map, filter, if◌then◌else◌, All, slice_get}
+use Rattle.std.specs.List.{list_any}
 use Rattle.blot_types.specs.Keys.{same_text}
 use Rattle.blot_fields.specs.declared.TheConstants.{SEQUENCE_MAX}
 use Rattle.blot_tag.specs.Walking.{frames_of}
-use Rattle.blot_desk.specs.declared.event.Event.{Event}
-use Rattle.blot_desk.specs.declared.receipt.Receipt.{Receipt}
+use Rattle.blot_desk.specs.declared.{event.Event.Event, receipt.Receipt.Receipt}
 use Rattle.blot_gateway.specs.AtOnce.{are_submits}
 use Rattle.blot_diary.specs.declared.kept.Content.{Content}
 use Rattle.blot_diary.specs.declared.kept.Content.TheVariants as contents
-use Rattle.blot_diary.specs.declared.kept.Kept.{Kept}
-use Rattle.blot_diary.specs.declared.kept.Party.{Party}
+use Rattle.blot_diary.specs.declared.{kept.Kept.Kept, kept.Party.Party}
 use Rattle.blot_diary.specs.declared.kept.Party.TheVariants.{Peer, Operator}
 use Rattle.blot_diary.specs.Events.{events_of}
 use Rattle.blot_diary.specs.Keeping.{IsInRange, kept_in}
 use Rattle.blot_diary.specs.Numbering.{numbers_of}
-use Rattle.blot_recovery.specs.declared.operators.KeptOperators.{KeptOperators}
-use Rattle.blot_recovery.specs.declared.operators.TheConstants.{OPERATOR_SEATS}
-use Rattle.blot_recovery.specs.declared.parties.KeptOperator.{KeptOperator}
-use Rattle.blot_recovery.specs.declared.parties.KeptPeer.{KeptPeer}
+use Rattle.blot_recovery.specs.declared.{operators.KeptOperators.KeptOperators, operators.TheConstants.OPERATOR_SEATS, parties.KeptOperator.KeptOperator, parties.KeptPeer.KeptPeer}
 
 -- ---- events
 

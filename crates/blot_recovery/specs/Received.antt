@@ -1,6 +1,5 @@
 -- The frames that a journal received.
-use Rattle.std.specs.Prelude.{◌≡◌, ◌⊎◌, ℕ, ℤ, true, false, List, [], Option, Some, None, unwrap_or, if◌then◌else◌}
-use Rattle.std.specs.List.{flat_map}
+use Rattle.std.specs.Prelude.{◌≡◌, ◌⊎◌, ℕ, ℤ, true, false, List, [], Option, Some, None, unwrap_or, if◌then◌else◌, flat_map}
 use Rattle.blot_types.specs.Keys.{same_text}
 use Rattle.blot_tag.specs.Fields.{Item, fields_of}
 use Rattle.blot_tag.specs.Walking.{frames_of}
@@ -10,8 +9,7 @@ use Rattle.blot_diary.specs.declared.kept.Content.TheVariants as contents
 use Rattle.blot_diary.specs.declared.kept.Kept.{Kept}
 use Rattle.blot_diary.specs.Beginnings.{beginning_of, begun_by}
 use Rattle.blot_diary.specs.Keeping.{kept_of}
-use Rattle.blot_recovery.specs.declared.receiving.Receiving.{Receiving}
-use Rattle.blot_recovery.specs.declared.fault.RecoverFault.{RecoverFault}
+use Rattle.blot_recovery.specs.declared.{receiving.Receiving.Receiving, fault.RecoverFault.RecoverFault}
 use Rattle.blot_recovery.specs.declared.fault.RecoverFault.TheVariants.{Unlisted, Damaged}
 use Rattle.blot_recovery.specs.Faults.{BeginsOtherwise, IsFaultOf}
 use Rattle.blot_recovery.specs.Taking.{begun_on}

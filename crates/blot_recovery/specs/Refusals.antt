@@ -1,22 +1,17 @@
 -- Which frames of a text aren't taken up.
-use Rattle.std.specs.Prelude.{◌≡◌, ◌⊎◌, ℕ, ℤ, false, List, [], length, Option, None, Some, IsSome, if◌then◌else◌}
-use Rattle.std.specs.List.{All, list_any}
+use Rattle.std.specs.Prelude.{◌≡◌, ◌⊎◌, ℕ, ℤ, false, List, [], length, Option, None, Some, IsSome, if◌then◌else◌, All}
+use Rattle.std.specs.List.{list_any}
 use Rattle.blot_types.specs.Keys.{same_text}
 use Rattle.blot_types.specs.declared.TheConstants.{EVENTS_MAX}
 use Rattle.blot_tag.specs.Fields.{fields_of}
-use Rattle.blot_desk.specs.Desk.{Journal}
-use Rattle.blot_diary.specs.declared.kept.Beginning.{Beginning}
-use Rattle.blot_diary.specs.declared.kept.Kept.{Kept}
-use Rattle.blot_diary.specs.declared.kept.Noted.{Noted}
+use Rattle.blot_desk.specs.Desk.{DeskState}
+use Rattle.blot_diary.specs.declared.{kept.Beginning.Beginning, kept.Kept.Kept, kept.Noted.Noted}
 use Rattle.blot_diary.specs.Beginnings.{beginning_of, begun_by}
 use Rattle.blot_diary.specs.Diary.{desk_events}
 use Rattle.blot_diary.specs.Events.{noted_of}
 use Rattle.blot_diary.specs.Keeping.{kept_of}
-use Rattle.blot_recovery.specs.declared.fault.RecoverFault.{RecoverFault}
+use Rattle.blot_recovery.specs.declared.{fault.RecoverFault.RecoverFault, operators.KeptOperators.KeptOperators, operators.TheConstants.OPERATOR_SEATS, taking.Taking.Taking}
 use Rattle.blot_recovery.specs.declared.fault.RecoverFault.TheVariants.{NoMemory, Unlisted, Damaged}
-use Rattle.blot_recovery.specs.declared.operators.KeptOperators.{KeptOperators}
-use Rattle.blot_recovery.specs.declared.operators.TheConstants.{OPERATOR_SEATS}
-use Rattle.blot_recovery.specs.declared.taking.Taking.{Taking}
 use Rattle.blot_recovery.specs.Faults.{BeginsOtherwise, IsFaultOf, IsWanted}
 use Rattle.blot_recovery.specs.Parties.{AreDifferent, HasSeat, operator_names}
 use Rattle.blot_recovery.specs.Taking.{AreApart, AreInPlace, IsAskedBy, IsInPlace, IsOfParty, names_of}
@@ -96,7 +91,7 @@ IsRecoverFault own day peers named text fault =
 -- ---- what is taken up so far
 
 -- a desk refuses an event
-abbrev pub IsOfDesk : Journal → Option Noted → RecoverFault → Type 0
+abbrev pub IsOfDesk : DeskState → Option Noted → RecoverFault → Type 0
 IsOfDesk desk noted (Damaged place) = IsOneTooMany (length desk.history) noted
 IsOfDesk desk noted NoMemory = Unit {0}
 IsOfDesk desk noted fault = ⊥
@@ -112,7 +107,7 @@ IsOfSeats operators name NoMemory = Unit {0}
 IsOfSeats operators name fault = ⊥
 
 -- an operator's event is refused, by the seats or by the desk
-abbrev pub IsOfOperators : {L : Type 0} → KeptOperators L → List ℕ → Journal → Option Noted → RecoverFault → Type 0
+abbrev pub IsOfOperators : {L : Type 0} → KeptOperators L → List ℕ → DeskState → Option Noted → RecoverFault → Type 0
 IsOfOperators operators name desk noted (Damaged place) = LacksSeat operators name ⊎ IsOneTooMany (length desk.history) noted
 IsOfOperators operators name desk noted NoMemory = Unit {0}
 IsOfOperators operators name desk noted fault = ⊥

@@ -1,23 +1,18 @@
 -- The frames of a journal, taken up one by one.
-use Rattle.std.specs.Prelude.{◌≡◌, ℕ, ℤ, ◌⊎◌, ◌<◌, Bool, true, false, ◌&&◌, ◌||◌, List, [], ◌∷◌, ◌++◌, drop, length, map, slice_get, Option, Some, None, option_map, IfSome}
-use Rattle.std.specs.List.{All, IsDistinct, cons_option, list_any}
+use Rattle.std.specs.Prelude.{◌≡◌, ℕ, ℤ, ◌⊎◌, ◌<◌, Bool, true, false, ◌&&◌, ◌||◌, List, [], ◌∷◌, ◌++◌, drop, length, map, slice_get, Option, Some, None, option_map, IfSome, All}
+use Rattle.std.specs.List.{IsDistinct, cons_option, list_any}
 use Rattle.blot_types.specs.Keys.{same_text}
 use Rattle.blot_tag.specs.Fields.{fields_of}
 use Rattle.blot_tag.specs.Walking.{frames_of}
 use Rattle.blot_desk.specs.declared.event.Event.{Event}
-use Rattle.blot_desk.specs.Desk.{IsRun, Journal, events_of}
-use Rattle.blot_diary.specs.declared.kept.Beginning.{Beginning}
-use Rattle.blot_diary.specs.declared.kept.Content.{Content}
+use Rattle.blot_desk.specs.Desk.{DeskState, IsRun, events_of}
+use Rattle.blot_diary.specs.declared.{kept.Beginning.Beginning, kept.Content.Content, kept.Kept.Kept, kept.Noted.Noted}
 use Rattle.blot_diary.specs.declared.kept.Content.TheVariants as contents
-use Rattle.blot_diary.specs.declared.kept.Kept.{Kept}
-use Rattle.blot_diary.specs.declared.kept.Noted.{Noted}
 use Rattle.blot_diary.specs.Beginnings.{beginning_of}
 use Rattle.blot_diary.specs.Diary.{desk_events}
 use Rattle.blot_diary.specs.Keeping.{kept_in, kept_of}
-use Rattle.blot_recovery.specs.declared.parties.KeptPeer.{KeptPeer}
-use Rattle.blot_recovery.specs.declared.taking.Party.{Party}
+use Rattle.blot_recovery.specs.declared.{parties.KeptPeer.KeptPeer, taking.Party.Party, taking.Taking.Taking}
 use Rattle.blot_recovery.specs.declared.taking.Party.TheVariants.{Operator, Peer}
-use Rattle.blot_recovery.specs.declared.taking.Taking.{Taking}
 use Rattle.blot_recovery.specs.Faults.{IsWanted}
 use Rattle.blot_recovery.specs.Parties.{AreKeptOperators, AreSeated, IsFirst, IsKeptPeer, operator_names}
 
@@ -56,7 +51,7 @@ abbrev pub with_event : List Event → Option Noted → List Event
 with_event events noted = events ++ cons_option (event_noted noted) []
 
 -- a desk takes an event, if there is one
-pub record TakesUp (before after : Journal) (noted : Option Noted) : Type 0 where
+pub record TakesUp (before after : DeskState) (noted : Option Noted) : Type 0 where
   pub events : events_of after.history ≡ with_event (events_of before.history) noted
   pub run : IsRun before → IsRun after
 

@@ -1,6 +1,6 @@
 //! A day that is opened over the file of a journal.
-ghost use Rattle.std.specs.List.{All, IsDistinct, list_any};
-ghost use Rattle.std.specs.Prelude.{◌≡◌, ◌≢◌, ◌+◌, ◌++◌, ◌<◌, [], false, length, IfErr, IfOk, IsErrOf, IsTrue, OnOk, Some, true};
+ghost use Rattle.std.specs.Prelude.{All, ◌≡◌, ◌≢◌, ◌+◌, ◌++◌, ◌<◌, [], false, length, IfErr, IfOk, IsErrOf, IsTrue, OnOk, Some, true};
+ghost use Rattle.std.specs.List.{IsDistinct, list_any};
 ghost use Rattle.blot_types.specs.Keys.{same_text};
 ghost use Rattle.blot_tag.specs.Joined.{IsWhole};
 ghost use Rattle.blot_desk.specs.Desk.{IsRun, events_of};

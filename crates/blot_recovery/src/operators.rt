@@ -1,8 +1,6 @@
 //! The operators of a journal, as a text leaves them.
-ghost use Rattle.std.specs.List.{All, slice_get};
-ghost use Rattle.std.specs.Prelude.{◌≡◌, ◌+◌, ◌<◌, ℕ, List, [], ◌∷◌, false, length, IfErr, IfOk, IfSome, None, OnOk, Option, Some};
+ghost use Rattle.std.specs.Prelude.{All, slice_get, ◌≡◌, ◌+◌, ◌<◌, ℕ, List, [], ◌∷◌, false, length, IfErr, IfOk, IfSome, None, OnOk, Option, Some, option_to_list};
 ghost use Rattle.std.specs.List.{list_any};
-ghost use Rattle.std.specs.Option.{option_to_list};
 ghost use Rattle.blot_types.specs.Keys.{same_text};
 ghost use Rattle.blot_diary.specs.Events.{noted_of};
 ghost use Rattle.blot_diary.specs.Keeping.{IsKept};

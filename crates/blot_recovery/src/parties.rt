@@ -10,7 +10,7 @@ ghost use Rattle.blot_recovery.specs.Taking.{IsAskedBy, KeepsLast, TakesUp, stan
 
 use crate::RecoverFault;
 use blot_desk::{DeskFault, Opening, Seat};
-use blot_diary::{Content, Kept, Noted, Numbers};
+use blot_diary::{Content, Kept, Noted, SequenceNumbers};
 use blot_types::Text64;
 use std::sync::ledger::Ledger;
 
@@ -19,7 +19,7 @@ use std::sync::ledger::Ledger;
 pub struct KeptPeer<L: Ledger> {
     pub peer: Text64,
     pub seat: Seat<L>,
-    pub numbers: Numbers,
+    pub numbers: SequenceNumbers,
     /// MsgSeqNum(34) of the last frame of types of the journal's own that is the peer's, `35=UR` and `35=UN`; 0 where there is none.
     pub records: u64,
 }
@@ -43,7 +43,7 @@ impl<L: Ledger> KeptPeer<L> {
         KeptPeer {
             peer,
             seat,
-            numbers: Numbers::first(),
+            numbers: SequenceNumbers::first(),
             records: 0,
         }
     }

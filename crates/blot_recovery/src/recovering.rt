@@ -1,7 +1,6 @@
 //! The text of a journal, taken up.
-ghost use Rattle.std.specs.List.{All, IsDistinct, list_any};
-ghost use Rattle.std.specs.Option.{option_to_list};
-ghost use Rattle.std.specs.Prelude.{◌≡◌, ◌+◌, false, length, IfErr, IfOk, IfSome, OnOk, Some};
+ghost use Rattle.std.specs.Prelude.{All, option_to_list, ◌≡◌, ◌+◌, false, length, IfErr, IfOk, IfSome, OnOk, Some};
+ghost use Rattle.std.specs.List.{IsDistinct, list_any};
 ghost use Rattle.blot_types.specs.Keys.{same_text};
 ghost use Rattle.blot_tag.specs.Joined.{IsWhole};
 ghost use Rattle.blot_desk.specs.Desk.{IsRun, events_of};

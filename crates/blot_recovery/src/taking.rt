@@ -1,6 +1,6 @@
 //! What a text is taken up into, frame by frame.
-ghost use Rattle.std.specs.List.{All, list_any};
-ghost use Rattle.std.specs.Prelude.{◌≡◌, ◌↔◌, ◌+◌, ◌<◌, ℕ, List, [], false, if◌then◌else◌, length, option_map, slice_get, vec_len, Err, IfErr, IfOk, IfSome, IsSome, IsTrue, None, OnOk, Some};
+ghost use Rattle.std.specs.Prelude.{All, ◌≡◌, ◌↔◌, ◌+◌, ◌<◌, ℕ, List, [], false, if◌then◌else◌, length, option_map, slice_get, vec_len, Err, IfErr, IfOk, IfSome, IsSome, IsTrue, None, OnOk, Some, option_to_list};
+ghost use Rattle.std.specs.List.{list_any};
 ghost use Rattle.blot_diary.specs.declared.kept.Beginning.{Beginning};
 ghost use Rattle.blot_diary.specs.Beginnings.{begun_by};
 ghost use Rattle.blot_diary.specs.Keeping.{IsKept};
@@ -8,7 +8,6 @@ ghost use Rattle.blot_recovery.specs.Faults.{BeginsOtherwise, IsHere, IsWanted};
 ghost use Rattle.blot_recovery.specs.Parties.{AreSeated, IsFirst, IsKeptPeer, operator_names};
 ghost use Rattle.blot_recovery.specs.Refusals.{IsOfNoParty, RefusesKept, RefusesNext, other_of};
 ghost use Rattle.blot_types.specs.Keys.{same_text};
-ghost use Rattle.std.specs.Option.{option_to_list};
 ghost use Rattle.blot_recovery.specs.Taking.{AreApart, AsksSame, HasTaken, IsAskedBy, IsOfParty, IsPartyOf, KeepsLast, TakesUpAll, begun_on, names_of, stands_for};
 
 use crate::operators::{KeptOperators, OPERATOR_SEATS};

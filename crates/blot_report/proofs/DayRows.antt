@@ -1,16 +1,10 @@
 -- The lines of a day, computed on worked days. Executions and allocations are of one peer, B, the executions fill its
 -- order O of 300; quantities are in units of 10^-6, prices in units of 10^-8, values in units of 10^-14.
-use Rattle.std.specs.Prelude.{◌≡◌, ℕ, ◌*◌, ◌^◌, ℤ, pos, neg_ℤ, List, [], ◌∷◌, Some, true, refl}
-use Rattle.blot_types.specs.declared.allocation.Line.{Line}
+use Rattle.std.proofs.Common.{◌≡◌, ℕ, ◌*◌, ◌^◌, ℤ, pos, neg_ℤ, List, [], ◌∷◌, Some, true, refl}
+use Rattle.blot_types.specs.declared.{allocation.Line.Line, command.Entry.Entry, fill.Sign.TheVariants.Buy, keys.AllocKey.AllocKey, keys.ExecKey.ExecKey, keys.OrderKey.OrderKey}
 use Rattle.blot_types.specs.declared.command.Command.TheVariants.{Trade, Bust, AllocNew, AllocCancel}
-use Rattle.blot_types.specs.declared.command.Entry.{Entry}
-use Rattle.blot_types.specs.declared.fill.Sign.TheVariants.{Buy}
-use Rattle.blot_types.specs.declared.keys.AllocKey.{AllocKey}
-use Rattle.blot_types.specs.declared.keys.ExecKey.{ExecKey}
-use Rattle.blot_types.specs.declared.keys.OrderKey.{OrderKey}
 use Rattle.blot_types.specs.Legal.{is_legal}
-use Rattle.blot_report.specs.declared.lines.OrderRow.{OrderRow}
-use Rattle.blot_report.specs.declared.lines.PositionRow.{PositionRow}
+use Rattle.blot_report.specs.declared.{lines.OrderRow.OrderRow, lines.PositionRow.PositionRow}
 use Rattle.blot_report.specs.Lines.{day_lines_of}
 
 abbrev A : List ℕ

@@ -1,23 +1,19 @@
 -- Positions that were made of two halves of the entries, brought together.
-use Rattle.std.proofs.Common.{◌≡◌, ℕ, ℤ, ◌+◌, ◌<◌, ◌==◌, ◌^◌, pos, ◌+ℤ◌, arith, Bool, true, false, ◌||◌, List, [], ◌∷◌, ◌++◌, length, map, take, drop, Option, Some, None, refl, sym, ap, subst, ◌∙◌, inl, inr}
-use Rattle.std.specs.Prelude.{filter, is_some, not, unsigned_abs, if◌then◌else◌}
+use Rattle.std.proofs.Common.{◌≡◌, ℕ, ℤ, ◌+◌, ◌<◌, ◌==◌, ◌^◌, pos, ◌+ℤ◌, arith, Bool, true, false, ◌||◌, List, [], ◌∷◌, ◌++◌, length, map, take, drop, Option, Some, None, refl, sym, ap, subst, ◌∙◌, inl, inr, filter, is_some, not, unsigned_abs, if◌then◌else◌, flat_map, unwrap_or, eq-eqb, ne_eqb, take-append-drop, take_all}
 use Rattle.std.specs.FinMap as finite
-use Rattle.std.specs.List.{flat_map, list_any, AllByRecursion, IsDistinct}
-use Rattle.std.specs.Option.{unwrap_or}
-use Rattle.std.proofs.lemmas.Bool.{cases_Bool, eq-eqb, ne_eqb}
+use Rattle.std.specs.List.{list_any, AllByRecursion, IsDistinct}
+use Rattle.std.proofs.lemmas.Bool.{cases_Bool}
+use Rattle.std.proofs.lemmas.Grind.{flat_map-append}
 use Rattle.std.proofs.lemmas.Int.{ints}
-use Rattle.std.proofs.lemmas.List.{take-append-drop, take_all}
 use Rattle.std.proofs.lemmas.List.Elements.{filter_map-append}
 use Rattle.std.proofs.lemmas.List.Folds.{list_any-append}
 use Rattle.std.proofs.lemmas.Map.Keys.{IsDistinct-head}
-use Rattle.blot_types.specs.declared.command.Entry.{Entry}
-use Rattle.blot_types.specs.declared.keys.PositionKey.{PositionKey}
-use Rattle.blot_types.specs.declared.lines.PositionLine.{PositionLine}
-use Rattle.blot_types.specs.declared.part.Part.{Part}
+use Rattle.blot_types.specs.declared.{command.Entry.Entry, keys.PositionKey.PositionKey, lines.PositionLine.PositionLine, part.Part.Part}
 use Rattle.blot_types.specs.Keys.{position_at}
 use Rattle.blot_types.specs.Order.{total}
 use Rattle.blot_types.specs.Position.{is_at, moves_of, position_by}
 use Rattle.blot_types.proofs.SumLemmas.{total-append, total-cons, total-where}
+use Rattle.blot_types.proofs.GeneralLemmas.{or-false}
 use Rattle.blot_position.specs.declared.sums.Sums.{Sums}
 use Rattle.blot_position.specs.Positions.{Cells, has_cell, same_key, sums_at, with_part, AreKeysOf}
 use Rattle.blot_position.specs.Sums.{line_by, no_parts, HasRoom}
@@ -29,14 +25,10 @@ use Rattle.blot_command.proofs.PositionLineLemmas.{line-of}
 use Rattle.blot_command.proofs.AllocNeedLemmas.{or-turned}
 use Rattle.blot_report.specs.Standings.{between, moves_among, part_on, parts_among, parts_between, terms_among, terms_on}
 use Rattle.blot_report.specs.Sums.{with_sums, AddsSums, LeavesHalf, MadeOf, ShowsParts}
-use Rattle.blot_report.proofs.ListLemmas.{any-mapped, flat-append}
+use Rattle.blot_report.proofs.ListLemmas.{any-mapped}
 use Rattle.blot_report.proofs.PartLemmas.{day_parts-told}
 use Rattle.blot_report.proofs.RowLemmas.{light-whole}
 use Rattle.blot_report.proofs.WeightLemmas.{IsLight}
-
-or-false : (test : Bool) → test ≡ (test || false)
-or-false true = refl
-or-false false = refl
 
 or-true : (test : Bool) → true ≡ (test || true)
 or-true true = refl
@@ -70,7 +62,7 @@ adds-none own others keys are =
     ] in
     record {
       sums = λ key. sym (ap (λ sums. with_sums sums (sums_at own key.account key.symbol)) (none key));
-      cells = λ key. or-false (has_cell own key.account key.symbol) ∙ sym (ap (λ (sums : Sums). has_cell own key.account key.symbol || not (sums.parts == 0)) (none key));
+      cells = λ key. sym (or-false (has_cell own key.account key.symbol)) ∙ sym (ap (λ (sums : Sums). has_cell own key.account key.symbol || not (sums.parts == 0)) (none key));
     }
 
 none-left : (key : PositionKey) (left : List PositionKey) → AllByRecursion (λ other. same_key key other ≡ false) left → list_any (same_key key) left ≡ false
@@ -91,7 +83,7 @@ put-sums sums key cells = elim (cases_Bool (sums.parts == 0)) [
 
 put-cell : (sums : Sums) (key : PositionKey) (cells : Cells) → has_cell (put (line_by sums) key cells) key.account key.symbol ≡ (has_cell cells key.account key.symbol || not (sums.parts == 0))
 put-cell sums key cells = elim (cases_Bool (sums.parts == 0)) [
-  | inl none ↦ rw none (or-false (has_cell cells key.account key.symbol))
+  | inl none ↦ rw none (sym (or-false (has_cell cells key.account key.symbol)))
   | inr some ↦ rw some (has_cell-with_part key.account key.symbol key.account key.symbol sums.qty sums.value cells ∙ rw (same_position-refl key.account key.symbol) (or-true (has_cell cells key.account key.symbol)))
 ]
 
@@ -120,7 +112,7 @@ next-at own others before key left apart adds at =
           let both = same_position-true key.account key.symbol at.account at.symbol same in
           let now : added others left key ≡ sums = rw (none-left key left (IsDistinct-head same_key key left apart)) refl in
           let cell : has_cell before key.account key.symbol ≡ has_cell own key.account key.symbol =
-          adds.cells key ∙ rw (same_position-refl key.account key.symbol) (sym (or-false (has_cell own key.account key.symbol))) in
+          adds.cells key ∙ rw (same_position-refl key.account key.symbol) (or-false (has_cell own key.account key.symbol)) in
           subst (λ (k : PositionKey). AddsAt own (added others left k) after k) (λ i. record { account = both.0 i; symbol = both.1 i })
           (subst (λ s. AddsAt own s after key) (sym now) (
             put-sums sums key before ∙ ap (with_sums sums) (not-yet own others before key left adds),
@@ -256,7 +248,7 @@ parts-cut list day middle =
     let moves : moves_among list day list ≡ c ++ d =
     ap (moves_among list day) (cut list middle)
     ∙ ap (flat_map moves_of) (filter_map-append (λ e. terms_on day (standing_of list e) e) front back)
-    ∙ flat-append moves_of (terms_among list day front) (terms_among list day back) in
+    ∙ flat_map-append moves_of (terms_among list day front) (terms_among list day back) in
     let whole : day_parts_of list day ≡ (a ++ b) ++ (c ++ d) = sym (day_parts-told list day) ∙ (λ i. fills i ++ moves i) in
     record {
       totals = λ f.

@@ -1,28 +1,21 @@
 -- The keys of orders and positions: their orders are total and tie no two keys, and a tie is what the tests call one.
-use Rattle.std.proofs.Common.{◌≡◌, ℕ, Bool, true, false, ◌&&◌, ◌||◌, List, [], ◌∷◌, ◌++◌, map, Option, Some, None, refl, sym, ap, subst, ◌∙◌, inl, inr}
-use Rattle.std.specs.Prelude.{filter, is_some}
+use Rattle.std.proofs.Common.{◌≡◌, ℕ, Bool, true, false, ◌&&◌, ◌||◌, List, [], ◌∷◌, ◌++◌, map, Option, Some, None, refl, sym, ap, subst, ◌∙◌, inl, inr, filter, is_some}
 use Rattle.std.specs.Cmp.{IsTotalOrder, on_total, then_total}
 use Rattle.std.specs.FinMap as finite
+use Rattle.std.proofs.Common.{IsPermutation, IsSorted, is_eq, nat_cmp, Ordering, Less, Equal, Greater}
 use Rattle.std.specs.Cmp.Lexicographic.{slice_cmp, nat_list_cmp_total, nat_list_eq_equiv, texts_ties}
 use Rattle.std.specs.List.{list_any, last_or, IsDistinct}
-use Rattle.std.specs.List.Sorted.{IsPermutation, IsSorted}
 use Rattle.std.specs.Map.{keys_of}
-use Rattle.std.specs.Option.{option_map}
-use Rattle.std.specs.Ordering.{eq_by_cmp, is_eq, nat_cmp, ordering_then}
-use Rattle.std.specs.declared.cmp.Ordering.{Ordering}
-use Rattle.std.specs.declared.cmp.Ordering.TheVariants.{Less, Equal, Greater}
+use Rattle.std.specs.Ordering.{eq_by_cmp, ordering_then}
 use Rattle.std.proofs.lemmas.Bool.{cases_Bool}
 use Rattle.std.proofs.lemmas.List.Folds.{list_any-append}
 use Rattle.std.proofs.lemmas.Map.Lookups.{CmpEqualImpliesEq, exact_bytes, exact_pairs}
 use Rattle.std.proofs.lemmas.Map.Made.{is_some-lookup}
-use Rattle.blot_types.specs.declared.fill.Fill.{Fill}
-use Rattle.blot_types.specs.declared.keys.OrderKey.{OrderKey}
-use Rattle.blot_types.specs.declared.keys.PositionKey.{PositionKey}
-use Rattle.blot_types.specs.declared.lines.OrderLine.{OrderLine}
-use Rattle.blot_types.specs.declared.part.Part.{Part}
+use Rattle.blot_types.specs.declared.{fill.Fill.Fill, keys.OrderKey.OrderKey, keys.PositionKey.PositionKey, lines.OrderLine.OrderLine, part.Part.Part}
 use Rattle.blot_types.specs.Keys.{same_order, same_text, position_cmp}
 use Rattle.blot_types.specs.Order.{line_by, fills_of}
 use Rattle.blot_types.proofs.KeyLemmas.{position_cmp-exact, position_cmp-total}
+use Rattle.blot_types.proofs.GeneralLemmas.{some-mapped}
 use Rattle.blot_report.specs.Lines.{order_cmp, orders_among, position_key, positions_among}
 use Rattle.blot_report.specs.Orders.{AreLinesOf}
 use Rattle.blot_position.specs.Positions.{Cells, same_key, has_cell, with_part, AreKeysOf}
@@ -74,10 +67,6 @@ some-kept p (x ∷ xs) =
       | inl here ↦ rw here (last-some (Some x) (filter p xs) refl)
       | inr other ↦ rw other (some-kept p xs)
     ]
-
-some-mapped : {A B : Type 0} (f : A → B) (found : Option A) → is_some (option_map f found) ≡ is_some found
-some-mapped f None = refl
-some-mapped f (Some x) = refl
 
 -- the keys of lines are the orders of their fills
 lines-keyed :

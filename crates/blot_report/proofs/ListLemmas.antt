@@ -1,9 +1,10 @@
 -- What a loop has found, with one item more, and where nothing is left.
-use Rattle.std.proofs.Common.{◌≡◌, ℕ, zero, suc, arith, ◌+◌, ◌<◌, ◌≤◌, Bool, ◌||◌, List, [], ◌∷◌, ◌++◌, length, map, take, drop, get_or, Option, Some, None, Result, Ok, Err, refl, sym, ap, subst, ◌∙◌}
-use Rattle.std.specs.Prelude.{All, IfOk}
-use Rattle.std.specs.List.{cons_option, filter_map, flat_map, list_any}
-use Rattle.std.proofs.lemmas.List.{append-nil, append_assoc, drop-append-le, drop_all, length-append, length-drop, length-take-le, take-append-drop, take_more}
+use Rattle.std.proofs.Common.{◌≡◌, ℕ, zero, suc, arith, ◌+◌, ◌<◌, ◌≤◌, Bool, ◌||◌, List, [], ◌∷◌, ◌++◌, length, map, take, drop, get_or, Option, Some, None, Result, Ok, Err, refl, sym, ap, subst, ◌∙◌, All, IfOk, filter_map, flat_map, append-nil, append_assoc, length-append, take-append-drop}
+use Rattle.std.specs.List.{cons_option, list_any}
+use Rattle.std.proofs.lemmas.List.{drop-append-le, drop_all, length-drop, length-take-le, take_more}
 use Rattle.std.proofs.lemmas.List.Elements.{All-nil, All-cons, All-head, All-tail, All-push, filter_map-append}
+use Rattle.std.proofs.lemmas.Grind.{flat_map-append}
+use Rattle.blot_types.proofs.GeneralLemmas.{all-back, all-front}
 
 -- what an Ok says, said in another way
 pub if_ok : {T E : Type 0} (r : Result T E) (P Q : T → Type 0) → ((x : T) → P x → Q x) → IfOk r P → IfOk r Q
@@ -73,23 +74,11 @@ pub found-none : {A B : Type 0} (f : A → Option B) (before after : List A) (it
 found-none f before after item next none =
     found-more f before after item next ∙ ap (λ o. filter_map f before ++ cons_option o []) none ∙ append-nil (filter_map f before)
 
--- no more are found than there are
-pub found-few : {A B : Type 0} (f : A → Option B) (items : List A) → length (filter_map f items) ≤ length items
-found-few f [] = omega arith
-found-few f (item ∷ items) = elim (f item) as (λ found. length (cons_option found (filter_map f items)) ≤ length (item ∷ items)) [
-  | None ↦ let rest = found-few f items in omega (arith, rest)
-  | Some b ↦ let rest = found-few f items in omega (arith, rest)
-]
-
-pub flat-append : {A B : Type 0} (f : A → List B) (xs ys : List A) → flat_map f (xs ++ ys) ≡ flat_map f xs ++ flat_map f ys
-flat-append f [] ys = refl
-flat-append f (x ∷ xs) ys = ap (λ rest. f x ++ rest) (flat-append f xs ys) ∙ sym (append_assoc (f x) (flat_map f xs) (flat_map f ys))
-
 -- what the items found hold, with what one item more holds
 pub flat_found-more :
     {A B C : Type 0} (g : B → List C) (f : A → Option B) (before after : List A) (item : A) → after ≡ before ++ item ∷ []
     → flat_map g (filter_map f after) ≡ flat_map g (filter_map f before) ++ flat_map g (cons_option (f item) [])
-flat_found-more g f before after item next = ap (flat_map g) (found-more f before after item next) ∙ flat-append g (filter_map f before) (cons_option (f item) [])
+flat_found-more g f before after item next = ap (flat_map g) (found-more f before after item next) ∙ flat_map-append g (filter_map f before) (cons_option (f item) [])
 
 -- a test that some item passes, through a function
 pub any-mapped : {A B : Type 0} (p : B → Bool) (f : A → B) (xs : List A) → list_any p (map f xs) ≡ list_any (λ x. p (f x)) xs
@@ -112,22 +101,14 @@ pub all-passed :
     → All P (filter_map f after)
 all-passed P f before after item next all none = subst (All P) (sym (found-none f before after item next none)) all
 
--- of all of a front and of a back, of what is found from one place to before another, and of all that is mapped
-pub All-front : {A : Type 0} (P : A → Type 0) (front back : List A) → All P (front ++ back) → All P front
-All-front P [] back all = All-nil P
-All-front P (x ∷ front) back all = All-cons P x front (All-head P x (front ++ back) all) (All-front P front back (All-tail P x (front ++ back) all))
-
-All-back : {A : Type 0} (P : A → Type 0) (front back : List A) → All P (front ++ back) → All P back
-All-back P [] back all = all
-All-back P (x ∷ front) back all = All-back P front back (All-tail P x (front ++ back) all)
-
+-- of what is found from one place to before another, and of all that is mapped
 pub All-between : {A B : Type 0} (P : B → Type 0) (f : A → Option B) (items : List A) (first after : ℕ) → All P (filter_map f items) → All P (filter_map f (drop first (take after items)))
 All-between {A} P f items first after all =
     let cut : (i : ℕ) (xs : List A) → filter_map f xs ≡ filter_map f (take i xs) ++ filter_map f (drop i xs) =
     λ i xs. ap (filter_map f) (sym (take-append-drop i xs)) ∙ filter_map-append f (take i xs) (drop i xs) in
     let front = take after items in
-    All-back P (filter_map f (take first front)) (filter_map f (drop first front))
-    (subst (All P) (cut first front) (All-front P (filter_map f front) (filter_map f (drop after items)) (subst (All P) (cut after items) all)))
+    all-back P (filter_map f (take first front)) (filter_map f (drop first front))
+    (subst (All P) (cut first front) (all-front P (filter_map f front) (filter_map f (drop after items)) (subst (All P) (cut after items) all)))
 
 pub all-mapped : {A B : Type 0} (P : B → Type 0) (f : A → B) (xs : List A) → All (λ x. P (f x)) xs → All P (map f xs)
 all-mapped P f [] all = All-nil P

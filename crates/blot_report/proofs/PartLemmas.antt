@@ -1,21 +1,17 @@
 -- The parts of a day, as they are found one after the other.
-use Rattle.std.proofs.Common.{◌≡◌, ℕ, ℤ, ◌+◌, ◌<◌, arith, true, List, [], ◌∷◌, ◌++◌, length, take, drop, get_or, Option, Some, sym, ap, subst, ◌∙◌}
-use Rattle.std.specs.Prelude.{All}
-use Rattle.std.specs.List.{cons_option, filter_map, flat_map}
-use Rattle.std.proofs.lemmas.List.{append-nil, append_assoc, take-append-drop}
+use Rattle.std.proofs.Common.{◌≡◌, ℕ, ℤ, ◌+◌, ◌<◌, arith, true, List, [], ◌∷◌, ◌++◌, length, take, drop, get_or, Option, Some, sym, ap, subst, ◌∙◌, All, filter_map, flat_map, append-nil, append_assoc, take-append-drop}
+use Rattle.std.specs.List.{cons_option}
 use Rattle.std.proofs.lemmas.List.Elements.{All-nil}
-use Rattle.blot_types.specs.declared.allocation.Line.{Line}
-use Rattle.blot_types.specs.declared.allocation.Terms.{Terms}
-use Rattle.blot_types.specs.declared.command.Entry.{Entry}
-use Rattle.blot_types.specs.declared.part.Part.{Part}
+use Rattle.blot_types.specs.declared.{allocation.Line.Line, allocation.Terms.Terms, command.Entry.Entry, part.Part.Part}
 use Rattle.blot_types.specs.Allocations.{Allocation}
 use Rattle.blot_types.specs.Legal.{is_book}
 use Rattle.blot_types.specs.Position.{part_of_line, from_house, moves_of_line, moves_of, IsSmall, TermsFit}
+use Rattle.blot_types.proofs.GeneralLemmas.{length-found}
 use Rattle.blot_report.specs.Day.{survivor_parts_on, allocations_on, day_parts_of}
 use Rattle.blot_command.specs.Standings.{standing_of}
 use Rattle.blot_report.specs.Standings.{between, moves_among, part_on, parts_among, terms_among, terms_on}
 use Rattle.blot_report.proofs.StandingLemmas.{flat-mapped, parts-told, terms-told}
-use Rattle.blot_report.proofs.ListLemmas.{behind, between-few, between-none, flat-more, found-few, flat_found-more, more, All-between, all-mapped}
+use Rattle.blot_report.proofs.ListLemmas.{behind, between-few, between-none, flat-more, flat_found-more, more, All-between, all-mapped}
 use Rattle.blot_command.proofs.ReadyLemmas.{length-book}
 use Rattle.blot_report.proofs.WeightLemmas.{Books, IsLight, books-on, light-front, light-with}
 
@@ -52,8 +48,8 @@ pub light-told :
     → All TermsFit (terms_among list day (between list first place))
     → IsLight (parts_among list day (between list first after) ++ moves_among list day (between list first place))
 light-told list day first after place book small fit =
-    let fills = found-few (λ e. part_on day (standing_of list e) e) (between list first after) in
-    let terms = found-few (λ e. terms_on day (standing_of list e) e) (between list first place) in
+    let fills = length-found (λ e. part_on day (standing_of list e) e) (between list first after) in
+    let terms = length-found (λ e. terms_on day (standing_of list e) e) (between list first place) in
     let some = between-few list first after in
     let others = between-few list first place in
     let entries = length-book list book in

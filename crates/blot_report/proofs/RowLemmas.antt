@@ -1,10 +1,10 @@
 -- The rows of positions, from the parts that were added.
 use Rattle.std.proofs.Common.{◌≡◌, ◌+◌, arith, List, [], ◌∷◌, ◌++◌, length, Option, refl, sym, ap, subst}
 use Rattle.std.specs.FinMap as finite
-use Rattle.std.specs.List.{cons_option, filter_map}
-use Rattle.std.specs.Option.{option_map}
+use Rattle.std.proofs.Common.{filter_map, option_map}
+use Rattle.std.specs.List.{cons_option}
 use Rattle.std.proofs.lemmas.Int.{ints}
-use Rattle.blot_types.specs.declared.part.Part.{Part}
+use Rattle.blot_types.specs.declared.{part.Part.Part, keys.PositionKey.PositionKey}
 use Rattle.blot_types.specs.Bounds.{BOOK_PARTS, BOOK_QTY}
 use Rattle.blot_types.specs.Order.{total}
 use Rattle.blot_types.proofs.SumLemmas.{total-append, total-cons}
@@ -16,7 +16,6 @@ use Rattle.blot_command.proofs.HouseLemmas.{Light-weaker}
 use Rattle.blot_command.proofs.PositionLineLemmas.{line-carried, carries-nothing}
 use Rattle.blot_command.proofs.ReachLemmas.{sizes}
 use Rattle.blot_command.proofs.WeightLemmas.{Light-list}
-use Rattle.blot_types.specs.declared.keys.PositionKey.{PositionKey}
 use Rattle.blot_report.specs.Lines.{position_row}
 use Rattle.blot_report.specs.Sums.{MadeOf, ShowsParts, cell_row, cell_rows}
 use Rattle.blot_report.proofs.KeyLemmas.{cells-more, cells-none}

@@ -1,25 +1,14 @@
 -- The lines of a day show each order and each position of it.
-use Rattle.std.proofs.Common.{◌≡◌, ℕ, ℤ, Bool, true, false, ◌&&◌, ◌||◌, List, [], ◌∷◌, map, Option, Some, None, refl, sym, ap, subst, ◌∙◌, inl, inr}
-use Rattle.std.specs.Prelude.{filter, find, if◌then◌else◌}
-use Rattle.std.specs.List.{cons_option, filter_map, list_any}
-use Rattle.std.specs.Option.{option_map}
-use Rattle.std.proofs.lemmas.Bool.{cases_Bool}
-use Rattle.blot_types.specs.declared.command.Entry.{Entry}
-use Rattle.blot_types.specs.declared.fill.Fill.{Fill}
-use Rattle.blot_types.specs.declared.keys.OrderKey.{OrderKey}
-use Rattle.blot_types.specs.declared.lines.OrderLine.{OrderLine}
-use Rattle.blot_types.specs.declared.part.Part.{Part}
-use Rattle.blot_types.specs.declared.lines.PositionLine.{PositionLine}
+use Rattle.std.proofs.Common.{◌≡◌, ℕ, ℤ, Bool, true, false, ◌&&◌, ◌||◌, List, [], ◌∷◌, map, Option, Some, None, refl, sym, ap, subst, ◌∙◌, inl, inr, filter, find, if◌then◌else◌, filter_map, option_map}
+use Rattle.std.specs.List.{cons_option, list_any}
+use Rattle.std.proofs.lemmas.Bool.{cases_Bool, or_parts}
+use Rattle.blot_types.specs.declared.{command.Entry.Entry, fill.Fill.Fill, keys.OrderKey.OrderKey, lines.OrderLine.OrderLine, part.Part.Part, lines.PositionLine.PositionLine, keys.PositionKey.PositionKey}
 use Rattle.blot_types.specs.Keys.{same_order, same_text, position_cmp}
 use Rattle.blot_types.proofs.KeyLemmas.{position_cmp-exact}
-use Rattle.blot_types.proofs.AcceptLemmas.{or-false}
 use Rattle.blot_types.specs.Order.{line_of, fills_of}
 use Rattle.blot_types.specs.Position.{is_at, position_by}
 use Rattle.blot_position.proofs.PositionLemmas.{same_position-true}
-use Rattle.blot_report.specs.declared.lines.DayLines.{DayLines}
-use Rattle.blot_report.specs.declared.lines.OrderRow.{OrderRow}
-use Rattle.blot_types.specs.declared.keys.PositionKey.{PositionKey}
-use Rattle.blot_report.specs.declared.lines.PositionRow.{PositionRow}
+use Rattle.blot_report.specs.declared.{lines.DayLines.DayLines, lines.OrderRow.OrderRow, lines.PositionRow.PositionRow}
 use Rattle.blot_report.specs.Day.{fills_on, day_parts_of}
 use Rattle.blot_report.proofs.KeyLemmas.{order_cmp-exact}
 use Rattle.blot_report.proofs.ListLemmas.{any-mapped}
@@ -31,7 +20,7 @@ use Rattle.blot_report.specs.Lines.{order_cmp, orders_among, order_rows, positio
 
 filter-none : {A : Type 0} (p : A → Bool) (xs : List A) → list_any p xs ≡ false → filter p xs ≡ []
 filter-none p [] none = refl
-filter-none p (x ∷ xs) none = (let parts = or-false (p x) (list_any p xs) none in rw parts.0 (filter-none p xs parts.1))
+filter-none p (x ∷ xs) none = (let parts = or_parts (p x) (list_any p xs) none in rw parts.0 (filter-none p xs parts.1))
 
 -- ---- what is found among rows
 

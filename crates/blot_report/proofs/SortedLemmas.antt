@@ -1,16 +1,14 @@
 -- Keys that are sorted once are those that were put in one by one.
-use Rattle.std.proofs.Common.{◌≡◌, ◌+◌, Bool, true, false, ◌||◌, List, [], ◌∷◌, get_or, arith, refl, sym, ap, ◌∙◌}
-use Rattle.std.specs.Prelude.{fold}
-use Rattle.std.specs.BTreeSet.{BTreeSet, insert_key}
+use Rattle.std.proofs.Common.{◌≡◌, ◌+◌, Bool, true, false, ◌||◌, List, [], ◌∷◌, get_or, arith, refl, sym, ap, ◌∙◌, fold, BTreeSet, IsPermutation, IsSorted, is_eq, is_lt, Ordering, Less, Equal, Greater}
+use Rattle.std.specs.BTreeSet.{insert_key}
 use Rattle.std.specs.Cmp.{IsTotalOrder, eq_by_cmp_equiv}
 use Rattle.std.specs.List.{list_any, IsDistinct, AllByRecursion}
-use Rattle.std.specs.List.Sorted.{IsPermutation, IsSorted, IsStrictlySortedBy}
-use Rattle.std.specs.Ordering.{eq_by_cmp, is_eq, is_lt, match_ordering, ordering_reverse}
-use Rattle.std.specs.declared.cmp.Ordering.{Ordering}
-use Rattle.std.specs.declared.cmp.Ordering.TheVariants.{Less, Equal, Greater}
+use Rattle.std.specs.List.Sorted.{IsStrictlySortedBy}
+use Rattle.std.specs.Ordering.{eq_by_cmp, match_ordering, ordering_reverse}
 use Rattle.std.proofs.lemmas.List.Sorted.{list_any-IsPermutation}
 use Rattle.std.proofs.lemmas.Map.Keys.{IsDistinct-IsPermutation, apart_from_distinct, sorted_from_all_adjacent}
 use Rattle.std.proofs.lemmas.Map.Lookups.{CmpEqualImpliesEq, btree_set_from_contains}
+use Rattle.blot_types.proofs.GeneralLemmas.{or-false}
 
 -- ---- what is among keys that were put in
 
@@ -39,10 +37,6 @@ or-left : (a b c : Bool) → ((a || b) || c) ≡ (b || (a || c))
 or-left true true c = refl
 or-left true false c = refl
 or-left false b c = refl
-
-or-false : (a : Bool) → (a || false) ≡ a
-or-false true = refl
-or-false false = refl
 
 any-put :
     {K : Type 0} (cmp : K → K → Ordering) (p : K → Bool) (front keys : List K) → CmpEqualImpliesEq cmp

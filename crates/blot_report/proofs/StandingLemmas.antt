@@ -1,17 +1,10 @@
 -- What the standings of a book tell of its entries on a day is what its definitions say.
-use Rattle.std.proofs.Common.{◌≡◌, ℕ, zero, suc, ◌<◌, arith, ℤ, true, List, [], ◌∷◌, ◌++◌, length, get_or, map, Option, Some, None, refl, sym, ap, ◌∙◌, inl, inr}
-use Rattle.std.specs.Prelude.{filter, is_none, if◌then◌else◌}
-use Rattle.std.specs.List.{cons_option, filter_map, flat_map}
+use Rattle.std.proofs.Common.{◌≡◌, ℕ, zero, suc, ◌<◌, arith, ℤ, true, List, [], ◌∷◌, ◌++◌, length, get_or, map, Option, Some, None, refl, sym, ap, ◌∙◌, inl, inr, filter, is_none, if◌then◌else◌, filter_map, flat_map}
+use Rattle.std.specs.List.{cons_option}
 use Rattle.std.proofs.lemmas.Bool.{cases_Bool}
 use Rattle.std.proofs.lemmas.List.{length-map}
-use Rattle.blot_types.specs.declared.allocation.Instruction.{Instruction}
-use Rattle.blot_types.specs.declared.allocation.Terms.{Terms}
-use Rattle.blot_types.specs.declared.command.Command.{Command}
+use Rattle.blot_types.specs.declared.{allocation.Instruction.Instruction, allocation.Terms.Terms, command.Command.Command, command.Entry.Entry, lines.Version.Version, link.Link.Link, part.Part.Part}
 use Rattle.blot_types.specs.declared.command.Command.TheVariants.{Trade, Correct, Bust, AllocNew, AllocReplace, AllocCancel, Withdraw}
-use Rattle.blot_types.specs.declared.command.Entry.{Entry}
-use Rattle.blot_types.specs.declared.lines.Version.{Version}
-use Rattle.blot_types.specs.declared.link.Link.{Link}
-use Rattle.blot_types.specs.declared.part.Part.{Part}
 use Rattle.blot_types.specs.Allocations.{Allocation, allocation_of, instructions_of}
 use Rattle.blot_types.specs.Instructions.{ended_in}
 use Rattle.blot_types.specs.Legal.{is_book}

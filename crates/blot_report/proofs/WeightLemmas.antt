@@ -1,14 +1,8 @@
 -- The parts of a day are light.
-use Rattle.std.proofs.Common.{◌≡◌, ◌+◌, ◌*◌, ◌^◌, ◌≤◌, arith, true, ℤ, pos, Option, List, [], ◌∷◌, ◌++◌, length}
-use Rattle.std.specs.Prelude.{is_none, All}
-use Rattle.std.specs.List.{flat_map}
+use Rattle.std.proofs.Common.{◌≡◌, ◌+◌, ◌*◌, ◌^◌, ◌≤◌, arith, true, ℤ, pos, Option, List, [], ◌∷◌, ◌++◌, length, is_none, All, flat_map, length-append}
 use Rattle.std.proofs.lemmas.Bool.{and_parts}
-use Rattle.std.proofs.lemmas.List.{length-append}
 use Rattle.std.proofs.lemmas.List.Elements.{All-nil, All-head, All-tail, All-append, All-filter}
-use Rattle.blot_types.specs.declared.allocation.Terms.{Terms}
-use Rattle.blot_types.specs.declared.command.Entry.{Entry}
-use Rattle.blot_types.specs.declared.part.Part.{Part}
-use Rattle.blot_types.specs.declared.TheConstants.{EVENTS_MAX}
+use Rattle.blot_types.specs.declared.{allocation.Terms.Terms, command.Entry.Entry, part.Part.Part, TheConstants.EVENTS_MAX}
 use Rattle.blot_types.specs.Bounds.{BOOK_PARTS, BOOK_QTY}
 use Rattle.blot_types.specs.Allocations.{instructions_of, live_allocations}
 use Rattle.blot_types.specs.Instructions.{ended_in}
@@ -17,10 +11,10 @@ use Rattle.blot_types.specs.Position.{moves_of, IsSmall, TermsFit}
 use Rattle.blot_types.specs.Refusals.{booked}
 use Rattle.blot_types.proofs.BookedLemmas.{BooksBlock, books_blocks}
 use Rattle.blot_types.proofs.ChangeLemmas.{allocations_in}
+use Rattle.blot_types.proofs.GeneralLemmas.{all-front}
 use Rattle.blot_command.proofs.ReachLemmas.{sizes}
 use Rattle.blot_command.proofs.WeightLemmas.{are_booked}
 use Rattle.blot_report.specs.Day.{is_allocated_on, allocations_on}
-use Rattle.blot_report.proofs.ListLemmas.{All-front}
 
 -- parts are small, few, and of a bounded quantity in all, whatever its sign, so that no sum of theirs leaves an `i128`
 pub record IsLight (parts : List Part) : Type 0 where
@@ -92,7 +86,7 @@ light-front front back light =
     let heavy = sizes-append front back in
     let few = light.few in
     let limit = light.light in
-    record { small = All-front IsSmall front back light.small; few = omega (arith, long, few); light = omega (arith, heavy, limit) }
+    record { small = all-front IsSmall front back light.small; few = omega (arith, long, few); light = omega (arith, heavy, limit) }
 
 -- the lines of a day's live allocations book their blocks
 pub books-on : (list : List Entry) (day : Option ℤ) → is_book list ≡ true → All (λ a. Books a.terms) (allocations_on list day)

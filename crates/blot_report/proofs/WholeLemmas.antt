@@ -1,29 +1,20 @@
 -- The lines of all days show the orders and the positions of the book.
-use Rattle.std.proofs.Common.{◌≡◌, ℕ, Bool, true, false, ◌&&◌, List, [], ◌∷◌, ◌++◌, map, Option, Some, None, refl, sym, ap, subst, ◌∙◌}
-use Rattle.std.specs.Prelude.{filter, find, if◌then◌else◌}
+use Rattle.std.proofs.Common.{◌≡◌, ℕ, Bool, true, false, ◌&&◌, List, [], ◌∷◌, ◌++◌, map, Option, Some, None, refl, sym, ap, subst, ◌∙◌, filter, find, if◌then◌else◌, flat_map, option_map}
 use Rattle.std.specs.Cmp.Lexicographic.{same_text as text_told}
-use Rattle.std.specs.List.{flat_map}
-use Rattle.std.specs.Option.{option_map}
 use Rattle.std.proofs.lemmas.Bool.{and_parts}
-use Rattle.blot_types.specs.declared.command.Entry.{Entry}
-use Rattle.blot_types.specs.declared.keys.OrderKey.{OrderKey}
-use Rattle.blot_types.specs.declared.lines.Version.{Version}
+use Rattle.blot_types.specs.declared.{command.Entry.Entry, keys.OrderKey.OrderKey, lines.Version.Version}
 use Rattle.blot_types.specs.Allocations.{Allocation, live_allocations}
 use Rattle.blot_types.specs.Keys.{same_order, same_text}
 use Rattle.blot_types.specs.Order.{fills_of, line_of, order_of}
 use Rattle.blot_types.specs.Position.{is_at, moves_of, part_of, position_by, position_of}
 use Rattle.blot_types.specs.Survivors.{survivors}
 use Rattle.blot_types.proofs.ChainLemmas.{differing}
-use Rattle.blot_report.specs.declared.lines.OrderRow.{OrderRow}
-use Rattle.blot_report.specs.declared.lines.PositionRow.{PositionRow}
+use Rattle.blot_types.proofs.GeneralLemmas.{filter-all}
+use Rattle.blot_report.specs.declared.{lines.OrderRow.OrderRow, lines.PositionRow.PositionRow}
 use Rattle.blot_report.specs.Day.{allocations_on, day_parts_of, fills_on, is_allocated_on, is_on}
 use Rattle.blot_report.specs.Laws.{ShowsOrders, ShowsPositions, order_line_in, position_line_in}
 use Rattle.blot_report.specs.Lines.{is_of, order_lines_of, order_rows, position_lines_of, position_rows}
 use Rattle.blot_report.proofs.ShowLemmas.{orders-found, positions-found}
-
-filter-all : {X : Type 0} (p : X → Bool) (xs : List X) → ((x : X) → p x ≡ true) → filter p xs ≡ xs
-filter-all p [] passes = refl
-filter-all p (x ∷ xs) passes = rw (passes x) (ap (λ rest. x ∷ rest) (filter-all p xs passes))
 
 -- what is found among the items that pass a test, where what is looked for passes it, or doesn't
 find-kept : {X : Type 0} (p q : X → Bool) (b : Bool) (xs : List X) → ((x : X) → p x ≡ true → q x ≡ b) → find p (filter q xs) ≡ (if b then find p xs else None)

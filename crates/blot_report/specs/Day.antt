@@ -1,15 +1,8 @@
 -- What stands on a day, or where none is given on all days: a survivor counts on the day of its own fill, a live allocation on its own
 -- day. In which account a survivor sits is decided by the whole list, as in the book.
-use Rattle.std.specs.Prelude.{ℕ, ℤ, Bool, true, List, ◌++◌, map, filter, Option, Some, None}
-use Rattle.std.specs.List.{flat_map}
+use Rattle.std.specs.Prelude.{ℕ, ℤ, Bool, true, List, ◌++◌, map, filter, Option, Some, None, flat_map}
 use Rattle.std.specs.Ordering.{int_eq}
-use Rattle.blot_types.specs.declared.command.Entry.{Entry}
-use Rattle.blot_types.specs.declared.fill.Fill.{Fill}
-use Rattle.blot_types.specs.declared.keys.OrderKey.{OrderKey}
-use Rattle.blot_types.specs.declared.lines.OrderLine.{OrderLine}
-use Rattle.blot_types.specs.declared.part.Part.{Part}
-use Rattle.blot_types.specs.declared.lines.PositionLine.{PositionLine}
-use Rattle.blot_types.specs.declared.lines.Version.{Version}
+use Rattle.blot_types.specs.declared.{command.Entry.Entry, fill.Fill.Fill, keys.OrderKey.OrderKey, lines.OrderLine.OrderLine, part.Part.Part, lines.PositionLine.PositionLine, lines.Version.Version}
 use Rattle.blot_types.specs.Allocations.{Allocation, live_allocations}
 use Rattle.blot_types.specs.Order.{line_of, fills_of}
 use Rattle.blot_types.specs.Position.{is_at, moves_of, part_of, position_by}

@@ -1,18 +1,12 @@
 -- What always holds of the lines of a day.
-use Rattle.std.specs.Prelude.{◌≡◌, ℕ, ℤ, true, false, ◌&&◌, None, List, All, Option, Some, find}
-use Rattle.std.specs.Option.{option_map}
-use Rattle.blot_types.specs.declared.command.Entry.{Entry}
-use Rattle.blot_types.specs.declared.keys.OrderKey.{OrderKey}
-use Rattle.blot_types.specs.declared.lines.OrderLine.{OrderLine}
-use Rattle.blot_types.specs.declared.lines.PositionLine.{PositionLine}
+use Rattle.std.specs.Prelude.{◌≡◌, ℕ, ℤ, true, false, ◌&&◌, None, List, All, Option, Some, find, option_map}
+use Rattle.blot_types.specs.declared.{command.Entry.Entry, keys.OrderKey.OrderKey, lines.OrderLine.OrderLine, lines.PositionLine.PositionLine}
 use Rattle.blot_types.specs.Allocations.{live_allocations}
 use Rattle.blot_types.specs.Keys.{same_order, same_text}
 use Rattle.blot_types.specs.Order.{order_of}
 use Rattle.blot_types.specs.Position.{position_of}
 use Rattle.blot_types.specs.Survivors.{survivors}
-use Rattle.blot_report.specs.declared.lines.DayLines.{DayLines}
-use Rattle.blot_report.specs.declared.lines.OrderRow.{OrderRow}
-use Rattle.blot_report.specs.declared.lines.PositionRow.{PositionRow}
+use Rattle.blot_report.specs.declared.{lines.DayLines.DayLines, lines.OrderRow.OrderRow, lines.PositionRow.PositionRow}
 use Rattle.blot_report.specs.Day.{day_order_of, day_position_of}
 use Rattle.blot_report.specs.Lines.{is_of}
 

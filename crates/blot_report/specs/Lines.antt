@@ -1,22 +1,14 @@
 -- The lines of a day: each order and each position that is shown, once, in the order of its key.
-use Rattle.std.specs.Prelude.{ℕ, ℤ, Bool, true, List, [], map, filter, fold, Option, Some, None}
+use Rattle.std.specs.Prelude.{ℕ, ℤ, Bool, true, List, [], map, filter, fold, Option, Some, None, filter_map, option_map}
 use Rattle.std.specs.BTreeSet.{insert_key}
 use Rattle.std.specs.Cmp.Lexicographic.{slice_cmp}
-use Rattle.std.specs.List.{filter_map}
-use Rattle.std.specs.Option.{option_map}
 use Rattle.std.specs.Ordering.{nat_cmp, ordering_then}
 use Rattle.std.specs.declared.cmp.Ordering.{Ordering}
-use Rattle.blot_types.specs.declared.command.Entry.{Entry}
-use Rattle.blot_types.specs.declared.fill.Fill.{Fill}
-use Rattle.blot_types.specs.declared.keys.OrderKey.{OrderKey}
-use Rattle.blot_types.specs.declared.part.Part.{Part}
+use Rattle.blot_types.specs.declared.{command.Entry.Entry, fill.Fill.Fill, keys.OrderKey.OrderKey, part.Part.Part, keys.PositionKey.PositionKey}
 use Rattle.blot_types.specs.Keys.{position_at, position_cmp, same_text}
 use Rattle.blot_types.specs.Order.{line_of, fills_of}
 use Rattle.blot_types.specs.Position.{is_at, position_by}
-use Rattle.blot_report.specs.declared.lines.DayLines.{DayLines}
-use Rattle.blot_report.specs.declared.lines.OrderRow.{OrderRow}
-use Rattle.blot_types.specs.declared.keys.PositionKey.{PositionKey}
-use Rattle.blot_report.specs.declared.lines.PositionRow.{PositionRow}
+use Rattle.blot_report.specs.declared.{lines.DayLines.DayLines, lines.OrderRow.OrderRow, lines.PositionRow.PositionRow}
 use Rattle.blot_report.specs.Day.{fills_on, day_parts_of}
 
 -- orders by peer, and then by OrderID, each by its bytes

@@ -1,11 +1,7 @@
 -- The lines of the orders of a day, as the entries of a map that grows a fill at a time.
-use Rattle.std.specs.Prelude.{◌≡◌, ℕ, ◌+◌, List, Option, Some, if◌then◌else◌}
-use Rattle.std.specs.List.{filter_map}
+use Rattle.std.specs.Prelude.{◌≡◌, ℕ, ◌+◌, List, Option, Some, if◌then◌else◌, filter_map, option_map}
 use Rattle.std.specs.Map.{lookup}
-use Rattle.std.specs.Option.{option_map}
-use Rattle.blot_types.specs.declared.fill.Fill.{Fill}
-use Rattle.blot_types.specs.declared.keys.OrderKey.{OrderKey}
-use Rattle.blot_types.specs.declared.lines.OrderLine.{OrderLine}
+use Rattle.blot_types.specs.declared.{fill.Fill.Fill, keys.OrderKey.OrderKey, lines.OrderLine.OrderLine}
 use Rattle.blot_types.specs.Keys.{same_order}
 use Rattle.blot_types.specs.Order.{IsWithin, line_of, fills_of, with_fill}
 use Rattle.blot_report.specs.declared.lines.OrderRow.{OrderRow}

@@ -1,12 +1,6 @@
 -- What stands on a day, or on all days, as the standing of each entry tells it.
-use Rattle.std.specs.Prelude.{◌≡◌, ℕ, ℤ, true, List, map, ◌++◌, take, drop, Option, Some, None, if◌then◌else◌}
-use Rattle.std.specs.List.{filter_map, flat_map}
-use Rattle.std.specs.Option.{option_map}
-use Rattle.blot_types.specs.declared.allocation.Terms.{Terms}
-use Rattle.blot_types.specs.declared.command.Entry.{Entry}
-use Rattle.blot_types.specs.declared.fill.Fill.{Fill}
-use Rattle.blot_types.specs.declared.part.Part.{Part}
-use Rattle.blot_types.specs.declared.lines.Version.{Version}
+use Rattle.std.specs.Prelude.{◌≡◌, ℕ, ℤ, true, List, map, ◌++◌, take, drop, Option, Some, None, if◌then◌else◌, filter_map, flat_map, option_map}
+use Rattle.blot_types.specs.declared.{allocation.Terms.Terms, command.Entry.Entry, fill.Fill.Fill, part.Part.Part, lines.Version.Version}
 use Rattle.blot_types.specs.Allocations.{Allocation, allocation_of}
 use Rattle.blot_types.specs.Legal.{is_book}
 use Rattle.blot_types.specs.Position.{moves_of, part_of_fill}

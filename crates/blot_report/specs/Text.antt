@@ -1,18 +1,10 @@
 -- The text of a report. Words are divided by tabs, and each line ends with LF. Source: this project's rule.
-use Rattle.std.specs.Prelude.{ℕ, ◌+◌, ℤ, List, [], ◌∷◌, ◌++◌, length, codes}
-use Rattle.std.specs.Fmt.{decimal}
-use Rattle.std.specs.List.{flat_map}
+use Rattle.std.specs.Prelude.{ℕ, ◌+◌, ℤ, List, [], ◌∷◌, ◌++◌, length, codes, decimal, flat_map}
 use Rattle.blot_decimal.specs.Printed.{printed}
 use Rattle.blot_time.specs.Day.{day_text}
-use Rattle.blot_types.specs.declared.command.Entry.{Entry}
-use Rattle.blot_types.specs.declared.fill.Sign.{Sign}
+use Rattle.blot_types.specs.declared.{command.Entry.Entry, fill.Sign.Sign, keys.OrderKey.OrderKey, lines.OrderLine.OrderLine, lines.PositionLine.PositionLine}
 use Rattle.blot_types.specs.declared.fill.Sign.TheVariants.{Buy, Sell}
-use Rattle.blot_types.specs.declared.keys.OrderKey.{OrderKey}
-use Rattle.blot_types.specs.declared.lines.OrderLine.{OrderLine}
-use Rattle.blot_types.specs.declared.lines.PositionLine.{PositionLine}
-use Rattle.blot_report.specs.declared.lines.DayLines.{DayLines}
-use Rattle.blot_report.specs.declared.lines.OrderRow.{OrderRow}
-use Rattle.blot_report.specs.declared.lines.PositionRow.{PositionRow}
+use Rattle.blot_report.specs.declared.{lines.DayLines.DayLines, lines.OrderRow.OrderRow, lines.PositionRow.PositionRow}
 use Rattle.blot_report.specs.Lines.{day_lines_of}
 
 -- a word and the tab after it

@@ -1,6 +1,5 @@
 //! Lists in pieces, each of which a worker takes.
-ghost use Rattle.std.specs.Prelude.{◌≡◌, IfOk};
-ghost use Rattle.std.specs.List.{flat_map};
+ghost use Rattle.std.specs.Prelude.{◌≡◌, IfOk, flat_map};
 ghost use Rattle.blot_report.specs.Pieces.{JoinsPieces};
 
 use rayon::prelude::*;

@@ -1,6 +1,5 @@
 //! The executions and the allocations of a day, as their entries tell them.
-ghost use Rattle.std.specs.Prelude.{◌≡◌, ◌<◌, length, IfSome, get_or};
-ghost use Rattle.std.specs.Option.{option_copied};
+ghost use Rattle.std.specs.Prelude.{◌≡◌, ◌<◌, length, IfSome, get_or, option_copied};
 ghost use Rattle.blot_types.specs.Position.{IsSmall};
 ghost use Rattle.blot_types.specs.Survivors.{version_of};
 ghost use Rattle.blot_command.specs.Standings.{standing_of};

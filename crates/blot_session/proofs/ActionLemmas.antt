@@ -1,13 +1,10 @@
 -- What the actions of a call deliver.
-use Rattle.std.proofs.Common.{◌≡◌, ℕ, ◌<◌, length, false, List, [], ◌∷◌, ◌++◌, map, Option, Some, None, refl, sym, ap, ◌∙◌, arith}
-use Rattle.std.specs.Prelude.{IsSome, is_some, option_to_list}
+use Rattle.std.proofs.Common.{◌≡◌, ℕ, ◌<◌, length, false, List, [], ◌∷◌, ◌++◌, map, Option, Some, None, refl, sym, ap, ◌∙◌, arith, IsSome, is_some, option_to_list, option_and_then}
 use Rattle.std.specs.List.{list_any}
-use Rattle.std.specs.Option.{option_and_then}
 use Rattle.std.proofs.lemmas.Bool.{false≢true}
 use Rattle.blot_types.specs.declared.command.Command.{Command}
-use Rattle.blot_session.specs.declared.action.Action.{Action}
+use Rattle.blot_session.specs.declared.{action.Action.Action, state.State.State}
 use Rattle.blot_session.specs.declared.action.Action.TheVariants.{Send, Deliver, Close}
-use Rattle.blot_session.specs.declared.state.State.{State}
 use Rattle.blot_session.specs.Calls.{Awaits, DeliversAlone, is_deliver}
 use Rattle.blot_session.specs.Runs.{delivered, delivered_by}
 use Rattle.blot_session.specs.States.{IsIdle}

@@ -1,11 +1,9 @@
 -- The header of a frame of fields without a fault is read again.
-use Rattle.std.proofs.Common.{◌≡◌, ℕ, ◌+◌, ◌^◌, ◌<◌, ◌≤◌, Bool, true, false, List, [], ◌∷◌, ◌++◌, length, map, None, Some, Result, Ok, Err, refl, sym, ap, ◌∙◌, inl, inr, cond, subst, arith, length-append, lit<}
-use Rattle.std.specs.Prelude.{◌==◌, codes, filter, IfOk, is_none, nat_lt, not, ℤ, if◌then◌else◌}
-use Rattle.std.specs.Fmt.{decimal}
+use Rattle.std.proofs.Common.{◌≡◌, ℕ, ◌+◌, ◌^◌, ◌<◌, ◌≤◌, Bool, true, false, List, [], ◌∷◌, ◌++◌, length, map, None, Some, Result, Ok, Err, refl, sym, ap, ◌∙◌, inl, inr, cond, subst, arith, length-append, lit<, ◌==◌, codes, filter, IfOk, is_none, nat_lt, not, ℤ, if◌then◌else◌, decimal, eqb-true, le-leb, lt-ltb, ne_eqb}
 use Rattle.std.specs.List.{list_any}
 use Rattle.std.specs.Option.{option_or}
 use Rattle.std.specs.Result.{result_ok}
-use Rattle.std.proofs.lemmas.Bool.{and_from, cases_Bool, cond-true, cond-false, eqb-true, false≢true, le-leb, lt-ltb, ne_eqb, or_parts}
+use Rattle.std.proofs.lemmas.Bool.{and_from, cases_Bool, cond-true, cond-false, false≢true, or_parts}
 use Rattle.std.proofs.lemmas.List.Elements.{All-head, All-tail}
 use Rattle.blot_time.specs.Moment.{moment_of, moment_text}
 use Rattle.blot_tag.specs.Fields.{TagValue, fields_of}
@@ -14,8 +12,7 @@ use Rattle.blot_tag.specs.Frames.{IsFrame, first_fields, trailer_of}
 use Rattle.blot_tag.specs.Writing.{Written, body_of, check_sum_field, frame_fields, frame_of, front_text}
 use Rattle.blot_tag.proofs.FrameLemmas.{length-frame-le}
 use Rattle.blot_types.specs.Text.{is_text}
-use Rattle.blot_fields.specs.declared.head.Head.{Head}
-use Rattle.blot_fields.specs.declared.message.Body.{Body}
+use Rattle.blot_fields.specs.declared.{head.Head.Head, message.Body.Body}
 use Rattle.blot_fields.specs.Decoding.{decoded, decoded_before, message_of, message_under}
 use Rattle.blot_fields.specs.Forms.{flag_form, moment_form, number_form, sequence_form, text_form, time_read, within}
 use Rattle.blot_fields.specs.Kinds.{kind_of}
@@ -23,10 +20,9 @@ use Rattle.blot_fields.specs.Messages.{head_of, body_of as body_of_table}
 use Rattle.blot_fields.specs.Numbers.{head_in}
 use Rattle.blot_fields.specs.Rows.{at, needed, needed_in, only, optional, optional_in, there, values, one_of}
 use Rattle.blot_fields.specs.Walk.{field_wrong, refused_behind, sound_behind, sound_fields, with_others}
-use Rattle.blot_session.specs.declared.outbound.Outbound.{Outbound}
+use Rattle.blot_session.specs.declared.{outbound.Outbound.Outbound, state.State.State}
 use Rattle.blot_session.specs.declared.outbound.Outbound.TheVariants.{Logon, Heartbeat, TestRequest, ResendRequest, Reject, GapFill, Logout, Unsupported, AllocationAck}
 use Rattle.blot_session.specs.declared.replies.SeenReply.TheVariants.{Accepted, Refused}
-use Rattle.blot_session.specs.declared.state.State.{State}
 use Rattle.blot_session.specs.Outbound.{AreShort, IsShort, body_fields, field, field_if, header_fields, is_gap_fill, kind_of as kind_of_message, number_of}
 use Rattle.blot_session.specs.Runs.{said_by}
 use Rattle.blot_session.specs.Sending.{number_by, number_used}

@@ -1,24 +1,14 @@
 -- An Execution Report about a fill in its turn, and the reply to it, as the table has them.
-use Rattle.std.proofs.Common.{◌≡◌, ℕ, ◌≤◌, ◌==◌, true, false, ◌&&◌, List, [], Option, Some, None, Result, Ok, Err, refl, sym, ap, ◌∙◌, arith, inl, inr}
-use Rattle.std.specs.Prelude.{nat_lt, nat_le, ℤ, is_some}
-use Rattle.std.proofs.lemmas.Bool.{and_parts, cases_Bool, cond-true, cond_both, ltb-true, leb-true, eqb-true, false≢true}
-use Rattle.blot_fields.specs.declared.TheConstants.{SEQUENCE_MAX}
-use Rattle.blot_fields.specs.declared.head.Head.{Head}
-use Rattle.blot_fields.specs.declared.message.Body.{Body}
+use Rattle.std.proofs.Common.{◌≡◌, ℕ, ◌≤◌, ◌==◌, true, false, ◌&&◌, List, [], Option, Some, None, Result, Ok, Err, refl, sym, ap, ◌∙◌, arith, inl, inr, nat_lt, nat_le, ℤ, is_some, ltb-true, leb-true, eqb-true}
+use Rattle.std.proofs.lemmas.Bool.{and_parts, cases_Bool, cond-true, cond_both, false≢true}
+use Rattle.blot_fields.specs.declared.{TheConstants.SEQUENCE_MAX, head.Head.Head, message.Body.Body, message.Message.Message, report.Report.Report}
 use Rattle.blot_fields.specs.declared.message.Body.TheVariants as bodies
-use Rattle.blot_fields.specs.declared.message.Message.{Message}
-use Rattle.blot_fields.specs.declared.report.Report.{Report}
 use Rattle.blot_fields.specs.declared.report.Report.TheVariants as reports
 use Rattle.blot_fields.specs.Commands.{command_of, command_of_body}
-use Rattle.blot_session.specs.declared.carrying.TheConstants.{LAST_NUMBER}
-use Rattle.blot_session.specs.declared.replies.NotTaken.{NotTaken}
-use Rattle.blot_session.specs.declared.replies.SeenReply.{SeenReply}
-use Rattle.blot_session.specs.declared.row.End.TheVariants.{Delivers}
-use Rattle.blot_session.specs.declared.row.Row.{Row}
-use Rattle.blot_session.specs.declared.state.Awaited.{Awaited}
+use Rattle.blot_session.specs.declared.{carrying.TheConstants.LAST_NUMBER, replies.NotTaken.NotTaken, replies.SeenReply.SeenReply, row.End.TheVariants.Delivers, row.Row.Row, state.Awaited.Awaited}
 use Rattle.blot_session.specs.declared.state.Awaited.TheVariants as awaits
-use Rattle.blot_session.specs.declared.state.Link.{Link}
-use Rattle.blot_session.specs.declared.state.Link.TheVariants as links
+use Rattle.blot_session.specs.declared.state.LinkState.{LinkState}
+use Rattle.blot_session.specs.declared.state.LinkState.TheVariants as links
 use Rattle.blot_session.specs.declared.state.State.{State}
 use Rattle.blot_session.specs.Calls.{Outcome, GivesCommand, ending, is_spent, carried_out, outcome_of, on_frame, on_reply, reply_row_by}
 use Rattle.blot_session.specs.InTurn.{is_about_fill, is_on, is_report_in_turn, delivering, is_of_report, is_taken, is_report_taken}
@@ -83,7 +73,7 @@ on-delivers s head body now fill number peer =
     on-is s head body now ∙ head-is s head body now peer ∙ peer-is s head body now ∙ message-is s head body now fill
     ∙ number-is s head body number ∙ expected-is s head body ∙ body-delivers s head body fill
 
-frame_by-delivers : (s : State) (link : Link) (said : Message) (now : ℤ) → is_on link ≡ true → is_about_fill said.body ≡ true → said.head.number ≡ s.expected
+frame_by-delivers : (s : State) (link : LinkState) (said : Message) (now : ℤ) → is_on link ≡ true → is_about_fill said.body ≡ true → said.head.number ≡ s.expected
     → is_from_peer s said.head ≡ true → frame_row_by s link (Ok said) now ≡ delivers awaits.Report (heard now s)
 frame_by-delivers s links.Waiting said now on fill number peer = absurd (false≢true on)
 frame_by-delivers s (links.On live) said now on fill number peer = on-delivers (heard now s) said.head said.body now fill number peer

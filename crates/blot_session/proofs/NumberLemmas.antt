@@ -1,25 +1,19 @@
 -- What becomes of a message says the truth about its number, row by row of the table.
-use Rattle.std.proofs.Common.{◌≡◌, ℕ, ◌<◌, ◌==◌, Bool, true, false, List, Option, Some, None, Result, Ok, Err, refl, sym, subst, arith, inl, inr}
-use Rattle.std.specs.Prelude.{nat_lt, nat_le, codes, ℤ, not, ◌&&◌, MatchOption}
+use Rattle.std.proofs.Common.{◌≡◌, ℕ, ◌<◌, ◌==◌, Bool, true, false, List, Option, Some, None, Result, Ok, Err, refl, sym, subst, arith, inl, inr, nat_lt, nat_le, codes, ℤ, not, ◌&&◌, MatchOption, ltb-false, ltb-true}
 use Rattle.std.specs.Option.{option_map_or}
-use Rattle.std.proofs.lemmas.Bool.{and_parts, cond_both, eqb-false, ltb-false, ltb-true}
+use Rattle.std.proofs.lemmas.Bool.{and_parts, cond_both, eqb-false}
 use Rattle.std.proofs.lemmas.Option.{same_Some}
 use Rattle.blot_fields.specs.declared.admin.Admin.{Admin}
 use Rattle.blot_fields.specs.declared.admin.Admin.TheVariants as admin
-use Rattle.blot_fields.specs.declared.fault.FieldFault.{FieldFault}
-use Rattle.blot_fields.specs.declared.head.Head.{Head}
-use Rattle.blot_fields.specs.declared.message.Body.{Body}
+use Rattle.blot_fields.specs.declared.{fault.FieldFault.FieldFault, head.Head.Head, message.Body.Body, message.Message.Message, report.Report.Report}
 use Rattle.blot_fields.specs.declared.message.Body.TheVariants as bodies
-use Rattle.blot_fields.specs.declared.message.Message.{Message}
-use Rattle.blot_fields.specs.declared.report.Report.{Report}
 use Rattle.blot_fields.specs.declared.report.Report.TheVariants as reports
 use Rattle.blot_fields.specs.Numbers.{head_in}
 use Rattle.blot_types.specs.Keys.{same_text}
 use Rattle.blot_session.specs.declared.met.Met.{Met}
 use Rattle.blot_session.specs.declared.met.Met.TheVariants as met
-use Rattle.blot_session.specs.declared.row.Row.{Row}
-use Rattle.blot_session.specs.declared.state.Link.{Link}
-use Rattle.blot_session.specs.declared.state.Link.TheVariants as links
+use Rattle.blot_session.specs.declared.{row.Row.Row, state.LinkState.LinkState}
+use Rattle.blot_session.specs.declared.state.LinkState.TheVariants as links
 use Rattle.blot_session.specs.declared.state.State.{State}
 use Rattle.blot_session.specs.Calls.{is_spent}
 use Rattle.blot_session.specs.Met.{IsAbove, IsOfNumber, is_before_number, is_late, met_by_end, met_of, passed_by}
@@ -228,7 +222,7 @@ on-tells s state said now same = on_by-tells s state (head_in said) said now ref
 
 -- ---- a frame
 
-frame-tells : (s : State) (link : Link) (said : Result Message FieldFault) (now : ℤ) → Tells s said (frame_row_by s link said now)
+frame-tells : (s : State) (link : LinkState) (said : Result Message FieldFault) (now : ℤ) → Tells s said (frame_row_by s link said now)
 frame-tells s links.Waiting said now = waiting-tells s said now
 frame-tells s (links.On live) said now = on-tells s (heard now s) said now refl
 frame-tells s links.Closed said now = λ silent is. is

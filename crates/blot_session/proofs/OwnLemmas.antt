@@ -1,21 +1,15 @@
 -- A delivered command is the one that its frame brings by itself.
-use Rattle.std.proofs.Common.{◌≡◌, ℕ, List, [], ◌∷◌, map, Option, Some, None, option_to_list, Result, Ok, Err, sym, ap, subst, ◌∙◌}
-use Rattle.std.specs.Prelude.{ℤ, IfSome}
+use Rattle.std.proofs.Common.{◌≡◌, ℕ, List, [], ◌∷◌, map, Option, Some, None, option_to_list, Result, Ok, Err, sym, ap, subst, ◌∙◌, ℤ, IfSome}
 use Rattle.std.specs.Cmp.Lexicographic.{bytes_decides}
 use Rattle.std.proofs.lemmas.Bool.{and_parts, cond_both}
 use Rattle.blot_fields.specs.Bringing.{brought_by}
 use Rattle.blot_fields.specs.Commands.{command_of}
-use Rattle.blot_fields.specs.declared.fault.FieldFault.{FieldFault}
-use Rattle.blot_fields.specs.declared.head.Head.{Head}
-use Rattle.blot_fields.specs.declared.message.Body.{Body}
+use Rattle.blot_fields.specs.declared.{fault.FieldFault.FieldFault, head.Head.Head, message.Body.Body}
 use Rattle.blot_fields.specs.declared.message.Body.TheVariants as bodies
 use Rattle.blot_fields.specs.declared.message.Message.{Message}
 use Rattle.blot_types.specs.declared.command.Command.{Command}
-use Rattle.blot_session.specs.declared.action.Action.{Action}
-use Rattle.blot_session.specs.declared.row.End.TheVariants.{Delivers}
-use Rattle.blot_session.specs.declared.row.Row.{Row}
-use Rattle.blot_session.specs.declared.state.Link.{Link}
-use Rattle.blot_session.specs.declared.state.Link.TheVariants as links
+use Rattle.blot_session.specs.declared.{action.Action.Action, row.End.TheVariants.Delivers, row.Row.Row, state.LinkState.LinkState}
+use Rattle.blot_session.specs.declared.state.LinkState.TheVariants as links
 use Rattle.blot_session.specs.declared.state.State.{State}
 use Rattle.blot_session.specs.Calls.{Outcome, command_said, on_frame}
 use Rattle.blot_session.specs.Rows.{comp_id_row, frame_row, frame_row_by, head_row, is_from_peer, on_row, waiting_body_row, waiting_row}
@@ -53,7 +47,7 @@ waiting-own : (state : State) (message : Message) (now : ℤ) (command : Command
 unfolding waiting_row
 waiting-own state message now command ends gives = absurd (waiting-none state message.head message.body now command ends gives)
 
-row-own : (state : State) (link : Link) (message : Message) (now : ℤ) (command : Command) → (frame_row_by state link (Ok message) now).end ≡ Delivers
+row-own : (state : State) (link : LinkState) (message : Message) (now : ℤ) (command : Command) → (frame_row_by state link (Ok message) now).end ≡ Delivers
     → command_of message state.peer ≡ Some command → message.head.sender ≡ state.peer
 row-own state links.Waiting message now command ends gives = waiting-own state message now command ends gives
 row-own state (links.On live) message now command ends gives = on-own (heard now state) message now ends

@@ -1,29 +1,20 @@
 -- How each row of the table moves the numbers, and what it delivers.
-use Rattle.std.proofs.Common.{◌≡◌, ◌⊎◌, ℕ, ◌+◌, ◌≤◌, ◌==◌, Bool, true, false, List, Option, Some, None, Result, Ok, Err, refl, sym, ap, subst, ◌∙◌, arith, inl, inr}
-use Rattle.std.specs.Prelude.{nat_lt, nat_le, codes, ℤ, is_some}
-use Rattle.std.specs.Option.{option_map}
-use Rattle.std.proofs.lemmas.Bool.{cond_both, ltb-false, leb-false, eqb-true}
+use Rattle.std.proofs.Common.{◌≡◌, ◌⊎◌, ℕ, ◌+◌, ◌≤◌, ◌==◌, Bool, true, false, List, Option, Some, None, Result, Ok, Err, refl, sym, ap, subst, ◌∙◌, arith, inl, inr, nat_lt, nat_le, codes, ℤ, is_some, option_map, ltb-false, leb-false, eqb-true}
+use Rattle.std.proofs.lemmas.Bool.{cond_both}
 use Rattle.std.proofs.lemmas.Option.{same_Some}
 use Rattle.blot_fields.specs.declared.admin.Admin.{Admin}
 use Rattle.blot_fields.specs.declared.admin.Admin.TheVariants as admin
-use Rattle.blot_fields.specs.declared.fault.FieldFault.{FieldFault}
-use Rattle.blot_fields.specs.declared.head.Head.{Head}
-use Rattle.blot_fields.specs.declared.message.Body.{Body}
+use Rattle.blot_fields.specs.declared.{fault.FieldFault.FieldFault, head.Head.Head, message.Body.Body, message.Message.Message, report.Report.Report}
 use Rattle.blot_fields.specs.declared.message.Body.TheVariants as bodies
-use Rattle.blot_fields.specs.declared.message.Message.{Message}
-use Rattle.blot_fields.specs.declared.report.Report.{Report}
 use Rattle.blot_fields.specs.declared.report.Report.TheVariants as reports
 use Rattle.blot_fields.specs.Numbers.{head_in}
 use Rattle.blot_types.specs.Keys.{same_text}
-use Rattle.blot_session.specs.declared.row.End.{End}
+use Rattle.blot_session.specs.declared.{row.End.End, row.Row.Row, row.Sends.TheVariants.Nothing, state.Live.Live}
 use Rattle.blot_session.specs.declared.row.End.TheVariants.{Stays, Delivers, Closes}
-use Rattle.blot_session.specs.declared.row.Row.{Row}
-use Rattle.blot_session.specs.declared.row.Sends.TheVariants.{Nothing}
-use Rattle.blot_session.specs.declared.state.Live.{Live}
 use Rattle.blot_session.specs.declared.action.CloseReason.TheVariants as reasons
 use Rattle.blot_session.specs.declared.outbound.Outbound.TheVariants.{Reject, Logout}
-use Rattle.blot_session.specs.declared.state.Link.{Link}
-use Rattle.blot_session.specs.declared.state.Link.TheVariants as links
+use Rattle.blot_session.specs.declared.state.LinkState.{LinkState}
+use Rattle.blot_session.specs.declared.state.LinkState.TheVariants as links
 use Rattle.blot_session.specs.declared.state.State.{State}
 use Rattle.blot_session.specs.Calls.{command_said}
 use Rattle.blot_session.specs.Rows.{logon_row, low_logon_row, first_logon_row, waiting_logon_row, waiting_body_row, waiting_row, is_from_peer, resend_row, gap_fill_row, admin_row, report_row, other_row, body_row, expected_row, high_body_row, high_row, low_row, number_row, reset_row, logout_row, message_row, peer_row, comp_id_tag, comp_id_row, head_row, on_row_by, on_row, frame_row_by, frame_row}
@@ -44,8 +35,8 @@ Names number expected (Ok message) = NamesBy number expected (Ok message) messag
 Names number expected (Err fault) = ⊥
 
 -- the number that is expected stays, or goes up by one after a frame that bears it, or is set to a higher one
-abbrev pub Steps : ℕ → Result Message FieldFault → ℕ → Type 0
-Steps expected said next =
+abbrev pub NumberSteps : ℕ → Result Message FieldFault → ℕ → Type 0
+NumberSteps expected said next =
     (next ≡ expected) ⊎ (((next ≡ expected + 1) × Bears expected said) ⊎ ((expected ≤ next) × Names next expected said))
 
 -- whether a call ends with a delivery
@@ -60,7 +51,7 @@ pub record GoesOn (peer : List ℕ) (next expected : ℕ) (said : Result Message
   pub next_same : row.state.next ≡ next
   pub idle : IsIdle row.state
   pub end : is_delivery row.end ≡ false
-  pub number : Steps expected said row.state.expected
+  pub number : NumberSteps expected said row.state.expected
 
 -- a row that delivers the command of its message
 pub record HandsOn (peer : List ℕ) (next expected : ℕ) (said : Result Message FieldFault) (row : Row) : Type 0 where
@@ -351,7 +342,7 @@ waiting-moves state (Err fault) now = no_logon-moves state (Err fault)
 
 -- ---- any frame
 
-frame_by-moves : (state : State) (link : Link) (said : Result Message FieldFault) (now : ℤ) → state.link ≡ link → IsIdle state
+frame_by-moves : (state : State) (link : LinkState) (said : Result Message FieldFault) (now : ℤ) → state.link ≡ link → IsIdle state
     → FrameMoves state.peer state.next state.expected said (frame_row_by state link said now)
 frame_by-moves state links.Waiting said now is idle = waiting-moves state said now
 frame_by-moves state (links.On live) said now is idle =

@@ -1,30 +1,20 @@
 -- Over any calls without a reset the numbers of what is taken rise, and each number that isn't taken was passed by a message.
-use Rattle.std.proofs.Common.{◌≡◌, ◌⊎◌, ℕ, ◌+◌, ◌≤◌, ◌<◌, Bool, true, false, ◌&&◌, List, [], ◌∷◌, ◌++◌, Option, Some, None, Result, Ok, Err, refl, sym, ap, subst, ◌∙◌, arith, inl, inr}
-use Rattle.std.specs.Prelude.{nat_lt, ℤ, is_some}
-use Rattle.std.proofs.lemmas.Bool.{cond_both, cond-false, cases_Bool, ltb-true, ltb-false, false≢true}
+use Rattle.std.proofs.Common.{◌≡◌, ◌⊎◌, ℕ, ◌+◌, ◌≤◌, ◌<◌, Bool, true, false, ◌&&◌, List, [], ◌∷◌, ◌++◌, Option, Some, None, Result, Ok, Err, refl, sym, ap, subst, ◌∙◌, arith, inl, inr, nat_lt, ℤ, is_some, ltb-true, ltb-false}
+use Rattle.std.proofs.lemmas.Bool.{cond_both, cond-false, cases_Bool, false≢true}
 use Rattle.blot_fields.specs.declared.admin.Admin.TheVariants as admin
-use Rattle.blot_fields.specs.declared.fault.FieldFault.{FieldFault}
-use Rattle.blot_fields.specs.declared.message.Body.{Body}
+use Rattle.blot_fields.specs.declared.{fault.FieldFault.FieldFault, message.Body.Body}
 use Rattle.blot_fields.specs.declared.message.Body.TheVariants as bodies
 use Rattle.blot_fields.specs.declared.message.Message.{Message}
 use Rattle.blot_types.specs.declared.command.Command.{Command}
-use Rattle.blot_session.specs.declared.outbound.Outbound.{Outbound}
-use Rattle.blot_session.specs.declared.replies.NotTaken.{NotTaken}
-use Rattle.blot_session.specs.declared.replies.SeenReply.{SeenReply}
-use Rattle.blot_session.specs.declared.row.End.{End}
-use Rattle.blot_session.specs.declared.row.End.TheVariants.{Delivers}
-use Rattle.blot_session.specs.declared.row.Row.{Row}
-use Rattle.blot_session.specs.declared.row.Sends.{Sends}
+use Rattle.blot_session.specs.declared.{outbound.Outbound.Outbound, replies.NotTaken.NotTaken, replies.SeenReply.SeenReply, row.End.End, row.End.TheVariants.Delivers, row.Row.Row, row.Sends.Sends, state.State.State, carrying.TheConstants.LAST_NUMBER}
 use Rattle.blot_session.specs.declared.row.Sends.TheVariants.{Nothing, One, Two}
-use Rattle.blot_session.specs.declared.state.State.{State}
-use Rattle.blot_session.specs.declared.carrying.TheConstants.{LAST_NUMBER}
 use Rattle.blot_session.specs.Calls.{Outcome, behind, behind_all, carried_out, is_spent, spent, outcome_of, command_said, on_frame, row_of_reply}
 use Rattle.blot_session.specs.Rows.{frame_row, stop_row, tick_row}
 use Rattle.blot_session.specs.Runs.{Call, Numbered, outcome, said_by, quiet, behind_calls, delivered_by, taken_by, taken_behind, AreMet, is_reset, HasNoReset, RiseFrom, AreBelow, CoversBy, Covers, Bears, Passes, IsPassed, IsTaken, IsInOrder}
 use Rattle.blot_session.specs.Runs.Call.{Frame, Reply, Tick, Stop, Closing, WaitAgain}
 use Rattle.blot_session.specs.States.{closed, waiting_again, awaited_of, IsIdle, IsAwaiting}
 use Rattle.blot_session.specs.Table.{acts, messages_of}
-use Rattle.blot_session.proofs.RowLemmas.{Names, NamesBy, Steps, GoesOn, HandsOn, frame-moves}
+use Rattle.blot_session.proofs.RowLemmas.{Names, NamesBy, NumberSteps, GoesOn, HandsOn, frame-moves}
 use Rattle.blot_session.proofs.StateLemmas.{spoken-awaited, steps-grow, unspent-last, idle-none, Rests, stop-rests, tick-rests, settles}
 
 -- ---- what is sent changes no expected number, and nothing that is awaited
@@ -40,8 +30,8 @@ behind_all-awaited (message ∷ messages) state now = behind_all-awaited message
 -- ---- one call
 
 -- what is held is what awaits its reply, under the number that is expected; the numbers to send aren't used up then
-abbrev pub Holds : List Numbered → State → Type 0
-Holds last state = IsAwaiting state → (state.next ≤ LAST_NUMBER) × (command : Command) × (last ≡ record { number = state.expected; command = command } ∷ [])
+abbrev pub HoldsNext : List Numbered → State → Type 0
+HoldsNext last state = IsAwaiting state → (state.next ≤ LAST_NUMBER) × (command : Command) × (last ≡ record { number = state.expected; command = command } ∷ [])
 
 -- a frame bears a number, or covers it, where the session passes that number
 abbrev pub GoesBy : ℕ → State → Call → Type 0
@@ -61,9 +51,9 @@ passes number state WaitAgain by high = absurd by
 record Aside (state : State) (call : Call) (next : Outcome) : Type 0 where
   pub grows : state.expected ≤ next.state.expected
   pub passed : (number : ℕ) → state.expected ≤ number → number < next.state.expected → GoesBy number state call
-  pub holds : Holds (delivered_by state.expected next.actions) next.state
+  pub holds : HoldsNext (delivered_by state.expected next.actions) next.state
 
-idle-holds : (last : List Numbered) (state : State) → IsIdle state → Holds last state
+idle-holds : (last : List Numbered) (state : State) → IsIdle state → HoldsNext last state
 idle-holds last state idle awaiting = absurd (idle-none state idle awaiting)
 
 -- a call that changes no expected number
@@ -92,7 +82,7 @@ covers : (said : Result Message FieldFault) (number expected new_number : ℕ) �
 covers (Ok message) number expected new_number low high is = covers_by message.body (Ok message) number expected new_number low high is
 covers (Err fault) number expected new_number low high is = absurd is
 
-steps-pass : (said : Result Message FieldFault) (expected next number : ℕ) → Steps expected said next → expected ≤ number → number < next
+steps-pass : (said : Result Message FieldFault) (expected next number : ℕ) → NumberSteps expected said next → expected ≤ number → number < next
     → ((number ≡ expected) × Bears number said) ⊎ Covers number expected said
 steps-pass said expected next number steps low high = elim steps [
   | inl same ↦ absurd (omega (arith, same, low, high))
@@ -110,7 +100,7 @@ carried-on : (state : State) (text : List ℕ) (now moment : ℤ) (row : Row) (c
     → Aside state (Frame text now true) (carried_out row command moment)
 carried-on state text now moment row command on =
     let same = behind_all-expected (messages_of row.sends) row.state moment in
-    let steps = subst (Steps state.expected (said_by text)) (sym same) on.number in
+    let steps = subst (NumberSteps state.expected (said_by text)) (sym same) on.number in
     record {
       grows = steps-grow (said_by text) state.expected _ steps;
       passed = λ number low high. steps-pass (said_by text) state.expected _ number steps low high;
@@ -120,12 +110,12 @@ carried-on state text now moment row command on =
 
 handed-holds : (state : State) (sends : Sends) (end : End) (session : State) (command : Option Command) (now : ℤ)
     → sends ≡ Nothing → end ≡ Delivers → session.expected ≡ state.expected → session.next ≤ LAST_NUMBER → is_some command ≡ true
-    → Holds (delivered_by state.expected (carried_out (record { sends = sends; end = end; state = session }) command now).actions)
+    → HoldsNext (delivered_by state.expected (carried_out (record { sends = sends; end = end; state = session }) command now).actions)
     (carried_out (record { sends = sends; end = end; state = session }) command now).state
 handed-holds state sends end session (Some command) now nothing delivers same last is =
-    subst (λ s. Holds (delivered_by state.expected (carried_out (record { sends = s; end = end; state = session }) (Some command) now).actions)
+    subst (λ s. HoldsNext (delivered_by state.expected (carried_out (record { sends = s; end = end; state = session }) (Some command) now).actions)
     (carried_out (record { sends = s; end = end; state = session }) (Some command) now).state) (sym nothing)
-    (subst (λ e. Holds (delivered_by state.expected (carried_out (record { sends = Nothing; end = e; state = session }) (Some command) now).actions)
+    (subst (λ e. HoldsNext (delivered_by state.expected (carried_out (record { sends = Nothing; end = e; state = session }) (Some command) now).actions)
     (carried_out (record { sends = Nothing; end = e; state = session }) (Some command) now).state) (sym delivers)
     (λ awaiting. (last, command, ap (λ n. record { number = n; command = command } ∷ []) (sym same))))
 handed-holds state sends end session None now nothing delivers same last is = absurd (false≢true is)
@@ -258,7 +248,7 @@ reply-settled state reply now false awaiting low =
 
 -- ---- the law
 
-law : (calls : List Call) (last : List Numbered) (state : State) → Holds last state → AreMet state calls → HasNoReset calls → InOrder last state calls
+law : (calls : List Call) (last : List Numbered) (state : State) → HoldsNext last state → AreMet state calls → HasNoReset calls → InOrder last state calls
 law [] last state holds met kept =
     record { grows = omega arith; rise = tt; below = tt; accounted = λ number low high. absurd (omega (arith, low, high)) }
 law (Frame text now true ∷ calls) last state holds met kept =

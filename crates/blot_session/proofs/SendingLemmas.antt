@@ -1,29 +1,17 @@
 -- What a call does to the two numbers of a session.
-use Rattle.std.proofs.Common.{◌≡◌, ℕ, ◌+◌, ◌≤◌, Bool, true, false, List, [], ◌∷◌, ◌++◌, Option, Some, None, Result, Ok, Err, refl, sym, ap, subst, ◌∙◌, inl, inr, arith}
-use Rattle.std.specs.Prelude.{◌≢◌, ◌⊎◌, ◌==◌, ℤ, nat_lt, is_some, if◌then◌else◌}
+use Rattle.std.proofs.Common.{◌≡◌, ℕ, ◌+◌, ◌≤◌, Bool, true, false, List, [], ◌∷◌, ◌++◌, Option, Some, None, Result, Ok, Err, refl, sym, ap, subst, ◌∙◌, inl, inr, arith, ◌≢◌, ◌⊎◌, ◌==◌, ℤ, nat_lt, is_some, if◌then◌else◌}
 use Rattle.std.specs.List.{list_all}
 use Rattle.std.proofs.lemmas.Bool.{and_parts, cond-false, cond_both, false≢true}
 use Rattle.blot_fields.specs.declared.admin.Admin.TheVariants as admin
-use Rattle.blot_fields.specs.declared.fault.FieldFault.{FieldFault}
-use Rattle.blot_fields.specs.declared.head.Head.{Head}
-use Rattle.blot_fields.specs.declared.message.Body.{Body}
+use Rattle.blot_fields.specs.declared.{fault.FieldFault.FieldFault, head.Head.Head, message.Body.Body}
 use Rattle.blot_fields.specs.declared.message.Body.TheVariants as bodies
 use Rattle.blot_fields.specs.declared.message.Message.{Message}
 use Rattle.blot_types.specs.declared.command.Command.{Command}
-use Rattle.blot_session.specs.declared.action.Action.{Action}
-use Rattle.blot_session.specs.declared.carrying.TheConstants.{LAST_NUMBER}
-use Rattle.blot_session.specs.declared.outbound.Outbound.{Outbound}
+use Rattle.blot_session.specs.declared.{action.Action.Action, carrying.TheConstants.LAST_NUMBER, outbound.Outbound.Outbound, replies.NotTaken.NotTaken, replies.SeenReply.SeenReply, row.End.End, row.Row.Row, row.Sends.Sends, state.Awaited.Awaited, state.LinkState.LinkState}
 use Rattle.blot_session.specs.declared.outbound.Outbound.TheVariants.{Logon, Heartbeat, TestRequest, ResendRequest, Reject, GapFill, Logout, Unsupported, AllocationAck}
-use Rattle.blot_session.specs.declared.replies.NotTaken.{NotTaken}
-use Rattle.blot_session.specs.declared.replies.SeenReply.{SeenReply}
-use Rattle.blot_session.specs.declared.row.End.{End}
 use Rattle.blot_session.specs.declared.row.End.TheVariants.{Stays, Delivers, Closes}
-use Rattle.blot_session.specs.declared.row.Row.{Row}
-use Rattle.blot_session.specs.declared.row.Sends.{Sends}
 use Rattle.blot_session.specs.declared.row.Sends.TheVariants.{Nothing, One, Two}
-use Rattle.blot_session.specs.declared.state.Awaited.{Awaited}
-use Rattle.blot_session.specs.declared.state.Link.{Link}
-use Rattle.blot_session.specs.declared.state.Link.TheVariants as links
+use Rattle.blot_session.specs.declared.state.LinkState.TheVariants as links
 use Rattle.blot_session.specs.declared.state.Phase.TheVariants as phases
 use Rattle.blot_session.specs.declared.state.State.{State}
 use Rattle.blot_session.specs.Calls.{Outcome, behind, behind_all, carried_out, command_said, ending, is_spent, reply_row_by, row_of_reply, sent, spent}
@@ -87,7 +75,7 @@ behind_all-next : (messages : List Outbound) (state : State) (now : ℤ) → (be
 behind_all-next [] state now = refl
 behind_all-next (message ∷ messages) state now = behind_all-next messages (behind state message now) now
 
-spoken-phase : (now : ℤ) (link : Link) → phase_by (changed (λ live. record live { sent = now }) link) ≡ phase_by link
+spoken-phase : (now : ℤ) (link : LinkState) → phase_by (changed (λ live. record live { sent = now }) link) ≡ phase_by link
 spoken-phase now links.Waiting = refl
 spoken-phase now (links.On live) = refl
 spoken-phase now links.Closed = refl
@@ -204,14 +192,14 @@ waiting-waits state (Ok message) now kept = waiting_body-waits state message.hea
 waiting-waits state (Err fault) now kept = inr refl
 
 -- a session that isn't on comes on, or expects the same number
-off-waits : (state : State) (link : Link) (said : Result Message FieldFault) (now : ℤ) → is_reset_said said ≡ false → phase_by link ≢ phases.On
+off-waits : (state : State) (link : LinkState) (said : Result Message FieldFault) (now : ℤ) → is_reset_said said ≡ false → phase_by link ≢ phases.On
     → Waits state (frame_row_by state link said now)
 off-waits state links.Waiting said now kept off = waiting-waits state said now kept
 off-waits state (links.On live) said now kept off = absurd (off refl)
 off-waits state links.Closed said now kept off = inr refl
 
 -- about a frame that comes to a closed session nothing is done
-closed-frame : (state : State) (link : Link) (said : Result Message FieldFault) (now : ℤ) → phase_by link ≡ phases.Closed → frame_row_by state link said now ≡ silent state
+closed-frame : (state : State) (link : LinkState) (said : Result Message FieldFault) (now : ℤ) → phase_by link ≡ phases.Closed → frame_row_by state link said now ≡ silent state
 closed-frame state links.Waiting said now is = absurd cc
 closed-frame state (links.On live) said now is = absurd cc
 closed-frame state links.Closed said now is = refl
@@ -287,12 +275,12 @@ rests-row state row rests shut =
       shut = shut;
     }
 
-closed-tick : (state : State) (link : Link) (now : ℤ) → phase_by link ≡ phases.Closed → tick_row_by state link now ≡ silent state
+closed-tick : (state : State) (link : LinkState) (now : ℤ) → phase_by link ≡ phases.Closed → tick_row_by state link now ≡ silent state
 closed-tick state links.Waiting now is = absurd cc
 closed-tick state (links.On live) now is = absurd cc
 closed-tick state links.Closed now is = refl
 
-closed-stop : (state : State) (link : Link) → phase_by link ≡ phases.Closed → stop_row_by state link ≡ silent state
+closed-stop : (state : State) (link : LinkState) → phase_by link ≡ phases.Closed → stop_row_by state link ≡ silent state
 closed-stop state links.Waiting is = absurd cc
 closed-stop state (links.On live) is = absurd cc
 closed-stop state links.Closed is = refl
@@ -309,7 +297,7 @@ unfolding stop_row
 stop-row state idle = rests-row state (stop_row state) (stop-rests state idle) (λ is. silent-shut state (stop_row state) (closed-stop state state.link is) is)
 
 -- a closed session awaits no reply
-closed_link : (link : Link) → phase_by link ≡ phases.Closed → awaited_by link ≡ None
+closed_link : (link : LinkState) → phase_by link ≡ phases.Closed → awaited_by link ≡ None
 closed_link links.Waiting is = absurd cc
 closed_link (links.On live) is = absurd cc
 closed_link links.Closed is = refl
@@ -317,7 +305,7 @@ closed_link links.Closed is = refl
 pub closed_idle : (state : State) → phase_of state ≡ phases.Closed → IsIdle state
 closed_idle state is = closed_link state.link is
 
-off-awaits : (link : Link) → phase_by link ≢ phases.On → is_some (awaited_by link) ≡ true → ⊥
+off-awaits : (link : LinkState) → phase_by link ≢ phases.On → is_some (awaited_by link) ≡ true → ⊥
 off-awaits links.Waiting off awaiting = false≢true awaiting
 off-awaits (links.On live) off awaiting = off refl
 off-awaits links.Closed off awaiting = false≢true awaiting

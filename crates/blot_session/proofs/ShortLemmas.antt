@@ -1,10 +1,8 @@
 -- Short values: fields of them aren't refused, and are read again.
-use Rattle.std.proofs.Common.{◌≡◌, ℕ, ◌+◌, ◌%◌, ◌^◌, ◌<◌, ◌≤◌, true, false, ◌&&◌, not, leb, List, [], ◌∷◌, ◌++◌, length, None, ap, ◌∙◌, inl, inr, arith, length-append, append_assoc, lit<}
-use Rattle.std.specs.Prelude.{nat_lt, ℤ}
+use Rattle.std.proofs.Common.{◌≡◌, ℕ, ◌+◌, ◌%◌, ◌^◌, ◌<◌, ◌≤◌, true, false, ◌&&◌, not, leb, List, [], ◌∷◌, ◌++◌, length, None, ap, ◌∙◌, inl, inr, arith, length-append, append_assoc, lit<, nat_lt, ℤ, decimal, le-leb, leb-true, ltb-true, ne_eqb}
 use Rattle.std.specs.Char.{is_ascii_digit}
-use Rattle.std.specs.Fmt.{decimal}
 use Rattle.std.specs.List.{list_all}
-use Rattle.std.proofs.lemmas.Bool.{cases_Bool, cond-false, and_from, and_parts, le-leb, leb-true, ltb-true, ne_eqb}
+use Rattle.std.proofs.lemmas.Bool.{cases_Bool, cond-false, and_from, and_parts}
 use Rattle.std.proofs.lemmas.Fmt.{digits_decimal, digits_value-decimal, length-decimal-le, decimal_nonempty}
 use Rattle.std.proofs.lemmas.List.Concat.{flat_map-append}
 use Rattle.std.proofs.lemmas.List.Folds.{list_any_none}

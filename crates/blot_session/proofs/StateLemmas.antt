@@ -1,39 +1,25 @@
 -- A session's numbers stay in their ranges over a call.
-use Rattle.std.proofs.Common.{◌≡◌, ℕ, ◌+◌, ◌≤◌, ◌==◌, Bool, true, false, ◌&&◌, List, ◌++◌, Option, Some, None, Result, Ok, Err, refl, sym, ap, subst, ◌∙◌, arith, inl, inr}
-use Rattle.std.specs.Prelude.{if◌then◌else◌, nat_lt, ℤ, is_some, IfSome, IfOk, unwrap_or}
-use Rattle.std.specs.Option.{option_map}
-use Rattle.std.proofs.lemmas.Bool.{cond_both, ltb-false, false≢true}
+use Rattle.std.proofs.Common.{◌≡◌, ℕ, ◌+◌, ◌≤◌, ◌==◌, Bool, true, false, ◌&&◌, List, ◌++◌, Option, Some, None, Result, Ok, Err, refl, sym, ap, subst, ◌∙◌, arith, inl, inr, if◌then◌else◌, nat_lt, ℤ, is_some, IfSome, IfOk, unwrap_or, option_map, ltb-false}
+use Rattle.std.proofs.lemmas.Bool.{cond_both, false≢true}
 use Rattle.blot_fields.specs.declared.TheConstants.{SEQUENCE_MAX}
 use Rattle.blot_fields.specs.declared.admin.Admin.TheVariants as admin
-use Rattle.blot_fields.specs.declared.fault.FieldFault.{FieldFault}
-use Rattle.blot_fields.specs.declared.head.Head.{Head}
-use Rattle.blot_fields.specs.declared.message.Body.{Body}
+use Rattle.blot_fields.specs.declared.{fault.FieldFault.FieldFault, head.Head.Head, message.Body.Body}
 use Rattle.blot_fields.specs.declared.message.Body.TheVariants as bodies
 use Rattle.blot_fields.specs.declared.message.Message.{Message}
 use Rattle.blot_fields.specs.Numbers.{head_in, BodyNamesNumber, IsNumbered}
 use Rattle.blot_types.specs.declared.command.Command.{Command}
-use Rattle.blot_session.specs.declared.action.Action.{Action}
-use Rattle.blot_session.specs.declared.outbound.Outbound.{Outbound}
+use Rattle.blot_session.specs.declared.{action.Action.Action, outbound.Outbound.Outbound, replies.NotTaken.NotTaken, replies.SeenReply.SeenReply, row.End.End, row.Row.Row, row.Sends.Sends, state.Awaited.Awaited, state.Live.Live, state.State.State, carrying.TheConstants.LAST_NUMBER}
 use Rattle.blot_session.specs.declared.outbound.Outbound.TheVariants.{Logon, Heartbeat, TestRequest, ResendRequest, Reject, GapFill, Logout, Unsupported, AllocationAck}
-use Rattle.blot_session.specs.declared.replies.NotTaken.{NotTaken}
-use Rattle.blot_session.specs.declared.replies.SeenReply.{SeenReply}
-use Rattle.blot_session.specs.declared.row.End.{End}
-use Rattle.blot_session.specs.declared.row.Row.{Row}
-use Rattle.blot_session.specs.declared.row.Sends.{Sends}
 use Rattle.blot_session.specs.declared.row.Sends.TheVariants.{Nothing, One, Two}
-use Rattle.blot_session.specs.declared.state.Awaited.{Awaited}
 use Rattle.blot_session.specs.declared.state.Awaited.TheVariants as awaits
-use Rattle.blot_session.specs.declared.state.Link.{Link}
-use Rattle.blot_session.specs.declared.state.Link.TheVariants as links
-use Rattle.blot_session.specs.declared.state.Live.{Live}
-use Rattle.blot_session.specs.declared.state.State.{State}
-use Rattle.blot_session.specs.declared.carrying.TheConstants.{LAST_NUMBER}
+use Rattle.blot_session.specs.declared.state.LinkState.{LinkState}
+use Rattle.blot_session.specs.declared.state.LinkState.TheVariants as links
 use Rattle.blot_session.specs.Calls.{Outcome, sent, behind, behind_all, ending, is_spent, spent, carried_out, outcome_of, reply_row_by, row_of_reply}
 use Rattle.blot_session.specs.Outbound.{next_behind}
 use Rattle.blot_session.specs.Rows.{frame_row, asked_row, quiet_row, heartbeat_row, beat_row_by, beat_row, tick_row_by, tick_row, stop_row_by, stop_row, passed, patience, reply_row}
 use Rattle.blot_session.specs.States.{closed, changed, awaited_by, awaited_of, IsIdle, IsAwaiting, IsState}
 use Rattle.blot_session.specs.Table.{Fits, acts, acts_by, messages_of}
-use Rattle.blot_session.proofs.RowLemmas.{Names, NamesBy, Steps, Moves, is_delivery, frame-moves}
+use Rattle.blot_session.proofs.RowLemmas.{Names, NamesBy, NumberSteps, Moves, is_delivery, frame-moves}
 
 -- ---- messages that are sent
 
@@ -48,7 +34,7 @@ next_behind-range Logout next = (omega arith, omega arith)
 next_behind-range (Unsupported number kind) next = (omega arith, omega arith)
 next_behind-range (AllocationAck id reply) next = (omega arith, omega arith)
 
-pub spoken-awaited : (now : ℤ) (link : Link) → awaited_by (changed (λ live. record live { sent = now }) link) ≡ awaited_by link
+pub spoken-awaited : (now : ℤ) (link : LinkState) → awaited_by (changed (λ live. record live { sent = now }) link) ≡ awaited_by link
 spoken-awaited now links.Waiting = refl
 spoken-awaited now (links.On live) = refl
 spoken-awaited now links.Closed = refl
@@ -126,7 +112,7 @@ names_said-small : (said : Result Message FieldFault) (number expected : ℕ) �
 names_said-small (Ok message) number expected is small = names-small message.body (Ok message) number expected is small
 names_said-small (Err fault) number expected is small = absurd is
 
-pub steps-grow : (said : Result Message FieldFault) (expected next : ℕ) → Steps expected said next → expected ≤ next
+pub steps-grow : (said : Result Message FieldFault) (expected next : ℕ) → NumberSteps expected said next → expected ≤ next
 steps-grow said expected next steps = elim steps [
   | inl same ↦ omega (arith, same)
   | inr moved ↦ elim moved [
@@ -135,7 +121,7 @@ steps-grow said expected next steps = elim steps [
   ]
 ]
 
-steps-small : (said : Result Message FieldFault) (expected number : ℕ) → Steps expected said number → IsNumbered said → expected ≤ SEQUENCE_MAX + 1 → number ≤ SEQUENCE_MAX + 1
+steps-small : (said : Result Message FieldFault) (expected number : ℕ) → NumberSteps expected said number → IsNumbered said → expected ≤ SEQUENCE_MAX + 1 → number ≤ SEQUENCE_MAX + 1
 steps-small said expected number steps is small = elim steps [
   | inl same ↦ omega (arith, same, small)
   | inr moved ↦ elim moved [
@@ -196,7 +182,7 @@ asked-rests state live asked now idle =
     (λ y. record { of_peer = refl; next = refl; expected = refl; idle = refl; end = refl })
     (λ n. heartbeat-rests state state live now refl refl refl idle)
 
-asking-idle : (now : ℤ) (link : Link) → awaited_by link ≡ None → awaited_by (changed (λ live. record live { asked = Some now }) link) ≡ None
+asking-idle : (now : ℤ) (link : LinkState) → awaited_by link ≡ None → awaited_by (changed (λ live. record live { asked = Some now }) link) ≡ None
 asking-idle now links.Waiting idle = refl
 asking-idle now (links.On live) idle = idle
 asking-idle now links.Closed idle = refl
@@ -219,7 +205,7 @@ beat-rests state live now idle =
     (λ y. record { of_peer = refl; next = refl; expected = refl; idle = idle; end = refl })
     (λ n. beat_by-rests state live live.asked now idle)
 
-tick_by-rests : (state : State) (link : Link) (now : ℤ) → IsIdle state → Rests state (tick_row_by state link now)
+tick_by-rests : (state : State) (link : LinkState) (now : ℤ) → IsIdle state → Rests state (tick_row_by state link now)
 tick_by-rests state links.Waiting now idle = record { of_peer = refl; next = refl; expected = refl; idle = idle; end = refl }
 tick_by-rests state (links.On live) now idle = beat-rests state live now idle
 tick_by-rests state links.Closed now idle = record { of_peer = refl; next = refl; expected = refl; idle = idle; end = refl }
@@ -230,12 +216,12 @@ tick-rests state now idle = tick_by-rests state state.link now idle
 
 -- ---- the end of the day
 
-leaving-idle : (link : Link) → awaited_by link ≡ None → awaited_by (changed (λ live. record live { leaving = true }) link) ≡ None
+leaving-idle : (link : LinkState) → awaited_by link ≡ None → awaited_by (changed (λ live. record live { leaving = true }) link) ≡ None
 leaving-idle links.Waiting idle = refl
 leaving-idle (links.On live) idle = idle
 leaving-idle links.Closed idle = refl
 
-stop_by-rests : (state : State) (link : Link) → IsIdle state → Rests state (stop_row_by state link)
+stop_by-rests : (state : State) (link : LinkState) → IsIdle state → Rests state (stop_row_by state link)
 stop_by-rests state links.Waiting idle = record { of_peer = refl; next = refl; expected = refl; idle = idle; end = refl }
 stop_by-rests state (links.On live) idle =
     cond_both live.leaving _ _ (λ row. Rests state row)
@@ -270,7 +256,7 @@ pub record Settles (state : State) (reply : Result SeenReply NotTaken) (row : Ro
   pub idle : IsIdle row.state
   pub end : is_delivery row.end ≡ false
 
-pub answered-idle : (link : Link) → awaited_by (changed (λ live. record live { awaited = None }) link) ≡ None
+pub answered-idle : (link : LinkState) → awaited_by (changed (λ live. record live { awaited = None }) link) ≡ None
 answered-idle links.Waiting = refl
 answered-idle (links.On live) = refl
 answered-idle links.Closed = refl

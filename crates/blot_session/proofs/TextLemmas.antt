@@ -1,16 +1,13 @@
 -- What a session writes is short: no field is refused.
-use Rattle.std.proofs.Common.{◌≡◌, ℕ, ◌+◌, ◌<◌, ◌≤◌, true, not, ◌&&◌, List, [], ◌∷◌, length, ap, subst, sym, ◌∙◌, arith, length-append}
-use Rattle.std.specs.Prelude.{nat_lt}
-use Rattle.std.proofs.lemmas.Bool.{ltb-true, and_parts}
-use Rattle.std.proofs.lemmas.List.{append-nil}
+use Rattle.std.proofs.Common.{◌≡◌, ℕ, ◌+◌, ◌<◌, ◌≤◌, true, not, ◌&&◌, List, [], ◌∷◌, length, ap, subst, sym, ◌∙◌, arith, length-append, nat_lt, ltb-true, append-nil}
+use Rattle.std.proofs.lemmas.Bool.{and_parts}
 use Rattle.std.proofs.lemmas.List.Elements.{All-append, All-cons, All-nil}
 use Rattle.blot_tag.specs.FieldText.{field_text}
 use Rattle.blot_tag.specs.Writing.{Written, IsWriteFault, begun, body_of, kind_field, with_field, refusal_of, is_data_tag, is_own_tag}
-use Rattle.blot_tag.specs.declared.write_fault.WriteFault.{WriteFault}
-use Rattle.blot_tag.specs.declared.write_fault.WriteFault.TheVariants.{NoMemory}
+use Rattle.blot_tag.specs.declared.{write_fault.WriteFault.WriteFault, write_fault.WriteFault.TheVariants.NoMemory}
 use Rattle.blot_types.specs.Text.{is_text}
 use Rattle.blot_session.specs.Outbound.{AreShort, IsShort, field, is_plain_tag}
-use Rattle.blot_session.proofs.ShortLemmas.{body_of-push, length-field, refusal-short, short_text}
+use Rattle.blot_session.proofs.ShortLemmas.{length-field, refusal-short, short_text, body_of-push}
 
 plain_tag-small : (tag : ℕ) → is_plain_tag tag ≡ true → tag < 1000
 plain_tag-small tag is =

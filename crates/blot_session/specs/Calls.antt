@@ -2,21 +2,13 @@
 use Rattle.std.specs.Prelude.{◌≡◌, ℕ, Bool, true, false, nat_lt, ◌&&◌, ℤ, List, [], ◌∷◌, ◌++◌, Option, Some, None, Result, Ok, Err, Vec, is_some, if◌then◌else◌}
 use Rattle.std.specs.List.{list_any}
 use Rattle.blot_fields.specs.Commands.{command_of}
-use Rattle.blot_fields.specs.declared.fault.FieldFault.{FieldFault}
-use Rattle.blot_fields.specs.declared.message.Message.{Message}
+use Rattle.blot_fields.specs.declared.{fault.FieldFault.FieldFault, message.Message.Message}
 use Rattle.blot_types.specs.declared.command.Command.{Command}
 use Rattle.blot_session.specs.declared.action.Action.{Action}
 use Rattle.blot_session.specs.declared.action.Action.TheVariants.{Send, Deliver, Close}
 use Rattle.blot_session.specs.declared.action.CloseReason.TheVariants as reasons
-use Rattle.blot_session.specs.declared.carrying.TheConstants.{LAST_NUMBER}
-use Rattle.blot_session.specs.declared.outbound.Outbound.{Outbound}
-use Rattle.blot_session.specs.declared.replies.NotTaken.{NotTaken}
-use Rattle.blot_session.specs.declared.replies.SeenReply.{SeenReply}
-use Rattle.blot_session.specs.declared.row.End.{End}
+use Rattle.blot_session.specs.declared.{carrying.TheConstants.LAST_NUMBER, outbound.Outbound.Outbound, replies.NotTaken.NotTaken, replies.SeenReply.SeenReply, row.End.End, row.Row.Row, state.Awaited.Awaited, state.State.State}
 use Rattle.blot_session.specs.declared.row.End.TheVariants.{Stays, Delivers, Closes}
-use Rattle.blot_session.specs.declared.row.Row.{Row}
-use Rattle.blot_session.specs.declared.state.Awaited.{Awaited}
-use Rattle.blot_session.specs.declared.state.State.{State}
 use Rattle.blot_session.specs.Outbound.{next_behind, text_of}
 use Rattle.blot_session.specs.Rows.{frame_row, tick_row, stop_row, reply_row}
 use Rattle.blot_session.specs.States.{spoken, closed, awaited_of}
@@ -51,10 +43,14 @@ ending Delivers None = []
 ending Delivers (Some command) = Deliver command ∷ []
 ending (Closes reason) command = Close reason ∷ []
 
+-- what is done with the command that a report brings, if it brings one
+abbrev pub delivery_of : Option Command → List Action
+delivery_of command = ending Delivers command
+
 -- a call takes a report, which brings a command: so the session is after it, and to deliver the command is all that is to be done
 pub record GivesCommand (given : Outcome) (state : State) (command : Option Command) : Type 0 where
   pub brings : is_some command ≡ true
-  pub gives : record { state = state; actions = ending Delivers command } ≡ given
+  pub gives : record { state = state; actions = delivery_of command } ≡ given
 
 -- what a row says is done
 abbrev pub carried_out : Row → Option Command → ℤ → Outcome

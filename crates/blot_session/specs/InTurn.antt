@@ -1,18 +1,14 @@
 -- Execution Reports about fills in their turn, and the replies to them. The table says what is done about them, too: these
 -- words only tell them from all else.
 use Rattle.std.specs.Prelude.{◌==◌, Bool, true, false, ◌&&◌, nat_le, ℤ, Option, Some, None, Result, Ok, Err}
-use Rattle.blot_fields.specs.declared.fault.FieldFault.{FieldFault}
-use Rattle.blot_fields.specs.declared.message.Body.{Body}
+use Rattle.blot_fields.specs.declared.{fault.FieldFault.FieldFault, message.Body.Body}
 use Rattle.blot_fields.specs.declared.message.Body.TheVariants as bodies
 use Rattle.blot_fields.specs.declared.message.Message.{Message}
 use Rattle.blot_fields.specs.declared.report.Report.TheVariants as reports
-use Rattle.blot_session.specs.declared.carrying.TheConstants.{LAST_NUMBER}
-use Rattle.blot_session.specs.declared.replies.NotTaken.{NotTaken}
-use Rattle.blot_session.specs.declared.replies.SeenReply.{SeenReply}
-use Rattle.blot_session.specs.declared.state.Awaited.{Awaited}
+use Rattle.blot_session.specs.declared.{carrying.TheConstants.LAST_NUMBER, replies.NotTaken.NotTaken, replies.SeenReply.SeenReply, state.Awaited.Awaited}
 use Rattle.blot_session.specs.declared.state.Awaited.TheVariants as awaits
-use Rattle.blot_session.specs.declared.state.Link.{Link}
-use Rattle.blot_session.specs.declared.state.Link.TheVariants as links
+use Rattle.blot_session.specs.declared.state.LinkState.{LinkState}
+use Rattle.blot_session.specs.declared.state.LinkState.TheVariants as links
 use Rattle.blot_session.specs.declared.state.State.{State}
 use Rattle.blot_session.specs.Rows.{is_from_peer}
 use Rattle.blot_session.specs.States.{awaited_of, changed}
@@ -24,7 +20,7 @@ is_about_fill (bodies.Report report) = true
 is_about_fill body = false
 
 -- whether a connection is on
-abbrev pub is_on : Link → Bool
+abbrev pub is_on : LinkState → Bool
 is_on (links.On live) = true
 is_on link = false
 
@@ -40,7 +36,7 @@ is_report_said state (Ok message) = is_report_in_turn state message
 is_report_said state (Err fault) = false
 
 -- a connection on which a frame came, whose command is delivered
-abbrev pub delivering : ℤ → Link → Link
+abbrev pub delivering : ℤ → LinkState → LinkState
 delivering now link =
     changed (λ live. record live { awaited = Some awaits.Report }) (changed (λ live. record live { received = now; asked = None }) link)
 

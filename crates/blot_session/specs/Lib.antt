@@ -1,7 +1,7 @@
 pub mod States
 pub mod Outbound
 pub mod Table
-pub mod Told
+pub mod CloseNames
 pub mod Rows
 pub mod Calls
 pub mod Met

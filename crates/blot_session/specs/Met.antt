@@ -1,23 +1,18 @@
 -- What becomes of a frame at its session, by the row of the table that it meets. Source: this project's rule.
-use Rattle.std.specs.Prelude.{◌≡◌, ◌≢◌, ◌⊎◌, ◌<◌, ℕ, ℤ, Bool, true, false, ◌&&◌, not, nat_lt, Option, Some, None, Result, Ok, Err, MatchOption, if◌then◌else◌}
-use Rattle.std.specs.Option.{option_map_or, option_or, unwrap_or}
+use Rattle.std.specs.Prelude.{◌≡◌, ◌≢◌, ◌⊎◌, ◌<◌, ℕ, ℤ, Bool, true, false, ◌&&◌, not, nat_lt, Option, Some, None, Result, Ok, Err, MatchOption, if◌then◌else◌, unwrap_or}
+use Rattle.std.specs.Option.{option_map_or, option_or}
 use Rattle.blot_fields.specs.declared.admin.Admin.TheVariants as admin
-use Rattle.blot_fields.specs.declared.fault.FieldFault.{FieldFault}
-use Rattle.blot_fields.specs.declared.message.Body.{Body}
+use Rattle.blot_fields.specs.declared.{fault.FieldFault.FieldFault, message.Body.Body}
 use Rattle.blot_fields.specs.declared.message.Body.TheVariants as bodies
 use Rattle.blot_fields.specs.declared.message.Message.{Message}
 use Rattle.blot_fields.specs.Numbers.{head_in}
 use Rattle.blot_session.specs.declared.action.CloseReason.TheVariants as reasons
 use Rattle.blot_session.specs.declared.met.Met.{Met}
 use Rattle.blot_session.specs.declared.met.Met.TheVariants as met
-use Rattle.blot_session.specs.declared.outbound.Outbound.{Outbound}
+use Rattle.blot_session.specs.declared.{outbound.Outbound.Outbound, row.End.End, row.Row.Row, row.Sends.Sends, state.State.State}
 use Rattle.blot_session.specs.declared.outbound.Outbound.TheVariants.{Reject, ResendRequest, Unsupported}
-use Rattle.blot_session.specs.declared.row.End.{End}
 use Rattle.blot_session.specs.declared.row.End.TheVariants.{Stays, Delivers, Closes}
-use Rattle.blot_session.specs.declared.row.Row.{Row}
-use Rattle.blot_session.specs.declared.row.Sends.{Sends}
 use Rattle.blot_session.specs.declared.row.Sends.TheVariants.{Nothing, One, Two}
-use Rattle.blot_session.specs.declared.state.State.{State}
 use Rattle.blot_session.specs.Calls.{is_spent}
 use Rattle.blot_session.specs.Rows.{frame_row}
 use Rattle.blot_session.specs.Runs.{is_reset_said}

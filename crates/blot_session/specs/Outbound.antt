@@ -1,16 +1,13 @@
 -- The messages that a session sends (FIX 4.4 volume 2, "Administrative messages" and "Business Message Reject"; volume 5,
 -- "Allocation Instruction Ack").
-use Rattle.std.specs.Prelude.{◌≡◌, ◌<◌, ◌≤◌, ℕ, ◌+◌, ◌==◌, nat_lt, ◌&&◌, All, Bool, true, false, not, ℤ, List, [], ◌∷◌, ◌++◌, length, codes, Option, Some, None, if◌then◌else◌}
-use Rattle.std.specs.Fmt.{decimal}
+use Rattle.std.specs.Prelude.{◌≡◌, ◌<◌, ◌≤◌, ℕ, ◌+◌, ◌==◌, nat_lt, ◌&&◌, All, Bool, true, false, not, ℤ, List, [], ◌∷◌, ◌++◌, length, codes, Option, Some, None, if◌then◌else◌, decimal}
 use Rattle.blot_tag.specs.Fields.{TagValue}
 use Rattle.blot_tag.specs.Writing.{Written, frame_of, has_soh, is_data_tag, is_own_tag}
 use Rattle.blot_time.specs.Moment.{moment_text}
-use Rattle.blot_types.specs.Told.{reject_code}
-use Rattle.blot_session.specs.declared.outbound.Outbound.{Outbound}
+use Rattle.blot_types.specs.RefusalNames.{reject_code}
+use Rattle.blot_session.specs.declared.{outbound.Outbound.Outbound, replies.SeenReply.SeenReply, state.State.State}
 use Rattle.blot_session.specs.declared.outbound.Outbound.TheVariants.{Logon, Heartbeat, TestRequest, ResendRequest, Reject, GapFill, Logout, Unsupported, AllocationAck}
-use Rattle.blot_session.specs.declared.replies.SeenReply.{SeenReply}
 use Rattle.blot_session.specs.declared.replies.SeenReply.TheVariants.{Accepted, Refused}
-use Rattle.blot_session.specs.declared.state.State.{State}
 
 -- MsgType
 abbrev pub kind_of : Outbound → List ℕ
@@ -117,7 +114,7 @@ with_fields written fields = record { kind = written.kind; fields = written.fiel
 abbrev pub is_plain_tag : ℕ → Bool
 is_plain_tag tag = nat_lt 0 tag && nat_lt tag 1000 && not (is_own_tag tag) && not (is_data_tag tag)
 
--- a value that a field may have: 1 to 64 bytes, and no SOH
+-- a value of 1 to 64 bytes without an SOH, as each field of a sent message has
 pub record IsShort (value : List ℕ) : Type 0 where
   pub some : 0 < length value
   pub few : length value ≤ 64

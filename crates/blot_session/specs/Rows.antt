@@ -5,26 +5,17 @@ use Rattle.blot_fields.specs.declared.admin.Admin.{Admin}
 use Rattle.blot_fields.specs.declared.admin.Admin.TheVariants as admin
 use Rattle.blot_fields.specs.declared.allocation.Allocation.{Allocation}
 use Rattle.blot_fields.specs.declared.allocation.Allocation.TheVariants as allocations
-use Rattle.blot_fields.specs.declared.fault.FieldFault.{FieldFault}
-use Rattle.blot_fields.specs.declared.head.Head.{Head}
-use Rattle.blot_fields.specs.declared.message.Body.{Body}
+use Rattle.blot_fields.specs.declared.{fault.FieldFault.FieldFault, head.Head.Head, message.Body.Body, message.Message.Message, report.Report.Report}
 use Rattle.blot_fields.specs.declared.message.Body.TheVariants as bodies
-use Rattle.blot_fields.specs.declared.message.Message.{Message}
-use Rattle.blot_fields.specs.declared.report.Report.{Report}
 use Rattle.blot_fields.specs.declared.report.Report.TheVariants as reports
 use Rattle.blot_fields.specs.FaultText.{reason_number}
 use Rattle.blot_fields.specs.Numbers.{head_in}
 use Rattle.blot_types.specs.Keys.{same_text}
 use Rattle.blot_session.specs.declared.action.CloseReason.TheVariants as reasons
 use Rattle.blot_session.specs.declared.outbound.Outbound.TheVariants.{Logon, Heartbeat, TestRequest, ResendRequest, Reject, GapFill, Logout, Unsupported, AllocationAck}
-use Rattle.blot_session.specs.declared.replies.NotTaken.{NotTaken}
-use Rattle.blot_session.specs.declared.replies.SeenReply.{SeenReply}
-use Rattle.blot_session.specs.declared.row.Row.{Row}
-use Rattle.blot_session.specs.declared.state.Awaited.{Awaited}
+use Rattle.blot_session.specs.declared.{replies.NotTaken.NotTaken, replies.SeenReply.SeenReply, row.Row.Row, state.Awaited.Awaited, state.Live.Live, state.LinkState.LinkState}
 use Rattle.blot_session.specs.declared.state.Awaited.TheVariants as awaits
-use Rattle.blot_session.specs.declared.state.Live.{Live}
-use Rattle.blot_session.specs.declared.state.Link.{Link}
-use Rattle.blot_session.specs.declared.state.Link.TheVariants as links
+use Rattle.blot_session.specs.declared.state.LinkState.TheVariants as links
 use Rattle.blot_session.specs.declared.state.State.{State}
 use Rattle.blot_session.specs.States.{restarted, expecting, counted, counted_under, is_leaving, leaving, opened, heard, asking, answered}
 use Rattle.blot_session.specs.Table.{silent, sends, sends_both, delivers, closing}
@@ -212,7 +203,7 @@ on_row state said now = on_row_by state (head_in said) said now
 -- ---- a frame, by phase
 
 -- what a session does about a frame: a closed one does nothing
-abbrev pub frame_row_by : State → Link → Result Message FieldFault → ℤ → Row
+abbrev pub frame_row_by : State → LinkState → Result Message FieldFault → ℤ → Row
 frame_row_by state links.Waiting said now = waiting_row state said now
 frame_row_by state (links.On live) said now = on_row (heard now state) said now
 frame_row_by state links.Closed said now = silent state
@@ -260,7 +251,7 @@ beat_row state live now =
     else beat_row_by state live live.asked now
 
 -- what a session does as time passes: only one that is on does anything
-abbrev pub tick_row_by : State → Link → ℤ → Row
+abbrev pub tick_row_by : State → LinkState → ℤ → Row
 tick_row_by state (links.On live) now = beat_row state live now
 tick_row_by state link now = silent state
 
@@ -270,7 +261,7 @@ tick_row state now = tick_row_by state state.link now
 -- ---- the end of the day
 
 -- a session that is on says goodbye, once: then it is leaving
-abbrev pub stop_row_by : State → Link → Row
+abbrev pub stop_row_by : State → LinkState → Row
 stop_row_by state (links.On live) =
     if live.leaving then silent state
     else sends Logout (leaving state)

@@ -1,16 +1,8 @@
 -- The numbers under which a session sends its messages.
-use Rattle.std.specs.Prelude.{◌≡◌, ◌≤◌, ℕ, ◌+◌, Bool, true, false, List, [], ◌∷◌, ◌++◌, Option, Some, None, if◌then◌else◌}
-use Rattle.std.specs.List.{flat_map}
+use Rattle.std.specs.Prelude.{◌≡◌, ℕ, ◌+◌, Bool, true, false, List, [], ◌∷◌, ◌++◌, Option, Some, None, if◌then◌else◌, flat_map}
 use Rattle.blot_fields.specs.declared.head.Head.{Head}
 use Rattle.blot_fields.specs.Numbers.{head_in}
-use Rattle.blot_session.specs.declared.action.Action.{Action}
-use Rattle.blot_session.specs.declared.action.Action.TheVariants.{Send}
-use Rattle.blot_session.specs.declared.carrying.TheConstants.{LAST_NUMBER}
-use Rattle.blot_session.specs.declared.outbound.Outbound.{Outbound}
-use Rattle.blot_session.specs.declared.row.Row.{Row}
-use Rattle.blot_session.specs.declared.row.Sends.{Sends}
-use Rattle.blot_session.specs.declared.row.Sends.TheVariants.{Nothing}
-use Rattle.blot_session.specs.declared.state.State.{State}
+use Rattle.blot_session.specs.declared.{action.Action.Action, action.Action.TheVariants.Send, outbound.Outbound.Outbound, row.Row.Row, state.State.State}
 use Rattle.blot_session.specs.Calls.{is_spent, row_of_reply}
 use Rattle.blot_session.specs.Outbound.{is_gap_fill, next_behind, number_of}
 use Rattle.blot_session.specs.Rows.{frame_row, stop_row, tick_row}
@@ -57,11 +49,6 @@ number_borne action = []
 -- of what some actions send
 abbrev pub numbers_borne : List Action → List ℕ
 numbers_borne actions = flat_map number_borne actions
-
--- what a row sends leaves room for its numbers, which begin with this one
-abbrev pub CanSend : Sends → ℕ → Type 0
-CanSend Nothing next = Unit {0}
-CanSend sends next = (1 ≤ next) × (next ≤ LAST_NUMBER)
 
 -- numbers count up from the first to before the last
 abbrev pub CountUp : ℕ → List ℕ → ℕ → Type 0

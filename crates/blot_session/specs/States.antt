@@ -1,16 +1,12 @@
 -- What a session remembers, and how that changes (FIX 4.4 volume 2, "Session protocol").
 use Rattle.std.specs.Prelude.{◌≡◌, ℕ, ◌+◌, ◌≤◌, ◌==◌, Bool, true, false, ℤ, List, Option, Some, None, is_some, if◌then◌else◌}
 use Rattle.blot_fields.specs.declared.TheConstants.{SEQUENCE_MAX}
-use Rattle.blot_session.specs.declared.state.State.{State}
-use Rattle.blot_session.specs.declared.state.Link.{Link}
-use Rattle.blot_session.specs.declared.state.Link.TheVariants as links
-use Rattle.blot_session.specs.declared.state.Live.{Live}
-use Rattle.blot_session.specs.declared.state.Awaited.{Awaited}
-use Rattle.blot_session.specs.declared.state.Phase.{Phase}
+use Rattle.blot_session.specs.declared.{state.State.State, state.LinkState.LinkState, state.Live.Live, state.Awaited.Awaited, state.Phase.Phase}
+use Rattle.blot_session.specs.declared.state.LinkState.TheVariants as links
 use Rattle.blot_session.specs.declared.state.Phase.TheVariants as phases
 
 -- the phase
-abbrev pub phase_by : Link → Phase
+abbrev pub phase_by : LinkState → Phase
 phase_by links.Waiting = phases.Waiting
 phase_by (links.On live) = phases.On
 phase_by links.Closed = phases.Closed
@@ -51,7 +47,7 @@ abbrev pub with_live : State → Live → State
 with_live state live = record state { link = links.On live }
 
 -- whether the session said goodbye on this connection
-abbrev pub is_leaving_by : Link → Bool
+abbrev pub is_leaving_by : LinkState → Bool
 is_leaving_by (links.On live) = live.leaving
 is_leaving_by link = false
 
@@ -64,7 +60,7 @@ opened heartbeat now state =
     with_live state (record { heartbeat = heartbeat; received = now; sent = now; asked = None; awaited = None; leaving = is_leaving state })
 
 -- a change of a connection that is on
-abbrev pub changed : (Live → Live) → Link → Link
+abbrev pub changed : (Live → Live) → LinkState → LinkState
 changed change (links.On live) = links.On (change live)
 changed change link = link
 
@@ -97,7 +93,7 @@ abbrev pub closed : State → State
 closed state = record state { link = links.Closed }
 
 -- what was delivered and awaits its reply
-abbrev pub awaited_by : Link → Option Awaited
+abbrev pub awaited_by : LinkState → Option Awaited
 awaited_by (links.On live) = live.awaited
 awaited_by link = None
 

@@ -1,15 +1,9 @@
 -- What a row of the session's table can say. Each word is one of the table's own.
 use Rattle.std.specs.Prelude.{ℕ, ◌+◌, ◌≤◌, Bool, true, false, List, [], ◌∷◌}
 use Rattle.blot_fields.specs.declared.TheConstants.{SEQUENCE_MAX}
-use Rattle.blot_session.specs.declared.action.CloseReason.{CloseReason}
-use Rattle.blot_session.specs.declared.outbound.Outbound.{Outbound}
-use Rattle.blot_session.specs.declared.row.End.{End}
+use Rattle.blot_session.specs.declared.{action.CloseReason.CloseReason, carrying.TheConstants.LAST_NUMBER, outbound.Outbound.Outbound, row.End.End, row.Row.Row, row.Sends.Sends, state.Awaited.Awaited, state.State.State}
 use Rattle.blot_session.specs.declared.row.End.TheVariants.{Stays, Delivers, Closes}
-use Rattle.blot_session.specs.declared.row.Row.{Row}
-use Rattle.blot_session.specs.declared.row.Sends.{Sends}
 use Rattle.blot_session.specs.declared.row.Sends.TheVariants.{Nothing, One, Two}
-use Rattle.blot_session.specs.declared.state.Awaited.{Awaited}
-use Rattle.blot_session.specs.declared.state.State.{State}
 use Rattle.blot_session.specs.States.{awaiting, closed, IsAwaiting}
 
 -- nothing is done, and this is the session then
@@ -45,6 +39,11 @@ acts_by sends end = true
 
 abbrev pub acts : Row → Bool
 acts row = acts_by row.sends row.end
+
+-- what a row sends leaves room for its numbers, which begin with this one
+abbrev pub CanSend : Sends → ℕ → Type 0
+CanSend Nothing next = Unit {0}
+CanSend sends next = (1 ≤ next) × (next ≤ LAST_NUMBER)
 
 -- the numbers of the session in a row are in their ranges, where this is the next number to send before it
 pub record Fits (next : ℕ) (row : Row) : Type 0 where

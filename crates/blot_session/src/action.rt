@@ -1,6 +1,6 @@
 //! What a session wants done.
 ghost use Rattle.std.specs.Prelude.{◌≡◌};
-ghost use Rattle.blot_session.specs.Told.{close_name, close_number};
+ghost use Rattle.blot_session.specs.CloseNames.{close_name, close_number};
 
 use blot_types::Command;
 use std::marker::Model;

@@ -3,9 +3,9 @@ ghost use Rattle.std.specs.Prelude.{◌≡◌, ◌≤◌, ◌+◌, ◌++◌, ◌
 ghost use Rattle.blot_fields.specs.declared.TheConstants.{SEQUENCE_MAX};
 ghost use Rattle.blot_session.specs.Calls.{Gives, behind, behind_all, sent, ending, carried_out, is_spent, outcome_of, spent};
 ghost use Rattle.blot_session.specs.Outbound.{text_of};
-ghost use Rattle.blot_session.specs.Sending.{CanSend, number_used, numbers_borne, numbers_by, numbers_from};
+ghost use Rattle.blot_session.specs.Sending.{number_used, numbers_borne, numbers_by, numbers_from};
 ghost use Rattle.blot_session.specs.States.{IsState};
-ghost use Rattle.blot_session.specs.Table.{Fits, messages_of};
+ghost use Rattle.blot_session.specs.Table.{CanSend, Fits, messages_of};
 ghost use Rattle.blot_session.specs.declared.action.Action.TheVariants.{Send};
 
 use crate::outbound::Outbound;

@@ -1,7 +1,6 @@
 //! What the actions of a call deliver.
-ghost use Rattle.std.specs.Prelude.{◌≡◌, is_some};
+ghost use Rattle.std.specs.Prelude.{◌≡◌, is_some, option_and_then};
 ghost use Rattle.std.specs.List.{list_any};
-ghost use Rattle.std.specs.Option.{option_and_then};
 ghost use Rattle.blot_session.specs.Calls.{DeliversAlone, is_deliver};
 ghost use Rattle.blot_session.specs.Runs.{DeliversJust, delivered};
 

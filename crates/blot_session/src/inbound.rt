@@ -9,7 +9,7 @@ use crate::expected::expected_row;
 use crate::logons::{logon_row, waiting_row};
 use crate::outbound::Outbound;
 use crate::row::Row;
-use crate::state::{Link, State};
+use crate::state::{LinkState, State};
 use crate::{CloseReason, tags};
 use blot_fields::{Admin, Body, FieldFault, Head, Message, head_in};
 use blot_time::Moment;
@@ -23,9 +23,9 @@ pub(crate) fn frame_row(state: State, said: &Result<Message, FieldFault>, now: M
     ensures { result ≡ frame_row state said.now now }
 {
     match state.link {
-        Link::Waiting => waiting_row(state, said, now),
-        Link::On(_) => on_row(state.heard(now), said, now),
-        Link::Closed => Row::silent(state),
+        LinkState::Waiting => waiting_row(state, said, now),
+        LinkState::On(_) => on_row(state.heard(now), said, now),
+        LinkState::Closed => Row::silent(state),
     }
 }
 

@@ -3,13 +3,12 @@
 ghost use Rattle.std.specs.Prelude.{◌≡◌, ◌≤◌, true, false, None, IfOk, OnOk, OnErr};
 ghost use Rattle.blot_fields.specs.declared.TheConstants.{SEQUENCE_MAX};
 ghost use Rattle.blot_fields.specs.Numbers.{IsNumbered};
-ghost use Rattle.blot_session.specs.Calls.{GivesCommand, command_said, ending, on_frame};
+ghost use Rattle.blot_session.specs.Calls.{GivesCommand, command_said, delivery_of, on_frame};
 ghost use Rattle.blot_session.specs.InTurn.{delivering, is_about_fill, is_of_report, is_on, is_report_in_turn, is_report_said, is_report_taken};
 ghost use Rattle.blot_session.specs.States.{answered, changed, closed, counted, IsState};
-ghost use Rattle.blot_session.specs.declared.row.End.TheVariants.{Delivers};
 
 use crate::carrying::LAST_NUMBER;
-use crate::state::{Awaited, Link, State};
+use crate::state::{Awaited, LinkState, State};
 use crate::{Action, NotTaken, SeenReply};
 use blot_fields::{Body, FieldFault, Message, Report, command_of};
 use blot_time::Moment;
@@ -61,7 +60,7 @@ pub(crate) fn hand_on(
     state: &mut State,
     said: &Result<Message, FieldFault>,
 ) -> Result<Vec<Action>, NoMemory>
-    ensures ok { IfOk result (λ actions. actions.items ≡ ending Delivers (command_said said.now state.old.peer)) }
+    ensures ok { IfOk result (λ actions. actions.items ≡ delivery_of (command_said said.now state.old.peer)) }
     ensures same { OnOk result (state.new ≡ state.old) }
     ensures err { OnErr result (state.new ≡ closed state.old) }
 {
@@ -76,7 +75,7 @@ pub(crate) fn hand_on(
 pub(crate) fn is_report_taken(state: &State, reply: &Result<SeenReply, NotTaken>) -> bool
     ensures { result ≡ is_report_taken state.now reply.now }
 {
-    let Link::On(live) = &state.link else {
+    let LinkState::On(live) = &state.link else {
         return false;
     };
     is_of_report(&live.awaited) && reply.is_ok()
@@ -92,10 +91,10 @@ pub(crate) fn count(state: &mut State)
 }
 
 // Whether a connection is on.
-fn is_on(link: &Link) -> bool
+fn is_on(link: &LinkState) -> bool
     ensures { result ≡ is_on link.now }
 {
-    matches!(link, Link::On(_))
+    matches!(link, LinkState::On(_))
 }
 
 // Whether a message is an Execution Report about a fill.
@@ -122,7 +121,7 @@ fn delivery_of(
     said: &Result<Message, FieldFault>,
     peer: &Text64,
 ) -> Result<Vec<Action>, NoMemory>
-    ensures { IfOk result (λ actions. actions.items ≡ ending Delivers (command_said said.now peer.now)) }
+    ensures { IfOk result (λ actions. actions.items ≡ delivery_of (command_said said.now peer.now)) }
 {
     let Ok(message) = said else {
         return Ok(Vec::new(alloc));
@@ -136,10 +135,10 @@ fn delivery_of(
 }
 
 // A frame came, whose command is delivered.
-fn deliver_on(link: &mut Link, now: Moment)
+fn deliver_on(link: &mut LinkState, now: Moment)
     ensures { link.new ≡ delivering now link.old }
 {
-    if let Link::On(live) = link {
+    if let LinkState::On(live) = link {
         live.received = now;
         live.asked = None;
         live.awaited = Some(Awaited::Report);
@@ -147,10 +146,10 @@ fn deliver_on(link: &mut Link, now: Moment)
 }
 
 // No command awaits its reply any more.
-fn answer_on(link: &mut Link)
+fn answer_on(link: &mut LinkState)
     ensures { link.new ≡ changed (λ live. record live { awaited = None }) link.old }
 {
-    if let Link::On(live) = link {
+    if let LinkState::On(live) = link {
         live.awaited = None;
     }
 }

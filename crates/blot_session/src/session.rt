@@ -18,7 +18,7 @@ ghost use Rattle.blot_session.specs.States.{awaited_of, fresh, resumed, waiting_
 use crate::carrying::{go_on, take_row};
 use crate::met::met_of;
 use crate::reports::take_report;
-use crate::state::{Link, Live, State};
+use crate::state::{LinkState, Live, State};
 use crate::taking::{take_frame, take_reply, take_said};
 use crate::ticks::{stop_row, tick_row};
 use crate::{Action, Met, NotTaken, Phase, SeenReply};
@@ -73,7 +73,7 @@ impl Session {
                 peer,
                 expected,
                 next,
-                link: Link::Waiting,
+                link: LinkState::Waiting,
             },
         }
     }
@@ -138,7 +138,7 @@ impl Session {
     {
         matches!(
             self.state.link,
-            Link::On(Live {
+            LinkState::On(Live {
                 awaited: Some(_),
                 ..
             })
@@ -149,7 +149,7 @@ impl Session {
     pub fn wait_again(&mut self)
         ensures { self.new ≡ waiting_again self.old }
     {
-        self.state.link = Link::Waiting;
+        self.state.link = LinkState::Waiting;
     }
 
     /// What becomes of a frame that says this, if it comes now.

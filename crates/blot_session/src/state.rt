@@ -30,12 +30,12 @@ pub(crate) struct State {
     pub(crate) expected: u64,
     /// MsgSeqNum of the next message to send, from 1 on.
     pub(crate) next: u64,
-    pub(crate) link: Link,
+    pub(crate) link: LinkState,
 }
 
 /// What a session remembers of its connection.
 #[derive(Clone, Copy)]
-pub(crate) enum Link {
+pub(crate) enum LinkState {
     Waiting,
     On(Live),
     Closed,
@@ -73,9 +73,9 @@ impl State {
         ensures { result ≡ phase_of self }
     {
         match self.link {
-            Link::Waiting => Phase::Waiting,
-            Link::On(_) => Phase::On,
-            Link::Closed => Phase::Closed,
+            LinkState::Waiting => Phase::Waiting,
+            LinkState::On(_) => Phase::On,
+            LinkState::Closed => Phase::Closed,
         }
     }
 
@@ -124,7 +124,7 @@ impl State {
         ensures { result ≡ is_leaving self.now }
     {
         match &self.link {
-            Link::On(live) => live.leaving,
+            LinkState::On(live) => live.leaving,
             _ => false,
         }
     }
@@ -135,7 +135,7 @@ impl State {
     {
         let leaving = self.is_leaving();
         State {
-            link: Link::On(Live {
+            link: LinkState::On(Live {
                 heartbeat,
                 received: now,
                 sent: now,
@@ -212,7 +212,7 @@ impl State {
         ensures { result ≡ closed self }
     {
         State {
-            link: Link::Closed,
+            link: LinkState::Closed,
             ..self
         }
     }
@@ -232,13 +232,13 @@ impl State {
     }
 }
 
-impl Link {
+impl LinkState {
     // A frame came.
-    fn heard(self, now: Moment) -> Link
+    fn heard(self, now: Moment) -> LinkState
         ensures { result ≡ changed (λ live. record live { received = now; asked = None }) self }
     {
         match self {
-            Link::On(live) => Link::On(Live {
+            LinkState::On(live) => LinkState::On(Live {
                 received: now,
                 asked: None,
                 ..live
@@ -248,11 +248,11 @@ impl Link {
     }
 
     // A TestRequest is sent.
-    fn asking(self, now: Moment) -> Link
+    fn asking(self, now: Moment) -> LinkState
         ensures { result ≡ changed (λ live. record live { asked = Some now }) self }
     {
         match self {
-            Link::On(live) => Link::On(Live {
+            LinkState::On(live) => LinkState::On(Live {
                 asked: Some(now),
                 ..live
             }),
@@ -261,31 +261,31 @@ impl Link {
     }
 
     // A reply is awaited, or none is.
-    fn awaiting(self, awaited: Option<Awaited>) -> Link
+    fn awaiting(self, awaited: Option<Awaited>) -> LinkState
         ensures { result ≡ changed (λ live. record live { awaited = awaited }) self }
     {
         match self {
-            Link::On(live) => Link::On(Live { awaited, ..live }),
+            LinkState::On(live) => LinkState::On(Live { awaited, ..live }),
             other => other,
         }
     }
 
     // A message is sent.
-    fn spoken(self, now: Moment) -> Link
+    fn spoken(self, now: Moment) -> LinkState
         ensures { result ≡ changed (λ live. record live { sent = now }) self }
     {
         match self {
-            Link::On(live) => Link::On(Live { sent: now, ..live }),
+            LinkState::On(live) => LinkState::On(Live { sent: now, ..live }),
             other => other,
         }
     }
 
     // The session says goodbye.
-    fn leaving(self) -> Link
+    fn leaving(self) -> LinkState
         ensures { result ≡ changed (λ live. record live { leaving = true }) self }
     {
         match self {
-            Link::On(live) => Link::On(Live {
+            LinkState::On(live) => LinkState::On(Live {
                 leaving: true,
                 ..live
             }),

@@ -14,7 +14,7 @@ use crate::inbound::frame_row;
 use crate::replies::reply_row;
 use crate::reports::{count, hand_on, is_report_taken, take_report};
 use crate::row::{End, Row};
-use crate::state::{Link, Live, State};
+use crate::state::{LinkState, Live, State};
 use crate::{Action, NotTaken, SeenReply};
 use blot_fields::{FieldFault, Message, command_of, decode, is_out_of_memory};
 use blot_tag::Frame;
@@ -172,7 +172,7 @@ fn row_of_reply(state: State, reply: Result<SeenReply, NotTaken>) -> Row
 {
     let link = state.link;
     match link {
-        Link::On(
+        LinkState::On(
             Live {
                 awaited: Some(awaited),
                 ..

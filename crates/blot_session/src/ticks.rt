@@ -5,7 +5,7 @@ ghost use Rattle.blot_session.specs.Rows.{asked_row, beat_row, heartbeat_row, pa
 use crate::CloseReason;
 use crate::outbound::Outbound;
 use crate::row::Row;
-use crate::state::{Link, Live, State};
+use crate::state::{LinkState, Live, State};
 use blot_time::Moment;
 
 /// What a session does at a moment. Only one that is logged on, with heartbeats, does anything.
@@ -15,7 +15,7 @@ pub(crate) fn tick_row(state: State, now: Moment) -> Row
 {
     let link = state.link;
     match link {
-        Link::On(live) => beat_row(state, live, now),
+        LinkState::On(live) => beat_row(state, live, now),
         _ => Row::silent(state),
     }
 }
@@ -27,7 +27,7 @@ pub(crate) fn stop_row(state: State) -> Row
 {
     let link = state.link;
     match link {
-        Link::On(live) if !live.leaving => Row::sends(Outbound::Logout, state.leaving()),
+        LinkState::On(live) if !live.leaving => Row::sends(Outbound::Logout, state.leaving()),
         _ => Row::silent(state),
     }
 }

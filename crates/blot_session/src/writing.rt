@@ -1,6 +1,5 @@
 //! The bytes of a message.
-ghost use Rattle.std.specs.Prelude.{◌≡◌, ◌+◌, ◌<◌, ◌≤◌, length, true, IfOk, Ok, OnOk};
-ghost use Rattle.std.specs.Fmt.{decimal};
+ghost use Rattle.std.specs.Prelude.{◌≡◌, ◌+◌, ◌<◌, ◌≤◌, length, true, IfOk, Ok, OnOk, decimal};
 ghost use Rattle.blot_tag.specs.Writing.{begun, body_of, with_field};
 ghost use Rattle.blot_tag.specs.declared.write_fault.WriteFault.TheVariants as WriteFault;
 ghost use Rattle.blot_time.specs.Moment.{moment_of, moment_text};

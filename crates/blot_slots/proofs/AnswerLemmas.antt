@@ -4,8 +4,8 @@ use Rattle.std.specs.Cmp.Lexicographic.{nat_list_eq_equiv}
 use Rattle.std.specs.Map.{lookup, set_value}
 use Rattle.std.proofs.lemmas.Map.{lookup-set_value}
 use Rattle.blot_types.specs.Keys.{same_text}
-use Rattle.blot_session.specs.declared.state.Link.{Link}
-use Rattle.blot_session.specs.declared.state.Link.TheVariants as links
+use Rattle.blot_session.specs.declared.state.LinkState.{LinkState}
+use Rattle.blot_session.specs.declared.state.LinkState.TheVariants as links
 use Rattle.blot_session.specs.declared.state.Phase.TheVariants as phases
 use Rattle.blot_session.specs.declared.state.State.{State}
 use Rattle.blot_session.specs.States.{awaited_by, phase_by, IsIdle}
@@ -43,7 +43,7 @@ out_answer slots new peer (Ok session) is ok =
     ap (lookup (same_text peer)) ok ∙ found ∙ ap (λ same. if same then Some None else lookup (same_text peer) slots) (nat_list_eq_equiv.refl peer)
 
 -- a session that waits for a Logon awaits no reply
-idle_link : (link : Link) → phase_by link ≡ phases.Waiting → awaited_by link ≡ None
+idle_link : (link : LinkState) → phase_by link ≡ phases.Waiting → awaited_by link ≡ None
 idle_link links.Waiting waiting = refl
 idle_link (links.On live) waiting = absurd cc
 idle_link links.Closed waiting = refl

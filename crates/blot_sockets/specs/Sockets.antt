@@ -6,8 +6,7 @@ use Rattle.std.specs.declared.time.Duration.{Duration}
 use Rattle.blot_gateway.specs.Wires.{Did}
 use Rattle.blot_gateway.specs.Wires.Did.{Gave, Took, Refused}
 use Rattle.blot_gateway.specs.Wires.Read.{Piece, Silence, AtEnd, Failed}
-use Rattle.blot_sockets.specs.declared.socket.Socket.{Socket}
-use Rattle.blot_sockets.specs.declared.system_clock.SystemClock.{SystemClock}
+use Rattle.blot_sockets.specs.declared.{socket.Socket.Socket, system_clock.SystemClock.SystemClock}
 
 -- as far as a stream's bytes are known: what it gave are the next ones, at its end there are none, and what it took is written; a
 -- read that gave nothing, its end too, and a write that took nothing leave them

@@ -1,8 +1,7 @@
 -- An input that is read piece by piece.
-use Rattle.std.proofs.Common.{◌≡◌, ℕ, ◌≤◌, List, ◌++◌, length, take, Option, Some, None, ◌∙◌, subst, sym}
-use Rattle.std.specs.Prelude.{IfSome}
+use Rattle.std.proofs.Common.{◌≡◌, ℕ, ◌≤◌, List, ◌++◌, length, take, Option, Some, None, ◌∙◌, subst, sym, IfSome, take-take}
 use Rattle.std.specs.Io.KnownBytes.{Consumes}
-use Rattle.std.proofs.lemmas.List.{take-take, take-append-le}
+use Rattle.std.proofs.lemmas.List.{take-append-le}
 
 -- the bytes that were read stand at the front of the buffer
 pub front_of_buffer : (count len : ℕ) (read behind : List ℕ) → count ≤ length read → count ≤ len → take count (take len (read ++ behind)) ≡ take count read

@@ -1,6 +1,5 @@
 -- What holds of a result.
-use Rattle.std.proofs.Common.{◌≡◌, ap, subst, Result, Option, Ok, Err, Some, None}
-use Rattle.std.specs.Prelude.{IsOk, OnOk, OnErr, IfOk, IfErr, IfSome}
+use Rattle.std.proofs.Common.{◌≡◌, ap, subst, Result, Option, Ok, Err, Some, None, IsOk, OnOk, OnErr, IfOk, IfErr, IfSome}
 
 pub on-ok : {T E P Q : Type 0} (result : Result T E) → OnOk result P → (P → Q) → OnOk result Q
 on-ok (Ok x) p more = more p

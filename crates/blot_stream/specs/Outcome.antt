@@ -1,10 +1,8 @@
 -- How a run of the program ends, its status and its last line.
 use Rattle.std.specs.Prelude.{ℕ, List, Option, Some, None, Result, Ok, Err, codes}
-use Rattle.blot_stream.specs.declared.outcome.Outcome.{Outcome}
+use Rattle.blot_stream.specs.declared.{outcome.Outcome.Outcome, outcome.ReplayFault.ReplayFault, outcome.ServeFault.ServeFault}
 use Rattle.blot_stream.specs.declared.outcome.Outcome.TheVariants.{Done, InputFault, BadWords, NoMemory as OutOfMemory}
-use Rattle.blot_stream.specs.declared.outcome.ReplayFault.{ReplayFault}
 use Rattle.blot_stream.specs.declared.outcome.ReplayFault.TheVariants.{Read, Write, Full, NoMemory, TooLong, Journal}
-use Rattle.blot_stream.specs.declared.outcome.ServeFault.{ServeFault}
 use Rattle.blot_stream.specs.declared.outcome.ServeFault.TheVariants as served
 
 -- out of memory is told apart; every other fault is the input's

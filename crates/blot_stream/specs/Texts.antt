@@ -1,8 +1,7 @@
 -- What is read of an input and added to an output.
 use Rattle.std.specs.Prelude.{◌≡◌, ◌≢◌, ◌≤◌, ℕ, ◌++◌, List, length, take, Option, Some, None, IfSome}
 use Rattle.std.specs.Io.KnownBytes.{Appends, Consumes, IsAtEnd, Keeps}
-use Rattle.blot_stream.specs.declared.outcome.ReplayFault.{ReplayFault}
-use Rattle.blot_stream.specs.declared.outcome.ReplayFault.TheVariants.{Write}
+use Rattle.blot_stream.specs.declared.{outcome.ReplayFault.ReplayFault, outcome.ReplayFault.TheVariants.Write}
 
 -- a read gave so many bytes, which stand at the front of the buffer, or none, at the end of the input
 abbrev pub Gives : Option (List ℕ) → Option (List ℕ) → List ℕ → Option ℕ → Type 0

@@ -1,17 +1,14 @@
 -- The fields of a text that ends with SOH stand in it one after the other.
-use Rattle.std.proofs.Common.{◌≡◌, ◌≢◌, ℕ, zero, suc, ◌+◌, ◌-◌, ◌%◌, ◌<◌, ◌≤◌, true, not, ◌&&◌, ◌==◌, ltb, leb, List, [], ◌∷◌, ◌++◌, length, take, drop, get_or, fold, Option, Some, None, option_and_then, IsNone, MatchOption, codes, sum, Result, Ok, Err, inl, inr, refl, sym, ap, subst, ◌∙◌, arith, rules, append_assoc, length-append}
+use Rattle.std.proofs.Common.{◌≡◌, ◌≢◌, ℕ, zero, suc, ◌+◌, ◌-◌, ◌%◌, ◌<◌, ◌≤◌, true, not, ◌&&◌, ◌==◌, ltb, leb, List, [], ◌∷◌, ◌++◌, length, take, drop, get_or, fold, Option, Some, None, option_and_then, IsNone, MatchOption, codes, sum, Result, Ok, Err, inl, inr, refl, sym, ap, subst, ◌∙◌, arith, rules, append_assoc, length-append, decimal, All, position, ok_or, eqb-true, eq-eqb, leb-true, ltb-true, append-nil, get_or-append-add, get_or-take, take-append-drop, length-take, length-take-le, drop-cons}
 use Rattle.std.specs.Char.{is_ascii_digit}
-use Rattle.std.specs.Fmt.{decimal}
-use Rattle.std.specs.List.{All, list_all, position, position_or_len, before_first, after_first}
-use Rattle.std.specs.Option.{ok_or}
-use Rattle.std.proofs.lemmas.Bool.{cases_Bool, cases_lt, and_parts, eqb-true, eq-eqb, false≢true, not-true, leb-true, ltb-true}
+use Rattle.std.specs.List.{list_all, position_or_len, before_first, after_first}
+use Rattle.std.proofs.lemmas.Bool.{cases_Bool, cases_lt, and_parts, false≢true, not-true}
 use Rattle.std.proofs.lemmas.Fmt.{decimal-digits_value}
-use Rattle.std.proofs.lemmas.List.{append-nil, get_or_at, get_or-append-add, get_or-take, take-append-drop, length-take, length-take-le}
+use Rattle.std.proofs.lemmas.List.{get_or_at}
 use Rattle.std.proofs.lemmas.List.Elements.{All-cons, All-nil}
 use Rattle.std.proofs.lemmas.List.Quantifiers.{position-Some}
 use Rattle.std.proofs.lemmas.List.Sums.{split_at_first, fails_before_first, passes_at_first, position_or_len_is}
 use Rattle.std.proofs.lemmas.Str.Parse.{IsNumeralModel, numerals_by_fold}
-use Rattle.std.proofs.Math.Seq.{drop-cons}
 use Rattle.blot_tag.specs.Bytes.{soh, is_soh, EndsWithSoh, equals, is_equals, is_number, is_tag, with_digit, number_of, tag_number}
 use Rattle.blot_tag.specs.Fields.{TagValue, Item, no_tag, wrong_length, length_before, first_tag, data_value, value_of, first_field, and_then_others, first_items, items_behind, fields_of, fields_before_fault, fault_of}
 use Rattle.blot_tag.specs.FieldText.{field_text, fields_text, IsSlice, EndsBehind, EachEnds}

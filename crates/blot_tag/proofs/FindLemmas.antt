@@ -1,10 +1,9 @@
 -- The search for the first place where a frame could begin.
-use Rattle.std.proofs.Common.{◌≡◌, ℕ, ◌+◌, ◌-◌, ◌<◌, ◌≤◌, ◌==◌, List, [], ◌∷◌, length, drop, get_or, Err, sym, ap, subst, ◌∙◌, inl, inr, arith}
+use Rattle.std.proofs.Common.{◌≡◌, ℕ, ◌+◌, ◌-◌, ◌<◌, ◌≤◌, ◌==◌, List, [], ◌∷◌, length, drop, get_or, Err, sym, ap, subst, ◌∙◌, inl, inr, arith, eq-eqb, get_or-drop, length-drop, drop-cons}
 use Rattle.std.specs.List.{position_or_len}
-use Rattle.std.proofs.lemmas.Bool.{false≢true, cases_lt, cases_eq, eq-eqb}
-use Rattle.std.proofs.lemmas.List.{get_or-drop, drop_all, length-drop}
+use Rattle.std.proofs.lemmas.Bool.{false≢true, cases_lt, cases_eq}
+use Rattle.std.proofs.lemmas.List.{drop_all}
 use Rattle.std.proofs.lemmas.List.Sums.{fails_before_first}
-use Rattle.std.proofs.Math.Seq.{drop-cons}
 use Rattle.blot_tag.specs.Results.{◌>>=◌}
 use Rattle.blot_tag.specs.Looking.{length_look, look_of}
 use Rattle.blot_tag.specs.Finding.{NeitherBefore, IsNextStart}

@@ -1,8 +1,8 @@
 -- What each step of a look finds: a whole remainder of a frame, a part of one, or that none can come.
-use Rattle.std.proofs.Common.{◌≡◌, ℕ, ◌+◌, ◌-◌, ◌<◌, ◌≤◌, nat_lt, if◌then◌else◌, codes, List, [], ◌∷◌, ◌++◌, length, take, drop, get_or, replicate, Result, Ok, Err, refl, sym, ap, subst, ◌∙◌, inl, inr, arith, length-append, append_assoc}
-use Rattle.std.proofs.lemmas.Bool.{cases_lt, cases_eq, eq-eqb, ne_eqb, lt-ltb, le-ltb}
+use Rattle.std.proofs.Common.{◌≡◌, ℕ, ◌+◌, ◌-◌, ◌<◌, ◌≤◌, nat_lt, if◌then◌else◌, codes, List, [], ◌∷◌, ◌++◌, length, take, drop, get_or, replicate, Result, Ok, Err, refl, sym, ap, subst, ◌∙◌, inl, inr, arith, length-append, append_assoc, eq-eqb, ne_eqb, lt-ltb, le-ltb, take-append-drop, length-take-le}
+use Rattle.std.proofs.lemmas.Bool.{cases_lt, cases_eq}
 use Rattle.std.proofs.Math.Seq.{get_or-append_seam, take-append_seam, drop-append_seam, take-append-add}
-use Rattle.std.proofs.lemmas.List.{take-append-drop, take_more, get_or_append_left, length-replicate, length-take-le}
+use Rattle.std.proofs.lemmas.List.{take_more, get_or_append_left, length-replicate}
 use Rattle.blot_tag.specs.Bytes.{soh}
 use Rattle.blot_tag.specs.Results.{◌>>=◌}
 use Rattle.blot_tag.specs.Frames.{check_sum, trailer_of, IsBody}

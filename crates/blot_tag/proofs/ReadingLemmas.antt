@@ -1,15 +1,11 @@
 -- What a step over the unread bytes finds.
-use Rattle.std.proofs.Common.{◌≡◌, ℕ, ◌+◌, ◌≤◌, List, length, take, drop, unwrap_or, Option, Some, None, Ok, Err, refl, sym, ap, subst, ◌∙◌, arith}
-use Rattle.std.proofs.lemmas.List.{drop-drop, take-append-drop, length-drop}
-use Rattle.std.specs.Option.{ok_or, option_map}
+use Rattle.std.proofs.Common.{◌≡◌, ℕ, ◌+◌, ◌≤◌, List, length, take, drop, unwrap_or, Option, Some, None, Ok, Err, refl, sym, ap, subst, ◌∙◌, arith, drop-drop, take-append-drop, length-drop, ok_or, option_map}
 use Rattle.blot_tag.specs.Looking.{look_of}
 use Rattle.blot_tag.specs.Buffers.{reading_of, bytes_at, span_of, behind_found}
 use Rattle.blot_tag.specs.Finding.{NeitherBefore, IsFound}
 use Rattle.blot_tag.specs.Walking.{passes_by}
 use Rattle.blot_tag.specs.Reading.{Reading, counted, TakesFirst, FindsNone, Advances}
-use Rattle.blot_tag.specs.declared.buffer.Buffer.{Buffer}
-use Rattle.blot_tag.specs.declared.find.Found.{Found}
-use Rattle.blot_tag.specs.declared.look.Miss.TheVariants.{Partial}
+use Rattle.blot_tag.specs.declared.{buffer.Buffer.Buffer, find.Found.Found, look.Miss.TheVariants.Partial}
 use Rattle.blot_tag.proofs.FrameLemmas.{look_of-ok, look_of-partial, look_of-garbled}
 use Rattle.blot_tag.proofs.WalkLemmas.{walk_of-frame, walk_of-prefix, walk_of-garbled}
 

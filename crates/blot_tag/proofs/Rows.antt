@@ -1,6 +1,5 @@
 -- The places of frames, computed.
-use Rattle.std.proofs.Common.{◌≡◌, [], ◌∷◌, refl}
-use Rattle.std.specs.Prelude.{codes}
+use Rattle.std.proofs.Common.{◌≡◌, [], ◌∷◌, refl, codes}
 use Rattle.blot_tag.specs.Places.{after_bytes, place_in, placed_in}
 
 -- the first place at which the text goes on with the frame, and not one at which it only begins to

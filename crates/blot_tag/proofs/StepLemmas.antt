@@ -1,8 +1,6 @@
 -- What the first steps of a look leave to the later ones.
-use Rattle.std.proofs.Common.{◌≡◌, ℕ, ◌+◌, ◌-◌, ◌<◌, ◌≤◌, true, codes, List, ◌++◌, length, take, drop, get_or, Ok, refl, sym, ap, ◌∙◌, arith, length-append}
-use Rattle.std.proofs.lemmas.Bool.{le-ltb}
-use Rattle.std.proofs.lemmas.List.{length-drop}
-use Rattle.std.proofs.Math.Seq.{take-append-add, drop-append-add, drop-drop}
+use Rattle.std.proofs.Common.{◌≡◌, ℕ, ◌+◌, ◌-◌, ◌<◌, ◌≤◌, true, codes, List, ◌++◌, length, take, drop, get_or, Ok, refl, sym, ap, ◌∙◌, arith, length-append, le-ltb, length-drop, drop-drop}
+use Rattle.std.proofs.Math.Seq.{take-append-add, drop-append-add}
 use Rattle.blot_tag.specs.Bytes.{is_soh}
 use Rattle.blot_tag.specs.Frames.{head}
 use Rattle.blot_tag.specs.Looking.{behind, size_of, trailer_look, body_look, length_look, look_of}

@@ -1,8 +1,7 @@
 -- A stretch of a text is the stretch up to a place in it and the one behind that.
-use Rattle.std.proofs.Common.{◌≡◌, ℕ, ◌+◌, ◌-◌, ◌≤◌, List, ◌++◌, take, drop, take-append-drop, sum, sym, ap, ◌∙◌, arith}
+use Rattle.std.proofs.Common.{◌≡◌, ℕ, ◌+◌, ◌-◌, ◌≤◌, List, ◌++◌, take, drop, take-append-drop, sum, sym, ap, ◌∙◌, arith, drop-drop, take-take}
 use Rattle.std.proofs.lemmas.List.{drop-take}
 use Rattle.std.proofs.lemmas.List.Sums.{sum_by-append}
-use Rattle.std.proofs.Math.Seq.{drop-drop, take-take}
 use Rattle.blot_tag.specs.Sums.{sum_between}
 
 -- a stretch, cut in two

@@ -1,8 +1,7 @@
 -- Tags of one to three digits.
-use Rattle.std.proofs.Common.{◌≡◌, ℕ, ◌+◌, ◌*◌, ◌-◌, ◌<◌, ◌≤◌, ◌==◌, true, false, List, [], ◌∷◌, length, take, Some, refl, sym, ap, ◌∙◌, arith}
-use Rattle.std.specs.Prelude.{slice_index_or, option_and_then}
+use Rattle.std.proofs.Common.{◌≡◌, ℕ, ◌+◌, ◌*◌, ◌-◌, ◌<◌, ◌≤◌, ◌==◌, true, false, List, [], ◌∷◌, length, take, Some, refl, sym, ap, ◌∙◌, arith, slice_index_or, option_and_then, position}
 use Rattle.std.specs.Char.{is_ascii_digit}
-use Rattle.std.specs.List.{position, position_or_len}
+use Rattle.std.specs.List.{position_or_len}
 use Rattle.std.proofs.lemmas.Bool.Decides.{nat_tests}
 use Rattle.blot_tag.specs.Bytes.{is_equals, tag_number}
 use Rattle.blot_tag.specs.Fields.{first_tag}

@@ -1,6 +1,6 @@
 -- The walk over a text, a step at a time, and over two texts joined.
-use Rattle.std.proofs.Common.{◌≡◌, ℕ, zero, suc, ◌-◌, ◌<◌, ◌≤◌, List, [], ◌∷◌, ◌++◌, length, take, drop, Result, Ok, Err, refl, sym, ap, subst, ◌∙◌, arith, zero-add}
-use Rattle.std.proofs.lemmas.List.{take-append-le, take-append-drop, drop_all}
+use Rattle.std.proofs.Common.{◌≡◌, ℕ, zero, suc, ◌-◌, ◌<◌, ◌≤◌, List, [], ◌∷◌, ◌++◌, length, take, drop, Result, Ok, Err, refl, sym, ap, subst, ◌∙◌, arith, zero-add, take-append-drop}
+use Rattle.std.proofs.lemmas.List.{take-append-le, drop_all}
 use Rattle.std.proofs.Math.Seq.{take-append_seam, drop-append_seam}
 use Rattle.blot_tag.specs.Looking.{behind, look_of}
 use Rattle.blot_tag.specs.Walking.{Walk, takes, passes_by, stops_at, step_at, walk_behind, walk_of, joined_with, IsWalk, at_frame, at_prefix, at_neither}

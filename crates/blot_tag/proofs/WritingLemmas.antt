@@ -1,13 +1,12 @@
 -- What is written is a valid frame, and its fields are read again as they were put.
-use Rattle.std.proofs.Common.{◌≡◌, ◌≢◌, ℕ, ◌+◌, ◌-◌, ◌/◌, ◌%◌, ◌^◌, ◌<◌, ◌≤◌, true, false, not, ◌&&◌, ◌==◌, ltb, leb, List, [], ◌∷◌, ◌++◌, length, take, drop, get_or, map, sum, codes, Option, Some, None, option_and_then, Result, Ok, inl, inr, refl, sym, ap, subst, ◌∙◌, arith, append_assoc, length-append, lit≤, lit<}
+use Rattle.std.proofs.Common.{◌≡◌, ◌≢◌, ℕ, ◌+◌, ◌-◌, ◌/◌, ◌%◌, ◌^◌, ◌<◌, ◌≤◌, true, false, not, ◌&&◌, ◌==◌, ltb, leb, List, [], ◌∷◌, ◌++◌, length, take, drop, get_or, map, sum, codes, Option, Some, None, option_and_then, Result, Ok, inl, inr, refl, sym, ap, subst, ◌∙◌, arith, append_assoc, length-append, lit≤, lit<, decimal, All, position, ok_or, ltb-false, eq-eqb, ne_eqb, lt-ltb, le-leb, take_at, drop_at, append-nil}
 use Rattle.std.specs.Char.{is_ascii_digit}
-use Rattle.std.specs.Fmt.{decimal}
-use Rattle.std.specs.List.{All, list_any, position, position_or_len, before_first, after_first}
+use Rattle.std.specs.List.{list_any, position_or_len, before_first, after_first}
 use Rattle.std.specs.Map.{lookup}
-use Rattle.std.specs.Option.{ok_or, option_eq}
-use Rattle.std.proofs.lemmas.Bool.{cases_Bool, cond-true, cond-false, and_from, ltb-false, or_from, or_parts, eq-eqb, ne_eqb, false≢true, lt-ltb, le-leb, not_from_false}
+use Rattle.std.specs.Option.{option_eq}
+use Rattle.std.proofs.lemmas.Bool.{cases_Bool, cond-true, cond-false, and_from, or_from, or_parts, false≢true, not_from_false}
 use Rattle.std.proofs.lemmas.Fmt.{digits_decimal, digits_value-decimal, length-decimal-le, decimal_nonempty, first_decimal, decimal_digit, decimal_step}
-use Rattle.std.proofs.lemmas.List.{get_or_append_left, get_or_at, take_at, drop_at, length_push, append-nil}
+use Rattle.std.proofs.lemmas.List.{get_or_append_left, get_or_at, length_push}
 use Rattle.std.proofs.lemmas.List.Concat.{flat_map-append}
 use Rattle.std.proofs.lemmas.List.Sums.{position_or_len_is, AllPass-from_list_all}
 use Rattle.std.proofs.lemmas.List.Folds.{list_any_at, list_any_none}
@@ -18,8 +17,7 @@ use Rattle.blot_tag.specs.Frames.{head, three_digits, trailer_of, front_of, IsBo
 use Rattle.blot_tag.specs.Results.{◌>>=◌}
 use Rattle.blot_tag.specs.Walking.{walk_of, takes}
 use Rattle.blot_tag.specs.Writing.{Written, kind_field, body_of, front_text, frame_of, begin_field, length_field, check_sum_field, frame_fields, begun, with_field, refusal_of, last_of, last_field, is_data_tag, has_soh, IsLengthOf, MayFollow, value_of_first, written_of, Follows, EachFollows, IsWritten, IsBodyText}
-use Rattle.blot_tag.specs.declared.look.TheConstants.{SIZE_MAX}
-use Rattle.blot_tag.specs.declared.field.SplitFault.{SplitFault}
+use Rattle.blot_tag.specs.declared.{look.TheConstants.SIZE_MAX, field.SplitFault.SplitFault}
 use Rattle.blot_tag.proofs.FieldLemmas.{items_behind-nil, items_behind-of}
 use Rattle.blot_tag.proofs.FieldTextLemmas.{numeral}
 use Rattle.blot_tag.proofs.FrameLemmas.{look_of-frame}

@@ -1,10 +1,7 @@
 -- What a buffer holds, as the reader's callers see it.
-use Rattle.std.specs.Prelude.{List, ℕ, ◌+◌, ◌≤◌, take, drop, length, unwrap_or, Option}
-use Rattle.std.specs.Option.{option_map}
+use Rattle.std.specs.Prelude.{List, ℕ, ◌+◌, ◌≤◌, take, drop, length, unwrap_or, Option, option_map}
 use Rattle.blot_tag.specs.Reading.{Reading, counted}
-use Rattle.blot_tag.specs.declared.buffer.Buffer.{Buffer}
-use Rattle.blot_tag.specs.declared.buffer.Span.{Span}
-use Rattle.blot_tag.specs.declared.find.Found.{Found}
+use Rattle.blot_tag.specs.declared.{buffer.Buffer.Buffer, buffer.Span.Span, find.Found.Found}
 
 -- the unread bytes, and how many were passed over
 abbrev pub reading_of : Buffer → Reading

@@ -1,10 +1,7 @@
 -- What a fault prints.
-use Rattle.std.specs.Prelude.{List, ℕ, ◌++◌, codes}
-use Rattle.std.specs.Fmt.{decimal}
-use Rattle.blot_tag.specs.declared.field.SplitFault.{SplitFault}
-use Rattle.blot_tag.specs.declared.field.SplitReason.{SplitReason}
+use Rattle.std.specs.Prelude.{List, ℕ, ◌++◌, codes, decimal}
+use Rattle.blot_tag.specs.declared.{field.SplitFault.SplitFault, field.SplitReason.SplitReason, write_fault.WriteFault.WriteFault}
 use Rattle.blot_tag.specs.declared.field.SplitReason.TheVariants.{InvalidTagNumber, IncorrectDataFormat}
-use Rattle.blot_tag.specs.declared.write_fault.WriteFault.{WriteFault}
 use Rattle.blot_tag.specs.declared.write_fault.WriteFault.TheVariants.{TooLong, SohInValue, NoMemory}
 
 -- the text of a reason at a tag

@@ -1,7 +1,5 @@
 -- How fields stand in a text (FIX 4.4 volume 1, "tag=value" syntax): what a reader believes of the fields of a frame.
-use Rattle.std.specs.Prelude.{◌≡◌, ◌≢◌, ℕ, true, List, [], ◌∷◌, ◌++◌, length, Option, Some, MatchOption}
-use Rattle.std.specs.Fmt.{decimal}
-use Rattle.std.specs.List.{All, flat_map}
+use Rattle.std.specs.Prelude.{◌≡◌, ◌≢◌, ℕ, true, List, [], ◌∷◌, ◌++◌, length, Option, Some, MatchOption, decimal, All, flat_map}
 use Rattle.blot_tag.specs.Bytes.{soh, equals, is_number, number_of}
 use Rattle.blot_tag.specs.Fields.{TagValue, length_before}
 

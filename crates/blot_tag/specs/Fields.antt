@@ -1,13 +1,12 @@
 -- The fields of a text, from left to right: a tag, `=`, a value, SOH (FIX 4.4 volume 1, "tag=value" syntax).
-use Rattle.std.specs.Prelude.{ℕ, zero, suc, ◌+◌, ◌&&◌, ◌==◌, nat_eq, nat_lt, List, [], ◌∷◌, length, take, drop, slice_index, Option, Some, None, option_and_then, Result, Ok, Err, if◌then◌else◌}
-use Rattle.std.specs.Option.{ok_or, option_eq}
-use Rattle.std.specs.List.{position, before_first, after_first}
+use Rattle.std.specs.Prelude.{ℕ, zero, suc, ◌+◌, ◌&&◌, ◌==◌, nat_eq, nat_lt, List, [], ◌∷◌, length, take, drop, slice_index, Option, Some, None, option_and_then, Result, Ok, Err, if◌then◌else◌, ok_or, position}
+use Rattle.std.specs.Option.{option_eq}
+use Rattle.std.specs.List.{before_first, after_first}
 use Rattle.std.specs.Map.{lookup}
 use Rattle.blot_tag.specs.Bytes.{is_soh, is_equals, is_number, number_of, tag_number}
 use Rattle.blot_tag.specs.Results.{◌>>=◌}
-use Rattle.blot_tag.specs.declared.field.SplitFault.{SplitFault}
+use Rattle.blot_tag.specs.declared.{field.SplitFault.SplitFault, bytes.TheConstants.CHECK_SUM_LENGTH}
 use Rattle.blot_tag.specs.declared.field.SplitReason.TheVariants.{InvalidTagNumber, IncorrectDataFormat}
-use Rattle.blot_tag.specs.declared.bytes.TheConstants.{CHECK_SUM_LENGTH}
 
 -- a field as plain data
 pub record TagValue : Type 0 where

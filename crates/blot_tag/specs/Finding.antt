@@ -1,6 +1,5 @@
 -- The first place of a text where a frame, or a part of one that reaches to the text's end, begins.
-use Rattle.std.specs.Prelude.{◌≡◌, ℕ, ◌+◌, ◌<◌, ◌≤◌, List, length, drop, slice_index, unwrap_or, Err}
-use Rattle.std.specs.Option.{ok_or}
+use Rattle.std.specs.Prelude.{◌≡◌, ℕ, ◌+◌, ◌<◌, ◌≤◌, List, length, drop, slice_index, unwrap_or, Err, ok_or}
 use Rattle.blot_tag.specs.Looking.{look_of}
 use Rattle.blot_tag.specs.declared.look.Miss.TheVariants.{Partial, Neither}
 use Rattle.blot_tag.specs.declared.find.Found.{Found}

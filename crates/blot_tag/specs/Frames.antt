@@ -1,8 +1,7 @@
 -- What a valid frame is (FIX 4.4 volume 1, "Message format"; volume 2, "Standard message header" and "trailer").
 use Rattle.std.specs.Prelude.{◌≡◌, ℕ, ◌+◌, ◌/◌, ◌%◌, ◌<◌, ◌≤◌, true, List, [], ◌∷◌, ◌++◌, length, sum, codes}
 use Rattle.blot_tag.specs.Bytes.{soh, is_number, number_of}
-use Rattle.blot_tag.specs.declared.look.TheConstants.{SIZE_MIN, SIZE_MAX, DIGITS_MAX}
-use Rattle.blot_tag.specs.declared.bytes.TheConstants.{CHECK_SUM_LENGTH}
+use Rattle.blot_tag.specs.declared.{look.TheConstants.SIZE_MIN, look.TheConstants.SIZE_MAX, look.TheConstants.DIGITS_MAX, bytes.TheConstants.CHECK_SUM_LENGTH}
 
 -- the bytes that begin a frame: `8=FIX.4.4`, SOH and `9=`
 abbrev pub head : List ℕ

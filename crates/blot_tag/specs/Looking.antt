@@ -4,10 +4,8 @@ use Rattle.std.specs.Char.{is_ascii_digit}
 use Rattle.blot_tag.specs.Bytes.{is_soh, with_digit}
 use Rattle.blot_tag.specs.Frames.{head, check_sum}
 use Rattle.blot_tag.specs.Results.{◌>>=◌}
-use Rattle.blot_tag.specs.declared.look.Miss.{Miss}
+use Rattle.blot_tag.specs.declared.{look.Miss.Miss, look.TheConstants.SIZE_MIN, look.TheConstants.SIZE_MAX, look.TheConstants.DIGITS_MAX, bytes.TheConstants.CHECK_SUM_LENGTH}
 use Rattle.blot_tag.specs.declared.look.Miss.TheVariants.{Partial, Neither}
-use Rattle.blot_tag.specs.declared.look.TheConstants.{SIZE_MIN, SIZE_MAX, DIGITS_MAX}
-use Rattle.blot_tag.specs.declared.bytes.TheConstants.{CHECK_SUM_LENGTH}
 
 -- the text after the bytes that are expected at its beginning
 unfoldable pub behind : List ℕ → List ℕ → Result (List ℕ) Miss

@@ -1,6 +1,6 @@
 -- Where the frames of a text stand in it.
-use Rattle.std.specs.Prelude.{◌≡◌, ℕ, suc, ◌+◌, ◌-◌, List, [], ◌∷◌, length, take, drop, nat_eq, if◌then◌else◌}
-use Rattle.std.specs.List.{starts_with, sum_by}
+use Rattle.std.specs.Prelude.{◌≡◌, ℕ, suc, ◌+◌, ◌-◌, List, [], ◌∷◌, length, take, drop, nat_eq, if◌then◌else◌, sum_by}
+use Rattle.std.specs.List.{starts_with}
 use Rattle.blot_tag.specs.Walking.{frames_of, skipped_of, rest_of}
 
 -- how many bytes of a text stand before the first place at which it goes on with a frame

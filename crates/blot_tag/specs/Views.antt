@@ -1,9 +1,7 @@
 -- The types of `src/`, seen as plain data.
 use Rattle.std.specs.Prelude.{List, ℕ, Result, Ok, Err}
 use Rattle.std.specs.Borrow.{Bor}
-use Rattle.blot_tag.specs.declared.frame.Frame.{Frame}
-use Rattle.blot_tag.specs.declared.field.Field.{Field}
-use Rattle.blot_tag.specs.declared.field.SplitFault.{SplitFault}
+use Rattle.blot_tag.specs.declared.{frame.Frame.Frame, field.Field.Field, field.SplitFault.SplitFault}
 use Rattle.blot_tag.specs.Fields.{TagValue, Item, fields_of}
 
 -- the whole text of a frame

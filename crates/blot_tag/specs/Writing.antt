@@ -1,14 +1,11 @@
 -- A message in the making, and the frame that it becomes (FIX 4.4 volume 1, "Message format").
-use Rattle.std.specs.Prelude.{◌≡◌, ℕ, ◌+◌, ◌-◌, ◌%◌, ◌^◌, ◌<◌, ◌≤◌, Bool, true, false, ◌&&◌, ◌||◌, ◌==◌, not, nat_lt, List, [], ◌∷◌, ◌++◌, length, take, drop, sum, codes, Option, Some, None, if◌then◌else◌}
-use Rattle.std.specs.Fmt.{decimal}
+use Rattle.std.specs.Prelude.{◌≡◌, ℕ, ◌+◌, ◌-◌, ◌%◌, ◌^◌, ◌<◌, ◌≤◌, Bool, true, false, ◌&&◌, ◌||◌, ◌==◌, not, nat_lt, List, [], ◌∷◌, ◌++◌, length, take, drop, sum, codes, Option, Some, None, if◌then◌else◌, decimal}
 use Rattle.std.specs.List.{list_any}
 use Rattle.blot_tag.specs.Bytes.{is_soh, is_number, number_of}
 use Rattle.blot_tag.specs.Fields.{TagValue, length_and_data_tags, data_tag_of, fields_of, fields_before_fault}
 use Rattle.blot_tag.specs.FieldText.{field_text, fields_text}
 use Rattle.blot_tag.specs.Frames.{three_digits, trailer_of, front_of}
-use Rattle.blot_tag.specs.declared.digits.TheConstants.{TAG_DIGITS_MAX}
-use Rattle.blot_tag.specs.declared.look.TheConstants.{SIZE_MAX}
-use Rattle.blot_tag.specs.declared.write_fault.WriteFault.{WriteFault}
+use Rattle.blot_tag.specs.declared.{digits.TheConstants.TAG_DIGITS_MAX, look.TheConstants.SIZE_MAX, write_fault.WriteFault.WriteFault}
 use Rattle.blot_tag.specs.declared.write_fault.WriteFault.TheVariants.{TooLong, SohInValue, NoMemory}
 
 -- a message's kind, and the fields that were put, in their order

@@ -1,6 +1,5 @@
 //! The bytes that a reader holds.
-ghost use Rattle.std.specs.Prelude.{◌≡◌, ℕ, ◌+◌, ◌*◌, ◌≤◌, length, drop, unwrap_or, vec_len, IfSome, OnOk, OnErr};
-ghost use Rattle.std.specs.Option.{option_map};
+ghost use Rattle.std.specs.Prelude.{◌≡◌, ℕ, ◌+◌, ◌*◌, ◌≤◌, length, drop, unwrap_or, vec_len, IfSome, OnOk, OnErr, option_map};
 ghost use Rattle.blot_tag.specs.Frames.{IsFrame};
 ghost use Rattle.blot_tag.specs.Reading.{Advances, fed};
 ghost use Rattle.blot_tag.specs.Views.{text_of};

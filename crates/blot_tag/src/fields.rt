@@ -18,8 +18,7 @@ pub struct Fields<'a> {
 }
 
 impl<'a> Model for Fields<'a> {
-    ghost use Rattle.std.specs.Prelude.{List};
-    ghost use Rattle.std.specs.Option.{option_map};
+    ghost use Rattle.std.specs.Prelude.{List, option_map};
     ghost use Rattle.blot_tag.specs.Fields.{Item, items_behind};
     ghost use Rattle.blot_tag.specs.Bytes.{EndsWithSoh};
     ghost use Rattle.blot_tag.specs.Views.{tag_value};

@@ -1,6 +1,5 @@
 //! One valid frame.
-ghost use Rattle.std.specs.Prelude.{◌≡◌, ◌≤◌, ℕ, List, length, None, IsNone};
-ghost use Rattle.std.specs.List.{All};
+ghost use Rattle.std.specs.Prelude.{◌≡◌, ◌≤◌, ℕ, List, length, None, IsNone, All};
 ghost use Rattle.blot_tag.specs.Fields.{fields_before_fault, fault_of};
 ghost use Rattle.blot_tag.specs.FieldText.{fields_text, BeginsWith, IsSlice, EachEnds};
 ghost use Rattle.blot_tag.specs.Frames.{IsFrame, longest_frame};

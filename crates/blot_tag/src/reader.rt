@@ -1,6 +1,5 @@
 //! The frames of a stream.
-ghost use Rattle.std.specs.Prelude.{◌≡◌, ◌↔◌, ◌≤◌, [], ◌++◌, length, drop, slice_get, vec_len, IsOk, IfOk, IfSome, OnOk, OnErr};
-ghost use Rattle.std.specs.Option.{option_map};
+ghost use Rattle.std.specs.Prelude.{◌≡◌, ◌↔◌, ◌≤◌, [], ◌++◌, length, drop, slice_get, vec_len, IsOk, IfOk, IfSome, OnOk, OnErr, option_map};
 ghost use Rattle.blot_tag.specs.Views.{text_of};
 ghost use Rattle.blot_tag.specs.Frames.{IsFrame};
 ghost use Rattle.blot_tag.specs.Walking.{Walk, IsWalk, walk_of, first_frame, joined_with};

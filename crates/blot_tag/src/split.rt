@@ -1,6 +1,5 @@
 //! Splits the first field off a text.
-ghost use Rattle.std.specs.Prelude.{◌≡◌, ◌<◌, Option, Some, None, IfSome, length};
-ghost use Rattle.std.specs.Option.{option_map, option_copied};
+ghost use Rattle.std.specs.Prelude.{◌≡◌, ◌<◌, Option, Some, None, IfSome, length, option_map, option_copied};
 ghost use Rattle.std.specs.List.{before_first, after_first, position_or_len};
 ghost use Rattle.blot_tag.specs.Bytes.{is_soh, is_equals, EndsWithSoh};
 ghost use Rattle.blot_tag.specs.Fields.{no_tag, wrong_length, data_tag_of, length_before, first_tag, data_value, first_field};

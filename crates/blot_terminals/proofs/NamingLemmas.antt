@@ -1,10 +1,8 @@
 -- What is told until a connection has a name.
-use Rattle.std.proofs.Common.{◌≡◌, ℕ, List, [], ◌++◌, Option, Some, None, Result, Ok, Err, ap, subst, sym, ◌∙◌}
+use Rattle.std.proofs.Common.{◌≡◌, ℕ, List, [], ◌++◌, Option, Some, Result, Ok, Err, ap, subst, sym, ◌∙◌, OnOk}
 use Rattle.std.specs.Io.KnownBytes.{Appends}
-use Rattle.std.specs.Prelude.{OnOk}
 use Rattle.std.proofs.KnownBytes.{Appends-nil, Appends-trans}
-use Rattle.blot_console.specs.declared.fault.LineFault.{LineFault}
-use Rattle.blot_console.specs.declared.naming.Naming.{Naming}
+use Rattle.blot_console.specs.declared.{fault.LineFault.LineFault, naming.Naming.Naming}
 use Rattle.blot_console.specs.declared.naming.Naming.TheVariants as namings
 use Rattle.blot_console.specs.Naming.{naming_text}
 use Rattle.blot_operator.specs.Seats.{Named}

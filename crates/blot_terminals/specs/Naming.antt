@@ -1,8 +1,7 @@
 -- What an operator's connection is answered until it has a name.
 use Rattle.std.specs.Prelude.{◌≡◌, ℕ, List, ◌++◌, Option, None, Some, Result, Ok, Err}
 use Rattle.std.specs.Io.KnownBytes.{Appends}
-use Rattle.blot_console.specs.declared.fault.LineFault.{LineFault}
-use Rattle.blot_console.specs.declared.naming.Naming.{Naming}
+use Rattle.blot_console.specs.declared.{fault.LineFault.LineFault, naming.Naming.Naming}
 use Rattle.blot_console.specs.declared.naming.Naming.TheVariants as namings
 use Rattle.blot_console.specs.Naming.{naming_text}
 use Rattle.blot_operator.specs.Seats.{Named}

@@ -1,6 +1,5 @@
 -- The operators of a day, each with a seat.
-use Rattle.std.specs.Prelude.{◌≡◌, ◌+◌, ℕ, List, [], ◌++◌, Option, None, Some, IfSome, length}
-use Rattle.std.specs.List.{All}
+use Rattle.std.specs.Prelude.{◌≡◌, ◌+◌, ℕ, List, [], ◌++◌, Option, None, Some, IfSome, length, All}
 use Rattle.std.specs.Map.{set_value}
 use Rattle.indexmap.specs.IndexMap.{insert_entry}
 use Rattle.blot_types.specs.Keys.{same_text}

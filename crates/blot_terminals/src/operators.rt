@@ -1,7 +1,6 @@
 //! The operators of a day, each with a seat.
-ghost use Rattle.std.specs.List.{All};
+ghost use Rattle.std.specs.Prelude.{All, ◌≡◌, ◌≢◌, ◌↔◌, ◌⊎◌, ◌≤◌, [], Err, IfOk, IfSome, None, OnErr, OnOk, Some, length};
 ghost use Rattle.std.specs.Map.{lookup, set_value};
-ghost use Rattle.std.specs.Prelude.{◌≡◌, ◌≢◌, ◌↔◌, ◌⊎◌, ◌≤◌, [], Err, IfOk, IfSome, None, OnErr, OnOk, Some, length};
 ghost use Rattle.blot_types.specs.Keys.{same_text};
 ghost use Rattle.blot_operator.specs.Seats.{Named};
 ghost use Rattle.blot_terminals.specs.Staff.{AreOwnSeats, Comes, Grows, IsOn, IsSeatOf, Leaves, first_seat, with_seat};
@@ -38,8 +37,7 @@ struct OperatorTable<L: Ledger> {
 }
 
 impl<L: Ledger> Model for OperatorTable<L> {
-    ghost use Rattle.std.specs.List.{All};
-    ghost use Rattle.std.specs.Prelude.{◌≡◌, []};
+    ghost use Rattle.std.specs.Prelude.{All, ◌≡◌, []};
     ghost use Rattle.blot_terminals.specs.Staff.{AreOwnSeats, Staff};
 
     ghost Value = { Staff };

@@ -1,6 +1,6 @@
 -- Times of day that were written.
-use Rattle.std.proofs.Common.{◌≡◌, ℕ, ◌+◌, ◌*◌, ◌/◌, ◌%◌, ◌<◌, ◌≤◌, min, true, refl, ◌∙◌, ap, arith, Ok}
-use Rattle.std.proofs.lemmas.Bool.{and_from, le-leb}
+use Rattle.std.proofs.Common.{◌≡◌, ℕ, ◌+◌, ◌*◌, ◌/◌, ◌%◌, ◌<◌, ◌≤◌, min, true, refl, ◌∙◌, ap, arith, Ok, le-leb}
+use Rattle.std.proofs.lemmas.Bool.{and_from}
 use Rattle.blot_time.specs.Clock.{is_time, fraction_of, clock_of, time_text, clock_text}
 use Rattle.blot_time.proofs.DigitLemmas.{digit_fits, number-two, number-three}
 

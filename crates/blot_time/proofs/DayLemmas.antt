@@ -1,6 +1,6 @@
 -- The day of a date, and the text of a day.
-use Rattle.std.proofs.Common.{◌≡◌, ℕ, ◌<◌, ◌≤◌, ◌&&◌, ◌↔◌, Bool, true, false, refl, ◌∙◌, ap, subst, inl, inr, arith, ℤ, pos, Ok, Err}
-use Rattle.std.proofs.lemmas.Bool.{cases_Bool, and_from, le-leb, leb-true}
+use Rattle.std.proofs.Common.{◌≡◌, ℕ, ◌<◌, ◌≤◌, ◌&&◌, ◌↔◌, Bool, true, false, refl, ◌∙◌, ap, subst, inl, inr, arith, ℤ, pos, Ok, Err, le-leb, leb-true}
+use Rattle.std.proofs.lemmas.Bool.{cases_Bool, and_from}
 use Rattle.jiff.specs.Types.{Date}
 use Rattle.jiff.specs.Words.{epoch_day, days_in_month, IsDate, IsYmd}
 use Rattle.jiff.proofs.SpanFacts.{signed_arith}

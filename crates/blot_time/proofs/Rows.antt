@@ -1,6 +1,5 @@
 -- Worked rows, computed by the definitions.
-use Rattle.std.proofs.Common.{◌≡◌, [], ◌∷◌, map, refl, pos, negsuc, Ok, Err}
-use Rattle.std.specs.Prelude.{codes}
+use Rattle.std.proofs.Common.{◌≡◌, [], ◌∷◌, map, refl, pos, negsuc, Ok, Err, codes}
 use Rattle.jiff.proofs.OnLiterals.{jiff_on_literals}
 use Rattle.blot_time.specs.declared.fault.TimeFault.TheVariants.{Format, NoSuchDate}
 use Rattle.blot_time.specs.Calendar.{day_number}

@@ -2,11 +2,9 @@
 use Rattle.std.specs.Prelude.{ℕ, ◌+◌, ◌*◌, ◌/◌, ◌%◌, min, ◌==◌, nat_le, ◌&&◌, Bool, if◌then◌else◌, List, [], ◌∷◌, ◌++◌, length, take, drop, codes, Result, Ok, Err}
 use Rattle.std.specs.Char.{is_ascii_digit}
 use Rattle.std.specs.List.{list_all}
-use Rattle.blot_time.specs.declared.fault.TimeFault.{TimeFault}
-use Rattle.blot_time.specs.declared.fault.TimeFault.TheVariants.{Format}
+use Rattle.blot_time.specs.declared.{fault.TimeFault.TimeFault, fault.TimeFault.TheVariants.Format, clock.TheConstants.FRACTION_MIN, clock.TheConstants.FRACTION_MAX}
 use Rattle.blot_time.specs.Digits.{fits, number, padded}
 use Rattle.blot_time.specs.Results.{◌>>=◌}
-use Rattle.blot_time.specs.declared.clock.TheConstants.{FRACTION_MIN, FRACTION_MAX}
 
 -- the hour in `-HH:MM:SS`
 abbrev pub hour_part : List ℕ → ℕ

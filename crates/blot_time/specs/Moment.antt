@@ -1,12 +1,11 @@
 -- Moments, and what their texts say: a day and a time of day, in UTC.
 use Rattle.std.specs.Prelude.{ℕ, List, ◌++◌, take, drop, ℤ, pos, ◌+ℤ◌, ◌*ℤ◌, unsigned_abs, Result, Ok, IsOk}
 use Rattle.std.specs.Int.{int_div_euclid, int_rem_euclid}
-use Rattle.blot_time.specs.declared.fault.TimeFault.{TimeFault}
+use Rattle.blot_time.specs.declared.{fault.TimeFault.TimeFault, clock.TheConstants.DAY_MILLIS}
 use Rattle.blot_time.specs.Calendar.{IsDay}
 use Rattle.blot_time.specs.Clock.{clock_of, clock_text}
 use Rattle.blot_time.specs.Day.{day_of, day_text, IsDayText}
 use Rattle.blot_time.specs.Results.{◌>>=◌}
-use Rattle.blot_time.specs.declared.clock.TheConstants.{DAY_MILLIS}
 
 -- the UTC day of a moment: its whole days of 86,400,000 milliseconds, rounded down
 abbrev pub utc_day : ℤ → ℤ

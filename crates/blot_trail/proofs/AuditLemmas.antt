@@ -1,9 +1,7 @@
 -- The trail of a stream, told as its frames are taken one by one, and its pieces one after the other.
-use Rattle.std.proofs.Common.{◌≡◌, ℕ, ◌+◌, ◌-◌, ◌^◌, ◌<◌, ◌≤◌, List, [], ◌∷◌, ◌++◌, length, fold, min, Option, Some, None, refl, sym, ap, subst, ◌∙◌, arith}
-use Rattle.std.specs.Prelude.{Bool, true, false, is_some, Result, Ok, Err, IfOk, IfSome, codes}
+use Rattle.std.proofs.Common.{◌≡◌, ℕ, ◌+◌, ◌-◌, ◌^◌, ◌<◌, ◌≤◌, List, [], ◌∷◌, ◌++◌, length, fold, min, Option, Some, None, refl, sym, ap, subst, ◌∙◌, arith, Bool, true, false, is_some, Result, Ok, Err, IfOk, IfSome, codes, append-nil, append_assoc, length-append, length-drop}
 use Rattle.std.proofs.lemmas.Bool.{false≢true}
 use Rattle.std.specs.Io.KnownBytes.{Consumes}
-use Rattle.std.proofs.lemmas.List.{append-nil, append_assoc, length-append, length-drop}
 use Rattle.std.proofs.lemmas.List.Sums.{sum_by-cons}
 use Rattle.blot_tag.specs.Places.{Placed, placed_of, after_bytes, passed_by, passed_last}
 use Rattle.blot_tag.specs.Reading.{Reading, FindsNone, TakesFirst}
@@ -18,7 +16,7 @@ use Rattle.blot_capture.proofs.StreamLemmas.{came-first, stopped-here, taken-fra
 use Rattle.blot_stream.proofs.ResultLemmas.{if-some}
 use Rattle.blot_trail.specs.declared.word.Word.{Word}
 use Rattle.blot_trail.specs.Audit.{end_of, lines_of, tail_of, trail_over, words_of}
-use Rattle.blot_trail.specs.Making.{FindsNoFrame, IsInStep, Line, Making, Notes, TakesNoted, Telling, TellsNext, ToldOf, ToldOn, behind_bytes, behind_line, behind_turn, finished, line_of, none_yet, offset_of, size_of, told_by, trail_from, untold}
+use Rattle.blot_trail.specs.Making.{FindsNoFrame, IsInStep, TrailLine, Making, Notes, TakesNoted, Telling, TellsNext, SameTrailOf, SameTrailOn, behind_bytes, behind_line, behind_turn, finished, line_of, none_yet, offset_of, size_of, told_by, trail_from, untold}
 use Rattle.blot_trail.specs.TrailText.{bytes_text, last_text, message_text, word_of}
 
 -- ---- bytes that are passed over
@@ -165,7 +163,7 @@ counts-none old new offset none low within =
     }
 
 -- the whole trail, where a frame is taken
-pub told-taken : (old new : Reading) (from now : Taking) (line : Line) (trail : Making) (more : List ℕ) (takes : TakesNoted old from line new now)
+pub told-taken : (old new : Reading) (from now : Taking) (line : TrailLine) (trail : Making) (more : List ℕ) (takes : TakesNoted old from line new now)
     → trail_from trail from (old.unread ++ more) ≡ trail_from (behind_line line (behind_bytes takes.taken.passed trail)) now (new.unread ++ more)
 unfolding text-by
 told-taken old new from now line trail more takes =
@@ -197,7 +195,7 @@ stops-nil unread none = subst (λ unread. walk_of unread ≡ stops_at unread) (s
 -- ---- one call of the reader, told
 
 -- how many bytes it passed over and took
-noted-counts : (old new : Reading) (from now : Taking) (found : Option Line) (trail : Making) → IsInStep old trail → offset_of trail + length old.unread < 2 ^ 63
+noted-counts : (old new : Reading) (from now : Taking) (found : Option TrailLine) (trail : Making) → IsInStep old trail → offset_of trail + length old.unread < 2 ^ 63
     → Notes found old from new now → Counts old new (new.skipped - old.skipped) (size_of found)
 noted-counts old new from now None trail step within notes =
     let counts = counts-none old new (offset_of trail) notes.none step.low within in
@@ -206,17 +204,17 @@ noted-counts old new from now None trail step within notes =
 noted-counts old new from now (Some line) trail step within notes =
     let counts = counts-taken old new notes.frame (offset_of trail) notes.taken step.low within in
     let passed : new.skipped - old.skipped ≡ notes.taken.passed = omega (arith, counts.skipped) in
-    let size : length notes.frame ≡ line.length_of = sym (ap (λ (line : Line). line.length_of) notes.told) in
+    let size : length notes.frame ≡ line.length_of = sym (ap (λ (line : TrailLine). line.length_of) notes.told) in
     subst (λ passed. Counts old new passed line.length_of) (sym passed) (subst (λ size. Counts old new notes.taken.passed size) size counts)
 
-pub room-within : (old new : Reading) (from now : Taking) (found : Option Line) (trail : Making) → IsInStep old trail → offset_of trail + length old.unread < 2 ^ 63
+pub room-within : (old new : Reading) (from now : Taking) (found : Option TrailLine) (trail : Making) → IsInStep old trail → offset_of trail + length old.unread < 2 ^ 63
     → Notes found old from new now → offset_of trail + untold new.skipped trail + size_of found < 2 ^ 63
 room-within old new from now found trail step within notes =
     let counts = noted-counts old new from now found trail step within notes in
     omega (arith, counts.unread, step.skipped, within)
 
 -- the whole trail stays the same
-noted-same : (old new : Reading) (from now : Taking) (found : Option Line) (trail : Making) → IsInStep old trail → offset_of trail + length old.unread < 2 ^ 63
+noted-same : (old new : Reading) (from now : Taking) (found : Option TrailLine) (trail : Making) → IsInStep old trail → offset_of trail + length old.unread < 2 ^ 63
     → Notes found old from new now → (more : List ℕ)
     → trail_from trail from (old.unread ++ more) ≡ trail_from (told_by (untold new.skipped trail) found trail) now (new.unread ++ more)
 noted-same old new from now None trail step within notes more =
@@ -228,39 +226,39 @@ noted-same old new from now (Some line) trail step within notes more =
     let passed : notes.taken.passed ≡ untold new.skipped trail = omega (arith, counts.skipped, step.skipped) in
     told-taken old new from now line trail more notes ∙ ap (λ passed. trail_from (behind_line line (behind_bytes passed trail)) now (new.unread ++ more)) passed
 
-noted-came : (old new : Reading) (from now : Taking) (found : Option Line) → Notes found old from new now → CameOn from old.unread now new.unread
+noted-came : (old new : Reading) (from now : Taking) (found : Option TrailLine) → Notes found old from new now → CameOn from old.unread now new.unread
 noted-came old new from now None notes more =
     subst (λ now. Came from (frames_of (old.unread ++ more)) now (frames_of (new.unread ++ more))) (sym notes.same)
     (taken-none from from old.unread old new more notes.none (came-first from (frames_of (old.unread ++ more))))
 noted-came old new from now (Some line) notes more =
     subst (λ now. Came from (frames_of (old.unread ++ more)) now (frames_of (new.unread ++ more))) (sym notes.behind)
-    (taken-frame from from old.unread old new notes.frame more (taking_after from notes.frame).sessions (taking_after from notes.frame).journal notes.taken
+    (taken-frame from from old.unread old new notes.frame more (taking_after from notes.frame).sessions (taking_after from notes.frame).desk notes.taken
     (came-first from (frames_of (old.unread ++ more))) refl refl)
 
-pub noted-stopped : (old new : Reading) (from now : Taking) (found : Option Line) → Notes found old from new now
-    → StoppedOn from old.unread now.journal NoMemory
+pub noted-stopped : (old new : Reading) (from now : Taking) (found : Option TrailLine) → Notes found old from new now
+    → StoppedOn from old.unread now.desk NoMemory
 noted-stopped old new from now found notes more =
     stopped-here NoMemory from now (frames_of (old.unread ++ more)) (frames_of (new.unread ++ more)) (λ is. cc) (noted-came old new from now found notes more)
 
-noted-fewer : (old new : Reading) (from now : Taking) (found : Option Line) → Notes found old from new now → is_some found ≡ true → length new.unread < length old.unread
+noted-fewer : (old new : Reading) (from now : Taking) (found : Option TrailLine) → Notes found old from new now → is_some found ≡ true → length new.unread < length old.unread
 noted-fewer old new from now None notes some = absurd (false≢true some)
 noted-fewer old new from now (Some line) notes some = notes.taken.shorter
 
-noted-drained : (old new : Reading) (from now : Taking) (found : Option Line) → Notes found old from new now → is_some found ≡ false → walk_of new.unread ≡ stops_at new.unread
+noted-drained : (old new : Reading) (from now : Taking) (found : Option TrailLine) → Notes found old from new now → is_some found ≡ false → walk_of new.unread ≡ stops_at new.unread
 noted-drained old new from now None notes none = walk_of-prefix new.unread (look_of-prefix new.unread notes.none.prefix)
 noted-drained old new from now (Some line) notes none = absurd (false≢true (sym none))
 
 -- after what was noted a trail is in step again
-noted-step : (old new : Reading) (found : Option Line) (trail : Making) (passed : ℕ) → Counts old new passed (size_of found) → IsInStep old trail → IsInStep new (told_by passed found trail)
+noted-step : (old new : Reading) (found : Option TrailLine) (trail : Making) (passed : ℕ) → Counts old new passed (size_of found) → IsInStep old trail → IsInStep new (told_by passed found trail)
 noted-step old new None trail passed counts step = record { skipped = omega (arith, counts.skipped, step.skipped); low = omega (arith, counts.skipped, step.low) }
 noted-step old new (Some line) trail passed counts step = record { skipped = omega (arith, counts.skipped, step.skipped); low = omega (arith, counts.skipped, step.low) }
 
-noted-read : (old new : Reading) (found : Option Line) (trail : Making) (passed : ℕ) → Counts old new passed (size_of found)
+noted-read : (old new : Reading) (found : Option TrailLine) (trail : Making) (passed : ℕ) → Counts old new passed (size_of found)
     → offset_of (told_by passed found trail) + length new.unread ≡ offset_of trail + length old.unread
 noted-read old new None trail passed counts = omega (arith, counts.unread)
 noted-read old new (Some line) trail passed counts = omega (arith, counts.unread)
 
-pub tells-next : (told : Bool) (old new : Reading) (from now : Taking) (found : Option Line) (trail after : Making) (skipped : ℕ) → IsInStep old trail → offset_of trail + length old.unread < 2 ^ 63
+pub tells-next : (told : Bool) (old new : Reading) (from now : Taking) (found : Option TrailLine) (trail after : Making) (skipped : ℕ) → IsInStep old trail → offset_of trail + length old.unread < 2 ^ 63
     → Notes found old from new now → skipped ≡ new.skipped → told ≡ is_some found → after ≡ told_by (untold skipped trail) found trail
     → TellsNext told old (record { trail = trail; taking = from }) new (record { trail = after; taking = now })
 tells-next told old new from now found trail after skipped step within notes all is gives =
@@ -281,18 +279,18 @@ tells-next told old new from now found trail after skipped step within notes all
 -- ---- an input whose bytes may be known
 
 -- nothing is read yet
-pub ToldOf-first : (known : Option (List ℕ)) (from now : Telling) (unread : List ℕ) → unread ≡ [] → from ≡ now → ToldOf known from known unread now
-ToldOf-first None from now unread none same = tt
-ToldOf-first (Some bytes) from now unread none same =
+pub SameTrailOf-first : (known : Option (List ℕ)) (from now : Telling) (unread : List ℕ) → unread ≡ [] → from ≡ now → SameTrailOf known from known unread now
+SameTrailOf-first None from now unread none same = tt
+SameTrailOf-first (Some bytes) from now unread none same =
     ap (λ (telling : Telling). trail_from telling.trail telling.taking bytes) same ∙ ap (λ front. trail_from now.trail now.taking (front ++ bytes)) (sym none)
 
 -- a piece is read and told
-pub ToldOf-piece : (known before after : Option (List ℕ)) (from mid now : Telling) (unread left piece : List ℕ)
-    → ToldOf known from before unread mid → Consumes before after piece
-    → ToldOn mid (unread ++ piece) now left → ToldOf known from after left now
-ToldOf-piece None before after from mid now unread left piece so consumes told = tt
-ToldOf-piece (Some bytes) None after from mid now unread left piece so consumes told = absurd so
-ToldOf-piece (Some bytes) (Some rest) None from mid now unread left piece so consumes told = absurd consumes
-ToldOf-piece (Some bytes) (Some rest) (Some later) from mid now unread left piece so consumes told =
+pub SameTrailOf-piece : (known before after : Option (List ℕ)) (from mid now : Telling) (unread left piece : List ℕ)
+    → SameTrailOf known from before unread mid → Consumes before after piece
+    → SameTrailOn mid (unread ++ piece) now left → SameTrailOf known from after left now
+SameTrailOf-piece None before after from mid now unread left piece so consumes told = tt
+SameTrailOf-piece (Some bytes) None after from mid now unread left piece so consumes told = absurd so
+SameTrailOf-piece (Some bytes) (Some rest) None from mid now unread left piece so consumes told = absurd consumes
+SameTrailOf-piece (Some bytes) (Some rest) (Some later) from mid now unread left piece so consumes told =
     let all : unread ++ rest ≡ (unread ++ piece) ++ later = ap (λ back. unread ++ back) consumes ∙ sym (append_assoc unread piece later) in
     so ∙ ap (trail_from mid.trail mid.taking) all ∙ told later

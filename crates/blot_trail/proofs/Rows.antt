@@ -1,6 +1,5 @@
 -- A trail's texts, computed as far as its numbers, which are written by `number_text`.
-use Rattle.std.proofs.Common.{◌≡◌, [], ◌∷◌, ◌++◌, None, refl}
-use Rattle.std.specs.Prelude.{codes}
+use Rattle.std.proofs.Common.{◌≡◌, [], ◌∷◌, ◌++◌, None, refl, codes}
 use Rattle.blot_session.specs.declared.action.Action.TheVariants.{Close, Send}
 use Rattle.blot_session.specs.declared.action.CloseReason.TheVariants.{TooLow}
 use Rattle.blot_session.specs.declared.met.Met.TheVariants as met

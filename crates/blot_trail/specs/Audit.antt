@@ -1,6 +1,5 @@
 -- The audit trail of a capture: the walk over its messages, told line by line.
-use Rattle.std.specs.Prelude.{ℕ, ◌+◌, List, [], ◌∷◌, ◌++◌, codes, length, map}
-use Rattle.std.specs.List.{sum_by}
+use Rattle.std.specs.Prelude.{ℕ, ◌+◌, List, [], ◌∷◌, ◌++◌, codes, length, map, sum_by}
 use Rattle.blot_tag.specs.Places.{placed_of, passed_last}
 use Rattle.blot_tag.specs.Walking.{rest_of, skipped_of}
 use Rattle.blot_capture.specs.Replay.{Taking}

@@ -3,11 +3,9 @@ use Rattle.std.specs.Prelude.{◌≡◌, ℕ, ◌+◌, ◌-◌, ◌<◌, ◌≤�
 use Rattle.blot_tag.specs.Places.{placed_of, passed_last}
 use Rattle.blot_tag.specs.Reading.{Reading, FindsNone, TakesFirst}
 use Rattle.blot_tag.specs.Walking.{rest_of, stops_at, walk_of}
-use Rattle.blot_session.specs.declared.action.Action.{Action}
-use Rattle.blot_session.specs.declared.met.Met.{Met}
-use Rattle.blot_desk.specs.Desk.{Journal}
-use Rattle.blot_capture.specs.declared.became.Became.{Became}
-use Rattle.blot_capture.specs.declared.handled.Handled.{Handled}
+use Rattle.blot_session.specs.declared.{action.Action.Action, met.Met.Met}
+use Rattle.blot_desk.specs.Desk.{DeskState}
+use Rattle.blot_capture.specs.declared.{became.Became.Became, handled.Handled.Handled}
 use Rattle.blot_capture.specs.Handling.{became_by, wanted_of}
 use Rattle.blot_capture.specs.Replay.{CameOn, Taking}
 use Rattle.blot_capture.specs.Sessions.{Parts, taking_of}
@@ -16,16 +14,16 @@ use Rattle.blot_trail.specs.declared.word.Word.{Word}
 use Rattle.blot_trail.specs.TrailText.{bytes_text, last_text, message_text, tail_text, word_of}
 
 -- what is told of a message, except its place and where it begins; how long it is
-pub record Line : Type 0 where
+pub record TrailLine : Type 0 where
   pub tail : List ℕ
   pub word : Word
   pub length_of : ℕ
 
 -- what is told of a frame that became this, and whose session wants these actions done
-abbrev pub line_for : List ℕ → Became → List Action → Line
+abbrev pub line_for : List ℕ → Became → List Action → TrailLine
 line_for text became actions = record { tail = tail_text text became actions; word = word_of became; length_of = length text }
 
-abbrev pub line_of : Turn → Line
+abbrev pub line_of : Turn → TrailLine
 line_of turn = line_for turn.placed.text turn.became turn.actions
 
 -- a trail in the making: its lines, and what became of each message; where the last message ends; how many bytes are passed over
@@ -58,7 +56,7 @@ abbrev pub untold : ℕ → Making → ℕ
 untold all trail = all - (trail.skipped + trail.passed)
 
 -- one more message
-abbrev pub behind_line : Line → Making → Making
+abbrev pub behind_line : TrailLine → Making → Making
 behind_line line trail = record {
   text = trail.text ++ (bytes_text (codes "skipped") trail.end trail.passed
       ++ message_text (length trail.words + 1) (offset_of trail) line.tail);
@@ -84,15 +82,15 @@ trail_from trail taking bytes =
 -- ---- a capture that is partly told
 
 -- this is told of a frame, of which its session made this
-abbrev pub IsTurnOf : List ℕ → Option Met → Handled → Line → Type 0
+abbrev pub IsTurnOf : List ℕ → Option Met → Handled → TrailLine → Type 0
 IsTurnOf text met handled line = line ≡ line_for text (became_by met handled) (wanted_of handled)
 
 -- what is told of a frame that is taken next, wherever it stands
-abbrev pub line_at : Taking → List ℕ → Line
+abbrev pub line_at : Taking → List ℕ → TrailLine
 line_at taking text = line_of (turn_of taking (record { passed = 0; text = text }))
 
 -- a frame is taken, and this is told of it
-pub record TakesNoted (old : Reading) (from : Taking) (line : Line) (new : Reading) (now : Taking) : Type 0 where
+pub record TakesNoted (old : Reading) (from : Taking) (line : TrailLine) (new : Reading) (now : Taking) : Type 0 where
   pub frame : List ℕ
   pub taken : TakesFirst old frame new
   pub behind : now ≡ taking_after from frame
@@ -104,16 +102,16 @@ pub record FindsNoFrame (old : Reading) (from : Taking) (new : Reading) (now : T
   pub same : now ≡ from
 
 -- a call took the frame of which this is told, or found none
-abbrev pub Notes : Option Line → Reading → Taking → Reading → Taking → Type 0
+abbrev pub Notes : Option TrailLine → Reading → Taking → Reading → Taking → Type 0
 Notes None old from new now = FindsNoFrame old from new now
 Notes (Some line) old from new now = TakesNoted old from line new now
 
 -- so many bytes are told, and then a message, where there is one
-abbrev pub told_by : ℕ → Option Line → Making → Making
+abbrev pub told_by : ℕ → Option TrailLine → Making → Making
 told_by passed None trail = behind_bytes passed trail
 told_by passed (Some line) trail = behind_line line (behind_bytes passed trail)
 
-abbrev pub size_of : Option Line → ℕ
+abbrev pub size_of : Option TrailLine → ℕ
 size_of None = 0
 size_of (Some line) = line.length_of
 
@@ -128,22 +126,22 @@ pub record Telling : Type 0 where
   pub taking : Taking
 
 -- a trail with the sessions and the desk, as they are
-abbrev pub telling_of : Making → Parts → Journal → Telling
-telling_of trail parts journal = record { trail = trail; taking = taking_of parts journal }
+abbrev pub telling_of : Making → Parts → DeskState → Telling
+telling_of trail parts desk = record { trail = trail; taking = taking_of parts desk }
 
 -- the whole trail is the same: here with these bytes still to come, there with those
-abbrev pub Told : Telling → List ℕ → Telling → List ℕ → Type 0
-Told from bytes now left = trail_from from.trail from.taking bytes ≡ trail_from now.trail now.taking left
+abbrev pub SameTrail : Telling → List ℕ → Telling → List ℕ → Type 0
+SameTrail from bytes now left = trail_from from.trail from.taking bytes ≡ trail_from now.trail now.taking left
 
 -- the same for the unread bytes of a reader, whatever comes after them
-abbrev pub ToldOn : Telling → List ℕ → Telling → List ℕ → Type 0
-ToldOn from unread now left = (more : List ℕ) → Told from (unread ++ more) now (left ++ more)
+abbrev pub SameTrailOn : Telling → List ℕ → Telling → List ℕ → Type 0
+SameTrailOn from unread now left = (more : List ℕ) → SameTrail from (unread ++ more) now (left ++ more)
 
 -- the same for an input's bytes, where they are known: some were read, and some of those are unread
-abbrev pub ToldOf : Option (List ℕ) → Telling → Option (List ℕ) → List ℕ → Telling → Type 0
-ToldOf None from rest unread now = ⊤
-ToldOf (Some bytes) from None unread now = ⊥
-ToldOf (Some bytes) from (Some rest) unread now = Told from bytes now (unread ++ rest)
+abbrev pub SameTrailOf : Option (List ℕ) → Telling → Option (List ℕ) → List ℕ → Telling → Type 0
+SameTrailOf None from rest unread now = ⊤
+SameTrailOf (Some bytes) from None unread now = ⊥
+SameTrailOf (Some bytes) from (Some rest) unread now = SameTrail from bytes now (unread ++ rest)
 
 -- a reader's next frame is taken and told, or there is none
 pub record TellsNext (told : Bool) (old : Reading) (from : Telling) (new : Reading) (now : Telling) : Type 0 where
@@ -151,5 +149,5 @@ pub record TellsNext (told : Bool) (old : Reading) (from : Telling) (new : Readi
   pub read : offset_of now.trail + length new.unread ≡ offset_of from.trail + length old.unread
   pub fewer : told ≡ true → length new.unread < length old.unread
   pub drained : told ≡ false → walk_of new.unread ≡ stops_at new.unread
-  pub same : ToldOn from old.unread now new.unread
+  pub same : SameTrailOn from old.unread now new.unread
   pub came : CameOn from.taking old.unread now.taking new.unread

@@ -1,21 +1,17 @@
 -- The text of an audit trail. Words are divided by tabs, and each line ends with LF. Source: this project's rule.
-use Rattle.std.specs.Prelude.{ℕ, zero, suc, ◌+◌, ◌==◌, List, [], ◌∷◌, ◌++◌, length, map, filter, codes, Option, Some, None, if◌then◌else◌}
-use Rattle.std.specs.List.{flat_map}
+use Rattle.std.specs.Prelude.{ℕ, zero, suc, ◌+◌, ◌==◌, List, [], ◌∷◌, ◌++◌, length, map, filter, codes, Option, Some, None, if◌then◌else◌, flat_map}
 use Rattle.blot_tag.specs.Fields.{Item, fields_of}
 use Rattle.blot_types.specs.Keys.{same_text}
 use Rattle.blot_fields.specs.declared.head.Head.{Head}
 use Rattle.blot_fields.specs.Numbers.{head_in}
 use Rattle.blot_fields.specs.First.{first_text}
 use Rattle.blot_fields.specs.Sender.{sender_of}
-use Rattle.blot_session.specs.declared.action.Action.{Action}
-use Rattle.blot_session.specs.declared.action.Action.TheVariants.{Send}
-use Rattle.blot_session.specs.declared.met.Met.{Met}
+use Rattle.blot_session.specs.declared.{action.Action.Action, action.Action.TheVariants.Send, met.Met.Met}
 use Rattle.blot_session.specs.declared.met.Met.TheVariants as met
 use Rattle.blot_session.specs.Runs.{said_by}
-use Rattle.blot_session.specs.Told.{close_name, close_number}
+use Rattle.blot_session.specs.CloseNames.{close_name, close_number}
 use Rattle.blot_console.specs.Replies.{IsTold, number_line, number_text, reply_text, told, word_line}
-use Rattle.blot_desk.specs.declared.event.Reply.{Reply}
-use Rattle.blot_desk.specs.declared.event.Reply.TheVariants.{Accepted}
+use Rattle.blot_desk.specs.declared.{event.Reply.Reply, event.Reply.TheVariants.Accepted}
 use Rattle.blot_capture.specs.declared.became.Became.{Became}
 use Rattle.blot_capture.specs.declared.became.Became.TheVariants as became
 use Rattle.blot_trail.specs.declared.word.Word.{Word}

@@ -3,7 +3,7 @@ ghost use Rattle.std.specs.Prelude.{◌≡◌, ◌≢◌, ◌+◌, ◌<◌, ◌�
 ghost use Rattle.blot_tag.specs.Walking.{stops_at, walk_of};
 ghost use Rattle.blot_capture.specs.Replay.{CameOn, StoppedOn};
 ghost use Rattle.blot_capture.specs.Sessions.{taking_of};
-ghost use Rattle.blot_trail.specs.Making.{IsInStep, Notes, TellsNext, ToldOn, offset_of, size_of, telling_of, told_by, untold};
+ghost use Rattle.blot_trail.specs.Making.{IsInStep, Notes, TellsNext, SameTrailOn, offset_of, size_of, telling_of, told_by, untold};
 
 use crate::noting::take_noted;
 use crate::trail::{Noted, Trail};
@@ -27,7 +27,7 @@ pub(crate) fn tell_piece(
     ensures step { OnOk result (IsInStep reader.new trail.new) }
     ensures read { OnOk result (offset_of trail.new + length reader.new.unread ≡ offset_of trail.old + length (reader.old.unread ++ piece.now)) }
     ensures drained { OnOk result (walk_of reader.new.unread ≡ stops_at reader.new.unread) }
-    ensures told { OnOk result (ToldOn (telling_of trail.old sessions.old desk.old) (reader.old.unread ++ piece.now)
+    ensures told { OnOk result (SameTrailOn (telling_of trail.old sessions.old desk.old) (reader.old.unread ++ piece.now)
         (telling_of trail.new sessions.new desk.new) reader.new.unread) }
     ensures came { OnOk result (CameOn (taking_of sessions.old desk.old) (reader.old.unread ++ piece.now)
         (taking_of sessions.new desk.new) reader.new.unread) }
@@ -53,7 +53,7 @@ fn tell_frames(
     ensures step { OnOk result (IsInStep reader.new trail.new) }
     ensures read { OnOk result (offset_of trail.new + length reader.new.unread ≡ offset_of trail.old + length reader.old.unread) }
     ensures drained { OnOk result (walk_of reader.new.unread ≡ stops_at reader.new.unread) }
-    ensures told { OnOk result (ToldOn (telling_of trail.old sessions.old desk.old) reader.old.unread
+    ensures told { OnOk result (SameTrailOn (telling_of trail.old sessions.old desk.old) reader.old.unread
         (telling_of trail.new sessions.new desk.new) reader.new.unread) }
     ensures came { OnOk result (CameOn (taking_of sessions.old desk.old) reader.old.unread
         (taking_of sessions.new desk.new) reader.new.unread) }

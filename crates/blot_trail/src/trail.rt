@@ -1,6 +1,5 @@
 //! An audit trail in the making: the lines of the messages so far.
-ghost use Rattle.std.specs.Prelude.{◌≡◌, ◌+◌, ◌-◌, ◌<◌, ◌≤◌, ◌^◌, ◌∷◌, ◌++◌, [], length, IfOk, OnOk};
-ghost use Rattle.std.specs.List.{flat_map};
+ghost use Rattle.std.specs.Prelude.{◌≡◌, ◌+◌, ◌-◌, ◌<◌, ◌≤◌, ◌^◌, ◌∷◌, ◌++◌, [], length, IfOk, OnOk, flat_map};
 ghost use Rattle.blot_tag.specs.Views.{text_of};
 ghost use Rattle.blot_session.specs.Runs.{said_by};
 ghost use Rattle.blot_trail.specs.Making.{behind_bytes, behind_line, finished, line_for, none_yet, offset_of, untold};
@@ -25,9 +24,9 @@ pub struct Noted {
 }
 
 impl Model for Noted {
-    ghost use Rattle.blot_trail.specs.Making.{Line};
+    ghost use Rattle.blot_trail.specs.Making.{TrailLine};
 
-    ghost Value = { Line };
+    ghost Value = { TrailLine };
 
     ghost view = { λ noted. record { tail = noted.tail.items; word = noted.word; length_of = noted.length } };
 }

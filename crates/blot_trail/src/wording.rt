@@ -5,8 +5,7 @@ ghost use Rattle.blot_tag.specs.Views.{text_of};
 ghost use Rattle.blot_fields.specs.Numbers.{head_in};
 ghost use Rattle.blot_fields.specs.Sender.{sender_of};
 ghost use Rattle.blot_console.specs.Replies.{told};
-ghost use Rattle.blot_trail.specs.TrailText.{IsToldOf};
-ghost use Rattle.blot_trail.specs.TrailText.{became_text, bytes_text, head_text, id_by, id_tag_of, met_text, sent_text, shown_byte, sum_text, word_or_dash};
+ghost use Rattle.blot_trail.specs.TrailText.{IsToldOf, became_text, bytes_text, head_text, id_by, id_tag_of, met_text, sent_text, shown_byte, sum_text, word_or_dash};
 
 use blot_capture::Became;
 use blot_console::{Answer, answer_text, put_number, put_word};

@@ -1,20 +1,13 @@
 -- An accepted instruction may follow those before it, so the instructions of a legal list follow one another.
-use Rattle.std.proofs.Common.{◌≡◌, ℕ, Bool, true, false, List, [], ◌∷◌, ◌++◌, reverse, Option, Some, None, refl, sym, ap, subst, ◌∙◌, inl, inr}
-use Rattle.std.specs.Prelude.{◌||◌, not, is_none, if◌then◌else◌}
-use Rattle.std.specs.List.{cons_option, filter_map, list_any, list_all}
-use Rattle.std.specs.Option.{option_map, option_map_or, option_or, option_and_then}
-use Rattle.std.proofs.lemmas.Bool.{cases_Bool, and_from, and_parts}
-use Rattle.std.proofs.lemmas.List.{reverse-append, append-nil}
+use Rattle.std.proofs.Common.{◌≡◌, ℕ, Bool, true, false, List, [], ◌∷◌, ◌++◌, reverse, Option, Some, None, refl, sym, ap, subst, ◌∙◌, inl, inr, ◌||◌, not, is_none, if◌then◌else◌, filter_map, option_map, option_and_then, append-nil}
+use Rattle.std.specs.List.{cons_option, list_any, list_all}
+use Rattle.std.specs.Option.{option_map_or, option_or}
+use Rattle.std.proofs.lemmas.Bool.{cases_Bool, and_from, and_parts, or_parts as or-false, not-true, not_from_false}
+use Rattle.std.proofs.lemmas.List.{reverse-append}
 use Rattle.std.proofs.lemmas.List.Elements.{filter_map-append}
-use Rattle.blot_types.specs.declared.allocation.AllocRole.{AllocRole}
+use Rattle.blot_types.specs.declared.{allocation.AllocRole.AllocRole, allocation.Instruction.Instruction, command.Command.Command, command.Entry.Entry, keys.AllocKey.AllocKey, keys.ExecKey.ExecKey, link.Link.Link}
 use Rattle.blot_types.specs.declared.allocation.AllocRole.TheVariants.{Allocates, Replaces, Cancels}
-use Rattle.blot_types.specs.declared.allocation.Instruction.{Instruction}
-use Rattle.blot_types.specs.declared.command.Command.{Command}
 use Rattle.blot_types.specs.declared.command.Command.TheVariants.{Trade, Correct, Bust, AllocNew, AllocReplace, AllocCancel, Withdraw}
-use Rattle.blot_types.specs.declared.command.Entry.{Entry}
-use Rattle.blot_types.specs.declared.keys.AllocKey.{AllocKey}
-use Rattle.blot_types.specs.declared.keys.ExecKey.{ExecKey}
-use Rattle.blot_types.specs.declared.link.Link.{Link}
 use Rattle.blot_types.specs.declared.refused.Refused.TheVariants.{DuplicateAlloc, UnknownAlloc, DeadAlloc, RepeatedExec, ExecTaken, NotLive}
 use Rattle.blot_types.specs.Allocations.{instruction_by, instructions_in, instructions_of}
 use Rattle.blot_types.specs.Chains.{root_in, is_root}
@@ -41,10 +34,6 @@ same_root : (found : Option ExecKey) (root : ExecKey) (others : List ExecKey) �
 same_root None root others = refl
 same_root (Some other) root others = refl
 
-pub or-false : (a b : Bool) → (a || b) ≡ false → (a ≡ false) × (b ≡ false)
-or-false true b none = cc
-or-false false b none = (refl, none)
-
 abbrev roots_in : List Link → List ExecKey → List ExecKey
 roots_in links keys = filter_map (root_in links) keys
 
@@ -69,13 +58,6 @@ among-append (key ∷ front) back root =
 roots-append : (links : List Link) (front back : List ExecKey) → roots_in links (front ++ back) ≡ roots_in links front ++ roots_in links back
 roots-append links front back = filter_map-append (root_in links) front back
 
-pub not_true : (b : Bool) → not b ≡ true → b ≡ false
-not_true true is = cc
-not_true false is = refl
-
-false_not : (b : Bool) → b ≡ false → not b ≡ true
-false_not b is = rw is refl
-
 -- what is beside a list and one root more, is beside the list, and is apart from the root
 beside-more :
     (before : List ExecKey) (root : ExecKey) (roots : List ExecKey) → are_beside (before ++ root ∷ []) roots ≡ true
@@ -83,10 +65,10 @@ beside-more :
 beside-more before root [] beside = (refl, refl)
 beside-more before root (first ∷ roots) beside =
     let parts : (not (is_among (before ++ root ∷ []) first) ≡ true) × (are_beside (before ++ root ∷ []) roots ≡ true) = and_parts _ _ beside in
-    let apart = or-false (is_among before first) (is_among (root ∷ []) first) (sym (among-append before (root ∷ []) first) ∙ not_true _ parts.0) in
+    let apart = or-false (is_among before first) (is_among (root ∷ []) first) (sym (among-append before (root ∷ []) first) ∙ not-true _ parts.0) in
     let other = or-false (same_exec root first) false apart.1 in
     let rest = beside-more before root roots parts.1 in
-    (and_from _ _ (false_not _ apart.0) rest.0, rw (same_exec-sym first root ∙ other.0) rest.1)
+    (and_from _ _ (not_from_false _ apart.0) rest.0, rw (same_exec-sym first root ∙ other.0) rest.1)
 
 unrepeated_key :
     (links : List Link) (key : ExecKey) (found : Option ExecKey) (before later : List ExecKey) → root_in links key ≡ found
@@ -99,7 +81,7 @@ unrepeated_key links key None before later is none rest =
 unrepeated_key links key (Some root) before later is none rest =
     let more : roots_in links (before ++ key ∷ []) ≡ roots_in links before ++ root ∷ [] = roots-append links before (key ∷ []) ∙ ap (λ found. roots_in links before ++ cons_option found []) is in
     let beside = beside-more (roots_in links before) root (roots_in links later) (ap (λ others. are_beside others (roots_in links later)) (sym more) ∙ rest.1) in
-    (and_from _ _ (false_not _ beside.1) rest.0, and_from _ _ (false_not _ (unrepeated links root before none)) beside.0)
+    (and_from _ _ (not_from_false _ beside.1) rest.0, and_from _ _ (not_from_false _ (unrepeated links root before none)) beside.0)
 
 apart_by :
     (links : List Link) (before : List ExecKey) (found : Option ExecKey) → list_any (λ other. option_map_or (λ root. is_root root (root_in links other)) found false) before ≡ false

@@ -1,20 +1,12 @@
 -- Rule by rule: what some entries accept, others accept, where they answer what the rules ask as these do.
-use Rattle.std.proofs.Common.{◌≡◌, ℕ, arith, false, List, [], ◌∷◌, ◌++◌, pos, Option, Some, None, refl, sym, ap, ◌∙◌, inl, inr}
-use Rattle.std.specs.Prelude.{Bool, ℤ, not, find, is_none, All, if◌then◌else◌, ◌+ℤ◌, ◌&&◌}
-use Rattle.std.specs.List.{cons_option, filter_map, list_any}
-use Rattle.std.specs.Option.{option_map, option_map_or, option_and_then}
+use Rattle.std.proofs.Common.{◌≡◌, ℕ, arith, false, List, [], ◌∷◌, ◌++◌, pos, Option, Some, None, refl, sym, ap, ◌∙◌, inl, inr, Bool, ℤ, not, find, is_none, All, if◌then◌else◌, ◌+ℤ◌, ◌&&◌, filter_map, option_map, option_and_then}
+use Rattle.std.specs.List.{cons_option, list_any}
+use Rattle.std.specs.Option.{option_map_or}
 use Rattle.std.proofs.lemmas.Bool.{cases_Bool}
 use Rattle.std.proofs.lemmas.Int.{ints}
 use Rattle.std.proofs.lemmas.List.Elements.{All-nil, All-cons, All-head, All-tail, All-append, All-weaker}
-use Rattle.blot_types.specs.declared.allocation.Terms.{Terms}
-use Rattle.blot_types.specs.declared.command.Command.{Command}
+use Rattle.blot_types.specs.declared.{allocation.Terms.Terms, command.Command.Command, command.Entry.Entry, fill.Fill.Fill, fill.Sign.Sign, keys.AllocKey.AllocKey, keys.ExecKey.ExecKey, link.Link.Link}
 use Rattle.blot_types.specs.declared.command.Command.TheVariants.{Trade, Correct, Bust, AllocNew, AllocReplace, AllocCancel, Withdraw}
-use Rattle.blot_types.specs.declared.command.Entry.{Entry}
-use Rattle.blot_types.specs.declared.fill.Fill.{Fill}
-use Rattle.blot_types.specs.declared.fill.Sign.{Sign}
-use Rattle.blot_types.specs.declared.keys.AllocKey.{AllocKey}
-use Rattle.blot_types.specs.declared.keys.ExecKey.{ExecKey}
-use Rattle.blot_types.specs.declared.link.Link.{Link}
 use Rattle.blot_types.specs.declared.refused.Refused.TheVariants.{DuplicateExec, DuplicateAlloc, UnknownAlloc, DeadAlloc, UnknownExec, BustedExec, RepeatedExec, ExecTaken, Instrument}
 use Rattle.blot_types.specs.Allocations.{instructions_in}
 use Rattle.blot_types.specs.Chains.{taker_in, root_in, is_root}
@@ -28,7 +20,8 @@ use Rattle.blot_types.proofs.AcceptLemmas.{or_parts, unmapped}
 use Rattle.blot_types.proofs.ChainLemmas.{clash, differing, rootless}
 use Rattle.blot_types.proofs.KeyLemmas.{same_exec-true}
 use Rattle.blot_types.proofs.SumLemmas.{total-cons}
-use Rattle.blot_types.proofs.StayLemmas.{mapped-none, or-none, then-none, find-agree, any-agree, first-none}
+use Rattle.blot_types.proofs.StayLemmas.{mapped-none, or-none, then-none, find-agree, first-none}
+use Rattle.blot_types.proofs.GeneralLemmas.{any-agree}
 
 -- ---- acceptance, rule by rule
 

@@ -1,15 +1,11 @@
 -- Instructions without one of them.
-use Rattle.std.proofs.Common.{◌≡◌, true, false, List, [], ◌∷◌, ◌++◌, Option, Some, None, refl, sym, ap, ◌∙◌, inl, inr}
-use Rattle.std.specs.Prelude.{Bool, ◌&&◌, not, find, is_none, All}
+use Rattle.std.proofs.Common.{◌≡◌, true, false, List, [], ◌∷◌, ◌++◌, Option, Some, None, refl, sym, ap, ◌∙◌, inl, inr, Bool, ◌&&◌, not, find, is_none, All, option_map}
 use Rattle.std.specs.List.{list_any}
-use Rattle.std.specs.Option.{option_map, option_map_or}
+use Rattle.std.specs.Option.{option_map_or}
 use Rattle.std.proofs.lemmas.Bool.{cases_Bool, and_parts, and_from, and_left, not_from_false}
 use Rattle.std.proofs.lemmas.List.Elements.{All-cons, All-head, All-tail, All-weaker}
-use Rattle.blot_types.specs.declared.allocation.AllocRole.{AllocRole}
+use Rattle.blot_types.specs.declared.{allocation.AllocRole.AllocRole, allocation.Instruction.Instruction, keys.AllocKey.AllocKey, keys.ExecKey.ExecKey}
 use Rattle.blot_types.specs.declared.allocation.AllocRole.TheVariants.{Allocates, Replaces, Cancels}
-use Rattle.blot_types.specs.declared.allocation.Instruction.{Instruction}
-use Rattle.blot_types.specs.declared.keys.AllocKey.{AllocKey}
-use Rattle.blot_types.specs.declared.keys.ExecKey.{ExecKey}
 use Rattle.blot_types.specs.Instructions.{is_keyed, alloc_taker_in, brings_allocation, is_allocation_of, is_allocation_in, ends, ended_in, names, is_reference, is_live_in, holds_beside, other_holder_in, reference_of, is_live_key, may_follow, is_instructed}
 use Rattle.blot_types.proofs.AcceptLemmas.{unmapped}
 use Rattle.blot_types.proofs.ChainLemmas.{clash, differing, none_is}
@@ -18,8 +14,9 @@ use Rattle.blot_types.proofs.KeyLemmas.{same_alloc-true, same_alloc-refl, same_a
 use Rattle.blot_types.proofs.LawLemmas.{find-none}
 use Rattle.blot_types.proofs.AcceptOutLemmas.{unfound}
 use Rattle.blot_types.proofs.StayLemmas.{mapped-none}
-use Rattle.blot_types.proofs.VersionLemmas.{find-skip, any-none, none-any}
+use Rattle.blot_types.proofs.VersionLemmas.{find-skip, none-any}
 use Rattle.blot_types.proofs.CorrectLemmas.{All-pairs}
+use Rattle.blot_types.proofs.GeneralLemmas.{any-none}
 
 -- ---- plain lists
 

@@ -1,21 +1,12 @@
 -- Legal entries without an entry of an allocation: the step.
-use Rattle.std.proofs.Common.{◌≡◌, ℕ, ◌==◌, true, false, List, [], ◌∷◌, ◌++◌, Option, Some, None, refl, sym, ap, ◌∙◌, inl, inr}
-use Rattle.std.specs.Prelude.{Bool, ◌&&◌, ◌||◌, not, find, is_none, All, if◌then◌else◌}
-use Rattle.std.specs.List.{cons_option, filter_map, list_any}
-use Rattle.std.specs.Option.{option_map, option_map_or, option_and_then}
+use Rattle.std.proofs.Common.{◌≡◌, ℕ, ◌==◌, true, false, List, [], ◌∷◌, ◌++◌, Option, Some, None, refl, sym, ap, ◌∙◌, inl, inr, Bool, ◌&&◌, ◌||◌, not, find, is_none, All, if◌then◌else◌, filter_map, option_map, option_and_then}
+use Rattle.std.specs.List.{cons_option, list_any}
+use Rattle.std.specs.Option.{option_map_or}
 use Rattle.std.proofs.lemmas.Bool.{cases_Bool, and_parts, and_left, and_right, or_from, or_left, or_right}
 use Rattle.std.proofs.lemmas.List.Elements.{All-nil, All-cons, All-weaker, filter_map-append}
 use Rattle.blot_types.specs.declared.allocation.AllocRole.TheVariants.{Allocates, Replaces, Cancels}
-use Rattle.blot_types.specs.declared.allocation.Instruction.{Instruction}
-use Rattle.blot_types.specs.declared.command.AllocCancel.{AllocCancel}
-use Rattle.blot_types.specs.declared.command.AllocNew.{AllocNew}
-use Rattle.blot_types.specs.declared.command.AllocReplace.{AllocReplace}
-use Rattle.blot_types.specs.declared.command.Command.{Command}
+use Rattle.blot_types.specs.declared.{allocation.Instruction.Instruction, command.AllocCancel.AllocCancel, command.AllocNew.AllocNew, command.AllocReplace.AllocReplace, command.Command.Command, command.Entry.Entry, keys.AllocKey.AllocKey, keys.ExecKey.ExecKey, lines.Version.Version}
 use Rattle.blot_types.specs.declared.command.Command.TheVariants.{AllocNew as NewCommand, AllocReplace as ReplaceCommand, AllocCancel as CancelCommand}
-use Rattle.blot_types.specs.declared.command.Entry.{Entry}
-use Rattle.blot_types.specs.declared.keys.AllocKey.{AllocKey}
-use Rattle.blot_types.specs.declared.keys.ExecKey.{ExecKey}
-use Rattle.blot_types.specs.declared.lines.Version.{Version}
 use Rattle.blot_types.specs.declared.refused.Refused.TheVariants.{UnknownAlloc, DeadAlloc, ExecTaken}
 use Rattle.blot_types.specs.Allocations.{instruction_by, instructions_in, roots_of_terms}
 use Rattle.blot_types.specs.Chains.{taker_in, root_in, current_in}
@@ -33,8 +24,8 @@ use Rattle.blot_types.proofs.AcceptOutLemmas.{accepts, accepted, accepts-out, An
 use Rattle.blot_types.proofs.AllocOutLemmas.{alloc_taker-out, alloc-key-out, unkeyed, allocation-out, unended-out, regains, holder-out, ended-whole, holder-back}
 use Rattle.blot_types.proofs.CorrectLemmas.{any-All}
 use Rattle.blot_types.proofs.NeedLemmas.{IsStep}
-use Rattle.blot_types.proofs.StayLemmas.{any-agree}
-use Rattle.blot_types.proofs.VersionLemmas.{any-none, none-any, unnamed}
+use Rattle.blot_types.proofs.VersionLemmas.{none-any, unnamed}
+use Rattle.blot_types.proofs.GeneralLemmas.{cons-append, all-of, any-agree, any-none}
 
 -- an entry of an allocation that is taken out
 pub record GoneAlloc (later front : List Entry) (k : Entry) (j : Instruction) : Type 0 where
@@ -63,10 +54,6 @@ same-fill later front k key none =
 abbrev pub laters : List Entry → List Entry → List Instruction
 laters [] base = []
 laters (entry ∷ later) base = cons_option (instruction_by (links_in (later ++ base)) entry.number entry.command) (laters later base)
-
-cons-append : {A : Type 0} (o : Option A) (xs ys : List A) → cons_option o (xs ++ ys) ≡ cons_option o xs ++ ys
-cons-append None xs ys = refl
-cons-append (Some x) xs ys = refl
 
 pub by-laters : (later base : List Entry) → instructions_in (later ++ base) ≡ laters later base ++ instructions_in base
 by-laters [] base = refl
@@ -219,10 +206,6 @@ alloc-step later front k j command gone is =
     ]
 
 -- ---- by kinds
-
-all-of : {A : Type 0} (q : A → Type 0) (xs : List A) → ((x : A) → q x) → All q xs
-all-of q [] each = All-nil q
-all-of q (x ∷ xs) each = All-cons q x xs (each x) (all-of q xs each)
 
 -- j refers to its own key
 referred-brings : (j : Instruction) (found : Option AllocKey) → brings_allocation j.role ≡ true → refers_to j found ≡ is_reference found j.key

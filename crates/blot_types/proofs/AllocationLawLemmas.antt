@@ -1,17 +1,12 @@
 -- The laws of allocations: a chain is named by at most one live allocation, and they make and lose nothing.
-use Rattle.std.proofs.Common.{◌≡◌, ℕ, Bool, true, false, ◌&&◌, pos, ◌+ℤ◌, ◌*ℤ◌, arith, List, [], ◌∷◌, map, reverse, refl, sym, ap, ◌∙◌, inl, inr}
-use Rattle.std.specs.Prelude.{ℤ, filter, not, All, IsTrue, if◌then◌else◌}
+use Rattle.std.proofs.Common.{◌≡◌, ℕ, Bool, true, false, ◌&&◌, pos, ◌+ℤ◌, ◌*ℤ◌, arith, List, [], ◌∷◌, map, reverse, refl, sym, ap, ◌∙◌, inl, inr, ℤ, filter, not, All, IsTrue, if◌then◌else◌, flat_map}
 use Rattle.std.specs.Cmp.Lexicographic.{same_text as text_told}
-use Rattle.std.specs.List.{flat_map, list_any}
+use Rattle.std.specs.List.{list_any}
 use Rattle.std.specs.Option.{option_map_or}
-use Rattle.std.proofs.lemmas.Bool.{cases_Bool, and_parts}
+use Rattle.std.proofs.lemmas.Bool.{cases_Bool, and_parts, not-true}
 use Rattle.std.proofs.lemmas.Int.{ints}
 use Rattle.std.proofs.lemmas.List.Elements.{All-head, All-tail, filter-append}
-use Rattle.blot_types.specs.declared.allocation.Line.{Line}
-use Rattle.blot_types.specs.declared.allocation.Terms.{Terms}
-use Rattle.blot_types.specs.declared.command.Entry.{Entry}
-use Rattle.blot_types.specs.declared.part.Part.{Part}
-use Rattle.blot_types.specs.declared.lines.Version.{Version}
+use Rattle.blot_types.specs.declared.{allocation.Line.Line, allocation.Terms.Terms, command.Entry.Entry, part.Part.Part, lines.Version.Version}
 use Rattle.blot_types.specs.Allocations.{Allocation, instructions_of, live_allocations}
 use Rattle.blot_types.specs.Keys.{same_text}
 use Rattle.blot_types.specs.Laws.{IsNamedOnce, are_distinct, position_qty, position_value, is_of_symbol, IsConserving}
@@ -19,11 +14,11 @@ use Rattle.blot_types.specs.Legal.{is_book}
 use Rattle.blot_types.specs.Order.{total}
 use Rattle.blot_types.specs.Position.{signed, from_house, part_of_line, moves_of_line, moves_of, part_of, parts_of, is_at, position_by}
 use Rattle.blot_types.specs.Survivors.{survivors}
-use Rattle.blot_types.proofs.AcceptLemmas.{instructed, not_true}
+use Rattle.blot_types.proofs.AcceptLemmas.{instructed}
 use Rattle.blot_types.proofs.InstructionLemmas.{named_once}
 use Rattle.blot_types.proofs.LawLemmas.{book_parts}
-use Rattle.blot_types.proofs.StandLemmas.{and-true, and-false}
 use Rattle.blot_types.proofs.SumLemmas.{total-cons, total-append, total-same, total-plus, total-zero}
+use Rattle.blot_types.proofs.GeneralLemmas.{and-true, and-false}
 
 -- ---- a chain is named once
 
@@ -71,7 +66,7 @@ one_account account (first ∷ accounts) amount different holds =
     elim (cases_Bool (same_text account first)) [
       | inl same ↦
           let one : account ≡ first = text_told account first (sym same) in
-          let none : list_any (same_text account) accounts ≡ false = ap (λ a. list_any (same_text a) accounts) one ∙ not_true _ parts.0 in
+          let none : list_any (same_text account) accounts ≡ false = ap (λ a. list_any (same_text a) accounts) one ∙ not-true _ parts.0 in
           let here : counted (same_text account first) amount ≡ amount = rw same refl in
           let rest = no_account account accounts amount none in
           omega (arith, ints, whole, here, rest)

@@ -1,20 +1,14 @@
 -- A book with an entry of an execution in the middle, and the book without it: beside the version that stands of the
 -- entry's chain, the same versions stand in both.
-use Rattle.std.proofs.Common.{◌≡◌, ℕ, ◌+◌, ◌==◌, Bool, true, false, ◌&&◌, List, [], ◌∷◌, ◌++◌, reverse, Option, Some, None, refl, sym, ap, subst, ◌∙◌, inl, inr}
-use Rattle.std.specs.Prelude.{is_none, is_some, not, find, filter, All, IfSome, if◌then◌else◌}
-use Rattle.std.specs.List.{cons_option, filter_map}
-use Rattle.std.specs.Option.{option_map, option_map_or, option_and_then}
-use Rattle.std.proofs.lemmas.Bool.{cases_Bool, and_parts, eqb-true}
+use Rattle.std.proofs.Common.{◌≡◌, ℕ, ◌+◌, ◌==◌, Bool, true, false, ◌&&◌, List, [], ◌∷◌, ◌++◌, reverse, Option, Some, None, refl, sym, ap, subst, ◌∙◌, inl, inr, is_none, is_some, not, find, filter, All, IfSome, if◌then◌else◌, filter_map, option_map, option_and_then, eqb-true}
+use Rattle.std.specs.List.{cons_option}
+use Rattle.std.specs.Option.{option_map_or}
+use Rattle.std.proofs.lemmas.Bool.{cases_Bool, and_parts}
 use Rattle.std.proofs.lemmas.List.{reverse-reverse, reverse-append}
 use Rattle.std.proofs.lemmas.List.Elements.{All-weaker, All-filter, filter_passes, filter_map-append, filter-append}
 use Rattle.std.proofs.lemmas.Option.{IfSome_then}
-use Rattle.blot_types.specs.declared.command.Entry.{Entry}
-use Rattle.blot_types.specs.declared.keys.ExecKey.{ExecKey}
-use Rattle.blot_types.specs.declared.lines.Version.{Version}
-use Rattle.blot_types.specs.declared.link.Link.{Link}
-use Rattle.blot_types.specs.declared.link.Role.{Role}
+use Rattle.blot_types.specs.declared.{command.Entry.Entry, keys.ExecKey.ExecKey, lines.Version.Version, link.Link.Link, link.Role.Role, TheConstants.EVENTS_MAX}
 use Rattle.blot_types.specs.declared.link.Role.TheVariants.{Begins, Corrects, Busts}
-use Rattle.blot_types.specs.declared.TheConstants.{EVENTS_MAX}
 use Rattle.blot_types.specs.Allocations.{allocation_of, instructions_in, instructions_of, live_allocations}
 use Rattle.blot_types.specs.Chains.{takes_up, taker_in, own_root, root_in, is_root, busts, bust_in, current_in, link_refusal, reference_refusal, is_chained, falls}
 use Rattle.blot_types.specs.Instructions.{ended_in, named_in}
@@ -22,7 +16,7 @@ use Rattle.blot_types.specs.Keys.{same_exec, is_among}
 use Rattle.blot_types.specs.Laws.{is_of_chain, survivors_beside}
 use Rattle.blot_types.specs.Legal.{is_above_entries, rises_in, numbers_rise, legal_in, is_legal, is_book}
 use Rattle.blot_types.specs.Position.{is_named}
-use Rattle.blot_types.specs.Standing.{standing, chain_under, chain_of, stood}
+use Rattle.blot_types.specs.StandingVersion.{standing, chain_under, chain_of, stood}
 use Rattle.blot_types.specs.Survivors.{is_number, link_of, links_in, links_of, root_of, stands_under, stands_in, version_of, versions_of, survivors}
 use Rattle.blot_types.proofs.BustLemmas.{reverse-middle}
 use Rattle.blot_types.proofs.ChainLemmas.{clash, none_is, accepted_key, accepted_root, current-apart}
@@ -32,9 +26,10 @@ use Rattle.blot_types.proofs.CorrectLemmas.{front-legal}
 use Rattle.blot_types.proofs.EntryLemmas.{falls-links, refusal-link, version-of_bust}
 use Rattle.blot_types.proofs.KeyLemmas.{same_exec-true, same_exec-refl, same_exec-sym}
 use Rattle.blot_types.proofs.LinkOutLemmas.{GoneLink, links-whole, links-rest, chained-whole, chained-rest, instructions-gone}
-use Rattle.blot_types.proofs.StandLemmas.{brings, and-false, taken_other}
+use Rattle.blot_types.proofs.StandLemmas.{brings, taken_other}
 use Rattle.blot_types.proofs.SurvivorLemmas.{filter-agree, filter-and, without, IsKnown, versions-known, of_its_link, IsCurrent, current-found, find-passes, current-stands}
 use Rattle.blot_types.proofs.UnbustLemmas.{bust-beside}
+use Rattle.blot_types.proofs.GeneralLemmas.{and-false}
 
 -- ---- a book, and the version that stands of a chain
 

@@ -1,22 +1,15 @@
 -- A book with an entry of an allocation in the middle, and the book without it: what is live without the allocation that
 -- the entry ended and without the one that it brought, and what each of these adds.
-use Rattle.std.proofs.Common.{◌≡◌, ℕ, ◌+◌, Bool, true, false, ◌&&◌, ◌+ℤ◌, arith, List, [], ◌∷◌, ◌++◌, length, reverse, Option, Some, None, refl, sym, ap, subst, ◌∙◌, inl, inr}
-use Rattle.std.specs.Prelude.{ℤ, ◌||◌, filter, find, is_none, not, All}
+use Rattle.std.proofs.Common.{◌≡◌, ℕ, ◌+◌, Bool, true, false, ◌&&◌, ◌+ℤ◌, arith, List, [], ◌∷◌, ◌++◌, length, reverse, Option, Some, None, refl, sym, ap, subst, ◌∙◌, inl, inr, ℤ, ◌||◌, filter, find, is_none, not, All, option_map}
 use Rattle.std.specs.List.{cons_option, list_any}
-use Rattle.std.specs.Option.{option_map, option_map_or}
+use Rattle.std.specs.Option.{option_map_or}
 use Rattle.std.proofs.lemmas.Bool.{cases_Bool, and_from, and_parts}
 use Rattle.std.proofs.lemmas.Int.{ints}
 use Rattle.std.proofs.lemmas.List.{reverse-append, reverse-reverse}
 use Rattle.std.proofs.lemmas.List.Elements.{All-head, All-tail, All-weaker, filter_map-append}
 use Rattle.blot_types.specs.declared.allocation.AllocRole.TheVariants.{Allocates, Replaces, Cancels}
-use Rattle.blot_types.specs.declared.allocation.Instruction.{Instruction}
-use Rattle.blot_types.specs.declared.command.Command.{Command}
+use Rattle.blot_types.specs.declared.{allocation.Instruction.Instruction, command.Command.Command, command.Entry.Entry, keys.AllocKey.AllocKey, keys.ExecKey.ExecKey, link.Link.Link, refused.Refused.TheVariants.UnknownExec}
 use Rattle.blot_types.specs.declared.command.Command.TheVariants.{Trade, Correct, Bust, AllocNew, AllocReplace, AllocCancel, Withdraw}
-use Rattle.blot_types.specs.declared.command.Entry.{Entry}
-use Rattle.blot_types.specs.declared.keys.AllocKey.{AllocKey}
-use Rattle.blot_types.specs.declared.keys.ExecKey.{ExecKey}
-use Rattle.blot_types.specs.declared.link.Link.{Link}
-use Rattle.blot_types.specs.declared.refused.Refused.TheVariants.{UnknownExec}
 use Rattle.blot_types.specs.Allocations.{Allocation, allocation_of, instruction_by, instructions_in, instructions_of, live_allocations, roots_of_terms}
 use Rattle.blot_types.specs.Chains.{root_in, is_chained}
 use Rattle.blot_types.specs.Instructions.{is_keyed, alloc_taker_in, brings_allocation, is_allocation_of, is_allocation_in, ends, ended_in, is_live_in, names, holds_in, named_in, is_reference, holds_beside, reference_of, is_live_key, is_instructed}
@@ -42,11 +35,11 @@ use Rattle.blot_types.proofs.InstructionLemmas.{Follows, follows, ends-reference
 use Rattle.blot_types.proofs.KeyLemmas.{same_alloc-true, same_alloc-refl, same_alloc-sym}
 use Rattle.blot_types.proofs.LinkOutLemmas.{links-rest, same-instruction}
 use Rattle.blot_types.proofs.LiveLemmas.{IsOfInstruction, of_instruction, IsTaken, all_taken, none_keyed, has_alloc_key, filter-same, unended-step, own-key}
-use Rattle.blot_types.proofs.NamedLemmas.{any-length, any-same}
-use Rattle.blot_types.proofs.StandLemmas.{and-true}
+use Rattle.blot_types.proofs.NamedLemmas.{any-length}
 use Rattle.blot_types.proofs.SumLemmas.{total-cons}
 use Rattle.blot_types.proofs.SurvivorLemmas.{filter-and}
 use Rattle.blot_types.proofs.VersionLemmas.{find-skip}
+use Rattle.blot_types.proofs.GeneralLemmas.{and-true, any-same}
 
 -- ---- lists with an item in the middle
 

@@ -1,20 +1,12 @@
 -- The lines of each allocation of a legal list book its block; the instructions of a list name each chain once.
-use Rattle.std.proofs.Common.{◌≡◌, ℕ, Bool, true, false, pos, List, [], ◌∷◌, reverse, Option, Some, None, refl, sym, subst, ◌∙◌, inl, inr}
-use Rattle.std.specs.Prelude.{ℤ, is_none, find, All}
+use Rattle.std.proofs.Common.{◌≡◌, ℕ, Bool, true, false, pos, List, [], ◌∷◌, reverse, Option, Some, None, refl, sym, subst, ◌∙◌, inl, inr, ℤ, is_none, find, All, option_map, int_eq}
 use Rattle.std.specs.List.{cons_option, list_any, list_all}
-use Rattle.std.specs.Option.{option_map}
-use Rattle.std.specs.Ordering.{int_eq}
 use Rattle.std.proofs.lemmas.Bool.{cases_Bool, and_parts}
 use Rattle.std.proofs.lemmas.Bool.Decides.{Decides-int_eq}
 use Rattle.std.proofs.lemmas.List.{reverse-reverse}
 use Rattle.std.proofs.lemmas.List.Elements.{All-nil, All-cons, All-append}
-use Rattle.blot_types.specs.declared.allocation.Instruction.{Instruction}
-use Rattle.blot_types.specs.declared.command.Command.{Command}
+use Rattle.blot_types.specs.declared.{allocation.Instruction.Instruction, command.Command.Command, command.Entry.Entry, keys.AllocKey.AllocKey, keys.ExecKey.ExecKey, refused.Refused.TheVariants.Quantity}
 use Rattle.blot_types.specs.declared.command.Command.TheVariants.{Trade, Correct, Bust, AllocNew, AllocReplace, AllocCancel, Withdraw}
-use Rattle.blot_types.specs.declared.command.Entry.{Entry}
-use Rattle.blot_types.specs.declared.keys.AllocKey.{AllocKey}
-use Rattle.blot_types.specs.declared.keys.ExecKey.{ExecKey}
-use Rattle.blot_types.specs.declared.refused.Refused.TheVariants.{Quantity}
 use Rattle.blot_types.specs.Allocations.{Allocation, allocation_of}
 use Rattle.blot_types.specs.Instructions.{holds_beside, other_holder_in, are_apart, may_follow, is_instructed}
 use Rattle.blot_types.specs.Legal.{refusal_in, legal_in, is_legal}

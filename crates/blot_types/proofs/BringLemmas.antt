@@ -1,20 +1,14 @@
 -- What one allocation adds to the chains that are named and to the lines that are live: the one that an instruction ends,
 -- and the one that it brings.
-use Rattle.std.proofs.Common.{◌≡◌, Bool, true, false, ◌&&◌, ◌+ℤ◌, arith, List, [], ◌∷◌, ◌++◌, reverse, Option, Some, None, refl, sym, ap, subst, ◌∙◌, inl, inr}
-use Rattle.std.specs.Prelude.{ℤ, ◌||◌, filter, find, is_none, is_some, not, All}
+use Rattle.std.proofs.Common.{◌≡◌, Bool, true, false, ◌&&◌, ◌+ℤ◌, arith, List, [], ◌∷◌, ◌++◌, reverse, Option, Some, None, refl, sym, ap, subst, ◌∙◌, inl, inr, ℤ, ◌||◌, filter, find, is_none, is_some, not, All, option_map}
 use Rattle.std.specs.List.{cons_option, list_any}
-use Rattle.std.specs.Option.{option_map, option_map_or}
+use Rattle.std.specs.Option.{option_map_or}
 use Rattle.std.proofs.lemmas.Bool.{cases_Bool, and_from, and_parts}
 use Rattle.std.proofs.lemmas.Int.{ints}
 use Rattle.std.proofs.lemmas.List.{reverse-reverse}
 use Rattle.std.proofs.lemmas.List.Elements.{All-nil, All-cons, All-head, All-tail}
 use Rattle.std.proofs.lemmas.List.Folds.{find-append}
-use Rattle.blot_types.specs.declared.allocation.AllocRole.{AllocRole}
-use Rattle.blot_types.specs.declared.allocation.Instruction.{Instruction}
-use Rattle.blot_types.specs.declared.command.Entry.{Entry}
-use Rattle.blot_types.specs.declared.keys.AllocKey.{AllocKey}
-use Rattle.blot_types.specs.declared.keys.ExecKey.{ExecKey}
-use Rattle.blot_types.specs.declared.part.Part.{Part}
+use Rattle.blot_types.specs.declared.{allocation.AllocRole.AllocRole, allocation.Instruction.Instruction, command.Entry.Entry, keys.AllocKey.AllocKey, keys.ExecKey.ExecKey, part.Part.Part}
 use Rattle.blot_types.specs.Allocations.{Allocation, allocation_of, instruction_by, instructions_in, instructions_of, live_allocations}
 use Rattle.blot_types.specs.Instructions.{is_keyed, alloc_taker_in, brings_allocation, is_allocation_of, is_allocation_in, ends, ended_in, holds_in, named_in, is_reference, holds_beside, reference_of, is_live_key, are_apart, is_instructed}
 use Rattle.blot_types.specs.Keys.{is_among, same_alloc, same_exec}
@@ -31,8 +25,8 @@ use Rattle.blot_types.proofs.KeyLemmas.{same_alloc-true, same_alloc-refl, same_e
 use Rattle.blot_types.proofs.LawLemmas.{find-none}
 use Rattle.blot_types.proofs.LiveLemmas.{turned, IsOfInstruction, of_instruction, IsTaken, all_taken, none_keyed, has_alloc_key, live-more, total-ended}
 use Rattle.blot_types.proofs.NamedLemmas.{keyed-live, named-more, named-less}
-use Rattle.blot_types.proofs.StandLemmas.{and-true, and-false}
 use Rattle.blot_types.proofs.SumLemmas.{total-append, total-cons}
+use Rattle.blot_types.proofs.GeneralLemmas.{and-true, and-false, filter-all, found-All}
 
 -- ---- lists
 
@@ -79,18 +73,6 @@ found-any p q (y ∷ ys) x found kept =
             | inl here ↦ (let same : Some y ≡ Some x = rw here at found in let one : y ≡ x = cc in absurd (differing (ap q one ∙ kept) fails))
             | inr passed ↦ rw fails (found-any p q ys x (rw passed at found) kept)
           ]
-    ]
-
-all-pass : {X : Type 0} (p : X → Bool) (xs : List X) → ((x : X) → p x ≡ true) → filter p xs ≡ xs
-all-pass p [] each = refl
-all-pass p (x ∷ xs) each = rw (each x, all-pass p xs each) refl
-
-pub found-All : {X : Type 0} (P : X → Type 0) (p : X → Bool) (xs : List X) (x : X) → All P xs → find p xs ≡ Some x → P x
-found-All P p [] x all found = cc
-found-All P p (y ∷ ys) x all found =
-    elim (cases_Bool (p y)) [
-      | inl here ↦ (let same : Some y ≡ Some x = rw here at found in let one : y ≡ x = cc in subst P one (All-head P y ys all))
-      | inr passed ↦ found-All P p ys x (All-tail P y ys all) (rw passed at found)
     ]
 
 -- ---- roots
@@ -196,7 +178,7 @@ pub ended-brings :
     → BringsIf list reference (named_beside list reference) (is_named_root list) (live_beside list reference) (live_allocations list)
 ended-brings list None legal refers = record {
   named = λ root. named-held (instructions_of list) root ∙ (λ k. list_any (λ j. sym (and-true (holds_in (instructions_of list) root j)) k) (instructions_of list));
-  lines = λ f. ap (lines_of f) (sym (all-pass (λ a. not false) (live_allocations list) (λ a. refl)));
+  lines = λ f. ap (lines_of f) (sym (filter-all (λ a. not false) (live_allocations list) (λ a. refl)));
 }
 ended-brings list (Some key) legal live =
     let instructions = instructions_of list in

@@ -1,16 +1,9 @@
 -- A legal list without a Bust is legal: nothing needs it.
-use Rattle.std.proofs.Common.{◌≡◌, ℕ, true, false, List, [], ◌∷◌, ◌++◌, reverse, Option, Some, None, refl, sym, ap, ◌∙◌}
-use Rattle.std.specs.Prelude.{◌==◌, ◌&&◌, find, nat_lt, is_none, All, IsTrue}
-use Rattle.std.specs.Option.{option_map, option_and_then}
+use Rattle.std.proofs.Common.{◌≡◌, ℕ, true, false, List, [], ◌∷◌, ◌++◌, reverse, Option, Some, None, refl, sym, ap, ◌∙◌, ◌==◌, ◌&&◌, find, nat_lt, is_none, All, IsTrue, option_map, option_and_then, append_assoc}
 use Rattle.std.proofs.lemmas.Bool.{and_right}
-use Rattle.std.proofs.lemmas.List.{reverse-append, reverse-reverse, append_assoc}
+use Rattle.std.proofs.lemmas.List.{reverse-append, reverse-reverse}
 use Rattle.std.proofs.lemmas.List.Elements.{All-weaker, filter_map-append}
-use Rattle.blot_types.specs.declared.command.Bust.{Bust}
-use Rattle.blot_types.specs.declared.command.Command.{Command}
-use Rattle.blot_types.specs.declared.command.Entry.{Entry}
-use Rattle.blot_types.specs.declared.keys.ExecKey.{ExecKey}
-use Rattle.blot_types.specs.declared.link.Link.{Link}
-use Rattle.blot_types.specs.declared.link.Role.TheVariants.{Busts}
+use Rattle.blot_types.specs.declared.{command.Bust.Bust, command.Command.Command, command.Entry.Entry, keys.ExecKey.ExecKey, link.Link.Link, link.Role.TheVariants.Busts}
 use Rattle.blot_types.specs.Chains.{root_in, current_in}
 use Rattle.blot_types.specs.Legal.{rises_in, refusal_in, legal_in, is_book, least_needing}
 use Rattle.blot_types.specs.Refusals.{listed_by, exec_references, version_in, current_fill, unknown_exec}

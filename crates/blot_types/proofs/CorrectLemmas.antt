@@ -1,26 +1,14 @@
 -- Legal entries without a Correct: the step.
-use Rattle.std.proofs.Common.{◌≡◌, ℕ, ◌<◌, ◌==◌, arith, true, false, List, [], ◌∷◌, ◌++◌, pos, Option, Some, None, refl, sym, ap, ◌∙◌, inl, inr}
-use Rattle.std.specs.Prelude.{Bool, ℤ, ◌+ℤ◌, ◌&&◌, ◌||◌, not, find, is_none, nat_lt, All}
-use Rattle.std.specs.List.{cons_option, filter_map, list_any}
-use Rattle.std.specs.Option.{option_map, option_map_or, option_and_then}
-use Rattle.std.specs.Ordering.{int_eq}
+use Rattle.std.proofs.Common.{◌≡◌, ℕ, ◌<◌, ◌==◌, arith, true, false, List, [], ◌∷◌, ◌++◌, pos, Option, Some, None, refl, sym, ap, ◌∙◌, inl, inr, Bool, ℤ, ◌+ℤ◌, ◌&&◌, ◌||◌, not, find, is_none, nat_lt, All, filter_map, option_map, option_and_then, int_eq, eqb-true, eq-eqb, ltb-true, ne_eqb}
+use Rattle.std.specs.List.{cons_option, list_any}
+use Rattle.std.specs.Option.{option_map_or}
 use Rattle.std.specs.Cmp.Lexicographic.{same_text as text_told, nat_list_eq_equiv}
-use Rattle.std.proofs.lemmas.Bool.{cases_Bool, and_parts, and_from, eqb-true, eq-eqb, ltb-true, ne_eqb, or_from, or_left, or_right, not-true, not-false}
+use Rattle.std.proofs.lemmas.Bool.{cases_Bool, and_parts, and_from, or_from, or_left, or_right, not-true, not-false}
 use Rattle.std.proofs.lemmas.Bool.Decides.{Decides-int_eq}
 use Rattle.std.proofs.lemmas.Int.{ints}
 use Rattle.std.proofs.lemmas.List.Elements.{All-nil, All-cons, All-head, All-tail, All-weaker}
-use Rattle.blot_types.specs.declared.allocation.Terms.{Terms}
-use Rattle.blot_types.specs.declared.command.Command.{Command}
-use Rattle.blot_types.specs.declared.command.Command.TheVariants.{Correct as CorrectCommand}
-use Rattle.blot_types.specs.declared.command.Correct.{Correct}
-use Rattle.blot_types.specs.declared.command.Entry.{Entry}
-use Rattle.blot_types.specs.declared.fill.Fill.{Fill}
-use Rattle.blot_types.specs.declared.fill.Sign.{Sign}
+use Rattle.blot_types.specs.declared.{allocation.Terms.Terms, command.Command.Command, command.Command.TheVariants.Correct as CorrectCommand, command.Correct.Correct, command.Entry.Entry, fill.Fill.Fill, fill.Sign.Sign, keys.ExecKey.ExecKey, lines.Version.Version, link.Link.Link, link.Role.TheVariants.Corrects}
 use Rattle.blot_types.specs.declared.fill.Sign.TheVariants.{Buy, Sell}
-use Rattle.blot_types.specs.declared.keys.ExecKey.{ExecKey}
-use Rattle.blot_types.specs.declared.lines.Version.{Version}
-use Rattle.blot_types.specs.declared.link.Link.{Link}
-use Rattle.blot_types.specs.declared.link.Role.TheVariants.{Corrects}
 use Rattle.blot_types.specs.declared.refused.Refused.TheVariants.{Instrument, RepeatedExec, Quantity}
 use Rattle.blot_types.specs.Chains.{takes_up, own_root, root_in, is_root, current_in}
 use Rattle.blot_types.specs.Instructions.{are_apart}
@@ -38,7 +26,8 @@ use Rattle.blot_types.specs.Withdrawal.{below, alike, changes_fill, is_last_of, 
 use Rattle.blot_types.proofs.AcceptOutLemmas.{accepts, accepted, accepts-out, shape, shaped, amount, amount-shaped, cum-cons, cum-shaped, listed, unfound}
 use Rattle.blot_types.proofs.NeedLemmas.{IsStep}
 use Rattle.blot_types.proofs.LinkOutLemmas.{GoneLink, links-rest, root-gone, answers-gone, uses-gone, IsOther, ShapeStays, AnyKey}
-use Rattle.blot_types.proofs.VersionLemmas.{any-none, unnamed, fill-behind, last-of, refused-among, or-falses}
+use Rattle.blot_types.proofs.VersionLemmas.{unnamed, fill-behind, last-of, refused-among}
+use Rattle.blot_types.proofs.GeneralLemmas.{or-falses, any-none}
 
 abbrev pub as_entry : ℕ → Correct → Entry
 as_entry number correct = record { number = number; command = CorrectCommand correct }

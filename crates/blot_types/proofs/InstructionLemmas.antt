@@ -1,19 +1,15 @@
 -- Instructions as they come: which allocations are live, and the chains that they name.
-use Rattle.std.proofs.Common.{◌≡◌, ℕ, ◌≤◌, Bool, true, false, ◌&&◌, List, [], ◌∷◌, length, Option, Some, None, refl, sym, ap, subst, ◌∙◌, arith, inl, inr}
-use Rattle.std.specs.Prelude.{not, filter, find, is_none}
+use Rattle.std.proofs.Common.{◌≡◌, ℕ, ◌≤◌, Bool, true, false, ◌&&◌, List, [], ◌∷◌, length, Option, Some, None, refl, sym, ap, subst, ◌∙◌, arith, inl, inr, not, filter, find, is_none, option_map}
 use Rattle.std.specs.List.{list_any, list_all}
-use Rattle.std.specs.Option.{option_map, option_map_or}
+use Rattle.std.specs.Option.{option_map_or}
 use Rattle.std.proofs.lemmas.Bool.{cases_Bool, and_parts}
-use Rattle.blot_types.specs.declared.allocation.AllocRole.{AllocRole}
+use Rattle.blot_types.specs.declared.{allocation.AllocRole.AllocRole, allocation.Instruction.Instruction, keys.AllocKey.AllocKey, keys.ExecKey.ExecKey}
 use Rattle.blot_types.specs.declared.allocation.AllocRole.TheVariants.{Allocates, Replaces, Cancels}
-use Rattle.blot_types.specs.declared.allocation.Instruction.{Instruction}
-use Rattle.blot_types.specs.declared.keys.AllocKey.{AllocKey}
-use Rattle.blot_types.specs.declared.keys.ExecKey.{ExecKey}
 use Rattle.blot_types.specs.Instructions.{is_keyed, alloc_taker_in, brings_allocation, is_allocation_of, is_allocation_in, ends, ended_in, is_live_in, names, holds_in, is_reference, holds_beside, other_holder_in, reference_of, is_live_key, are_apart, may_follow, is_instructed}
 use Rattle.blot_types.specs.Keys.{same_exec}
 use Rattle.blot_types.proofs.ChainLemmas.{clash, differing, none_is}
 use Rattle.blot_types.proofs.KeyLemmas.{same_exec-true, same_alloc-true}
-use Rattle.blot_types.proofs.StandLemmas.{and-true, and-false}
+use Rattle.blot_types.proofs.GeneralLemmas.{and-true, and-false}
 
 -- ---- lists
 

@@ -1,19 +1,12 @@
 -- The laws of a legal list: one survivor for each chain that isn't busted, and Busts that leave the others.
-use Rattle.std.proofs.Common.{◌≡◌, ℕ, ◌<◌, ◌==◌, Bool, true, false, ◌&&◌, List, [], ◌∷◌, ◌++◌, reverse, Option, Some, None, refl, sym, ap, subst, ◌∙◌, arith, inl, inr}
-use Rattle.std.specs.Prelude.{is_none, not, find, filter, IsTrue, All}
+use Rattle.std.proofs.Common.{◌≡◌, ℕ, ◌<◌, ◌==◌, Bool, true, false, ◌&&◌, List, [], ◌∷◌, ◌++◌, reverse, Option, Some, None, refl, sym, ap, subst, ◌∙◌, arith, inl, inr, is_none, not, find, filter, IsTrue, All, eqb-true, eq-eqb, append_assoc, append-nil}
 use Rattle.std.specs.List.{cons_option}
 use Rattle.std.specs.Option.{option_or}
-use Rattle.std.proofs.lemmas.Bool.{cases_Bool, and_parts, eqb-true, eq-eqb}
-use Rattle.std.proofs.lemmas.List.{reverse-append, reverse-reverse, append_assoc, append-nil}
+use Rattle.std.proofs.lemmas.Bool.{cases_Bool, and_parts}
+use Rattle.std.proofs.lemmas.List.{reverse-append, reverse-reverse}
 use Rattle.std.proofs.lemmas.List.Elements.{All-nil, All-cons, All-head, All-tail, All-weaker, filter_map-append, filter-append}
 use Rattle.std.proofs.lemmas.List.Folds.{find-append}
-use Rattle.blot_types.specs.declared.command.Bust.{Bust}
-use Rattle.blot_types.specs.declared.command.Command.TheVariants.{Bust as BustCommand}
-use Rattle.blot_types.specs.declared.command.Entry.{Entry}
-use Rattle.blot_types.specs.declared.keys.ExecKey.{ExecKey}
-use Rattle.blot_types.specs.declared.lines.Version.{Version}
-use Rattle.blot_types.specs.declared.link.Link.{Link}
-use Rattle.blot_types.specs.declared.link.Role.{Role}
+use Rattle.blot_types.specs.declared.{command.Bust.Bust, command.Command.TheVariants.Bust as BustCommand, command.Entry.Entry, keys.ExecKey.ExecKey, lines.Version.Version, link.Link.Link, link.Role.Role}
 use Rattle.blot_types.specs.declared.link.Role.TheVariants.{Begins, Corrects, Busts}
 use Rattle.blot_types.specs.Keys.{same_exec}
 use Rattle.blot_types.specs.Chains.{takes_up, taker_in, own_root, root_in, is_root, busts, bust_in, current_in}
@@ -23,9 +16,9 @@ use Rattle.blot_types.specs.Laws.{survivors_of_chain, survivors_beside, HasOneSu
 use Rattle.blot_types.proofs.KeyLemmas.{same_exec-true, same_exec-refl, same_exec-sym}
 use Rattle.blot_types.proofs.ChainLemmas.{none_is, rootless, accepted_key, differing}
 use Rattle.blot_types.proofs.LegalLemmas.{is_legal-front, is_legal-push}
-use Rattle.blot_types.proofs.StandLemmas.{and-false}
 use Rattle.blot_types.proofs.EntryLemmas.{version-number, refusal-link}
 use Rattle.blot_types.proofs.SurvivorLemmas.{IsKnown, IsCurrent, all_known, versions-cons, filter-agree, filter-and, find-below, find-passes, current-found}
+use Rattle.blot_types.proofs.GeneralLemmas.{and-false, all-of}
 
 -- ---- lists
 
@@ -33,10 +26,6 @@ pub filter-none : {X : Type 0} (p : X → Bool) (xs : List X) → All (λ x. p x
 filter-none p [] none = refl
 filter-none p (x ∷ xs) none =
     rw (All-head (λ y. p y ≡ false) x xs none) (filter-none p xs (All-tail (λ y. p y ≡ false) x xs none))
-
-pub all : {X : Type 0} (P : X → Type 0) (xs : List X) → ((x : X) → P x) → All P xs
-all P [] each = All-nil P
-all P (x ∷ xs) each = All-cons P x xs (each x) (all P xs each)
 
 -- one item at most, and it is found: then it is what a test leaves that it passes
 filter-single :
@@ -188,7 +177,7 @@ busted_none list root number is =
     let links = links_of list in
     sym (filter-and (stands_in links) (λ version. is_root root (root_in links version.key)) (versions_of list))
     ∙ filter-none (stands_of links root) (versions_of list)
-    (all (λ version. stands_of links root version ≡ false) (versions_of list) (λ version. busted-passed links root version.number number (root_in links version.key) is))
+    (all-of (λ version. stands_of links root version ≡ false) (versions_of list) (λ version. busted-passed links root version.number number (root_in links version.key) is))
 
 pub book_parts : (list : List Entry) → IsTrue (is_book list) → (numbers_rise list ≡ true) × (is_legal list ≡ true)
 book_parts list book = grind (arith, book)
@@ -326,7 +315,7 @@ beside-around front back number bust root legal root_is =
     beside_by_links (front ++ entry ∷ back) root
     ∙ ap (λ links. filter (passes_beside links root) (versions_of (front ++ entry ∷ back))) (links_of-around front back entry)
     ∙ ap (filter (passes_beside (later ++ link ∷ earlier) root)) (versions-around front back number bust)
-    ∙ filter-agree (passes_beside (later ++ link ∷ earlier) root) (passes_beside (later ++ earlier) root) versions (all _ versions agree)
+    ∙ filter-agree (passes_beside (later ++ link ∷ earlier) root) (passes_beside (later ++ earlier) root) versions (all-of _ versions agree)
     ∙ ap (λ links. filter (passes_beside links root) versions) (sym (links_of-append front back))
     ∙ sym (beside_by_links (front ++ back) root)
 

@@ -1,14 +1,12 @@
 -- Lists of entries: their legality as they grow.
-use Rattle.std.proofs.Common.{◌≡◌, ℕ, ◌+◌, ◌<◌, ◌≤◌, List, [], ◌∷◌, ◌++◌, length, get_or, take, drop, reverse, map, Option, Some, None, Bool, true, false, ◌&&◌, refl, ap, ◌∙◌, sym, arith, inl, inr}
-use Rattle.std.specs.Prelude.{is_none, is_some, nat_lt}
-use Rattle.std.specs.List.{list_all, All}
+use Rattle.std.proofs.Common.{◌≡◌, ℕ, ◌+◌, ◌<◌, ◌≤◌, List, [], ◌∷◌, ◌++◌, length, get_or, take, drop, reverse, map, Option, Some, None, Bool, true, false, ◌&&◌, refl, ap, ◌∙◌, sym, arith, inl, inr, is_none, is_some, nat_lt, All, take-append-drop, lt-ltb, ltb-true}
+use Rattle.std.specs.List.{list_all}
 use Rattle.std.proofs.lemmas.List.Elements.{All-head, All-tail}
 use Rattle.std.proofs.lemmas.List.Folds.{list_all-append}
-use Rattle.std.proofs.lemmas.List.{reverse-append, length-reverse, take-append-drop, take_more}
-use Rattle.std.proofs.lemmas.Bool.{cases_Bool, and_from, lt-ltb, ltb-true}
-use Rattle.blot_types.specs.declared.command.Entry.{Entry}
+use Rattle.std.proofs.lemmas.List.{reverse-append, length-reverse, take_more}
+use Rattle.std.proofs.lemmas.Bool.{cases_Bool, and_from}
+use Rattle.blot_types.specs.declared.{command.Entry.Entry, TheConstants.EVENTS_MAX}
 use Rattle.blot_types.specs.Legal.{is_above_entries, rises_in, numbers_rise, legal_in, is_legal, is_numbered, is_book, entry_refusal}
-use Rattle.blot_types.specs.declared.TheConstants.{EVENTS_MAX}
 
 -- a list with one more entry is legal where the entries before accept it and are legal
 pub is_legal-push : (list : List Entry) (entry : Entry) → is_legal (list ++ entry ∷ []) ≡ (is_none (entry_refusal list entry.command) && is_legal list)

@@ -1,19 +1,14 @@
 -- What one more instruction changes in the allocations that are live.
-use Rattle.std.proofs.Common.{◌≡◌, ℕ, Bool, true, false, ◌&&◌, ◌+ℤ◌, arith, List, [], ◌∷◌, ◌++◌, reverse, Option, Some, None, refl, sym, ap, subst, ◌∙◌, inl, inr}
-use Rattle.std.specs.Prelude.{ℤ, filter, find, is_none, is_some, not, All}
+use Rattle.std.proofs.Common.{◌≡◌, ℕ, Bool, true, false, ◌&&◌, ◌+ℤ◌, arith, List, [], ◌∷◌, ◌++◌, reverse, Option, Some, None, refl, sym, ap, subst, ◌∙◌, inl, inr, ℤ, filter, find, is_none, is_some, not, All, append-nil}
 use Rattle.std.specs.List.{cons_option}
 use Rattle.std.specs.Option.{option_or}
 use Rattle.std.proofs.lemmas.Bool.{cases_Bool, and_parts}
 use Rattle.std.proofs.lemmas.Int.{ints}
-use Rattle.std.proofs.lemmas.List.{reverse-reverse, reverse-append, append-nil}
+use Rattle.std.proofs.lemmas.List.{reverse-reverse, reverse-append}
 use Rattle.std.proofs.lemmas.List.Elements.{All-nil, All-cons, All-append, All-weaker, filter-append, filter_map-append}
 use Rattle.std.proofs.lemmas.List.Folds.{find-append}
-use Rattle.blot_types.specs.declared.allocation.Instruction.{Instruction}
-use Rattle.blot_types.specs.declared.command.Command.{Command}
+use Rattle.blot_types.specs.declared.{allocation.Instruction.Instruction, command.Command.Command, command.Entry.Entry, keys.AllocKey.AllocKey, link.Link.Link}
 use Rattle.blot_types.specs.declared.command.Command.TheVariants.{Trade, Correct, Bust, AllocNew, AllocReplace, AllocCancel, Withdraw}
-use Rattle.blot_types.specs.declared.command.Entry.{Entry}
-use Rattle.blot_types.specs.declared.keys.AllocKey.{AllocKey}
-use Rattle.blot_types.specs.declared.link.Link.{Link}
 use Rattle.blot_types.specs.Allocations.{Allocation, allocation_of, instruction_by, instructions_in, instructions_of, live_allocations}
 use Rattle.blot_types.specs.Instructions.{is_keyed, alloc_taker_in, brings_allocation, is_allocation_in, ends, ended_in, is_live_key}
 use Rattle.blot_types.specs.Keys.{same_alloc}
@@ -27,15 +22,11 @@ use Rattle.blot_types.proofs.InstructionLemmas.{follows}
 use Rattle.blot_types.proofs.KeyLemmas.{same_alloc-true, same_alloc-refl}
 use Rattle.blot_types.proofs.LawLemmas.{filter-none, find-none}
 use Rattle.blot_types.proofs.NamedLemmas.{own-unended}
-use Rattle.blot_types.proofs.StandLemmas.{and-true, and-false}
 use Rattle.blot_types.proofs.SumLemmas.{total-filter}
 use Rattle.blot_types.proofs.SurvivorLemmas.{filter-and}
+use Rattle.blot_types.proofs.GeneralLemmas.{and-true, and-false, or-none}
 
 -- ---- lists
-
-pub or-nothing : {A : Type 0} (o : Option A) → option_or o None ≡ o
-or-nothing None = refl
-or-nothing (Some a) = refl
 
 pub filter-same : {X : Type 0} (p q : X → Bool) (xs : List X) → ((x : X) → p x ≡ q x) → filter p xs ≡ filter q xs
 filter-same p q [] same = refl
@@ -137,7 +128,7 @@ last_keyed earlier (Some a) key before fresh =
           let last_none : find p (a ∷ []) ≡ None = rw other refl in
           let rest_none : filter p (a ∷ []) ≡ [] = rw other refl in
           split ∙ ap (λ back. filter p earlier ++ back) rest_none ∙ append-nil (filter p earlier) ∙ before
-          ∙ ap (λ o. cons_option o []) (sym (found ∙ ap (option_or (find p earlier)) last_none ∙ or-nothing (find p earlier)))
+          ∙ ap (λ o. cons_option o []) (sym (found ∙ ap (option_or (find p earlier)) last_none ∙ or-none (find p earlier)))
     ]
 
 fresh_of :

@@ -1,12 +1,9 @@
 -- What one more instruction changes: the chains that are named, and the allocations that are live.
-use Rattle.std.proofs.Common.{◌≡◌, ◌+◌, ◌≤◌, Bool, true, false, ◌&&◌, arith, List, [], ◌∷◌, length, Some, None, refl, sym, ap, subst, ◌∙◌, inl, inr}
-use Rattle.std.specs.Prelude.{◌||◌, filter, find, is_none, not, All}
+use Rattle.std.proofs.Common.{◌≡◌, ◌+◌, ◌≤◌, Bool, true, false, ◌&&◌, arith, List, [], ◌∷◌, length, Some, None, refl, sym, ap, subst, ◌∙◌, inl, inr, ◌||◌, filter, find, is_none, not, All}
 use Rattle.std.specs.List.{list_any}
 use Rattle.std.proofs.lemmas.Bool.{cases_Bool, and_from, and_parts}
 use Rattle.std.proofs.lemmas.List.Elements.{All-nil, All-cons, All-head, All-tail, All-weaker}
-use Rattle.blot_types.specs.declared.allocation.Instruction.{Instruction}
-use Rattle.blot_types.specs.declared.keys.AllocKey.{AllocKey}
-use Rattle.blot_types.specs.declared.keys.ExecKey.{ExecKey}
+use Rattle.blot_types.specs.declared.{allocation.Instruction.Instruction, keys.AllocKey.AllocKey, keys.ExecKey.ExecKey}
 use Rattle.blot_types.specs.Instructions.{is_keyed, alloc_taker_in, brings_allocation, is_allocation_of, is_allocation_in, ends, ended_in, is_live_in, names, holds_in, named_in, reference_of, is_live_key, may_follow, is_instructed}
 use Rattle.blot_types.specs.Keys.{is_among, same_alloc}
 use Rattle.blot_types.proofs.AcceptLemmas.{instructed}
@@ -14,8 +11,8 @@ use Rattle.blot_types.proofs.ChainLemmas.{clash, differing}
 use Rattle.blot_types.proofs.ChangeLemmas.{named-held}
 use Rattle.blot_types.proofs.InstructionLemmas.{Follows, follows, holds-step, ends-reference, unknown_reference, unended, named_once}
 use Rattle.blot_types.proofs.KeyLemmas.{same_alloc-true, same_alloc-sym}
-use Rattle.blot_types.proofs.StandLemmas.{and-true, and-false}
 use Rattle.blot_types.proofs.SurvivorLemmas.{find-passes}
+use Rattle.blot_types.proofs.GeneralLemmas.{and-true, and-false, any-same, any-agree}
 
 -- ---- lists
 
@@ -54,16 +51,6 @@ length-split a b (x ∷ xs) =
           ]
       | inr fails ↦ rw fails rest
     ]
-
-pub any-same : {X : Type 0} (p q : X → Bool) (xs : List X) → ((x : X) → p x ≡ q x) → list_any p xs ≡ list_any q xs
-any-same p q [] same = refl
-any-same p q (x ∷ xs) same = rw (same x, any-same p q xs same) refl
-
-any-agree-all : {X : Type 0} (p q : X → Bool) (xs : List X) → All (λ x. p x ≡ q x) xs → list_any p xs ≡ list_any q xs
-any-agree-all p q [] agree = refl
-any-agree-all p q (x ∷ xs) agree =
-    let here : p x ≡ q x = All-head (λ y. p y ≡ q y) x xs agree in
-    rw (here, any-agree-all p q xs (All-tail (λ y. p y ≡ q y) x xs agree)) refl
 
 -- ---- the new instruction itself
 
@@ -162,7 +149,7 @@ named-less instructions key t root instructed live found =
             | inr none ↦ none ∙ sym (ap (λ b. is_among (named_in instructions) root && not b) named ∙ and-false (is_among (named_in instructions) root))
           ]
       | inr unnamed ↦
-          any-agree-all (λ j. holds j && not (keyed j)) holds instructions
+          any-agree (λ j. holds j && not (keyed j)) holds instructions
           (All-weaker (λ j. is_keyed key j ≡ true → j ≡ t) (λ j. (holds j && not (keyed j)) ≡ holds j)
           (λ j same.
           elim (cases_Bool (keyed j)) [

@@ -1,17 +1,16 @@
 -- The least number at which a list fails without one entry, found along the list.
-use Rattle.std.proofs.Common.{◌≡◌, ℕ, ◌<◌, ◌≤◌, ◌==◌, Bool, true, false, ◌&&◌, List, [], ◌∷◌, ◌++◌, reverse, map, Option, Some, None, refl, sym, ap, ◌∙◌, arith, inl, inr}
-use Rattle.std.specs.Prelude.{not, find, All, is_none, nat_lt, if◌then◌else◌}
+use Rattle.std.proofs.Common.{◌≡◌, ℕ, ◌<◌, ◌≤◌, ◌==◌, Bool, true, false, ◌&&◌, List, [], ◌∷◌, ◌++◌, reverse, map, Option, Some, None, refl, sym, ap, ◌∙◌, arith, inl, inr, not, find, All, is_none, nat_lt, if◌then◌else◌, ltb-true, lt-ltb, eq-eqb, ne_eqb, append-nil}
 use Rattle.std.specs.Option.{option_or}
-use Rattle.std.proofs.lemmas.Bool.{cases_Bool, and_from, and_parts, ltb-true, lt-ltb, eq-eqb, ne_eqb}
-use Rattle.std.proofs.lemmas.List.{reverse-append, reverse-reverse, append-nil, map-append}
+use Rattle.std.proofs.lemmas.Bool.{cases_Bool, and_from, and_parts}
+use Rattle.std.proofs.lemmas.List.{reverse-append, reverse-reverse, map-append}
 use Rattle.std.proofs.lemmas.List.Elements.{All-nil, All-cons, All-append, All-weaker, filter-append}
 use Rattle.std.proofs.lemmas.List.Folds.{find-append}
-use Rattle.blot_types.specs.declared.command.Command.{Command}
-use Rattle.blot_types.specs.declared.command.Entry.{Entry}
+use Rattle.blot_types.specs.declared.{command.Command.Command, command.Entry.Entry}
 use Rattle.blot_types.specs.Legal.{is_above_entries, rises_in, refusal_in, legal_in, is_legal, without, up_to, fails_at, least_needing}
 use Rattle.blot_types.proofs.ChainLemmas.{none_is}
 use Rattle.blot_types.specs.Withdrawal.{needs, needed_in}
 use Rattle.blot_types.proofs.StayLemmas.{filter-reverse, find-agree}
+use Rattle.blot_types.proofs.GeneralLemmas.{not-not, and-true}
 
 -- ---- newest first
 
@@ -24,14 +23,6 @@ blocked_in k (entry ∷ earlier) =
 
 some-none : {m : ℕ} → Some m ≡ None → ⊥
 some-none e = cc
-
-pub and-true : (b : Bool) → (b && true) ≡ b
-and-true true = refl
-and-true false = refl
-
-not-not : (b : Bool) → not (not b) ≡ b
-not-not true = refl
-not-not false = refl
 
 none-if : (b : Bool) (m : ℕ) → (if b then Some m else None) ≡ None → b ≡ false
 none-if true m none = cc

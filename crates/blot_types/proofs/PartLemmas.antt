@@ -1,33 +1,26 @@
 -- The parts of the positions: what moves where a chain is named, or isn't any more.
-use Rattle.std.proofs.Common.{◌≡◌, ℕ, ◌==◌, Bool, true, false, ◌&&◌, ◌+ℤ◌, arith, List, [], ◌∷◌, map, reverse, Option, Some, None, refl, sym, ap, subst, ◌∙◌, inl, inr}
-use Rattle.std.specs.Prelude.{ℤ, neg_ℤ, unsigned_abs, filter, find, is_none, not, All, IsTrue, if◌then◌else◌}
+use Rattle.std.proofs.Common.{◌≡◌, ℕ, ◌==◌, Bool, true, false, ◌&&◌, ◌+ℤ◌, arith, List, [], ◌∷◌, map, reverse, Option, Some, None, refl, sym, ap, subst, ◌∙◌, inl, inr, ℤ, neg_ℤ, unsigned_abs, filter, find, is_none, not, All, IsTrue, if◌then◌else◌, option_and_then, eqb-true, eq-eqb}
 use Rattle.std.specs.List.{cons_option}
-use Rattle.std.specs.Option.{option_map_or, option_and_then}
-use Rattle.std.proofs.lemmas.Bool.{cases_Bool, eqb-true, eq-eqb}
+use Rattle.std.specs.Option.{option_map_or}
+use Rattle.std.proofs.lemmas.Bool.{cases_Bool, not-true}
 use Rattle.std.proofs.lemmas.Int.{ints}
 use Rattle.std.proofs.lemmas.List.{reverse-reverse}
 use Rattle.std.proofs.lemmas.List.Elements.{All-nil, All-cons, All-weaker}
-use Rattle.blot_types.specs.declared.command.Entry.{Entry}
-use Rattle.blot_types.specs.declared.fill.Sign.{Sign}
+use Rattle.blot_types.specs.declared.{command.Entry.Entry, fill.Sign.Sign, keys.ExecKey.ExecKey, part.Part.Part, lines.Version.Version, link.Link.Link}
 use Rattle.blot_types.specs.declared.fill.Sign.TheVariants.{Buy, Sell}
-use Rattle.blot_types.specs.declared.keys.ExecKey.{ExecKey}
-use Rattle.blot_types.specs.declared.part.Part.{Part}
-use Rattle.blot_types.specs.declared.lines.Version.{Version}
-use Rattle.blot_types.specs.declared.link.Link.{Link}
 use Rattle.blot_types.specs.Chains.{root_in, is_root, bust_in, current_in}
 use Rattle.blot_types.specs.Keys.{same_exec}
 use Rattle.blot_types.specs.Laws.{is_of_chain, survivors_of_chain}
 use Rattle.blot_types.specs.Legal.{is_book}
 use Rattle.blot_types.specs.Order.{total}
 use Rattle.blot_types.specs.Position.{signed, part_of_fill}
-use Rattle.blot_types.specs.Standing.{standing}
+use Rattle.blot_types.specs.StandingVersion.{standing}
 use Rattle.blot_types.specs.Survivors.{links_of, versions_of, stands_under, stands_in, survivors}
 use Rattle.blot_types.proofs.KeyLemmas.{same_exec-true, same_exec-refl}
-use Rattle.blot_types.proofs.LawLemmas.{filter-none, all, alone, stands-number, busted_none, stands_of, book_parts}
-use Rattle.blot_types.proofs.StandLemmas.{and-false}
+use Rattle.blot_types.proofs.LawLemmas.{filter-none, alone, stands-number, busted_none, stands_of, book_parts}
 use Rattle.blot_types.proofs.SumLemmas.{total-map, total-filter, total-agree, total-same}
 use Rattle.blot_types.proofs.SurvivorLemmas.{IsCurrent, filter-and, find-passes, current-found}
-use Rattle.blot_types.proofs.AcceptLemmas.{not_true}
+use Rattle.blot_types.proofs.GeneralLemmas.{and-false, all-of}
 
 -- ---- how large a part is
 
@@ -69,7 +62,7 @@ chain_none : (list : List Entry) (root : ExecKey) → current_in (links_of list)
 chain_none list root none =
     chain_by_links list root
     ∙ filter-none (stands_of (links_of list) root) (versions_of list)
-    (all (λ version. stands_of (links_of list) root version ≡ false) (versions_of list) (λ version. no_last (links_of list) root version.number (root_in (links_of list) version.key) none))
+    (all-of (λ version. stands_of (links_of list) root version ≡ false) (versions_of list) (λ version. no_last (links_of list) root version.number (root_in (links_of list) version.key) none))
 
 chain_one :
     (list : List Entry) (root : ExecKey) (number : ℕ) → IsTrue (is_book list) → bust_in (links_of list) root ≡ None → current_in (links_of list) root ≡ Some number
@@ -144,7 +137,7 @@ of_other : (root : ExecKey) (before after : ExecKey → Bool) (found : Option Ex
 of_other root before after None others apart = refl
 of_other root before after (Some other) others apart = others other apart
 
--- the sum of the parts of the survivors that pass a test, all named or all not
+-- the sum of the parts of the survivors that pass a test, all-of named or all-of not
 side :
     (f : Part → ℤ) (value : Bool) (named : ExecKey → Bool) (root : ExecKey) (list : List Entry) → named root ≡ value
     → total (λ v. f (part_under named (links_of list) v)) (survivors_of_chain list root) ≡ total (λ v. f (part_of_fill value v.fill)) (survivors_of_chain list root)
@@ -168,7 +161,7 @@ total-names_more f list root before after more =
     let same : total (λ v. f (part_under before links v)) rest ≡ total (λ v. f (part_under after links v)) rest =
     total-agree (λ v. f (part_under before links v)) (λ v. f (part_under after links v)) rest
     (All-weaker (λ v. not (p v) ≡ true) (λ v. f (part_under before links v) ≡ f (part_under after links v))
-    (λ v other. ap (λ flag. f (part_of_fill flag v.fill)) (of_other root before after (root_in links v.key) more.others (not_true (p v) other)))
+    (λ v other. ap (λ flag. f (part_of_fill flag v.fill)) (of_other root before after (root_in links v.key) more.others (not-true (p v) other)))
     rest (filter-passes (λ v. not (p v)) (survivors list))) in
     let side_after = side f true after root list more.is in
     let side_before = side f false before root list more.was in

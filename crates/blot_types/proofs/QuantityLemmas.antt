@@ -1,17 +1,10 @@
 -- What the quantity rule leaves: the lines of an allocation book what its block is.
-use Rattle.std.proofs.Common.{◌≡◌, true, ℤ, pos, List, [], ◌∷◌, reverse, Option, Some, None, sym, subst, ◌∙◌, inl, inr}
-use Rattle.std.specs.Prelude.{is_none, All, IfSome}
-use Rattle.std.specs.List.{filter_map}
-use Rattle.std.specs.Option.{option_map, option_and_then}
-use Rattle.std.specs.Ordering.{int_eq}
+use Rattle.std.proofs.Common.{◌≡◌, true, ℤ, pos, List, [], ◌∷◌, reverse, Option, Some, None, sym, subst, ◌∙◌, inl, inr, is_none, All, IfSome, filter_map, option_map, option_and_then, int_eq}
 use Rattle.std.proofs.lemmas.Bool.{cases_Bool, and_parts}
 use Rattle.std.proofs.lemmas.Bool.Decides.{Decides-int_eq}
 use Rattle.std.proofs.lemmas.List.{reverse-reverse, reverse-append}
 use Rattle.std.proofs.lemmas.List.Elements.{All-nil, All-push}
-use Rattle.blot_types.specs.declared.allocation.Terms.{Terms}
-use Rattle.blot_types.specs.declared.command.Command.{Command}
-use Rattle.blot_types.specs.declared.command.Entry.{Entry}
-use Rattle.blot_types.specs.declared.refused.Refused.TheVariants.{Quantity}
+use Rattle.blot_types.specs.declared.{allocation.Terms.Terms, command.Command.Command, command.Entry.Entry, refused.Refused.TheVariants.Quantity}
 use Rattle.blot_types.specs.Allocations.{Allocation, allocation_of}
 use Rattle.blot_types.specs.Legal.{refusal_in, legal_in, is_legal}
 use Rattle.blot_types.specs.Order.{cum_of}

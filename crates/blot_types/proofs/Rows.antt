@@ -1,19 +1,10 @@
 -- The definitions, computed on worked days. Executions E1, E2, .. and orders O1, O2, .. are of one peer;
 -- quantities are in units of 10^-6, prices in units of 10^-8, values in units of 10^-14.
-use Rattle.std.specs.Prelude.{◌≡◌, ℕ, ◌*◌, ◌^◌, pos, List, [], ◌∷◌, reverse, map, Option, Some, None, true, false, refl}
-use Rattle.blot_types.specs.declared.command.Command.{Command}
+use Rattle.std.proofs.Common.{◌≡◌, ℕ, ◌*◌, ◌^◌, pos, List, [], ◌∷◌, reverse, map, Option, Some, None, true, false, refl}
+use Rattle.blot_types.specs.declared.{command.Command.Command, command.Entry.Entry, fill.Fill.Fill, fill.Sign.TheVariants.Buy, keys.AllocKey.AllocKey, keys.ExecKey.ExecKey, keys.OrderKey.OrderKey, lines.OrderLine.OrderLine, link.Link.Link, lines.Version.Version}
 use Rattle.blot_types.specs.declared.command.Command.TheVariants.{Trade, Correct, Bust}
-use Rattle.blot_types.specs.declared.command.Entry.{Entry}
-use Rattle.blot_types.specs.declared.fill.Fill.{Fill}
-use Rattle.blot_types.specs.declared.fill.Sign.TheVariants.{Buy}
-use Rattle.blot_types.specs.declared.keys.AllocKey.{AllocKey}
-use Rattle.blot_types.specs.declared.keys.ExecKey.{ExecKey}
-use Rattle.blot_types.specs.declared.keys.OrderKey.{OrderKey}
-use Rattle.blot_types.specs.declared.lines.OrderLine.{OrderLine}
-use Rattle.blot_types.specs.declared.link.Link.{Link}
 use Rattle.blot_types.specs.declared.link.Role.TheVariants.{Begins, Corrects, Busts}
 use Rattle.blot_types.specs.declared.refused.Refused.TheVariants.{DuplicateExec, UnknownExec, BustedExec}
-use Rattle.blot_types.specs.declared.lines.Version.{Version}
 use Rattle.blot_types.specs.Chains.{takes_up, taker_in, own_root, root_in, is_root, busts, bust_in, current_in}
 use Rattle.blot_types.specs.Keys.{same_text, same_exec, is_among, same_order, same_alloc}
 use Rattle.blot_types.specs.Laws.{survivors_of_chain, survivors_beside}

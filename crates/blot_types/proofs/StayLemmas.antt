@@ -1,10 +1,9 @@
 -- Lists of which some items stay: what is read from them, and what is found in them.
-use Rattle.std.proofs.Common.{◌≡◌, Bool, true, false, List, [], ◌∷◌, ◌++◌, reverse, Option, Some, None, refl, sym, ap, ◌∙◌, inl, inr}
-use Rattle.std.specs.Prelude.{filter, find, All}
-use Rattle.std.specs.List.{cons_option, filter_map, list_any, list_all}
-use Rattle.std.specs.Option.{option_map, option_or, option_and_then}
+use Rattle.std.proofs.Common.{◌≡◌, Bool, true, false, List, [], ◌∷◌, ◌++◌, reverse, Option, Some, None, refl, sym, ap, ◌∙◌, inl, inr, filter, find, All, filter_map, option_map, option_and_then, append-nil}
+use Rattle.std.specs.List.{cons_option, list_any, list_all}
+use Rattle.std.specs.Option.{option_or}
 use Rattle.std.proofs.lemmas.Bool.{cases_Bool, and_from, and_parts}
-use Rattle.std.proofs.lemmas.List.{reverse-append, append-nil}
+use Rattle.std.proofs.lemmas.List.{reverse-append}
 use Rattle.std.proofs.lemmas.List.Elements.{All-head, All-tail, filter-append}
 use Rattle.blot_types.specs.Refusals.{first_of}
 use Rattle.blot_types.proofs.AcceptLemmas.{or_parts}
@@ -94,24 +93,6 @@ find-stays p stays (x ∷ xs) all =
           ]
     ]
 
--- what was found among all, and stays, is found
-pub found-stays : {A : Type 0} (p stays : A → Bool) (xs : List A) (x : A) → find p xs ≡ Some x → stays x ≡ true → find p (filter stays xs) ≡ Some x
-found-stays p stays [] x found kept = found
-found-stays p stays (y ∷ ys) x found kept =
-    elim (cases_Bool (p y)) [
-      | inl here ↦
-          let is : Some y ≡ Some x = rw here at found in
-          let one : y ≡ x = cc in
-          let own : stays y ≡ true = ap stays one ∙ kept in
-          rw (own, here) is
-      | inr passed ↦
-          let rest = found-stays p stays ys x (rw passed at found) kept in
-          elim (cases_Bool (stays y)) [
-            | inl own ↦ rw (own, passed) rest
-            | inr goes ↦ rw goes rest
-          ]
-    ]
-
 pub any-stays : {A : Type 0} (p stays : A → Bool) (xs : List A) → ((x : A) → p x ≡ true → stays x ≡ true) → list_any p (filter stays xs) ≡ list_any p xs
 any-stays p stays [] all = refl
 any-stays p stays (x ∷ xs) all =
@@ -140,12 +121,6 @@ find-agree p q [] agree = refl
 find-agree p q (x ∷ xs) agree =
     let here : p x ≡ q x = All-head (λ y. p y ≡ q y) x xs agree in
     rw (here, find-agree p q xs (All-tail (λ y. p y ≡ q y) x xs agree)) refl
-
-pub any-agree : {A : Type 0} (p q : A → Bool) (xs : List A) → All (λ x. p x ≡ q x) xs → list_any p xs ≡ list_any q xs
-any-agree p q [] agree = refl
-any-agree p q (x ∷ xs) agree =
-    let here : p x ≡ q x = All-head (λ y. p y ≡ q y) x xs agree in
-    rw (here, any-agree p q xs (All-tail (λ y. p y ≡ q y) x xs agree)) refl
 
 -- ---- first answers
 

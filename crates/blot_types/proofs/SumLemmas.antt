@@ -1,7 +1,5 @@
 -- Signed sums over lists.
-use Rattle.std.proofs.Common.{◌≡◌, Bool, pos, ◌+ℤ◌, arith, List, [], ◌∷◌, ◌++◌, map, refl, sym, ap, ◌∙◌, inl, inr}
-use Rattle.std.specs.Prelude.{ℤ, filter, not, fold, All, if◌then◌else◌}
-use Rattle.std.specs.List.{flat_map}
+use Rattle.std.proofs.Common.{◌≡◌, Bool, pos, ◌+ℤ◌, arith, List, [], ◌∷◌, ◌++◌, map, refl, sym, ap, ◌∙◌, inl, inr, ℤ, filter, not, fold, All, if◌then◌else◌, flat_map}
 use Rattle.std.proofs.lemmas.Bool.{cases_Bool}
 use Rattle.std.proofs.lemmas.Int.{ints}
 use Rattle.std.proofs.lemmas.List.Elements.{All-head, All-tail}

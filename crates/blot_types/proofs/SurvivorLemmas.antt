@@ -1,17 +1,12 @@
 -- The survivors of a list with one more entry, and the version whose place it takes.
-use Rattle.std.proofs.Common.{◌≡◌, ℕ, ◌+◌, ◌<◌, ◌≤◌, ◌==◌, length, Bool, true, false, ◌&&◌, List, [], ◌∷◌, ◌++◌, reverse, Option, Some, None, refl, sym, ap, subst, ◌∙◌, arith, inl, inr}
-use Rattle.std.specs.Prelude.{is_none, is_some, not, find, filter, nat_lt, All}
-use Rattle.std.specs.List.{cons_option, filter_map}
+use Rattle.std.proofs.Common.{◌≡◌, ℕ, ◌+◌, ◌<◌, ◌≤◌, ◌==◌, length, Bool, true, false, ◌&&◌, List, [], ◌∷◌, ◌++◌, reverse, Option, Some, None, refl, sym, ap, subst, ◌∙◌, arith, inl, inr, is_none, is_some, not, find, filter, nat_lt, All, filter_map, ltb-true, ne_eqb, eq-eqb, eqb-true, append-nil}
+use Rattle.std.specs.List.{cons_option}
 use Rattle.std.specs.Option.{option_or}
-use Rattle.std.proofs.lemmas.Bool.{cases_Bool, and_parts, ltb-true, ne_eqb, eq-eqb, eqb-true}
-use Rattle.std.proofs.lemmas.List.{reverse-append, reverse-reverse, append-nil}
+use Rattle.std.proofs.lemmas.Bool.{cases_Bool, and_parts}
+use Rattle.std.proofs.lemmas.List.{reverse-append, reverse-reverse}
 use Rattle.std.proofs.lemmas.List.Elements.{All-nil, All-cons, All-head, All-tail, All-append, All-weaker, filter_map-append, filter-append}
 use Rattle.std.proofs.lemmas.List.Folds.{find-append}
-use Rattle.blot_types.specs.declared.command.Entry.{Entry}
-use Rattle.blot_types.specs.declared.keys.ExecKey.{ExecKey}
-use Rattle.blot_types.specs.declared.lines.Version.{Version}
-use Rattle.blot_types.specs.declared.link.Link.{Link}
-use Rattle.blot_types.specs.declared.link.Role.{Role}
+use Rattle.blot_types.specs.declared.{command.Entry.Entry, keys.ExecKey.ExecKey, lines.Version.Version, link.Link.Link, link.Role.Role}
 use Rattle.blot_types.specs.declared.link.Role.TheVariants.{Begins, Corrects, Busts}
 use Rattle.blot_types.specs.Chains.{takes_up, taker_in, own_root, root_in, is_root, bust_in, current_in, link_refusal, reference_refusal, replaced_in, replaced_by, falls}
 use Rattle.blot_types.specs.Legal.{is_above_entries, rises_in, numbers_rise, legal_in, is_legal, refusal_in, entry_refusal}
@@ -21,6 +16,7 @@ use Rattle.blot_types.proofs.KeyLemmas.{same_exec-true, same_exec-refl}
 use Rattle.blot_types.proofs.ChainLemmas.{rootless, accepted_root, accepted_key, clash, none_is}
 use Rattle.blot_types.proofs.EntryLemmas.{links_of-push, link-number, version-number, version-of_link, version-of_bust, version-unlinked, IsVersionOf, refusal-link, falls-links}
 use Rattle.blot_types.proofs.StandLemmas.{brings, stands-older, stands-new}
+use Rattle.blot_types.proofs.GeneralLemmas.{or-none, length-filtered, found-stays}
 
 -- ---- lists
 
@@ -37,23 +33,6 @@ filter-and p q (x ∷ xs) =
     elim (cases_Bool (p x)) [
       | inl yes_p ↦ rw (yes_p, filter-and p q xs) refl
       | inr no_p ↦ rw (no_p, filter-and p q xs) refl
-    ]
-
-find-kept : {X : Type 0} (p q : X → Bool) (xs : List X) (v : X) → find p xs ≡ Some v → q v ≡ true → find p (filter q xs) ≡ Some v
-find-kept p q [] v found kept = found
-find-kept p q (x ∷ xs) v found kept =
-    elim (cases_Bool (p x)) [
-      | inl here ↦
-          let is : Some x ≡ Some v = rw here at found in
-          let one : x ≡ v = cc in
-          let stays : q x ≡ true = ap q one ∙ kept in
-          rw (stays, here) is
-      | inr passed ↦
-          let rest : find p (filter q xs) ≡ Some v = find-kept p q xs v (rw passed at found) kept in
-          elim (cases_Bool (q x)) [
-            | inl stays ↦ rw (stays, passed) rest
-            | inr goes ↦ rw goes rest
-          ]
     ]
 
 -- ---- entries and their versions
@@ -348,7 +327,7 @@ current-stands list root number legal rise live current =
     let is : IsCurrent list root number version.0 = subst (λ l. IsCurrent l root number version.0) (reverse-reverse list) version.1 in
     let same : version.0.number ≡ number = eqb-true _ _ (find-passes (λ v. v.number == number) (versions_of list) version.0 is.found) in
     let stands : stands_in links version.0 ≡ true = rw (is.root_is, live, current) (eq-eqb number version.0.number (sym same)) in
-    (version.0, is.found, find-kept (λ v. v.number == number) (stands_in links) (versions_of list) version.0 is.found stands)
+    (version.0, is.found, found-stays (λ v. v.number == number) (stands_in links) (versions_of list) version.0 is.found stands)
 
 -- the version whose place a command takes is a survivor
 pub replaced-found :
@@ -388,29 +367,17 @@ length-versions : (list : List Entry) → length (versions_of list) ≤ length l
 length-versions [] = omega arith
 length-versions (entry ∷ list) = omega (arith, length-option (version_of entry) (versions_of list) (length list) (length-versions list))
 
-length-kept : {X : Type 0} (p : X → Bool) (xs : List X) → length (filter p xs) ≤ length xs
-length-kept p [] = omega arith
-length-kept p (x ∷ xs) =
-    elim (cases_Bool (p x)) [
-      | inl stays ↦ rw stays (omega (arith, length-kept p xs))
-      | inr goes ↦ rw goes (omega (arith, length-kept p xs))
-    ]
-
 pub length-survivors : (list : List Entry) → length (survivors list) ≤ length list
-length-survivors list = omega (arith, length-kept (stands_in (links_of list)) (versions_of list), length-versions list)
+length-survivors list = omega (arith, length-filtered (stands_in (links_of list)) (versions_of list), length-versions list)
 
 -- ---- the version of a number, newest first
-
-or-nothing : {A : Type 0} (o : Option A) → option_or o None ≡ o
-or-nothing None = refl
-or-nothing (Some a) = refl
 
 version-step :
     (entry : Entry) (earlier : List Entry) (number : ℕ) (brought : Option Version) → version_of entry ≡ brought → is_above_entries entry.number earlier ≡ true
     → version_in earlier number ≡ find (λ v. v.number == number) (versions_of (reverse earlier))
     → find (λ v. v.number == number) (cons_option brought (filter_map version_of earlier))
     ≡ option_or (find (λ v. v.number == number) (versions_of (reverse earlier))) (find (λ v. v.number == number) (cons_option brought []))
-version-step entry earlier number None is above before = before ∙ sym (or-nothing (find (λ v. v.number == number) (versions_of (reverse earlier))))
+version-step entry earlier number None is above before = before ∙ sym (or-none (find (λ v. v.number == number) (versions_of (reverse earlier))))
 version-step entry earlier number (Some version) is above before =
     elim (cases_Bool (version.number == number)) [
       | inl here ↦
@@ -419,7 +386,7 @@ version-step entry earlier number (Some version) is above before =
           subst (λ n. find (λ v. v.number == n) (versions_of (reverse earlier)) ≡ None) same
           (find-below entry.number (links_in earlier) (versions_of (reverse earlier)) (all_known entry.number earlier above)) in
           rw (here, none) refl
-      | inr other ↦ rw other (before ∙ sym (or-nothing (find (λ v. v.number == number) (versions_of (reverse earlier)))))
+      | inr other ↦ rw other (before ∙ sym (or-none (find (λ v. v.number == number) (versions_of (reverse earlier)))))
     ]
 
 -- among entries whose numbers rise it is the version that is found in list order

@@ -1,9 +1,7 @@
 -- What busts a chain, once the Bust of another chain is taken out of the middle.
-use Rattle.std.proofs.Common.{◌≡◌, true, false, List, [], ◌∷◌, ◌++◌, None, refl}
-use Rattle.std.specs.Prelude.{is_none}
+use Rattle.std.proofs.Common.{◌≡◌, true, false, List, [], ◌∷◌, ◌++◌, None, refl, is_none}
 use Rattle.std.proofs.lemmas.Bool.{and_parts}
-use Rattle.blot_types.specs.declared.keys.ExecKey.{ExecKey}
-use Rattle.blot_types.specs.declared.link.Link.{Link}
+use Rattle.blot_types.specs.declared.{keys.ExecKey.ExecKey, link.Link.Link}
 use Rattle.blot_types.specs.Chains.{busts, bust_in, link_refusal, reference_refusal, is_chained}
 use Rattle.blot_types.proofs.ChainLemmas.{none_is, accepted_key}
 use Rattle.blot_types.proofs.ChainOutLemmas.{key-out, root-out, busts-other}

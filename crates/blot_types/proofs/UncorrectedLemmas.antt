@@ -1,14 +1,9 @@
 -- A version is its chain's last exactly where no later Correct is of its chain.
-use Rattle.std.proofs.Common.{◌≡◌, ℕ, ◌<◌, Bool, true, false, ◌&&◌, List, [], ◌∷◌, ◌++◌, reverse, Option, Some, None, refl, sym, ap, subst, ◌∙◌, arith, inl, inr}
-use Rattle.std.specs.Prelude.{◌||◌, is_none, is_some, not, IsTrue, All, nat_lt}
+use Rattle.std.proofs.Common.{◌≡◌, ℕ, ◌<◌, Bool, true, false, ◌&&◌, List, [], ◌∷◌, ◌++◌, reverse, Option, Some, None, refl, sym, ap, subst, ◌∙◌, arith, inl, inr, ◌||◌, is_none, is_some, not, IsTrue, All, nat_lt, ltb-true, ne_eqb, eq-eqb}
 use Rattle.std.specs.List.{cons_option, list_any}
-use Rattle.std.proofs.lemmas.Bool.{cases_Bool, and_parts, ltb-true, ne_eqb, eq-eqb}
+use Rattle.std.proofs.lemmas.Bool.{cases_Bool, and_parts}
 use Rattle.std.proofs.lemmas.List.Elements.{All-nil, All-cons, All-head, All-tail, All-weaker}
-use Rattle.blot_types.specs.declared.command.Entry.{Entry}
-use Rattle.blot_types.specs.declared.keys.ExecKey.{ExecKey}
-use Rattle.blot_types.specs.declared.lines.Version.{Version}
-use Rattle.blot_types.specs.declared.link.Link.{Link}
-use Rattle.blot_types.specs.declared.link.Role.{Role}
+use Rattle.blot_types.specs.declared.{command.Entry.Entry, keys.ExecKey.ExecKey, lines.Version.Version, link.Link.Link, link.Role.Role}
 use Rattle.blot_types.specs.declared.link.Role.TheVariants.{Begins, Corrects, Busts}
 use Rattle.blot_types.specs.Keys.{is_among, same_exec}
 use Rattle.blot_types.specs.Chains.{takes_up, taker_in, own_root, root_in, is_root, busted_by, busted_roots_in, bust_in, current_in, link_refusal, is_chained, is_above_links, falls}
@@ -20,6 +15,7 @@ use Rattle.blot_types.proofs.ChainLemmas.{none_is, root-fresh, accepted_key, cla
 use Rattle.blot_types.proofs.LawLemmas.{links_of-around, book_parts}
 use Rattle.blot_types.proofs.EntryLemmas.{IsVersionOf, version-unlinked, chained-links, falls-links}
 use Rattle.blot_types.proofs.SurvivorLemmas.{of_its_link}
+use Rattle.blot_types.proofs.GeneralLemmas.{and-false}
 
 -- its own root is no root of theirs unless it corrects the chain
 own_correct :
@@ -82,10 +78,6 @@ below-number (other ∷ later) earlier link number below =
     let parts : (nat_lt other.number number ≡ true) × (is_above_links number (later ++ link ∷ earlier) ≡ true) = and_parts _ _ below in
     below-number later earlier link number parts.1
 
-none_of : (test : Bool) → (test && false) ≡ false
-none_of true = refl
-none_of false = refl
-
 taken-among : (later earlier : List Link) (link : Link) → IsTaken (later ++ link ∷ earlier) link
 taken-among [] earlier link = rw (same_exec-refl link.key) refl
 taken-among (other ∷ later) earlier link = taken-more other (later ++ link ∷ earlier) link (taken-among later earlier link)
@@ -114,7 +106,7 @@ last-uncorrected (other ∷ later) earlier link root chained fall is =
           let yes_it : corrects_chain (other ∷ rest) root other ≡ true = test ∙ rw (corrects, here) refl in
           rw (here, yes_it) (ne_eqb other.number link.number (λ same. absurd (omega (arith, higher, same))))
       | inr passed ↦
-          let no_it : corrects_chain (other ∷ rest) root other ≡ false = test ∙ rw passed (none_of (is_correct other.role)) in
+          let no_it : corrects_chain (other ∷ rest) root other ≡ false = test ∙ rw passed (and-false (is_correct other.role)) in
           let before : is_number link.number (current_in rest root) ≡ not (list_any (corrects_chain rest root) later) = last-uncorrected later earlier link root chains.1 falling.1 stood in
           rw (passed, no_it) (before ∙ ap not (sym (same_corrections later (link ∷ earlier) other root fresh)))
     ]

@@ -1,18 +1,9 @@
 -- Legal entries without a Trade or a Correct: the fills of the chains, and the step for a Trade.
-use Rattle.std.proofs.Common.{◌≡◌, ℕ, ◌==◌, true, false, List, [], ◌∷◌, ◌++◌, Option, Some, None, refl, sym, ap, ◌∙◌, inl, inr}
-use Rattle.std.specs.Prelude.{Bool, ◌||◌, not, find, is_none, All}
-use Rattle.std.specs.List.{cons_option, filter_map, list_any}
-use Rattle.std.specs.Option.{option_map, option_and_then}
-use Rattle.std.proofs.lemmas.Bool.{cases_Bool, eqb-true, eq-eqb}
-use Rattle.std.proofs.lemmas.List.Elements.{All-nil, All-cons, All-head, All-tail, All-weaker, filter_map-append}
-use Rattle.blot_types.specs.declared.command.Command.{Command}
-use Rattle.blot_types.specs.declared.command.Command.TheVariants.{Trade as TradeCommand}
-use Rattle.blot_types.specs.declared.command.Entry.{Entry}
-use Rattle.blot_types.specs.declared.command.Trade.{Trade}
-use Rattle.blot_types.specs.declared.keys.ExecKey.{ExecKey}
-use Rattle.blot_types.specs.declared.lines.Version.{Version}
-use Rattle.blot_types.specs.declared.link.Link.{Link}
-use Rattle.blot_types.specs.declared.link.Role.TheVariants.{Begins}
+use Rattle.std.proofs.Common.{◌≡◌, ℕ, ◌==◌, true, false, List, [], ◌∷◌, ◌++◌, Option, Some, None, refl, sym, ap, ◌∙◌, inl, inr, Bool, ◌||◌, not, find, is_none, All, filter_map, option_map, option_and_then, eqb-true, eq-eqb}
+use Rattle.std.specs.List.{cons_option, list_any}
+use Rattle.std.proofs.lemmas.Bool.{cases_Bool}
+use Rattle.std.proofs.lemmas.List.Elements.{All-head, All-tail, All-weaker, filter_map-append}
+use Rattle.blot_types.specs.declared.{command.Command.Command, command.Command.TheVariants.Trade as TradeCommand, command.Entry.Entry, command.Trade.Trade, keys.ExecKey.ExecKey, lines.Version.Version, link.Link.Link, link.Role.TheVariants.Begins}
 use Rattle.blot_types.specs.Chains.{root_in, is_root, current_in, falls}
 use Rattle.blot_types.specs.Keys.{same_exec, is_among}
 use Rattle.blot_types.specs.Legal.{rises_in, refusal_in}
@@ -26,6 +17,7 @@ use Rattle.blot_types.proofs.AcceptOutLemmas.{accepts, accepted, accepts-out, re
 use Rattle.blot_types.proofs.ChainOutLemmas.{IsLast, current-behind, current-back}
 use Rattle.blot_types.proofs.NeedLemmas.{IsStep}
 use Rattle.blot_types.proofs.LinkOutLemmas.{GoneLink, links-whole, links-rest, chained-whole, chained-rest, key-gone, root-gone, answers-gone, uses-gone, IsOther, ShapeStays, AnyKey}
+use Rattle.blot_types.proofs.GeneralLemmas.{any-none}
 
 -- ---- plain lists
 
@@ -35,14 +27,6 @@ find-skip p (x ∷ xs) ys y other =
     elim (cases_Bool (p x)) [
       | inl here ↦ rw here refl
       | inr passed ↦ rw passed (find-skip p xs ys y other)
-    ]
-
-pub any-none : {A : Type 0} (p : A → Bool) (xs : List A) → list_any p xs ≡ false → All (λ x. p x ≡ false) xs
-any-none p [] none = All-nil (λ x. p x ≡ false)
-any-none p (x ∷ xs) none =
-    elim (cases_Bool (p x)) [
-      | inl here ↦ (let clashing : true ≡ false = rw here at none in cc)
-      | inr passed ↦ All-cons (λ y. p y ≡ false) x xs passed (any-none p xs (rw passed at none))
     ]
 
 pub none-any : {A : Type 0} (p : A → Bool) (xs : List A) → All (λ x. p x ≡ false) xs → list_any p xs ≡ false
@@ -157,10 +141,6 @@ refused-among later front k l command gone among is =
     differing among
     (none-any (λ key. same_exec key l.key) (exec_references command)
     (All-weaker (IsOther l) (λ key. same_exec key l.key ≡ false) (λ key other. same_exec-sym key l.key ∙ other) (exec_references command) refers))
-
-pub or-falses : (b : Bool) → (b || false || false) ≡ b
-or-falses true = refl
-or-falses false = refl
 
 or-false : (b : Bool) → (b || false || false || false) ≡ b
 or-false true = refl

@@ -1,10 +1,8 @@
 -- A book without one of its entries is a book exactly where no entry needs that one.
-use Rattle.std.proofs.Common.{◌≡◌, ℕ, ◌+◌, ◌<◌, arith, true, false, ◌&&◌, List, [], ◌∷◌, ◌++◌, reverse, Option, Some, None, refl, sym, ap, ◌∙◌, inl, inr}
-use Rattle.std.specs.Prelude.{Bool, not, filter, is_none, nat_lt, nat_eq, IsTrue}
+use Rattle.std.proofs.Common.{◌≡◌, ℕ, ◌+◌, ◌<◌, arith, true, false, ◌&&◌, List, [], ◌∷◌, ◌++◌, reverse, Option, Some, None, refl, sym, ap, ◌∙◌, inl, inr, Bool, not, filter, is_none, nat_lt, nat_eq, IsTrue}
 use Rattle.std.proofs.lemmas.Bool.{cases_Bool, and_parts, and_from, and_right}
 use Rattle.std.proofs.lemmas.List.{reverse-reverse}
-use Rattle.blot_types.specs.declared.command.Entry.{Entry}
-use Rattle.blot_types.specs.declared.TheConstants.{EVENTS_MAX}
+use Rattle.blot_types.specs.declared.{command.Entry.Entry, TheConstants.EVENTS_MAX}
 use Rattle.blot_types.specs.Legal.{is_above_entries, rises_in, numbers_rise, refusal_in, legal_in, is_legal, is_book, without, least_needing}
 use Rattle.blot_types.specs.Withdrawal.{put_back_in, IsWithdrawn, IsPutBack}
 use Rattle.blot_types.proofs.BustLemmas.{reverse-middle}

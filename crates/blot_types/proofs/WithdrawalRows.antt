@@ -1,13 +1,7 @@
 -- Which entry is the first that needs another, by both definitions, and what a list is without an entry, computed on worked days.
-use Rattle.std.specs.Prelude.{◌≡◌, ℕ, ◌*◌, ◌^◌, pos, List, [], ◌∷◌, reverse, map, Option, Some, None, true, false, refl}
-use Rattle.blot_types.specs.declared.allocation.Terms.{Terms}
-use Rattle.blot_types.specs.declared.command.Command.{Command}
+use Rattle.std.proofs.Common.{◌≡◌, ℕ, ◌*◌, ◌^◌, pos, List, [], ◌∷◌, reverse, map, Option, Some, None, true, false, refl}
+use Rattle.blot_types.specs.declared.{allocation.Terms.Terms, command.Command.Command, command.Entry.Entry, fill.Fill.Fill, fill.Sign.TheVariants.Buy, keys.AllocKey.AllocKey, keys.ExecKey.ExecKey}
 use Rattle.blot_types.specs.declared.command.Command.TheVariants.{Trade, Correct, Bust, AllocNew, AllocReplace, AllocCancel}
-use Rattle.blot_types.specs.declared.command.Entry.{Entry}
-use Rattle.blot_types.specs.declared.fill.Fill.{Fill}
-use Rattle.blot_types.specs.declared.fill.Sign.TheVariants.{Buy}
-use Rattle.blot_types.specs.declared.keys.AllocKey.{AllocKey}
-use Rattle.blot_types.specs.declared.keys.ExecKey.{ExecKey}
 use Rattle.blot_types.specs.declared.refused.Refused.TheVariants.{Needed, NotLive, UnknownExec}
 use Rattle.blot_types.specs.Legal.{is_above_entries, rises_in, numbers_rise, refusal_in, entry_refusal, legal_in, is_legal, without, up_to, fails_at, least_needing, withdrawal_refusal, is_numbered, is_book}
 use Rattle.blot_types.specs.Withdrawal.{first_needing, put_back_in, put_back}

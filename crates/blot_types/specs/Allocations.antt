@@ -1,15 +1,9 @@
 -- The instructions of a list of entries, and the allocations that are live.
-use Rattle.std.specs.Prelude.{ℕ, List, [], ◌∷◌, filter, reverse, Option, Some, None, is_none}
-use Rattle.std.specs.List.{cons_option, filter_map}
+use Rattle.std.specs.Prelude.{ℕ, List, [], ◌∷◌, filter, reverse, Option, Some, None, is_none, filter_map}
+use Rattle.std.specs.List.{cons_option}
 use Rattle.blot_types.specs.declared.allocation.AllocRole.TheVariants.{Allocates, Replaces, Cancels}
-use Rattle.blot_types.specs.declared.allocation.Instruction.{Instruction}
-use Rattle.blot_types.specs.declared.allocation.Terms.{Terms}
-use Rattle.blot_types.specs.declared.command.Command.{Command}
+use Rattle.blot_types.specs.declared.{allocation.Instruction.Instruction, allocation.Terms.Terms, command.Command.Command, command.Entry.Entry, keys.AllocKey.AllocKey, keys.ExecKey.ExecKey, link.Link.Link}
 use Rattle.blot_types.specs.declared.command.Command.TheVariants.{AllocNew, AllocReplace, AllocCancel}
-use Rattle.blot_types.specs.declared.command.Entry.{Entry}
-use Rattle.blot_types.specs.declared.keys.AllocKey.{AllocKey}
-use Rattle.blot_types.specs.declared.keys.ExecKey.{ExecKey}
-use Rattle.blot_types.specs.declared.link.Link.{Link}
 use Rattle.blot_types.specs.Chains.{root_in}
 use Rattle.blot_types.specs.Instructions.{ended_in, named_in}
 use Rattle.blot_types.specs.Survivors.{links_in}

@@ -1,13 +1,10 @@
 -- The allocations that instructions bring: an AllocNew brings one, an AllocReplace one in the place of another,
 -- an AllocCancel ends one. Each word reads the instructions newest first: after one stand the earlier ones.
-use Rattle.std.specs.Prelude.{ℕ, Bool, true, false, ◌&&◌, ◌||◌, not, List, [], ◌∷◌, filter, reverse, Option, Some, None, find, is_none, nat_eq, nat_lt}
-use Rattle.std.specs.List.{list_any, list_all, flat_map}
-use Rattle.std.specs.Option.{option_map, option_map_or, option_and_then}
-use Rattle.blot_types.specs.declared.allocation.AllocRole.{AllocRole}
+use Rattle.std.specs.Prelude.{ℕ, Bool, true, false, ◌&&◌, ◌||◌, not, List, [], ◌∷◌, filter, reverse, Option, Some, None, find, is_none, nat_eq, nat_lt, flat_map, option_map, option_and_then}
+use Rattle.std.specs.List.{list_any, list_all}
+use Rattle.std.specs.Option.{option_map_or}
+use Rattle.blot_types.specs.declared.{allocation.AllocRole.AllocRole, allocation.Instruction.Instruction, keys.AllocKey.AllocKey, keys.ExecKey.ExecKey}
 use Rattle.blot_types.specs.declared.allocation.AllocRole.TheVariants.{Allocates, Replaces, Cancels}
-use Rattle.blot_types.specs.declared.allocation.Instruction.{Instruction}
-use Rattle.blot_types.specs.declared.keys.AllocKey.{AllocKey}
-use Rattle.blot_types.specs.declared.keys.ExecKey.{ExecKey}
 use Rattle.blot_types.specs.Keys.{is_among, same_exec, same_alloc}
 
 -- whether an instruction takes up this key

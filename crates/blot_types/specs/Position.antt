@@ -1,18 +1,8 @@
 -- Positions, by account and symbol: sums of signed parts, with no bound.
-use Rattle.std.specs.Prelude.{ℕ, ◌*◌, ◌^◌, ◌≤◌, Bool, true, false, ◌&&◌, ℤ, pos, neg_ℤ, ◌*ℤ◌, List, [], ◌∷◌, ◌++◌, length, map, filter, All, Option, Some, None, unsigned_abs}
-use Rattle.std.specs.List.{flat_map}
-use Rattle.std.specs.Option.{option_map_or, unwrap_or}
-use Rattle.blot_types.specs.declared.allocation.Line.{Line}
-use Rattle.blot_types.specs.declared.allocation.Terms.{Terms}
-use Rattle.blot_types.specs.declared.command.Entry.{Entry}
-use Rattle.blot_types.specs.declared.fill.Fill.{Fill}
-use Rattle.blot_types.specs.declared.fill.Sign.{Sign}
+use Rattle.std.specs.Prelude.{ℕ, ◌*◌, ◌^◌, ◌≤◌, Bool, true, false, ◌&&◌, ℤ, pos, neg_ℤ, ◌*ℤ◌, List, [], ◌∷◌, ◌++◌, length, map, filter, All, Option, Some, None, unsigned_abs, flat_map, unwrap_or}
+use Rattle.std.specs.Option.{option_map_or}
+use Rattle.blot_types.specs.declared.{allocation.Line.Line, allocation.Terms.Terms, command.Entry.Entry, fill.Fill.Fill, fill.Sign.Sign, keys.ExecKey.ExecKey, part.Part.Part, lines.PositionLine.PositionLine, lines.Version.Version, TheConstants.ITEMS_MAX}
 use Rattle.blot_types.specs.declared.fill.Sign.TheVariants.{Buy, Sell}
-use Rattle.blot_types.specs.declared.keys.ExecKey.{ExecKey}
-use Rattle.blot_types.specs.declared.part.Part.{Part}
-use Rattle.blot_types.specs.declared.lines.PositionLine.{PositionLine}
-use Rattle.blot_types.specs.declared.lines.Version.{Version}
-use Rattle.blot_types.specs.declared.TheConstants.{ITEMS_MAX}
 use Rattle.blot_types.specs.Allocations.{live_allocations, named_roots}
 use Rattle.blot_types.specs.Keys.{is_among, same_text}
 use Rattle.blot_types.specs.Order.{total}

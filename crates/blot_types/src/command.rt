@@ -1,6 +1,5 @@
 //! What changes the book, and the record of it.
-ghost use Rattle.std.specs.Prelude.{◌≡◌, IfOk};
-ghost use Rattle.std.specs.Option.{option_copied, option_map};
+ghost use Rattle.std.specs.Prelude.{◌≡◌, IfOk, option_copied, option_map};
 ghost use Rattle.blot_types.specs.Allocations.{allocation_of};
 ghost use Rattle.blot_types.specs.Refusals.{withdrawn_by, exec_key, alloc_key, alloc_reference, terms_of, listed_by, exec_references};
 
@@ -282,7 +281,7 @@ impl Entry {
         })
     }
 
-    /// The fill of that version, where it stands.
+    /// The fill of that version, without a copy.
     pub fn fill(&self) -> Option<&Fill>
         ensures { option_copied result ≡ option_map (λ version. version.fill) (version_of self.now) }
     {

@@ -33,14 +33,6 @@ impl<T> Items<T> {
         Items { items }
     }
 
-    /// The vector of the items. No memory is taken.
-    pub fn into_vec(self) -> Vec<T>
-        ensures items { result.items ≡ self }
-        ensures few { length self ≤ ITEMS_MAX }
-    {
-        self.items
-    }
-
     /// The items, from the first to the last.
     pub fn as_slice(&self) -> &[T]
         ensures items { result.now ≡ self.now }

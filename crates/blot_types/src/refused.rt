@@ -40,7 +40,7 @@ pub enum Refused {
 
 impl Refused {
     ghost use Rattle.std.specs.Prelude.{◌≡◌};
-    ghost use Rattle.blot_types.specs.Told.{refused_number, refused_name, reject_code};
+    ghost use Rattle.blot_types.specs.RefusalNames.{refused_number, refused_name, reject_code};
 
     /// The number under which a refusal is told. This project's rule.
     pub fn number(self) -> u8

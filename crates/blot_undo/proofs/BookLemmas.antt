@@ -2,8 +2,7 @@
 use Rattle.std.proofs.Common.{◌≡◌, ℕ, zero, suc, ◌≤◌, List, [], ◌∷◌, ◌++◌, length, map, take, reverse, Some, refl, sym, ap, subst, ◌∙◌, arith, append_assoc}
 use Rattle.std.proofs.lemmas.List.{reverse-append}
 use Rattle.blot_command.specs.Undoable.{Meaning, IsStep, IsLawful}
-use Rattle.blot_undo.specs.declared.step.Done.{Done}
-use Rattle.blot_undo.specs.declared.step.Undone.{Undone}
+use Rattle.blot_undo.specs.declared.{step.Done.Done, step.Undone.Undone}
 use Rattle.blot_undo.specs.Book.{Book, undo_of, redo_of, rewound, redone, done_number}
 use Rattle.blot_undo.specs.Laws.{LeadTo, GoesBack}
 

@@ -1,8 +1,7 @@
 -- An item put back at the place where one was taken out.
-use Rattle.std.proofs.Common.{◌≡◌, ℕ, ◌<◌, ◌+◌, ◌-◌, List, [], ◌∷◌, ◌++◌, length, take, get_or, set, sym, ap, subst, ◌∙◌, inl, inr, arith}
-use Rattle.std.specs.List.{swap, swap_remove}
+use Rattle.std.proofs.Common.{◌≡◌, ℕ, ◌<◌, ◌+◌, ◌-◌, List, [], ◌∷◌, ◌++◌, length, take, get_or, set, sym, ap, subst, ◌∙◌, inl, inr, arith, swap, swap_remove, length-set, length-take-le, get_or-set_same, get_or-set_other, set-set, take_all}
 use Rattle.std.proofs.lemmas.Bool.{cases_lt}
-use Rattle.std.proofs.lemmas.List.{length-set, length-take-le, length_push, get_or_push, get_or_append_left, get_or-set_same, get_or-set_other, set-set, set-get_or, set_at, set-append_left, take-set-le, take_all, take_more, take_more_set}
+use Rattle.std.proofs.lemmas.List.{length_push, get_or_push, get_or_append_left, set-get_or, set_at, set-append_left, take-set-le, take_more, take_more_set}
 use Rattle.std.proofs.lemmas.List.Edits.{swap_is}
 use Rattle.std.proofs.Math.Seq.{take-set-lt}
 

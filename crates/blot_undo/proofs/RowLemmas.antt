@@ -1,13 +1,9 @@
 -- Steps in one row, with a place that divides the done ones from the undone ones.
-use Rattle.std.proofs.Common.{◌≡◌, ℕ, zero, suc, ◌<◌, ◌≤◌, ◌+◌, ◌-◌, List, [], ◌∷◌, ◌++◌, Option, Some, None, length, map, take, reverse, get_or, set, refl, sym, ap, ◌∙◌, arith, append_assoc}
-use Rattle.std.specs.Prelude.{slice_get}
-use Rattle.std.specs.List.{filter_map}
-use Rattle.std.proofs.lemmas.List.{append-nil, map_push, reverse-append, reverse-reverse, length-map, length-reverse, length-append, get_or_append_left, get_or_at, get_or-reverse, set_at, take_at, nil_from_length, set-get_or}
+use Rattle.std.proofs.Common.{◌≡◌, ℕ, zero, suc, ◌<◌, ◌≤◌, ◌+◌, ◌-◌, List, [], ◌∷◌, ◌++◌, Option, Some, None, length, map, take, reverse, get_or, set, refl, sym, ap, ◌∙◌, arith, append_assoc, slice_get, filter_map, append-nil, length-append, take_at}
+use Rattle.std.proofs.lemmas.List.{map_push, reverse-append, reverse-reverse, length-map, length-reverse, get_or_append_left, get_or_at, get_or-reverse, set_at, nil_from_length, set-get_or}
 use Rattle.std.proofs.lemmas.List.Elements.{filter_map-append}
 use Rattle.std.proofs.lemmas.Option.{get_or_from_slice_get, slice_get-get_or}
-use Rattle.blot_undo.specs.declared.step.Done.{Done}
-use Rattle.blot_undo.specs.declared.step.Undone.{Undone}
-use Rattle.blot_undo.specs.declared.step.Step.{Step}
+use Rattle.blot_undo.specs.declared.{step.Done.Done, step.Undone.Undone, step.Step.Step}
 use Rattle.blot_undo.specs.declared.step.Step.TheVariants.{Done as DoneStep, Undone as UndoneStep}
 use Rattle.blot_undo.specs.Stacks.{StandFor, as_done, as_undone, done_in, undone_in}
 

@@ -1,16 +1,13 @@
 -- What a stack keeps after a step taken, undone and redone.
-use Rattle.std.proofs.Common.{◌≡◌, ℕ, ◌<◌, ◌≤◌, ◌+◌, List, [], ◌∷◌, ◌++◌, length, map, take, get_or, set, Some, None, refl, sym, ap, subst, ◌∙◌, ◌⊎◌, arith, inl, inr}
-use Rattle.std.specs.Prelude.{All, Contains}
+use Rattle.std.proofs.Common.{◌≡◌, ℕ, ◌<◌, ◌≤◌, ◌+◌, List, [], ◌∷◌, ◌++◌, length, map, take, get_or, set, Some, None, refl, sym, ap, subst, ◌∙◌, ◌⊎◌, arith, inl, inr, All, Contains}
 use Rattle.std.proofs.lemmas.List.Elements.{All-nil, All-cons, All-weaker, All-contains, All-contains_itself, Contains-append_left, Contains-append_right, Contains-append_cases, Contains-push, Contains-push_cases}
 use Rattle.blot_types.specs.declared.TheConstants.{EVENTS_MAX}
 use Rattle.blot_command.specs.Undoable.{Meaning, IsStep, IsLawful, KeepsEarlier, Adds, Leaves, TakesOut, UndoesStep, Undoes, numbers_in, AllBelow}
-use Rattle.blot_undo.specs.declared.step.Done.{Done}
-use Rattle.blot_undo.specs.declared.step.Undone.{Undone}
-use Rattle.blot_undo.specs.declared.step.Step.{Step}
+use Rattle.blot_undo.specs.declared.{step.Done.Done, step.Undone.Undone, step.Step.Step}
 use Rattle.blot_undo.specs.declared.step.Step.TheVariants.{Done as DoneStep, Undone as UndoneStep}
 use Rattle.blot_undo.specs.Book.{apply_of, undo_of, redo_of, past, done_number}
 use Rattle.blot_undo.specs.Laws.{LeadTo}
-use Rattle.blot_undo.specs.Stacks.{StandFor, Holds, IsStack, CanFollow, KeepsAll, Rise, Fall, limit, done_in, undone_in}
+use Rattle.blot_undo.specs.Stacks.{StandFor, HoldsSteps, IsStack, CanFollow, KeepsAll, Rise, Fall, limit, done_in, undone_in}
 use Rattle.blot_undo.proofs.BookLemmas.{back_again, given_back, book, undone_book, redone_book}
 use Rattle.blot_undo.proofs.RowLemmas.{done_shown, undone_shown, place_within, next_within, newest_is, next_is, as_found, added}
 
@@ -202,7 +199,7 @@ turned_back m lawful old mid new done undone next command inverse stack step add
 -- a row that stands for a stack's steps is what the stack keeps, and shows its book
 held :
     {S L C I R : Type 0} (m : Meaning S L C I R) (state : S) (row : List (Step C I)) (place next : ℕ) (done : List (Done I)) (undone : List (Undone C))
-    → StandFor row place done undone → IsStack m state done undone next → Holds m state row place next
+    → StandFor row place done undone → IsStack m state done undone next → HoldsSteps m state row place next
 held m state row place next done undone stands stack =
     subst (λ d. StandFor row place d (undone_in row) × IsStack m state d (undone_in row) next) (sym (done_shown row place done undone stands))
     (subst (λ u. StandFor row place done u × IsStack m state done u next) (sym (undone_shown row place done undone stands)) (stands, stack))
@@ -216,10 +213,10 @@ book_shown list row place next done undone stands =
 -- a step undone where it stands
 pub undo_keeps :
     {S L C I R : Type 0} (m : Meaning S L C I R) → IsLawful m → (old new : S) (row row2 : List (Step C I)) (place before next : ℕ) (found : Step C I) (step : Done I) (command : C)
-    → Holds m old row place next → before + 1 ≡ place → found ≡ get_or row before found → found ≡ DoneStep step
+    → HoldsSteps m old row place next → before + 1 ≡ place → found ≡ get_or row before found → found ≡ DoneStep step
     → m.list_of new ≡ m.before (m.list_of old) step.inverse → m.command_of (m.list_of old) step.inverse ≡ Some command → TakesOut m step.inverse old new
     → (before < length row → row2 ≡ set row before (UndoneStep (record { number = step.number; command = command })))
-    → Holds m new row2 before next × (book (m.list_of new) (done_in row2) (undone_in row2) next ≡ undo_of m (book (m.list_of old) (done_in row) (undone_in row) next))
+    → HoldsSteps m new row2 before next × (book (m.list_of new) (done_in row2) (undone_in row2) next ≡ undo_of m (book (m.list_of old) (done_in row) (undone_in row) next))
 undo_keeps {C = C} {I = I} m lawful old new row row2 place before next found step command holds is_before is is_done list back takes put =
     let at = newest_is row place before (done_in row) (undone_in row) found step holds.0 is_before is is_done in
     let earlier = at.0 in
@@ -235,7 +232,7 @@ undo_keeps {C = C} {I = I} m lawful old new row row2 place before next found ste
 -- its inverse undoes the state
 pub undoes_stack :
     {S L C I R : Type 0} (m : Meaning S L C I R) (state : S) (row : List (Step C I)) (place before next : ℕ) (found : Step C I) (step : Done I)
-    → Holds m state row place next → before + 1 ≡ place → found ≡ get_or row before found → found ≡ DoneStep step → Undoes m step.inverse state
+    → HoldsSteps m state row place next → before + 1 ≡ place → found ≡ get_or row before found → found ≡ DoneStep step → Undoes m step.inverse state
 undoes_stack m state row place before next found step holds is_before is is_done =
     let at = newest_is row place before (done_in row) (undone_in row) found step holds.0 is_before is is_done in
     let stack = subst (λ d. IsStack m state d (undone_in row) next) at.1 holds.1 in
@@ -244,10 +241,10 @@ undoes_stack m state row place before next found step holds is_before is is_done
 -- a step redone where it stands
 pub redo_keeps :
     {S L C I R : Type 0} (m : Meaning S L C I R) → IsLawful m → (old new : S) (row row2 : List (Step C I)) (place next : ℕ) (found : Step C I) (step : Undone C) (inverse : I)
-    → Holds m old row place next → (place ≡ length row → ⊥) → found ≡ get_or row place found → found ≡ UndoneStep step
+    → HoldsSteps m old row place next → (place ≡ length row → ⊥) → found ≡ get_or row place found → found ≡ UndoneStep step
     → IsStep m (m.list_of old) step.command step.number inverse (m.list_of new) → Adds m step.number inverse old new
     → (place < length row → row2 ≡ set row place (DoneStep (record { number = step.number; inverse = inverse })))
-    → Holds m new row2 (place + 1) next × (book (m.list_of new) (done_in row2) (undone_in row2) next ≡ redo_of m (book (m.list_of old) (done_in row) (undone_in row) next))
+    → HoldsSteps m new row2 (place + 1) next × (book (m.list_of new) (done_in row2) (undone_in row2) next ≡ redo_of m (book (m.list_of old) (done_in row) (undone_in row) next))
 redo_keeps {C = C} {I = I} m lawful old new row row2 place next found step inverse holds more is is_undone taken adds put =
     let within = next_within row place (done_in row) (undone_in row) holds.0 more in
     let at = next_is row place (done_in row) (undone_in row) found step holds.0 within is is_undone in
@@ -265,7 +262,7 @@ redo_keeps {C = C} {I = I} m lawful old new row row2 place next found step inver
 -- it may be applied under its number
 pub above_redone :
     {S L C I R : Type 0} (m : Meaning S L C I R) (state : S) (row : List (Step C I)) (place next : ℕ) (found : Step C I) (step : Undone C)
-    → Holds m state row place next → (place ≡ length row → ⊥) → found ≡ get_or row place found → found ≡ UndoneStep step → AllBelow step.number (numbers_in m state) × (step.number ≤ EVENTS_MAX)
+    → HoldsSteps m state row place next → (place ≡ length row → ⊥) → found ≡ get_or row place found → found ≡ UndoneStep step → AllBelow step.number (numbers_in m state) × (step.number ≤ EVENTS_MAX)
 above_redone m state row place next found step holds more is is_undone =
     let within = next_within row place (done_in row) (undone_in row) holds.0 more in
     let at = next_is row place (done_in row) (undone_in row) found step holds.0 within is is_undone in
@@ -276,22 +273,22 @@ above_redone m state row place next found step holds more is is_undone =
 -- and where that finds no memory, the step is put back as it was found
 pub redo_leaves :
     {S L C I R : Type 0} (m : Meaning S L C I R) (old new : S) (row row2 : List (Step C I)) (place next : ℕ) (found : Step C I) (step : Undone C) (command : C)
-    → Holds m old row place next → (place ≡ length row → ⊥) → found ≡ get_or row place found → found ≡ UndoneStep step → command ≡ step.command → new ≡ old
+    → HoldsSteps m old row place next → (place ≡ length row → ⊥) → found ≡ get_or row place found → found ≡ UndoneStep step → command ≡ step.command → new ≡ old
     → (place < length row → row2 ≡ set row place (UndoneStep (record { number = step.number; command = command })))
-    → Holds m new row2 place next × (book (m.list_of new) (done_in row2) (undone_in row2) next ≡ book (m.list_of old) (done_in row) (undone_in row) next)
+    → HoldsSteps m new row2 place next × (book (m.list_of new) (done_in row2) (undone_in row2) next ≡ book (m.list_of old) (done_in row) (undone_in row) next)
 redo_leaves m old new row row2 place next found step command holds more is is_undone same_command same_state put =
     let within = next_within row place (done_in row) (undone_in row) holds.0 more in
     let same_row = as_found row row2 place found step command is is_undone same_command (put within) in (
-      subst (λ s. Holds m s row2 place next) (sym same_state) (subst (λ r. Holds m old r place next) (sym same_row) holds),
+      subst (λ s. HoldsSteps m s row2 place next) (sym same_state) (subst (λ r. HoldsSteps m old r place next) (sym same_row) holds),
       ap (λ s. book (m.list_of s) (done_in row2) (undone_in row2) next) same_state ∙ ap (λ r. book (m.list_of old) (done_in r) (undone_in r) next) same_row,
     )
 
 -- a new step behind the done ones, of which no undone one is left
 pub apply_keeps :
     {S L C I R : Type 0} (m : Meaning S L C I R) → IsLawful m → (old new : S) (row row2 : List (Step C I)) (place end next : ℕ) (command : C) (inverse : I)
-    → Holds m old row place next → next ≤ EVENTS_MAX
+    → HoldsSteps m old row place next → next ≤ EVENTS_MAX
     → IsStep m (m.list_of old) command next inverse (m.list_of new) → Adds m next inverse old new
-    → row2 ≡ take place row ++ DoneStep (record { number = next; inverse = inverse }) ∷ [] → end ≡ length row2 → Holds m new row2 end (next + 1)
+    → row2 ≡ take place row ++ DoneStep (record { number = next; inverse = inverse }) ∷ [] → end ≡ length row2 → HoldsSteps m new row2 end (next + 1)
 apply_keeps {C = C} {I = I} m lawful old new row row2 place end next command inverse holds within step adds put at_end =
     let none : List (Undone C) = [] in
     let now : Done I = record { number = next; inverse = inverse } in
@@ -303,7 +300,7 @@ apply_keeps {C = C} {I = I} m lawful old new row row2 place end next command inv
 -- it gives the book with the command, and the list before it is the old one
 pub apply_book :
     {S L C I R : Type 0} (m : Meaning S L C I R) → IsLawful m → (old new : S) (row row2 : List (Step C I)) (place next : ℕ) (command : C) (inverse : I)
-    → Holds m old row place next → IsStep m (m.list_of old) command next inverse (m.list_of new) → row2 ≡ take place row ++ DoneStep (record { number = next; inverse = inverse }) ∷ []
+    → HoldsSteps m old row place next → IsStep m (m.list_of old) command next inverse (m.list_of new) → row2 ≡ take place row ++ DoneStep (record { number = next; inverse = inverse }) ∷ []
     → (book (m.list_of new) (done_in row2) (undone_in row2) (next + 1) ≡ apply_of m (book (m.list_of old) (done_in row) (undone_in row) next) command)
     × (past m (m.list_of new) (done_in row2) 1 ≡ m.list_of old)
 apply_book {C = C} {I = I} m lawful old new row row2 place next command inverse holds step put =
@@ -327,11 +324,11 @@ returned m lawful old mid command back next inverse step is_back =
 -- a command that was taken, and taken back since its step found no room
 pub apply_leaves :
     {S L C I R : Type 0} (m : Meaning S L C I R) → IsLawful m → (old mid new : S) (row row2 : List (Step C I)) (place next : ℕ) (command : C) (inverse : I)
-    → Holds m old row place next → IsStep m (m.list_of old) command next inverse (m.list_of mid) → Adds m next inverse old mid
+    → HoldsSteps m old row place next → IsStep m (m.list_of old) command next inverse (m.list_of mid) → Adds m next inverse old mid
     → m.list_of new ≡ m.before (m.list_of mid) inverse → TakesOut m inverse mid new → row2 ≡ row
-    → Holds m new row2 place next × (book (m.list_of new) (done_in row2) (undone_in row2) next ≡ book (m.list_of old) (done_in row) (undone_in row) next)
+    → HoldsSteps m new row2 place next × (book (m.list_of new) (done_in row2) (undone_in row2) next ≡ book (m.list_of old) (done_in row) (undone_in row) next)
 apply_leaves m lawful old mid new row row2 place next command inverse holds step adds list takes same_row = (
-  subst (λ r. Holds m new r place next) (sym same_row)
+  subst (λ r. HoldsSteps m new r place next) (sym same_row)
       (holds.0, turned_back m lawful old mid new (done_in row) (undone_in row) next command inverse holds.1 step adds list takes),
   ap (λ r. book (m.list_of new) (done_in r) (undone_in r) next) same_row
       ∙ ap (λ l. book l (done_in row) (undone_in row) next) (list ∙ back_again m lawful (m.list_of old) (m.list_of mid) command next inverse step),

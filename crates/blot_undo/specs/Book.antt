@@ -1,10 +1,8 @@
 -- What taking, undoing and redoing steps means, for any type of command. Steps stand newest first.
-use Rattle.std.specs.Prelude.{◌≡◌, ℕ, zero, suc, ◌+◌, List, [], ◌∷◌, Option, Some, None}
+use Rattle.std.specs.Prelude.{◌≡◌, ℕ, zero, suc, ◌+◌, List, [], ◌∷◌, Option, Some, None, option_map}
 use Rattle.std.specs.List.{cons_option}
-use Rattle.std.specs.Option.{option_map}
 use Rattle.blot_command.specs.Undoable.{Meaning}
-use Rattle.blot_undo.specs.declared.step.Done.{Done}
-use Rattle.blot_undo.specs.declared.step.Undone.{Undone}
+use Rattle.blot_undo.specs.declared.{step.Done.Done, step.Undone.Undone}
 
 -- a state with its steps: the done ones newest first, the undone ones with the one undone last first, and the next
 -- number

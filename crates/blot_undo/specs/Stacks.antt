@@ -1,11 +1,8 @@
 -- What a stack of steps keeps of its state and its steps.
-use Rattle.std.specs.Prelude.{◌≡◌, ℕ, ◌<◌, ◌≤◌, ◌+◌, List, [], ◌∷◌, ◌++◌, Option, Some, None, length, map, reverse, Contains}
-use Rattle.std.specs.List.{filter_map}
+use Rattle.std.specs.Prelude.{◌≡◌, ℕ, ◌<◌, ◌≤◌, ◌+◌, List, [], ◌∷◌, ◌++◌, Option, Some, None, length, map, reverse, Contains, filter_map}
 use Rattle.blot_types.specs.declared.TheConstants.{EVENTS_MAX}
 use Rattle.blot_command.specs.Undoable.{Meaning, IsNext, numbers_in}
-use Rattle.blot_undo.specs.declared.step.Done.{Done}
-use Rattle.blot_undo.specs.declared.step.Undone.{Undone}
-use Rattle.blot_undo.specs.declared.step.Step.{Step}
+use Rattle.blot_undo.specs.declared.{step.Done.Done, step.Undone.Undone, step.Step.Step}
 use Rattle.blot_undo.specs.declared.step.Step.TheVariants.{Done as DoneStep, Undone as UndoneStep}
 use Rattle.blot_undo.specs.Book.{done_number}
 use Rattle.blot_undo.specs.Laws.{LeadTo}
@@ -69,5 +66,5 @@ pub record IsStack {S L C I R : Type 0} (m : Meaning S L C I R) (state : S) (don
   pub few : next ≤ EVENTS_MAX + 1
 
 -- what a stack keeps of a row of steps and a place: they stand for its done and its undone steps
-abbrev pub Holds : {S L C I R : Type 0} → Meaning S L C I R → S → List (Step C I) → ℕ → ℕ → Type 0
-Holds m state row place next = StandFor row place (done_in row) (undone_in row) × IsStack m state (done_in row) (undone_in row) next
+abbrev pub HoldsSteps : {S L C I R : Type 0} → Meaning S L C I R → S → List (Step C I) → ℕ → ℕ → Type 0
+HoldsSteps m state row place next = StandFor row place (done_in row) (undone_in row) × IsStack m state (done_in row) (undone_in row) next

@@ -1,7 +1,5 @@
 //! The stack of steps.
-ghost use Rattle.std.specs.Prelude.{◌≡◌, ◌≤◌, ◌<◌, List, [], IsTrue, ◌↔◌, IfOk, IfErr, OnOk, OnErr, length, slice_get, slice_set, vec_len, vec_capacity};
-ghost use Rattle.std.specs.List.{swap_remove};
-ghost use Rattle.std.specs.Option.{option_copied};
+ghost use Rattle.std.specs.Prelude.{◌≡◌, ◌≤◌, ◌<◌, List, [], IsTrue, ◌↔◌, IfOk, IfErr, OnOk, OnErr, length, slice_get, slice_set, vec_len, vec_capacity, swap_remove, option_copied};
 ghost use Rattle.blot_command.specs.Undoable.{numbers_in};
 ghost use Rattle.blot_undo.specs.Book.{Accepts, book_of, book_rewound, book_with, list_before, list_in, newest_done, newest_undone, undo_of, redo_of};
 ghost use Rattle.blot_undo.specs.Laws.{LeadTo, GoesBack, RoundTrips};
@@ -28,7 +26,7 @@ pub struct Steps<C: Undoable> {
 
 impl<C: Undoable> Model for Steps<C> {
     ghost use Rattle.blot_undo.specs.Book.{Stack};
-    ghost use Rattle.blot_undo.specs.Stacks.{Holds, done_in, undone_in};
+    ghost use Rattle.blot_undo.specs.Stacks.{HoldsSteps, done_in, undone_in};
 
     ghost Value = { Stack C.State C C.Inverse };
 
@@ -39,7 +37,7 @@ impl<C: Undoable> Model for Steps<C> {
       next = stack.next;
     } };
 
-    ghost invariant = { λ stack. Holds C.meaning stack.state stack.steps.items stack.place stack.next };
+    ghost invariant = { λ stack. HoldsSteps C.meaning stack.state stack.steps.items stack.place stack.next };
 }
 
 impl<C: Undoable> Steps<C> {

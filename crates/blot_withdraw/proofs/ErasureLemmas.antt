@@ -1,20 +1,11 @@
 -- A busted chain that no allocation lists is one that nobody needs.
-use Rattle.std.proofs.Common.{◌≡◌, ℕ, ◌+◌, ◌<◌, ◌≤◌, Bool, true, false, ◌&&◌, List, [], ◌∷◌, ◌++◌, map, reverse, length, get_or, take, drop, arith, Option, Some, None, refl, sym, ap, subst, ◌∙◌, inl, inr}
-use Rattle.std.specs.Prelude.{not, filter, find, is_none, is_some, nat_lt, All, IsTrue}
-use Rattle.std.specs.List.{list_any}
-use Rattle.std.specs.Option.{option_map, option_and_then}
-use Rattle.std.proofs.lemmas.Bool.{cases_Bool, and_from, and_parts, ltb-true, not-true, not-false}
-use Rattle.std.proofs.lemmas.List.{reverse-append, take-append-drop, take_more}
-use Rattle.std.proofs.lemmas.List.Elements.{All-nil, All-cons, All-head, All-tail, All-append, filter-append}
+use Rattle.std.proofs.Common.{◌≡◌, ℕ, ◌+◌, ◌<◌, ◌≤◌, Bool, true, false, ◌&&◌, List, [], ◌∷◌, ◌++◌, map, reverse, length, get_or, take, drop, arith, Option, Some, None, refl, sym, ap, ◌∙◌, inl, inr, not, filter, find, is_none, is_some, nat_lt, All, IsTrue, option_map, option_and_then, ltb-true, take-append-drop}
+use Rattle.std.proofs.lemmas.Bool.{cases_Bool, and_from, and_parts, not-true, not-false}
+use Rattle.std.proofs.lemmas.List.{reverse-append, take_more}
+use Rattle.std.proofs.lemmas.List.Elements.{All-nil, All-cons, filter-append}
 use Rattle.std.proofs.lemmas.List.Folds.{list_all-append}
-use Rattle.blot_types.specs.declared.command.Command.{Command}
+use Rattle.blot_types.specs.declared.{command.Command.Command, command.Entry.Entry, keys.AllocKey.AllocKey, keys.ExecKey.ExecKey, keys.OrderKey.OrderKey, TheConstants.EVENTS_MAX, link.Link.Link}
 use Rattle.blot_types.specs.declared.command.Command.TheVariants.{Trade, Correct, Bust, AllocNew, AllocReplace, AllocCancel, Withdraw}
-use Rattle.blot_types.specs.declared.command.Entry.{Entry}
-use Rattle.blot_types.specs.declared.keys.AllocKey.{AllocKey}
-use Rattle.blot_types.specs.declared.keys.ExecKey.{ExecKey}
-use Rattle.blot_types.specs.declared.keys.OrderKey.{OrderKey}
-use Rattle.blot_types.specs.declared.TheConstants.{EVENTS_MAX}
-use Rattle.blot_types.specs.declared.link.Link.{Link}
 use Rattle.blot_types.specs.Chains.{is_root, bust_in}
 use Rattle.blot_types.specs.Legal.{is_above_entries, rises_in, is_legal, is_book, entry_refusal}
 use Rattle.blot_types.specs.Order.{order_of}
@@ -26,6 +17,7 @@ use Rattle.blot_types.proofs.ChainLemmas.{clash, none_is}
 use Rattle.blot_types.proofs.KeyLemmas.{same_exec-true}
 use Rattle.blot_types.proofs.LawLemmas.{book_parts}
 use Rattle.blot_types.proofs.LegalLemmas.{is_legal-front, is_legal-push}
+use Rattle.blot_types.proofs.GeneralLemmas.{all-reversed, any-none}
 use Rattle.blot_withdraw.specs.Erasure.{chained_by, is_of_chain, without_chain, lists_chain, first_listing}
 use Rattle.blot_withdraw.proofs.LegalStayLemmas.{book-spared}
 use Rattle.blot_withdraw.proofs.LineStayLemmas.{SparesLines, order-spared, position-spared}
@@ -68,14 +60,6 @@ chain_split list root = record {
 
 -- ---- nobody needs it
 
-none_passes : {A : Type 0} (p : A → Bool) (xs : List A) → list_any p xs ≡ false → All (λ x. p x ≡ false) xs
-none_passes p [] none = All-nil (λ x. p x ≡ false)
-none_passes p (x ∷ xs) none =
-    elim (cases_Bool (p x)) [
-      | inl here ↦ (let both : true ≡ false = rw here at none in cc)
-      | inr passed ↦ All-cons (λ y. p y ≡ false) x xs passed (none_passes p xs (rw passed at none))
-    ]
-
 free_of : (list : List Entry) (root : ExecKey) (entries : List Entry) → find (lists_chain list root) entries ≡ None → All (IsFree (chain_split list root)) entries
 free_of list root [] none = All-nil (IsFree (chain_split list root))
 free_of list root (entry ∷ entries) none =
@@ -84,17 +68,11 @@ free_of list root (entry ∷ entries) none =
       | inr passed ↦
           All-cons (IsFree (chain_split list root)) entry entries
           (record {
-            lists = λ stays. none_passes (λ key. is_root root (root_of list key)) (listed_by entry.command) passed;
+            lists = λ stays. any-none (λ key. is_root root (root_of list key)) (listed_by entry.command) passed;
             refers = λ key reference keyed referring. refl;
           })
           (free_of list root entries (rw passed at none))
     ]
-
-all-reverse : {A : Type 0} (P : A → Type 0) (xs : List A) → All P xs → All P (reverse xs)
-all-reverse P [] all = all
-all-reverse P (x ∷ xs) all =
-    subst (All P) (sym (reverse-append (x ∷ []) xs))
-    (All-append P (reverse xs) (x ∷ []) (all-reverse P xs (All-tail P x xs all)) (All-cons P x [] (All-head P x xs all) (All-nil P)))
 
 pub chain_spares : (list : List Entry) (root : ExecKey) → IsTrue (is_book list) → first_listing list root ≡ None → Spares (chain_split list root) (reverse list)
 chain_spares list root book none =
@@ -103,7 +81,7 @@ chain_spares list root book none =
       legal = parts.1;
       rises = parts.0;
       knows = record { known = λ key found is. is };
-      free = all-reverse (IsFree (chain_split list root)) list (free_of list root list (unmapped (λ entry. entry.number) _ none));
+      free = all-reversed (IsFree (chain_split list root)) list (free_of list root list (unmapped (λ entry. entry.number) _ none));
     }
 
 -- so the list without it is a book

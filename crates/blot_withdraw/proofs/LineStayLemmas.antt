@@ -1,17 +1,10 @@
 -- Where only whole busted chains go that nobody needs, the lines of orders and positions are as before.
-use Rattle.std.proofs.Common.{◌≡◌, ℕ, Bool, true, false, ◌&&◌, List, [], ◌∷◌, ◌++◌, map, reverse, Option, Some, None, refl, sym, ap, ◌∙◌, inl, inr}
-use Rattle.std.specs.Prelude.{not, filter, is_none, All}
-use Rattle.std.specs.List.{filter_map, flat_map}
+use Rattle.std.proofs.Common.{◌≡◌, ℕ, true, false, ◌&&◌, List, [], ◌∷◌, ◌++◌, map, reverse, Option, Some, None, refl, sym, ap, ◌∙◌, inl, inr, not, filter, is_none, All, filter_map, flat_map}
 use Rattle.std.specs.Option.{option_map_or}
 use Rattle.std.proofs.lemmas.Bool.{cases_Bool, and_parts, not-true}
 use Rattle.std.proofs.lemmas.List.Elements.{All-head, All-tail, All-weaker, filter_agree}
-use Rattle.blot_types.specs.declared.command.Command.{Command}
+use Rattle.blot_types.specs.declared.{command.Command.Command, command.Entry.Entry, keys.AllocKey.AllocKey, keys.ExecKey.ExecKey, keys.OrderKey.OrderKey, lines.Version.Version}
 use Rattle.blot_types.specs.declared.command.Command.TheVariants.{Trade, Correct, Bust, AllocNew, AllocReplace, AllocCancel, Withdraw}
-use Rattle.blot_types.specs.declared.command.Entry.{Entry}
-use Rattle.blot_types.specs.declared.keys.AllocKey.{AllocKey}
-use Rattle.blot_types.specs.declared.keys.ExecKey.{ExecKey}
-use Rattle.blot_types.specs.declared.keys.OrderKey.{OrderKey}
-use Rattle.blot_types.specs.declared.lines.Version.{Version}
 use Rattle.blot_types.specs.Allocations.{Allocation, allocation_of, instructions_in, instructions_of, live_allocations, named_roots}
 use Rattle.blot_types.specs.Chains.{root_in, bust_in, current_in}
 use Rattle.blot_types.specs.Instructions.{ended_in, named_in}
@@ -25,6 +18,7 @@ use Rattle.blot_types.proofs.SurvivorLemmas.{filter-and}
 use Rattle.blot_withdraw.proofs.ChainStayLemmas.{GoWhole}
 use Rattle.blot_withdraw.proofs.InstructionStayLemmas.{instruction_stays, instructions-split}
 use Rattle.blot_types.proofs.StayLemmas.{filter_map-filter, filter-reverse}
+use Rattle.blot_types.proofs.GeneralLemmas.{filter-all}
 use Rattle.blot_withdraw.proofs.RuleLemmas.{KeyStays, RootStays, root-known}
 use Rattle.blot_withdraw.proofs.SpareLemmas.{Spares, roots-spared, bust-spared, current-spared}
 use Rattle.blot_withdraw.proofs.Split.{Split, version_stays, versions-split}
@@ -85,10 +79,6 @@ pub order-spared : (split : Split) (list : List Entry) (order : OrderKey) → Sp
 order-spared split list order it = ap (λ versions. line_of (fills_of (map (λ (v : Version). v.fill) versions) order)) (survivors-spared split list it)
 
 -- ---- positions
-
-filter-all : {A : Type 0} (p : A → Bool) (xs : List A) → ((x : A) → p x ≡ true) → filter p xs ≡ xs
-filter-all p [] all = refl
-filter-all p (x ∷ xs) all = rw (all x) (ap (λ ys. x ∷ ys) (filter-all p xs all))
 
 instructions-spared : (split : Split) (list : List Entry) → SparesLines split list → instructions_of (filter split.stays list) ≡ instructions_of list
 instructions-spared split list it =

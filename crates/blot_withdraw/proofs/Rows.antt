@@ -1,15 +1,8 @@
 -- The definitions, computed on worked days. Executions E1, E2, .. and orders O1, O2, .. are of one peer, allocations
 -- L1, L2, .. too; quantities are in units of 10^-6, prices in units of 10^-8.
-use Rattle.std.specs.Prelude.{◌≡◌, ℕ, ◌*◌, ◌^◌, pos, List, [], ◌∷◌, map, Option, Some, None, true, false, refl}
-use Rattle.blot_types.specs.declared.allocation.Terms.{Terms}
+use Rattle.std.proofs.Common.{◌≡◌, ℕ, ◌*◌, ◌^◌, pos, List, [], ◌∷◌, map, Option, Some, None, true, false, refl}
+use Rattle.blot_types.specs.declared.{allocation.Terms.Terms, command.Entry.Entry, fill.Fill.Fill, fill.Sign.TheVariants.Buy, keys.AllocKey.AllocKey, keys.ExecKey.ExecKey, lines.OrderLine.OrderLine, lines.PositionLine.PositionLine}
 use Rattle.blot_types.specs.declared.command.Command.TheVariants.{Trade, Correct, Bust, AllocNew, AllocReplace, AllocCancel}
-use Rattle.blot_types.specs.declared.command.Entry.{Entry}
-use Rattle.blot_types.specs.declared.fill.Fill.{Fill}
-use Rattle.blot_types.specs.declared.fill.Sign.TheVariants.{Buy}
-use Rattle.blot_types.specs.declared.keys.AllocKey.{AllocKey}
-use Rattle.blot_types.specs.declared.keys.ExecKey.{ExecKey}
-use Rattle.blot_types.specs.declared.lines.OrderLine.{OrderLine}
-use Rattle.blot_types.specs.declared.lines.PositionLine.{PositionLine}
 use Rattle.blot_types.specs.Legal.{is_book}
 use Rattle.blot_types.specs.Order.{order_of}
 use Rattle.blot_types.specs.Position.{position_of}

@@ -1,14 +1,8 @@
 -- Rule by rule: what the entries accepted, those that stay accept.
-use Rattle.std.proofs.Common.{◌≡◌, ℕ, ◌==◌, true, false, List, Option, Some, None, refl, sym, ap, ◌∙◌}
-use Rattle.std.specs.Prelude.{not, find, filter, All}
-use Rattle.std.specs.List.{filter_map}
-use Rattle.std.specs.Option.{option_map, option_and_then}
+use Rattle.std.proofs.Common.{◌≡◌, ℕ, ◌==◌, true, false, List, Option, Some, None, refl, sym, ap, ◌∙◌, not, find, filter, All, filter_map, option_map, option_and_then}
 use Rattle.std.proofs.lemmas.List.{reverse-reverse}
 use Rattle.std.proofs.lemmas.List.Elements.{All-weaker}
-use Rattle.blot_types.specs.declared.command.Command.{Command}
-use Rattle.blot_types.specs.declared.command.Entry.{Entry}
-use Rattle.blot_types.specs.declared.keys.AllocKey.{AllocKey}
-use Rattle.blot_types.specs.declared.keys.ExecKey.{ExecKey}
+use Rattle.blot_types.specs.declared.{command.Command.Command, command.Entry.Entry, keys.AllocKey.AllocKey, keys.ExecKey.ExecKey}
 use Rattle.blot_types.specs.Allocations.{instructions_in}
 use Rattle.blot_types.specs.Chains.{takes_up, taker_in, root_in, bust_in, current_in}
 use Rattle.blot_types.specs.Instructions.{alloc_taker_in, is_allocation_in, ended_in, other_holder_in}
@@ -19,7 +13,8 @@ use Rattle.blot_types.proofs.AcceptLemmas.{unmapped}
 use Rattle.blot_types.proofs.AcceptOutLemmas.{accepts, accepted as accepted_by, accepts-out, listed, shaped}
 use Rattle.blot_types.proofs.SurvivorLemmas.{current-found, version_in-rising}
 use Rattle.blot_withdraw.proofs.InstructionStayLemmas.{instruction_stays, instructions-split, tied, taker-stays, allocation-stays, unended-stays, holder-stays}
-use Rattle.blot_types.proofs.StayLemmas.{mapped-none, then-none, unfound-among, found-stays}
+use Rattle.blot_types.proofs.StayLemmas.{mapped-none, then-none, unfound-among}
+use Rattle.blot_types.proofs.GeneralLemmas.{found-stays}
 use Rattle.blot_withdraw.proofs.SpareLemmas.{Spares, roots-spared, unbusted-spared, current-spared}
 use Rattle.blot_withdraw.proofs.Split.{Split, links-split, version_stays, versions-split}
 

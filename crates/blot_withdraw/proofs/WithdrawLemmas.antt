@@ -1,13 +1,9 @@
 -- A Withdraw is a step as the command of that name is.
-use Rattle.std.proofs.Common.{◌≡◌, ℕ, ◌≤◌, true, List, Some, None, refl, sym, ap, ◌∙◌}
-use Rattle.std.specs.Prelude.{find}
-use Rattle.std.specs.Option.{option_map, option_map_or}
-use Rattle.blot_types.specs.declared.command.Command.TheVariants.{Withdraw as WithdrawCommand}
-use Rattle.blot_types.specs.declared.command.Entry.{Entry}
-use Rattle.blot_types.specs.declared.TheConstants.{EVENTS_MAX}
+use Rattle.std.proofs.Common.{◌≡◌, ℕ, ◌≤◌, true, List, Some, None, refl, sym, ap, ◌∙◌, find, option_map}
+use Rattle.std.specs.Option.{option_map_or}
+use Rattle.blot_types.specs.declared.{command.Command.TheVariants.Withdraw as WithdrawCommand, command.Entry.Entry, TheConstants.EVENTS_MAX}
 use Rattle.blot_types.specs.Legal.{is_book, withdrawal_refusal, without}
-use Rattle.blot_command.specs.declared.fault.ApplyFault.TheVariants.{Refused}
-use Rattle.blot_command.specs.declared.inverse.Inverse.TheVariants.{Taken}
+use Rattle.blot_command.specs.declared.{fault.ApplyFault.TheVariants.Refused, inverse.Inverse.TheVariants.Taken}
 use Rattle.blot_command.specs.Book.{Shown, has_number, numbers_of, taken_of}
 use Rattle.blot_command.specs.Law.{has_entry}
 use Rattle.blot_command.specs.Meanings.{command_meaning}

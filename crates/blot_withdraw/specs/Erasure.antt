@@ -1,12 +1,9 @@
 -- A list of entries without one chain of executions, and when a chain can be taken out of it.
-use Rattle.std.specs.Prelude.{◌≡◌, ℕ, ◌⊎◌, Bool, not, List, filter, find, Option, Some, None, is_none, if◌then◌else◌}
+use Rattle.std.specs.Prelude.{◌≡◌, ℕ, ◌⊎◌, Bool, not, List, filter, find, Option, Some, None, is_none, if◌then◌else◌, option_map, option_and_then}
 use Rattle.std.specs.List.{list_any}
-use Rattle.std.specs.Option.{option_map, option_map_or, option_and_then}
-use Rattle.blot_types.specs.declared.command.Command.{Command}
+use Rattle.std.specs.Option.{option_map_or}
+use Rattle.blot_types.specs.declared.{command.Command.Command, command.Entry.Entry, keys.ExecKey.ExecKey, keys.OrderKey.OrderKey}
 use Rattle.blot_types.specs.declared.command.Command.TheVariants.{Trade, Correct, Bust}
-use Rattle.blot_types.specs.declared.command.Entry.{Entry}
-use Rattle.blot_types.specs.declared.keys.ExecKey.{ExecKey}
-use Rattle.blot_types.specs.declared.keys.OrderKey.{OrderKey}
 use Rattle.blot_types.specs.Chains.{is_root, bust_in}
 use Rattle.blot_types.specs.Order.{order_of}
 use Rattle.blot_types.specs.Position.{position_of}

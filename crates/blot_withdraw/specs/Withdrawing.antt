@@ -1,9 +1,8 @@
 -- An entry taken out of the book, whatever came later, and put back at its place.
-use Rattle.std.specs.Prelude.{◌≡◌, ℕ, true, false, List, Option, Some, find}
-use Rattle.std.specs.Option.{option_map, option_map_or}
+use Rattle.std.specs.Prelude.{◌≡◌, ℕ, true, false, List, Option, Some, find, option_map}
+use Rattle.std.specs.Option.{option_map_or}
 use Rattle.std.proofs.Common.{ap}
-use Rattle.blot_types.specs.declared.command.Command.TheVariants.{Withdraw as WithdrawCommand}
-use Rattle.blot_types.specs.declared.command.Entry.{Entry}
+use Rattle.blot_types.specs.declared.{command.Command.TheVariants.Withdraw as WithdrawCommand, command.Entry.Entry}
 use Rattle.blot_types.specs.Legal.{is_book, refusal_of, withdrawal_refusal, without}
 use Rattle.blot_types.specs.Withdrawal.{put_back}
 use Rattle.blot_types.proofs.AcceptLemmas.{unmapped}

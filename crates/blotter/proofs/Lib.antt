@@ -1,3 +1,4 @@
 mod KeepingLemmas
+mod RoundLemmas
 mod SeatLemmas
 mod ServingLemmas

@@ -1,14 +1,11 @@
 -- What a day comes to that is kept in a journal.
-use Rattle.std.specs.Prelude.{◌≡◌, ℕ, ℤ, true, List, Option, Some, codes}
-use Rattle.std.specs.List.{slice_get}
-use Rattle.blot_desk.specs.declared.event.Event.{Event}
-use Rattle.blot_desk.specs.declared.receipt.Receipt.{Receipt}
+use Rattle.std.specs.Prelude.{◌≡◌, ℕ, ℤ, true, List, Option, Some, codes, slice_get}
+use Rattle.blot_desk.specs.declared.{event.Event.Event, receipt.Receipt.Receipt}
 use Rattle.blot_gateway.specs.AtOnce.{are_submits}
 use Rattle.blot_operator.specs.Seats.{Named}
 use Rattle.blot_diary.specs.Keeping.{IsInRange}
 use Rattle.blot_lanes.specs.Listing.{Listed}
-use Rattle.blot_recovery.specs.declared.parties.KeptOperator.{KeptOperator}
-use Rattle.blot_recovery.specs.declared.parties.KeptPeer.{KeptPeer}
+use Rattle.blot_recovery.specs.declared.{parties.KeptOperator.KeptOperator, parties.KeptPeer.KeptPeer}
 use Rattle.blot_recovery.specs.Opening.{IsOpenFault, OpensWith}
 use Rattle.blot_recovery.specs.Parties.{brought_by, events_told, is_operator}
 use Rattle.blotter.specs.declared.kept_day.KeptFault.{KeptFault}

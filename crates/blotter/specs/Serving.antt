@@ -1,10 +1,8 @@
 -- What a day that is served comes to.
-use Rattle.std.specs.Prelude.{◌≡◌, ◌<◌, ℕ, ℤ, true, List, [], ◌∷◌, ◌++◌, codes, length, replicate, Option}
-use Rattle.std.specs.List.{All, list_all}
+use Rattle.std.specs.Prelude.{◌≡◌, ◌<◌, ℕ, ℤ, true, List, [], ◌∷◌, ◌++◌, codes, length, replicate, Option, All}
+use Rattle.std.specs.List.{list_all}
 use Rattle.std.specs.Io.KnownBytes.{Appends}
-use Rattle.blot_desk.specs.declared.event.Event.{Event}
-use Rattle.blot_desk.specs.declared.event.Recorded.{Recorded}
-use Rattle.blot_desk.specs.declared.fault.DeskFault.{DeskFault}
+use Rattle.blot_desk.specs.declared.{event.Event.Event, event.Recorded.Recorded, fault.DeskFault.DeskFault}
 use Rattle.blot_desk.specs.declared.fault.DeskFault.TheVariants as desk
 use Rattle.blot_desk.specs.declared.receipt.Receipt.{Receipt}
 use Rattle.blot_desk.specs.Desk.{events_of, run_of}
@@ -15,7 +13,7 @@ use Rattle.blot_lanes.specs.Listing.{Listed}
 use Rattle.blot_operator.specs.Dialogue.{HeardOf, TellsOf, open_ways, seat_ways}
 use Rattle.blot_operator.specs.Seats.{Named}
 use Rattle.blot_report.specs.Text.{report_of}
-use Rattle.blot_rounds.specs.Rounds.{RoundsLead}
+use Rattle.blotter.specs.Rounds.{RoundsLead}
 use Rattle.blot_stream.specs.declared.outcome.ServeFault.{ServeFault}
 use Rattle.blot_stream.specs.declared.outcome.ServeFault.TheVariants as fault
 

@@ -1,6 +1,6 @@
 //! `serve_kept_day`: an open day that is kept in a journal, so that it outlives a crash; and the desk that a journal leads to.
-ghost use Rattle.std.specs.Prelude.{◌≡◌, ◌+◌, ◌<◌, ℕ, List, [], false, true, length, map, vec_len, IfErr, IfOk, IsTrue, Some};
-ghost use Rattle.std.specs.List.{All, IsDistinct, list_any, slice_get};
+ghost use Rattle.std.specs.Prelude.{◌≡◌, ◌+◌, ◌<◌, ℕ, List, [], false, true, length, map, vec_len, IfErr, IfOk, IsTrue, Some, All, slice_get};
+ghost use Rattle.std.specs.List.{IsDistinct, list_any};
 ghost use Rattle.blot_types.specs.Keys.{same_text};
 ghost use Rattle.blot_desk.specs.declared.event.Event.{Event};
 ghost use Rattle.blot_desk.specs.Desk.{IsRun, events_of};

@@ -6,16 +6,17 @@
 mod kept_day;
 mod meanwhile;
 mod open_day;
+mod rounds;
 mod serving;
 mod settling;
 mod staffed_day;
 
 pub use blot_capture::{capture, replay, replay_within};
 pub use blot_operator::{desk_lines, seat_lines};
-pub use blot_rounds::{Rounds, log_endings};
 pub use blot_sockets::{Door, Socket, SystemClock};
 pub use blot_stream::{Outcome, ReplayFault, ServeFault};
 pub use kept_day::{KeptFault, journal_desk, serve_kept_day};
 pub use open_day::serve_open_day;
+pub use rounds::{Rounds, log_endings};
 pub use serving::serve_day;
 pub use staffed_day::{serve_kept_staffed_day, serve_staffed_day};

@@ -1,6 +1,6 @@
 //! `serve_open_day`: connections served in lanes while an operator's lines are answered, and the report of the day.
-ghost use Rattle.std.specs.Prelude.{◌≡◌, ◌+◌, ◌++◌, [], length, map, true, vec_len, IfOk, OnOk};
-ghost use Rattle.std.specs.List.{All, IsDistinct};
+ghost use Rattle.std.specs.Prelude.{◌≡◌, ◌+◌, ◌++◌, [], length, map, true, vec_len, IfOk, OnOk, All};
+ghost use Rattle.std.specs.List.{IsDistinct};
 ghost use Rattle.blot_types.specs.Keys.{same_text};
 ghost use Rattle.blot_operator.specs.OpenDay.{EndsOf};
 ghost use Rattle.blotter.specs.Serving.{OpenDayServed, ServedBy, begins_as};

@@ -1,15 +1,14 @@
 //! `serve_day`: connections served round by round while an operator's lines are answered, and the report of the day.
-ghost use Rattle.std.specs.Prelude.{◌≡◌, ◌+◌, ◌<◌, ◌^◌, ◌⊎◌, [], length, Err, IfOk, IsOk, OnErr, OnOk};
-ghost use Rattle.std.specs.List.{All};
+ghost use Rattle.std.specs.Prelude.{◌≡◌, ◌+◌, ◌<◌, ◌^◌, ◌⊎◌, [], length, Err, IfOk, IsOk, OnErr, OnOk, All};
 ghost use Rattle.std.specs.Io.KnownBytes.{IsAtEnd};
-ghost use Rattle.blot_rounds.specs.Rounds.{FewerLead, RoundsLead, ServesRound};
+ghost use Rattle.blotter.specs.Rounds.{FewerLead, RoundsLead, ServesRound};
 ghost use Rattle.blotter.specs.Serving.{DayCutShort, DayServed};
 
 use crate::meanwhile::{Lines, take_back};
+use crate::rounds::{Rounds, serve_rounds};
 use crate::settling::{ended, report};
 use blot_desk::{Desk, Seat};
 use blot_lanes::Task;
-use blot_rounds::{Rounds, serve_rounds};
 use blot_slots::Slots;
 use blot_sockets::Door;
 use blot_stream::{ReplayFault, ServeFault};

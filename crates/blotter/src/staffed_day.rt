@@ -1,6 +1,6 @@
 //! `serve_staffed_day` and `serve_kept_staffed_day`: an open day whose operators come over a socket, many at once.
-ghost use Rattle.std.specs.Prelude.{◌≡◌, ◌+◌, ◌++◌, ℕ, List, [], false, length, IfErr, IfOk, IsTrue, OnOk};
-ghost use Rattle.std.specs.List.{All, IsDistinct, list_any};
+ghost use Rattle.std.specs.Prelude.{◌≡◌, ◌+◌, ◌++◌, ℕ, List, [], false, length, IfErr, IfOk, IsTrue, OnOk, All};
+ghost use Rattle.std.specs.List.{IsDistinct, list_any};
 ghost use Rattle.blot_types.specs.Keys.{same_text};
 ghost use Rattle.blot_desk.specs.declared.event.Event.{Event};
 ghost use Rattle.blot_desk.specs.Keeping.{IsBeginning, kept_events};

@@ -3,33 +3,16 @@ use Rattle.std.specs.Prelude.{ℕ, Bool, true, false, List, Option, Err}
 use Rattle.blot_stream.specs.declared.outcome.Outcome.{Outcome}
 use Rattle.blot_stream.specs.declared.outcome.Outcome.TheVariants.{InputFault, NoMemory as OutOfMemory}
 use Rattle.blot_stream.specs.Outcome.{last_line_of, served_outcome, outcome_of as stopped_outcome}
-use Rattle.blot_words.specs.Refusal as refused
+use Rattle.blot_arguments.specs.Refusal as refused
 use Rattle.blotter_main.specs.declared.failure.Failure.{Failure}
-use Rattle.blotter_main.specs.declared.failure.Failure.TheVariants.{Words, NoFile, Unreadable, InUse, InTheWay, NoJournal, AnotherJournal, Unlisted, Damaged, Unwritable, NoSocket, NoServer, NoBlotter, ServerGone, NameTaken, NoSeat, NoName, PortTaken, NoPort, Stopped, Served, NoMemory}
+use Rattle.blotter_main.specs.declared.failure.Failure.TheVariants.{Words, Stopped, Served, NoMemory}
 
 abbrev pub outcome_of : Failure → Outcome
 outcome_of (Words refusal) = refused.outcome_of refusal
-outcome_of (NoFile path why) = InputFault
-outcome_of (Unreadable path) = InputFault
-outcome_of (InUse path) = InputFault
-outcome_of (InTheWay path) = InputFault
-outcome_of (NoJournal path) = InputFault
-outcome_of (AnotherJournal path own day) = InputFault
-outcome_of (Unlisted path peer) = InputFault
-outcome_of (Damaged path place) = InputFault
-outcome_of (Unwritable path why) = InputFault
-outcome_of (NoSocket path) = InputFault
-outcome_of (NoServer path) = InputFault
-outcome_of (NoBlotter path) = InputFault
-outcome_of ServerGone = InputFault
-outcome_of (NameTaken name) = InputFault
-outcome_of (NoSeat name) = InputFault
-outcome_of NoName = InputFault
-outcome_of (PortTaken port) = InputFault
-outcome_of (NoPort port) = InputFault
 outcome_of (Stopped fault) = stopped_outcome (Err fault)
 outcome_of (Served fault) = served_outcome (Err fault)
 outcome_of NoMemory = OutOfMemory
+outcome_of _ = InputFault
 
 -- out of memory is told by its last line alone
 abbrev pub is_explained : Outcome → Bool

@@ -1,10 +1,9 @@
 -- What a run of the program did.
-use Rattle.std.specs.Prelude.{◌≡◌, ℕ, ℤ, Bool, true, List, ◌++◌, map, Option, Some, None, IfSome}
-use Rattle.std.specs.List.{flat_map, list_all}
+use Rattle.std.specs.Prelude.{◌≡◌, ℕ, ℤ, Bool, true, List, ◌++◌, map, Option, Some, None, IfSome, flat_map}
+use Rattle.std.specs.List.{list_all}
 use Rattle.std.specs.Io.KnownBytes.{Appends, IsAtEnd}
-use Rattle.blot_desk.specs.declared.event.Event.{Event}
-use Rattle.blot_desk.specs.Desk.{IsRun, Journal}
-use Rattle.blot_desk.specs.declared.receipt.Receipt.{Receipt}
+use Rattle.blot_desk.specs.declared.{event.Event.Event, receipt.Receipt.Receipt}
+use Rattle.blot_desk.specs.Desk.{DeskState, IsRun}
 use Rattle.blot_stream.specs.Texts.{AppendsOf}
 use Rattle.blot_capture.specs.Replay.{replay_of}
 use Rattle.blot_operator.specs.Operating.{answers_of}
@@ -14,17 +13,17 @@ use Rattle.blotter.specs.Keeping.{KeptDayServed, ServesStaffed}
 use Rattle.blotter.specs.Serving.{DayServed, OpenDayServed, StaffedDayServed}
 use Rattle.blot_ask.specs.Asking.{Turn, is_turn, shown_last, shown_of}
 use Rattle.blot_ask.specs.Lines.{lines_of}
-use Rattle.blot_words.specs.declared.words.Words.{Words}
-use Rattle.blot_words.specs.Words.{journal_named, operators_named}
-use Rattle.blot_words.specs.declared.words.Words.TheVariants.{Replay, Desk, Audit, Open, Serve, Ask}
+use Rattle.blot_arguments.specs.declared.words.Words.{Words}
+use Rattle.blot_arguments.specs.Words.{journal_named, operators_named}
+use Rattle.blot_arguments.specs.declared.words.Words.TheVariants.{Replay, Desk, Audit, Open, Serve, Ask}
 
 -- a day is served that is kept in a journal, from some text that this had when it was opened, on; or that was new
 abbrev pub ServesJournal : List ℕ → Option (List ℕ) → ℤ → Option (List ℕ) → Option (List ℕ) → Type 0
 ServesJournal own input day before after = (found : List ℕ) × ((events : List Event) × KeptDayServed own found events input day before after)
 
 -- the answers to some lines stand there, of a desk that is the run of its events
-abbrev pub AnswersJournal : Option (List ℕ) → Option (List ℕ) → Option (List ℕ) → Type 0
-AnswersJournal input before after = (journal : Journal) × IsRun journal × AppendsOf (answers_of journal) input before after
+abbrev pub AnswersDesk : Option (List ℕ) → Option (List ℕ) → Option (List ℕ) → Type 0
+AnswersDesk input before after = (desk : DeskState) × IsRun desk × AppendsOf (answers_of desk) input before after
 
 -- the trail of what a journal received stands there
 abbrev pub AuditsJournal : List ℕ → List (List ℕ) → Option (List ℕ) → Option (List ℕ) → Type 0
@@ -71,7 +70,7 @@ abbrev pub Did : Bool → (List ℕ → List (List Receipt) → List (List Recei
 Did prompts round (Replay own day peers) input left before after =
     IsAtEnd left × AppendsOf (replay_of own peers.items day) input before after
 Did prompts round (Desk own from peers) input left before after =
-    IsAtEnd left × ((journal : Journal) × AppendsOf (answers_of journal) input before after)
+    IsAtEnd left × ((desk : DeskState) × AppendsOf (answers_of desk) input before after)
 Did prompts round (Audit own journal peers) input left before after =
     DidAudit (journal_named (Audit own journal peers)) own peers.items input left before after
 Did prompts round (Open own day port lanes journal operators peers) input left before after =

@@ -2,7 +2,7 @@
 ghost use Rattle.std.specs.Prelude.{◌≡◌, option_map};
 ghost use Rattle.blotter_main.specs.Failure.{has_sentence, outcome_of, text_of};
 
-use blot_words::Refusal;
+use blot_arguments::Refusal;
 use blotter::{Outcome, ReplayFault, ServeFault};
 use std::alloc::{AllocError, Global};
 use std::io;

@@ -11,9 +11,9 @@ ghost use Rattle.blot_operator.specs.OpenDay.{EndsOf};
 ghost use Rattle.blot_diary.specs.Diary.{desk_events};
 ghost use Rattle.blot_recovery.specs.Received.{received_of};
 ghost use Rattle.blot_trail.specs.Audit.{trail_of};
-ghost use Rattle.blot_words.specs.Words.{IsApart};
+ghost use Rattle.blot_arguments.specs.Words.{IsApart};
 ghost use Rattle.blotter_main.specs.Failure.{outcome_of};
-ghost use Rattle.blotter_main.specs.Running.{AnswersJournal, AuditsJournal, ServesJournal};
+ghost use Rattle.blotter_main.specs.Running.{AnswersDesk, AuditsJournal, ServesJournal};
 
 use crate::failure::{Failure, system_words};
 use crate::journals::Journals;
@@ -200,7 +200,7 @@ pub(crate) fn open_journal<F: Files, R: Read, W: Write>(
 ) -> Result<(), Failure>
     requires peers { IsDistinct same_text peers.now }
     requires apart { IsApart own peers.now }
-    ensures told { OnOk result (AnswersJournal (R.remaining input.old) (W.contents output.old) (W.contents output.new)) }
+    ensures told { OnOk result (AnswersDesk (R.remaining input.old) (W.contents output.old) (W.contents output.new)) }
     ensures read_to_the_end { OnOk result (IsAtEnd (R.remaining input.new)) }
     ensures words { IfErr result (λ failure. outcome_of failure ≢ BadWords) }
 {

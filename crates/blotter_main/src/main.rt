@@ -1,4 +1,4 @@
-//! The program `blotter`, thin: it asks `blot_words` what its command line wants, hands its streams to the library
+//! The program `blotter`, thin: it asks `blot_arguments` what its command line wants, hands its streams to the library
 //! of its own name, and ends with the status of the run. What a run does is proved in that library; here stand
 //! what is told on standard error, the file, the port, and `main`.
 #![tactic(auto)]

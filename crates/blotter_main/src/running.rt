@@ -3,15 +3,15 @@ ghost use Rattle.std.specs.Prelude.{◌≡◌, ◌≢◌, ◌⊎◌, false, true
 ghost use Rattle.std.specs.Io.KnownBytes.{IsAtEnd, Keeps};
 ghost use Rattle.std.specs.List.{IsDistinct};
 ghost use Rattle.blot_types.specs.Keys.{same_text};
-ghost use Rattle.blot_desk.specs.Desk.{Journal};
+ghost use Rattle.blot_desk.specs.Desk.{DeskState};
 ghost use Rattle.blot_stream.specs.Texts.{AppendsOf};
 ghost use Rattle.blot_operator.specs.OpenDay.{EndsOf};
 ghost use Rattle.blot_operator.specs.Operating.{answers_of};
 ghost use Rattle.blot_capture.specs.Replay.{captured_by};
-ghost use Rattle.blot_rounds.specs.Rounds.{ServesRound};
+ghost use Rattle.blotter.specs.Rounds.{ServesRound};
 ghost use Rattle.blotter.specs.Serving.{DayServed, OpenDayServed};
 ghost use Rattle.blot_stream.specs.declared.outcome.Outcome.TheVariants.{BadWords, Done, NoMemory};
-ghost use Rattle.blot_words.specs.Words.{AreApartIn, HasPeers, is_written_last};
+ghost use Rattle.blot_arguments.specs.Words.{AreApartIn, HasPeers, is_written_last};
 ghost use Rattle.blotter_main.specs.Failure.{outcome_of};
 ghost use Rattle.blotter_main.specs.Running.{Did};
 
@@ -21,12 +21,12 @@ use crate::journals::Journals;
 use crate::keeping::{audit_journal, keep_day, open_journal};
 use crate::sockets::Sockets;
 use crate::staffing::{keep_staffed, staff_port};
+use blot_arguments::{DeskSource, Refusal, Words, given, parse};
 use blot_desk::Held;
 use blot_slots::Slots;
 use blot_time::Day;
 use blot_trail::audit;
 use blot_types::Text64;
-use blot_words::{DeskSource, Refusal, Words, given, parse};
 use blotter::{
     Door, Outcome, ReplayFault, Rounds, capture, desk_lines, replay, serve_day, serve_open_day,
 };
@@ -308,7 +308,7 @@ fn open_desk<F: Files, R: Read, W: Write>(
     output: &mut W,
 ) -> Result<(), Failure>
     requires { IsDistinct same_text peers.now }
-    ensures told { OnOk result ((journal : Journal) × AppendsOf (answers_of journal) (R.remaining input.old)
+    ensures told { OnOk result ((desk : DeskState) × AppendsOf (answers_of desk) (R.remaining input.old)
         (W.contents output.old) (W.contents output.new)) }
     ensures read_to_the_end { OnOk result (IsAtEnd (R.remaining input.new)) }
     ensures words { IfErr result (λ failure. outcome_of failure ≢ BadWords) }
@@ -331,7 +331,7 @@ fn keep_desk<C: Read, R: Read, W: Write>(
     output: &mut W,
 ) -> Result<(), Failure>
     requires { IsDistinct same_text peers.now }
-    ensures told { OnOk result ((journal : Journal) × AppendsOf (answers_of journal) (R.remaining input.old)
+    ensures told { OnOk result ((desk : DeskState) × AppendsOf (answers_of desk) (R.remaining input.old)
         (W.contents output.old) (W.contents output.new)) }
 
     // The desk is the one that the capture leads to.

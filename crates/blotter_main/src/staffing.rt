@@ -3,7 +3,7 @@ ghost use Rattle.std.specs.Prelude.{◌≡◌, ◌≢◌, IfErr, OnOk};
 ghost use Rattle.std.specs.List.{IsDistinct};
 ghost use Rattle.blot_types.specs.Keys.{same_text};
 ghost use Rattle.blot_stream.specs.declared.outcome.Outcome.TheVariants.{BadWords};
-ghost use Rattle.blot_words.specs.Words.{IsApart};
+ghost use Rattle.blot_arguments.specs.Words.{IsApart};
 ghost use Rattle.blotter.specs.Serving.{StaffedDayServed};
 ghost use Rattle.blotter_main.specs.Failure.{outcome_of};
 ghost use Rattle.blotter_main.specs.Running.{KeepsStaffed};

@@ -2,10 +2,8 @@
 use Rattle.std.specs.Prelude.{◌≡◌, ℕ, ◌+◌, ◌-◌, true, [], Some, None, refl, nat_le, if◌then◌else◌}
 use Rattle.std.proofs.Common.{arith}
 use Rattle.blot_command.specs.Undoable.{Meaning, IsLawful}
-use Rattle.callers.specs.declared.counter.Add.{Add}
-use Rattle.callers.specs.declared.counter.AddFault.{AddFault}
+use Rattle.callers.specs.declared.{counter.Add.Add, counter.AddFault.AddFault, counter.TheConstants.TOTAL_MAX}
 use Rattle.callers.specs.declared.counter.AddFault.TheVariants.{TooLarge, NoMemory}
-use Rattle.callers.specs.declared.counter.TheConstants.{TOTAL_MAX}
 
 -- the total grows by the amount, up to TOTAL_MAX, and the inverse is the amount; a total has no numbers in it
 abbrev pub add_meaning : Meaning ℕ ℕ Add ℕ AddFault

@@ -1,13 +1,10 @@
 -- What putting a value at a place means.
-use Rattle.std.specs.Prelude.{◌≡◌, ℕ, ◌<◌, true, List, [], Option, Some, None, refl, nat_lt, length, slice_set, slice_index_or, if◌then◌else◌}
-use Rattle.std.specs.Option.{option_map}
+use Rattle.std.specs.Prelude.{◌≡◌, ℕ, ◌<◌, true, List, [], Option, Some, None, refl, nat_lt, length, slice_set, slice_index_or, if◌then◌else◌, option_map}
 use Rattle.std.proofs.Common.{◌∙◌, ap, inl, inr}
 use Rattle.std.proofs.lemmas.Bool.{cases_Bool, ltb-true}
 use Rattle.std.proofs.lemmas.List.{set-set, set-get_or, get_or-set_same}
 use Rattle.blot_command.specs.Undoable.{Meaning, IsLawful}
-use Rattle.callers.specs.declared.places.Put.{Put}
-use Rattle.callers.specs.declared.places.Was.{Was}
-use Rattle.callers.specs.declared.places.PutFault.{PutFault}
+use Rattle.callers.specs.declared.{places.Put.Put, places.Was.Was, places.PutFault.PutFault}
 use Rattle.callers.specs.declared.places.PutFault.TheVariants.{NoPlace, NoMemory}
 
 -- the place holds the value then, and the inverse is what it held; there are no numbers in the places

@@ -1,5 +1,4 @@
-use Rattle.std.proofs.Common.{◌≡◌, ◌∷◌, true, drop}
-use Rattle.std.specs.List.{All}
+use Rattle.std.proofs.Common.{◌≡◌, ◌∷◌, true, drop, All}
 use Rattle.blot_places.specs.Places.{HasRoom, places_in}
 use Rattle.blot_types.specs.Instructions.{are_apart}
 use Rattle.blot_types.specs.Keys.{same_exec}

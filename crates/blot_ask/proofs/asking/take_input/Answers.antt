@@ -1,5 +1,4 @@
-use Rattle.std.proofs.Common.{◌∙◌, ap, length}
-use Rattle.std.specs.Prelude.{◌==◌, not}
+use Rattle.std.proofs.Common.{◌∙◌, ap, length, ◌==◌, not}
 use Rattle.blot_ask.proofs.AheadLemmas.{takes_ended, takes_last}
 use Rattle.blot_ask.proofs.asking.take_input.Goals as goal
 

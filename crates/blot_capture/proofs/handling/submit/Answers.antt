@@ -12,7 +12,7 @@ returns-in_ok-told-in-Ok-clause-session g c =
     let reply = rw c.in-Ok.is at c.submit-answer.ensures.reply in
     let seen = c.seen_reply.ensures ∙ ap seen_reply c.in-Ok.is in
     c.in_ok-told-in-Ok.ensures.session
-    ∙ replied (g.D.TakesCommands.journal_of c.args.desk.now).book c.args.command.now c.in-Ok.reply c.seen_reply.result c.args.session.now c.args.now reply seen
+    ∙ replied (g.D.TakesCommands.desk_of c.args.desk.now).book c.args.command.now c.in-Ok.reply c.seen_reply.result c.args.session.now c.args.now reply seen
 
 pub returns-in_ok-told-in-Ok-clause-handled : goal.returns-in_ok-told-in-Ok-clause-handled
 returns-in_ok-told-in-Ok-clause-handled g c =
@@ -24,7 +24,7 @@ pub returns-in_err-told-in-Ok-clause-err : goal.returns-in_err-told-in-Ok-clause
 returns-in_err-told-in-Ok-clause-err g c =
     let exit = err_from_is_err_and c.from_residual.result c.from_residual.ensures.1 in
     let taken = rw c.in-Ok.is at c.submit-answer.ensures.taken in
-    let before = g.D.TakesCommands.journal_of c.args.desk.now in
-    let after = g.D.TakesCommands.journal_of c.submit-answer.new.self in
+    let before = g.D.TakesCommands.desk_of c.args.desk.now in
+    let after = g.D.TakesCommands.desk_of c.submit-answer.new.self in
     rw (exit.1, exit.2)
     (subst (Stopped before after (c.args.command.now ∷ [])) (sym c.in_err-told-in-Ok.ensures.fault) (stopped-submitted before after c.args.command.now taken))

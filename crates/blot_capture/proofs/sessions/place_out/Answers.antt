@@ -1,5 +1,4 @@
-use Rattle.std.proofs.Common.{◌≡◌, ◌≤◌, ◌∙◌, refl, sym, subst, arith, length, None}
-use Rattle.std.proofs.lemmas.List.{take_all}
+use Rattle.std.proofs.Common.{◌≡◌, ◌≤◌, ◌∙◌, refl, sym, subst, arith, length, None, take_all}
 use Rattle.blot_capture.specs.Sessions.{session_among}
 use Rattle.blot_capture.proofs.LookupLemmas.{among-more, is_at, text-in}
 use Rattle.blot_capture.proofs.sessions.place_out.Goals as goal

@@ -1,5 +1,4 @@
-use Rattle.std.proofs.Common.{Some, ap, sym, ◌∙◌}
-use Rattle.std.specs.Option.{option_map}
+use Rattle.std.proofs.Common.{Some, ap, sym, ◌∙◌, option_map}
 use Rattle.blot_types.specs.Position.{part_of, part_of_fill}
 use Rattle.blot_types.specs.Survivors.{version_by}
 use Rattle.blot_command.proofs.UnnamedLemmas.{unnamed-last}

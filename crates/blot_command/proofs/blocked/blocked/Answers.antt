@@ -1,6 +1,4 @@
-use Rattle.std.proofs.Common.{◌≡◌, Some, sym, ap, ◌∙◌}
-use Rattle.std.specs.Prelude.{find}
-use Rattle.std.specs.Option.{option_copied}
+use Rattle.std.proofs.Common.{◌≡◌, Some, sym, ap, ◌∙◌, find, option_copied}
 use Rattle.blot_command.specs.Blocking.{blocked_by}
 use Rattle.blot_command.specs.Book.{has_number}
 use Rattle.blot_command.specs.Slots.{entries_in}

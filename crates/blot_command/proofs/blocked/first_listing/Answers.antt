@@ -1,5 +1,5 @@
-use Rattle.std.proofs.Common.{◌≡◌, ◌<◌, true, sym, ◌∙◌, arith}
-use Rattle.std.proofs.lemmas.Bool.{le-ltb, lt-ltb, or_from, or_left, or_right}
+use Rattle.std.proofs.Common.{◌≡◌, ◌<◌, true, sym, ◌∙◌, arith, le-ltb, lt-ltb}
+use Rattle.std.proofs.lemmas.Bool.{or_from, or_left, or_right}
 use Rattle.blot_command.specs.Slots.{entries_in}
 use Rattle.blot_command.proofs.ListingLemmas.{counts, listing-here, listing-next, listing-none, naming-above}
 use Rattle.blot_command.proofs.blocked.first_listing.Goals as goal

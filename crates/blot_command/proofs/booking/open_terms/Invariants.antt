@@ -1,5 +1,4 @@
-use Rattle.std.proofs.Common.{◌≡◌, true, take}
-use Rattle.std.specs.Prelude.{All}
+use Rattle.std.proofs.Common.{◌≡◌, true, take, All}
 use Rattle.blot_types.specs.Position.{house, part_of_line, IsSmall}
 use Rattle.blot_position.specs.Positions.{has_cell}
 use Rattle.blot_command.specs.Carried.{Opens}

@@ -1,5 +1,4 @@
-use Rattle.std.proofs.Common.{◌≡◌, ◌≤◌, ◌++◌, drop, length}
-use Rattle.std.specs.List.{filter_map}
+use Rattle.std.proofs.Common.{◌≡◌, ◌≤◌, ◌++◌, drop, length, filter_map}
 use Rattle.blot_types.specs.Chains.{root_in}
 use Rattle.blot_command.proofs.linking.roots_of.Given as goal
 

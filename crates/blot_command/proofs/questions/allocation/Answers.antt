@@ -1,5 +1,4 @@
-use Rattle.std.proofs.Common.{None, Some, refl, sym, ap, ◌∙◌}
-use Rattle.std.specs.Option.{option_copied}
+use Rattle.std.proofs.Common.{None, Some, refl, sym, ap, ◌∙◌, option_copied}
 use Rattle.blot_types.specs.Instructions.{ended_in}
 use Rattle.blot_command.specs.Slots.{entries_in}
 use Rattle.blot_command.proofs.KeyEntryLemmas.{told-alloc}

@@ -1,6 +1,5 @@
-use Rattle.std.proofs.Common.{None, Some, refl, sym, ap, ◌∙◌}
-use Rattle.std.specs.Option.{option_copied}
-use Rattle.blot_types.specs.Standing.{chain_by}
+use Rattle.std.proofs.Common.{None, Some, refl, sym, ap, ◌∙◌, option_copied}
+use Rattle.blot_types.specs.StandingVersion.{chain_by}
 use Rattle.blot_command.specs.Slots.{entries_in}
 use Rattle.blot_command.proofs.KeyEntryLemmas.{told-keyed}
 use Rattle.blot_command.proofs.questions.chain_keyed.Goals as goal

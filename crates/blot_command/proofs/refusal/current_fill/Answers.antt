@@ -1,5 +1,4 @@
-use Rattle.std.proofs.Common.{◌∙◌, ap}
-use Rattle.std.specs.Option.{option_copied}
+use Rattle.std.proofs.Common.{◌∙◌, ap, option_copied}
 use Rattle.blot_command.specs.Slots.{entries_in}
 use Rattle.blot_command.proofs.RefusalLemmas.{fill_found}
 use Rattle.blot_command.proofs.TurnLemmas.{entries_rise}

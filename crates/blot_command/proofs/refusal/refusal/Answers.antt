@@ -1,5 +1,4 @@
-use Rattle.std.proofs.Common.{◌≡◌, sym, ◌∙◌, ap, None}
-use Rattle.std.specs.Option.{option_map}
+use Rattle.std.proofs.Common.{◌≡◌, sym, ◌∙◌, ap, None, option_map}
 use Rattle.blot_types.specs.declared.refused.Refused.TheVariants.{DuplicateAlloc}
 use Rattle.blot_types.specs.Allocations.{instructions_of}
 use Rattle.blot_types.specs.Instructions.{alloc_taker_in}

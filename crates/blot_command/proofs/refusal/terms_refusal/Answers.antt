@@ -1,7 +1,5 @@
+use Rattle.std.proofs.Common.{refl, ◌≡◌, arith, to_z, of_z, [], reverse, pos, sym, ◌∙◌, ap, Some, None, find, is_none, filter_map}
 use mir.Syntax.{w128}
-use Rattle.std.proofs.Common.{refl, ◌≡◌, arith, to_z, of_z, [], reverse, pos, sym, ◌∙◌, ap, Some, None}
-use Rattle.std.specs.Prelude.{find, is_none}
-use Rattle.std.specs.List.{filter_map}
 use Rattle.std.proofs.lemmas.Int.{ints}
 use Rattle.blot_types.specs.declared.refused.Refused.TheVariants.{UnknownExec, BustedExec, RepeatedExec, ExecTaken, Instrument}
 use Rattle.blot_types.specs.Allocations.{instructions_of}

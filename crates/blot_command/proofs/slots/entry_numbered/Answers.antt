@@ -1,5 +1,4 @@
-use Rattle.std.proofs.Common.{◌≤◌, length, arith, sym, ◌∙◌, ap}
-use Rattle.std.specs.Option.{option_copied}
+use Rattle.std.proofs.Common.{◌≤◌, length, arith, sym, ◌∙◌, ap, option_copied}
 use Rattle.blot_command.proofs.SlotLemmas.{found-here, found-other, found-past}
 use Rattle.blot_command.proofs.slots.entry_numbered.Goals as goal
 

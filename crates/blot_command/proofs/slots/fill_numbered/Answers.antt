@@ -1,5 +1,4 @@
-use Rattle.std.proofs.Common.{ap, ◌∙◌}
-use Rattle.std.specs.Option.{option_and_then, option_copied, option_map}
+use Rattle.std.proofs.Common.{ap, ◌∙◌, option_and_then, option_copied, option_map}
 use Rattle.blot_types.specs.declared.lines.Version.{Version}
 use Rattle.blot_types.specs.Survivors.{version_of}
 use Rattle.blot_command.specs.Slots.{entries_in}

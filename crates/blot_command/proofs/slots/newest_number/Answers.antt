@@ -1,5 +1,4 @@
-use Rattle.std.proofs.Common.{Some, sym, ap, ◌∙◌}
-use Rattle.std.specs.Option.{option_copied, option_map}
+use Rattle.std.proofs.Common.{Some, sym, ap, ◌∙◌, option_copied, option_map}
 use Rattle.blot_command.proofs.NewestLemmas.{slot_number, last-there}
 use Rattle.blot_command.proofs.slots.newest_number.Goals as goal
 

@@ -1,5 +1,4 @@
-use Rattle.std.proofs.Common.{ap, ◌∙◌}
-use Rattle.std.specs.Option.{option_and_then}
+use Rattle.std.proofs.Common.{ap, ◌∙◌, option_and_then}
 use Rattle.blot_types.specs.Survivors.{version_of}
 use Rattle.blot_command.specs.Slots.{entries_in}
 use Rattle.blot_command.proofs.SearchLemmas.{rise, version-by_number}

@@ -1,5 +1,4 @@
-use Rattle.std.proofs.Common.{ap, ◌∙◌}
-use Rattle.std.specs.Prelude.{is_some}
+use Rattle.std.proofs.Common.{ap, ◌∙◌, is_some}
 use Rattle.blot_command.proofs.LiveLemmas.{named-holder}
 use Rattle.blot_command.proofs.standing.is_named.Goals as goal
 

@@ -1,5 +1,4 @@
-use Rattle.std.proofs.Common.{◌≡◌, ◌++◌, take}
-use Rattle.std.specs.List.{flat_map}
+use Rattle.std.proofs.Common.{◌≡◌, ◌++◌, take, flat_map}
 use Rattle.blot_console.specs.Replies.{told}
 use Rattle.blot_console.proofs.entries.put_exec_ids.Given as goal
 

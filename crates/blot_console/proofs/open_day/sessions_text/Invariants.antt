@@ -1,5 +1,4 @@
-use Rattle.std.proofs.Common.{◌≡◌, take}
-use Rattle.std.specs.List.{flat_map}
+use Rattle.std.proofs.Common.{◌≡◌, take, flat_map}
 use Rattle.blot_console.specs.OpenDay.{session_text}
 use Rattle.blot_console.proofs.open_day.sessions_text.Given as goal
 

@@ -1,5 +1,4 @@
-use Rattle.std.proofs.Common.{◌+◌, subst, drop, refl, arith}
-use Rattle.std.proofs.Math.ListN.{drop_of_length-le}
+use Rattle.std.proofs.Common.{◌+◌, subst, drop, refl, arith, drop_of_length-le}
 use Rattle.blot_desk.proofs.MarkLemmas.{IsMarking, begun, marked_all, marked_more, next_of, not_rising, not_standing, twice}
 use Rattle.blot_desk.proofs.settling.mark_receipts.Goals as goal
 use Rattle.blot_desk.proofs.settling.mark_receipts.Goals.{then-not-stands-via-then-not-stands, then-not-stands-via-else-not-stands+then-receipt-from, then-not-stands-via-else-not-stands+else-receipt-from+then-marks-receipt}

@@ -1,5 +1,4 @@
-use Rattle.std.proofs.Common.{◌≡◌, Some, Ok, subst, arith}
-use Rattle.std.specs.Prelude.{ℕ, List, [], ◌∷◌, codes, IfSome}
+use Rattle.std.proofs.Common.{◌≡◌, Some, Ok, subst, arith, ℕ, List, [], ◌∷◌, codes, IfSome}
 use Rattle.blot_time.specs.Day.{day_of}
 use Rattle.blot_time.specs.Moment.{moment_of}
 use Rattle.blot_tag.specs.Fields.{Item, field_of, fields_of}

@@ -1,5 +1,4 @@
-use Rattle.std.proofs.Common.{◌≡◌, Some, Ok, subst}
-use Rattle.std.specs.Prelude.{ℕ, List, [], ◌∷◌, IfSome}
+use Rattle.std.proofs.Common.{◌≡◌, Some, Ok, subst, ℕ, List, [], ◌∷◌, IfSome}
 use Rattle.blot_time.specs.Moment.{moment_of}
 use Rattle.blot_tag.specs.Fields.{Item, field_of, fields_of}
 use Rattle.blot_diary.specs.declared.kept.Content.TheVariants.{Numbers}

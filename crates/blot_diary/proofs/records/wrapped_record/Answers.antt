@@ -1,5 +1,4 @@
-use Rattle.std.proofs.Common.{◌≡◌, Some, Ok, subst, sym, rules}
-use Rattle.std.specs.Prelude.{List, [], ◌∷◌}
+use Rattle.std.proofs.Common.{◌≡◌, Some, Ok, subst, sym, rules, List, [], ◌∷◌}
 use Rattle.blot_time.specs.Moment.{moment_of}
 use Rattle.blot_tag.specs.Fields.{Item, field_of}
 use Rattle.blot_tag.specs.Frames.{IsFrame}

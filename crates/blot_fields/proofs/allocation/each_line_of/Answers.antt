@@ -1,4 +1,4 @@
-use Rattle.std.specs.Option.{option_map}
+use Rattle.std.proofs.Common.{option_map}
 use Rattle.std.proofs.lemmas.Result.{err_from_is_err_and}
 use Rattle.blot_tag.specs.Views.{tag_value}
 use Rattle.blot_fields.specs.Drafts.{draft_of}

@@ -1,4 +1,4 @@
-use Rattle.std.specs.Option.{option_map}
+use Rattle.std.proofs.Common.{option_map}
 use Rattle.blot_fields.specs.Drafts.{draft_of}
 use Rattle.blot_fields.specs.Groups.{each_line_of, lines_in}
 use Rattle.blot_fields.proofs.LineLemmas.{LinesFront}

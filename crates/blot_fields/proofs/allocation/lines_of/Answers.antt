@@ -1,7 +1,7 @@
-use Rattle.std.proofs.Common.{List, sym, ap, subst, ◌∙◌}
-use Rattle.std.proofs.lemmas.Bool.{and_parts, eqb-true}
+use Rattle.std.proofs.Common.{List, sym, ap, subst, ◌∙◌, eqb-true}
+use Rattle.std.proofs.lemmas.Bool.{and_parts}
 use Rattle.blot_tag.specs.Fields.{TagValue}
-use Rattle.blot_types.specs.Making.{Makes}
+use Rattle.blot_types.specs.ItemsBuilder.{Makes}
 use Rattle.blot_fields.specs.Groups.{behind, each_line_of, lines_in}
 use Rattle.blot_fields.proofs.CountLemmas.{lines_short}
 use Rattle.blot_fields.proofs.allocation.lines_of.Goals as goal

@@ -13,7 +13,7 @@ loop-item-preserved c =
     let sound = sym c.field_wrong.ensures.value ∙ c.in_default.is in
     let few = field_wrong-few c.loop-item.before field sound in
     record {
-      known = known_behind _ c.loop-item.before items rest field c.loop-item.slots c.note.new.slots is sound c.note.ensures c.loop-item.invariant.known;
+      known = known_behind _ c.loop-item.before items rest field c.loop-item.occurrences c.note.new.occurrences is sound c.note.ensures c.loop-item.invariant.known;
       refused = refused_later _ c.loop-item.before items rest field is sound c.loop-item.invariant.refused;
       few = omega arith;
     }

@@ -9,7 +9,7 @@ use Rattle.blot_fields.specs.declared.sound.TheConstants.{FIELDS_MAX}
 abbrev pub invariant-loop-item : goal.invariant-loop-item
 invariant-loop-item l =
     record {
-      known : IsIndexBefore (sound_fields (fields_of (text_of l.frame))) (sound_behind l.before l.item-iterator) l.slots;
+      known : IsIndexBefore (sound_fields (fields_of (text_of l.frame))) (sound_behind l.before l.item-iterator) l.occurrences;
       refused : refused_behind l.before l.item-iterator ≡ refused_field (fields_of (text_of l.frame));
       few : l.before ≤ FIELDS_MAX;
     }

@@ -1,6 +1,6 @@
 -- The table is compared with the list of tags at each tag that it covers, by computing.
-use Rattle.std.proofs.Common.{◌≡◌, ℕ, zero, suc, ◌<◌, ◌≤◌, Bool, true, false, ◌&&◌, ◌==◌, ◌∷◌, [], nat_eq, nat_lt, get_or, List, refl, arith, inl, inr, sym, ◌∙◌, length}
-use Rattle.std.proofs.lemmas.Bool.{cases_eq, eqb-true, ne_eqb, ltb-true}
+use Rattle.std.proofs.Common.{◌≡◌, ℕ, zero, suc, ◌<◌, ◌≤◌, Bool, true, false, ◌&&◌, ◌==◌, ◌∷◌, [], nat_eq, nat_lt, get_or, List, refl, arith, inl, inr, sym, ◌∙◌, length, eqb-true, ne_eqb, ltb-true}
+use Rattle.std.proofs.lemmas.Bool.{cases_eq}
 use Rattle.std.specs.List.{list_all, position_or_len}
 use Rattle.blot_fields.specs.declared.index.TheConstants.{TAGS, ROW_OF_TAG}
 use Rattle.blot_fields.specs.Index.{row_of, row_tags}

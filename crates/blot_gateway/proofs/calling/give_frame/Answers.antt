@@ -1,5 +1,4 @@
-use Rattle.std.proofs.Common.{◌≡◌, false, None, refl, subst}
-use Rattle.std.specs.List.{flat_map}
+use Rattle.std.proofs.Common.{◌≡◌, false, None, refl, subst, flat_map}
 use Rattle.blot_tag.specs.Views.{text_of}
 use Rattle.blot_session.specs.Runs.{bytes_of}
 use Rattle.blot_gateway.specs.Sending.{Halts, Writes}

@@ -1,5 +1,4 @@
-use Rattle.std.proofs.Common.{pos, subst, arith}
-use Rattle.std.specs.Prelude.{IsSome}
+use Rattle.std.proofs.Common.{pos, subst, arith, IsSome}
 use Rattle.std.proofs.lemmas.Bool.{false≢true}
 use Rattle.std.proofs.lemmas.Int.{ints}
 use Rattle.blot_time.proofs.MomentLemmas.{IsMoment-from}

@@ -1,5 +1,4 @@
-use Rattle.std.proofs.Common.{ap}
-use Rattle.std.specs.Option.{option_map}
+use Rattle.std.proofs.Common.{ap, option_map}
 use Rattle.blot_tag.specs.Views.{text_of}
 use Rattle.blot_tag.specs.Walking.{frames_of}
 use Rattle.blot_gateway.proofs.GreetingLemmas.{nothing-first}

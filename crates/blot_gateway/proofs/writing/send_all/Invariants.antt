@@ -1,5 +1,4 @@
-use Rattle.std.proofs.Common.{◌≤◌, take}
-use Rattle.std.specs.List.{flat_map}
+use Rattle.std.proofs.Common.{◌≤◌, take, flat_map}
 use Rattle.blot_session.specs.Runs.{bytes_of}
 use Rattle.blot_gateway.specs.Sending.{Writes}
 use Rattle.blot_gateway.proofs.writing.send_all.Given as goal

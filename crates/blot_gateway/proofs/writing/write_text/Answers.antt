@@ -1,5 +1,5 @@
-use Rattle.std.proofs.Common.{◌≤◌, length, arith, subst}
-use Rattle.std.proofs.lemmas.List.{take_rest, length-drop}
+use Rattle.std.proofs.Common.{◌≤◌, length, arith, subst, length-drop}
+use Rattle.std.proofs.lemmas.List.{take_rest}
 use Rattle.blot_gateway.proofs.SendingLemmas.{writes-piece, front-piece, on-err}
 use Rattle.blot_gateway.proofs.writing.write_text.Goals as goal
 

@@ -1,6 +1,6 @@
 use Rattle.std.proofs.Common.{[], ◌∷◌, inl, not, sym, ap, subst, refl, ◌∙◌}
 use Rattle.std.proofs.lemmas.Result.{on_ok_weaker}
-use Rattle.blot_journal.specs.Device.{Holds}
+use Rattle.blot_journal.specs.Device.{HasWritten}
 use Rattle.blot_journal.specs.File.{Turned, HasHead, text_of, size_in, switch_for}
 use Rattle.blot_journal.proofs.MomentLemmas.{started, goes_on}
 use Rattle.blot_journal.proofs.BatchLemmas.{turned, turn_crash, twice}
@@ -29,12 +29,12 @@ pub returns-clause-head : goal.returns-clause-head
 returns-clause-head g c =
     let old = g.D.Device.seen c.args.device.now in
     let other = not c.args.second in
-    let holds : Holds old 0 (switch_for other ∷ []) (g.D.Device.seen c.write_at.new.self) = rw c.switch_for.ensures at c.in_ok-write_at.ensures.written in
+    let holds : HasWritten old 0 (switch_for other ∷ []) (g.D.Device.seen c.write_at.new.self) = rw c.switch_for.ensures at c.in_ok-write_at.ensures.written in
     on_ok_weaker c.sync.result (λ _. subst (HasHead other (size_in other old)) (sym c.sync.ensures.seen) (turned other old _ c.requires.whole c.requires.room holds).0) c.sync.ensures.durable
 
 pub returns-clause-text : goal.returns-clause-text
 returns-clause-text g c =
     let old = g.D.Device.seen c.args.device.now in
     let other = not c.args.second in
-    let holds : Holds old 0 (switch_for other ∷ []) (g.D.Device.seen c.write_at.new.self) = rw c.switch_for.ensures at c.in_ok-write_at.ensures.written in
+    let holds : HasWritten old 0 (switch_for other ∷ []) (g.D.Device.seen c.write_at.new.self) = rw c.switch_for.ensures at c.in_ok-write_at.ensures.written in
     on_ok_weaker c.sync.result (λ _. ap text_of c.sync.ensures.seen ∙ (turned other old _ c.requires.whole c.requires.room holds).1) c.sync.ensures.durable

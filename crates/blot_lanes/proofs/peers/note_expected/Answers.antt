@@ -1,6 +1,6 @@
 use Rattle.std.proofs.Common.{refl, rules}
 use Rattle.blot_lanes.specs.declared.peers.Peer.{Peer}
-use Rattle.blot_lanes.proofs.SeatLemmas.{changed-nowhere, changed-there, own-changed, own-found}
+use Rattle.blot_lanes.proofs.SeatLemmas.{changed-there, own-changed, own-found}
 use Rattle.blot_lanes.proofs.peers.note_expected.Goals as goal
 
 pub returns-in-Some-clause-noted : goal.returns-in-Some-clause-noted

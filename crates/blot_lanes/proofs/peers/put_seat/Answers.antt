@@ -1,6 +1,6 @@
 use Rattle.std.proofs.Common.{Some, refl, rules}
 use Rattle.blot_lanes.specs.declared.peers.Peer.{Peer}
-use Rattle.blot_lanes.proofs.SeatLemmas.{changed-nowhere, changed-there, own-changed}
+use Rattle.blot_lanes.proofs.SeatLemmas.{changed-there, own-changed}
 use Rattle.blot_lanes.proofs.peers.put_seat.Goals as goal
 
 pub returns-in-Some-clause-put : goal.returns-in-Some-clause-put

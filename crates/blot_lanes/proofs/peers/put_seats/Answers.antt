@@ -1,6 +1,5 @@
-use Rattle.std.proofs.Common.{◌≡◌, true, subst, sym}
+use Rattle.std.proofs.Common.{◌≡◌, true, subst, sym, All}
 use Rattle.std.proofs.lemmas.List.Elements.{All-push}
-use Rattle.std.specs.List.{All}
 use Rattle.blot_gateway.specs.AtOnce.{are_submits}
 use Rattle.blot_lanes.proofs.peers.put_seats.Goals as goal
 

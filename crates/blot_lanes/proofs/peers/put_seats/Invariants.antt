@@ -1,5 +1,4 @@
-use Rattle.std.proofs.Common.{◌≡◌, true}
-use Rattle.std.specs.List.{All}
+use Rattle.std.proofs.Common.{◌≡◌, true, All}
 use Rattle.blot_gateway.specs.AtOnce.{are_submits}
 use Rattle.blot_lanes.proofs.peers.put_seats.Given as goal
 

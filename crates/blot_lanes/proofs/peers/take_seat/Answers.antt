@@ -1,4 +1,4 @@
-use Rattle.std.proofs.Common.{◌≡◌, IfSome, None, ap, refl, rules, subst, sym}
+use Rattle.std.proofs.Common.{◌≡◌, IfSome, None, ap, rules, subst, sym}
 use Rattle.blot_lanes.specs.declared.peers.Peer.{Peer}
 use Rattle.blot_lanes.proofs.SeatLemmas.{changed-nowhere, changed-there, own-changed, own-found}
 use Rattle.blot_lanes.proofs.peers.take_seat.Goals as goal

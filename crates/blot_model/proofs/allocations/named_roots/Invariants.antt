@@ -1,6 +1,4 @@
-use Rattle.std.proofs.Common.{◌≡◌, take}
-use Rattle.std.specs.Prelude.{filter}
-use Rattle.std.specs.List.{flat_map}
+use Rattle.std.proofs.Common.{◌≡◌, take, filter, flat_map}
 use Rattle.blot_types.specs.Instructions.{is_live_in}
 use Rattle.blot_model.proofs.allocations.named_roots.Given as goal
 

@@ -1,5 +1,4 @@
-use Rattle.std.proofs.Common.{◌≡◌, ◌*◌, ◌^◌, pos, ◌≤ℤ◌, take, reverse}
-use Rattle.std.specs.List.{filter_map}
+use Rattle.std.proofs.Common.{◌≡◌, ◌*◌, ◌^◌, pos, ◌≤ℤ◌, take, reverse, filter_map}
 use Rattle.blot_types.specs.Order.{cum_of}
 use Rattle.blot_types.specs.Refusals.{current_fill}
 use Rattle.blot_model.proofs.amounts.wanted.Given as goal

@@ -1,4 +1,4 @@
-use Rattle.std.proofs.Common.{◌^◌, ◌*◌, arith, ◌∙◌}
+use Rattle.std.proofs.Common.{◌*◌, arith, ◌∙◌}
 use Rattle.blot_types.specs.Bounds.{BOOK_QTY}
 use Rattle.blot_model.proofs.PositionLemmas.{sums-line, line-range, line-up_to, house-up_to, up_to-weaker, up_to-joined}
 use Rattle.blot_model.proofs.parts.moves_of_line.Goals as goal

@@ -1,5 +1,4 @@
-use Rattle.std.proofs.Common.{◌≡◌, ◌*◌, ◌^◌, ◌≤◌, take}
-use Rattle.std.specs.List.{flat_map}
+use Rattle.std.proofs.Common.{◌≡◌, ◌*◌, ◌^◌, ◌≤◌, take, flat_map}
 use Rattle.blot_types.specs.Position.{moves_of_line}
 use Rattle.blot_model.specs.Sums.{sums_at, units_of, AreUpTo}
 use Rattle.blot_model.proofs.positions.moves_of.Given as goal

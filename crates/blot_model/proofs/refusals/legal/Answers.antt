@@ -1,5 +1,4 @@
-use Rattle.std.proofs.Common.{◌≡◌, true, take, sym}
-use Rattle.std.specs.Prelude.{is_some}
+use Rattle.std.proofs.Common.{◌≡◌, true, take, sym, is_some}
 use Rattle.blot_types.specs.Legal.{entry_refusal}
 use Rattle.blot_types.proofs.LegalLemmas.{is_legal-stops}
 use Rattle.blot_model.proofs.refusals.legal.Goals as goal

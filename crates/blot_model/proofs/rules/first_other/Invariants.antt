@@ -1,5 +1,4 @@
-use Rattle.std.proofs.Common.{◌≡◌, drop}
-use Rattle.std.specs.Prelude.{find}
+use Rattle.std.proofs.Common.{◌≡◌, drop, find}
 use Rattle.blot_model.specs.Rules.{is_other}
 use Rattle.blot_model.proofs.rules.first_other.Given as goal
 

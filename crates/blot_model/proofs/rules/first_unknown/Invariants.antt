@@ -1,5 +1,4 @@
-use Rattle.std.proofs.Common.{◌≡◌, drop}
-use Rattle.std.specs.Prelude.{find, is_none}
+use Rattle.std.proofs.Common.{◌≡◌, drop, find, is_none}
 use Rattle.blot_types.specs.Chains.{root_in}
 use Rattle.blot_types.specs.Survivors.{links_of}
 use Rattle.blot_model.proofs.rules.first_unknown.Given as goal

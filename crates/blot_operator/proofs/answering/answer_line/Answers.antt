@@ -1,5 +1,5 @@
-use Rattle.std.specs.Io.KnownBytes.{Appends}
 use Rattle.std.proofs.Common.{◌∙◌, [], inr, refl, subst}
+use Rattle.std.specs.Io.KnownBytes.{Appends}
 use Rattle.std.proofs.KnownBytes.{Appends-nil}
 use Rattle.blot_console.specs.Answers.{answer_text}
 use Rattle.blot_operator.proofs.OpenDayLemmas.{closed-is}

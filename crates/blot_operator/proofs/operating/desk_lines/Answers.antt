@@ -3,8 +3,8 @@ use Rattle.blot_operator.proofs.OperatingLemmas.{own-told, own-stopped}
 use Rattle.blot_stream.proofs.ResultLemmas.{on-ok, if-some}
 use Rattle.blot_operator.proofs.operating.desk_lines.Goals as goal
 
-pub returns-clause-journal : goal.returns-clause-journal
-returns-clause-journal g c =
+pub returns-clause-desk : goal.returns-clause-desk
+returns-clause-desk g c =
     on-ok c.answer_lines.result c.answer_lines.ensures.told
     (λ told. if-some _ _ (g.R.Read.remaining c.args.input.now) told (λ bytes told. (own-told _ _ _ _ _ told).0))
 

@@ -1,7 +1,7 @@
 use Rattle.std.proofs.Common.{◌≡◌, ◌<◌, length, List, Option, false, ap, sym, subst, ◌∙◌}
 use Rattle.std.specs.FinMap as finite
-use Rattle.std.specs.Prelude.{None}
-use Rattle.blot_order.specs.declared.held.Held.TheVariants.{Kept}
+use Rattle.std.proofs.Common.{None}
+use Rattle.blot_order.specs.declared.stored_fill.FillState.TheVariants.{Kept}
 use Rattle.blot_order.specs.Slots.{Placed, held_by, held_in_slots, put_under}
 use Rattle.blot_order.proofs.HoldsLemmas.{few_kept, has_one-counted, holds-kept, holds-same}
 use Rattle.blot_order.proofs.PlaceLemmas.{KeepsPlaces-then, on_err}

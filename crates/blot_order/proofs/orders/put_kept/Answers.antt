@@ -1,5 +1,5 @@
 use Rattle.std.proofs.Common.{ap, subst, sym, ◌∙◌, true, false}
-use Rattle.blot_order.specs.declared.held.Held.TheVariants.{Put}
+use Rattle.blot_order.specs.declared.stored_fill.FillState.TheVariants.{Put}
 use Rattle.blot_order.specs.Cells.{CanPut, Changes, IsPlaced, tally_at, with_fill_put}
 use Rattle.blot_order.specs.Fills.{with_put}
 use Rattle.blot_order.specs.Slots.{Placed, held_by, held_in_slots}

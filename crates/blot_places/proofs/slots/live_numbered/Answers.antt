@@ -1,6 +1,4 @@
-use Rattle.std.proofs.Common.{Some, None, ap, sym, ◌∙◌, cond}
-use Rattle.std.specs.Option.{option_copied}
-use Rattle.std.proofs.lemmas.Bool.{eq-eqb, ne_eqb}
+use Rattle.std.proofs.Common.{Some, None, ap, sym, ◌∙◌, cond, option_copied, eq-eqb, ne_eqb}
 use Rattle.blot_places.proofs.NumberedLemmas.{live-numbered, numbered}
 use Rattle.blot_places.proofs.slots.live_numbered.Goals as goal
 

@@ -1,5 +1,4 @@
-use Rattle.std.proofs.Common.{Some, None, ap, sym, ◌∙◌}
-use Rattle.std.specs.Option.{option_copied}
+use Rattle.std.proofs.Common.{Some, None, ap, sym, ◌∙◌, option_copied}
 use Rattle.blot_position.proofs.CellLemmas.{sums_at-found}
 use Rattle.blot_position.proofs.cell.sums_of.Goals as goal
 

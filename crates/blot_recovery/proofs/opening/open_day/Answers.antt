@@ -1,5 +1,4 @@
-use Rattle.std.proofs.Common.{◌≡◌, ◌<◌, [], Err, ap, sym, subst, true, ◌∙◌}
-use Rattle.std.specs.List.{All}
+use Rattle.std.proofs.Common.{◌≡◌, ◌<◌, [], Err, ap, sym, subst, true, ◌∙◌, All}
 use Rattle.blot_journal.specs.Device.{LeavesOnly}
 use Rattle.blot_journal.specs.File.{text_of}
 use Rattle.blot_journal.specs.Journal.{text_in_journal}

@@ -1,5 +1,4 @@
-use Rattle.std.proofs.Common.{sym, ap, subst, ◌∙◌}
-use Rattle.std.specs.Prelude.{IfErr}
+use Rattle.std.proofs.Common.{sym, ap, subst, ◌∙◌, IfErr}
 use Rattle.std.proofs.lemmas.Result.{IfOk-weaker, on_ok_weaker}
 use Rattle.blot_journal.specs.Journal.{text_in_journal}
 use Rattle.blot_diary.specs.Diary.{desk_events}

@@ -1,9 +1,7 @@
-use Rattle.std.proofs.Common.{List, ◌++◌, ap, ◌∙◌}
+use Rattle.std.proofs.Common.{List, ◌++◌, ap, ◌∙◌, option_to_list}
 use Rattle.std.specs.List.{list_any}
-use Rattle.std.specs.Option.{option_to_list}
 use Rattle.blot_types.specs.Keys.{same_text}
-use Rattle.blot_recovery.specs.declared.operators.KeptOperators.{KeptOperators}
-use Rattle.blot_recovery.specs.declared.parties.KeptOperator.{KeptOperator}
+use Rattle.blot_recovery.specs.declared.{operators.KeptOperators.KeptOperators, parties.KeptOperator.KeptOperator}
 use Rattle.blot_recovery.specs.Parties.{operator_names}
 use Rattle.blot_recovery.proofs.OperatorLemmas.{operators-first, operators-more}
 use Rattle.blot_recovery.proofs.operators.with_first.Goals as goal

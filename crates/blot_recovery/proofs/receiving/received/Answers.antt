@@ -1,5 +1,4 @@
-use Rattle.std.proofs.Common.{refl, sym, ap, subst, ◌∙◌}
-use Rattle.std.specs.List.{flat_map}
+use Rattle.std.proofs.Common.{refl, sym, ap, subst, ◌∙◌, flat_map}
 use Rattle.std.proofs.lemmas.Result.{IfErr-weaker}
 use Rattle.blot_recovery.specs.Received.{IsReceiveFault, received_in}
 use Rattle.blot_recovery.proofs.FrameLemmas.{frames_of-nil}

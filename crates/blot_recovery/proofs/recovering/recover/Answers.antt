@@ -1,8 +1,6 @@
-use Rattle.std.proofs.Common.{subst, sym, ap, ◌∙◌, not}
-use Rattle.std.specs.List.{All, filter}
-use Rattle.std.specs.Option.{option_to_list}
+use Rattle.std.proofs.Common.{subst, sym, ap, ◌∙◌, not, All, filter, option_to_list}
 use Rattle.std.proofs.lemmas.Result.{IfErr-weaker, IfOk-weaker}
-use Rattle.blot_desk.specs.Desk.{Journal}
+use Rattle.blot_desk.specs.Desk.{DeskState}
 use Rattle.blot_desk.specs.Keeping.{is_ask, kept_events}
 use Rattle.blot_diary.proofs.AskLemmas.{all-kept}
 use Rattle.blot_recovery.specs.Refusals.{IsRecoverFault}
@@ -26,7 +24,7 @@ returns-in_err-take_all-clause-fault g c =
 pub returns-clause-kept : goal.returns-clause-kept
 returns-clause-kept g c =
     let text = g.P.Pieces.text c.args.text.now in
-    IfOk-weaker c.into_recovered.result _ _ (λ recovered is. ap (λ (opening : Journal). kept_events opening.history) is
+    IfOk-weaker c.into_recovered.result _ _ (λ recovered is. ap (λ (opening : DeskState). kept_events opening.history) is
     ∙ ap (filter (λ event. not (is_ask event))) c.in_ok-take_all.ensures.taken.taken.has.events ∙ all-kept text) c.into_recovered.ensures.opening
 
 pub returns-clause-peers : goal.returns-clause-peers

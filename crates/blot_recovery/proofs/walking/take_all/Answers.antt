@@ -1,5 +1,5 @@
-use Rattle.std.proofs.Common.{inl, ◌≡◌, ◌+◌, ◌≤◌, ◌++◌, [], length, ap, subst, sym, ◌∙◌, drop, refl, arith}
-use Rattle.std.proofs.lemmas.List.{append-nil, drop_all}
+use Rattle.std.proofs.Common.{inl, ◌≡◌, ◌+◌, ◌≤◌, ◌++◌, [], length, ap, subst, sym, ◌∙◌, drop, refl, arith, append-nil}
+use Rattle.std.proofs.lemmas.List.{drop_all}
 use Rattle.blot_tag.specs.Frames.{BeginsWithFrame}
 use Rattle.blot_recovery.specs.Walking.{IsFaultIn}
 use Rattle.blot_recovery.proofs.TestLemmas.{if-told}

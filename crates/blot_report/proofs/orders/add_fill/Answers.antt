@@ -1,5 +1,4 @@
-use Rattle.std.proofs.Common.{◌≡◌, Option, Some, None, sym, ap, ◌∙◌}
-use Rattle.std.specs.Prelude.{if◌then◌else◌}
+use Rattle.std.proofs.Common.{◌≡◌, Option, Some, None, sym, ap, ◌∙◌, if◌then◌else◌}
 use Rattle.blot_types.specs.declared.lines.OrderLine.{OrderLine}
 use Rattle.blot_types.specs.Keys.{same_order}
 use Rattle.blot_types.specs.Order.{with_fill}

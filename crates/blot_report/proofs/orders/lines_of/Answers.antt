@@ -1,9 +1,5 @@
-use Rattle.std.proofs.Common.{◌+◌, ◌<◌, length, arith, Option, sym, ap, subst, ◌∙◌}
-use Rattle.std.specs.Option.{option_copied}
-use Rattle.std.proofs.lemmas.List.{take_all}
-use Rattle.blot_types.specs.declared.TheConstants.{EVENTS_MAX}
-use Rattle.blot_types.specs.declared.command.Entry.{Entry}
-use Rattle.blot_types.specs.declared.fill.Fill.{Fill}
+use Rattle.std.proofs.Common.{◌+◌, ◌<◌, length, arith, Option, sym, ap, subst, ◌∙◌, option_copied, take_all}
+use Rattle.blot_types.specs.declared.{TheConstants.EVENTS_MAX, command.Entry.Entry, fill.Fill.Fill}
 use Rattle.blot_types.proofs.OrderLemmas.{IsWithin-weaker}
 use Rattle.blot_command.specs.declared.standing.Standing.{Standing}
 use Rattle.blot_report.specs.Day.{fills_on}

@@ -1,5 +1,4 @@
-use Rattle.std.proofs.Common.{ap, subst, ◌∙◌}
-use Rattle.std.specs.List.{filter_map}
+use Rattle.std.proofs.Common.{ap, subst, ◌∙◌, filter_map}
 use Rattle.blot_report.specs.Day.{fills_on}
 use Rattle.blot_report.specs.Lines.{order_row}
 use Rattle.blot_report.specs.Orders.{AreLinesOf}

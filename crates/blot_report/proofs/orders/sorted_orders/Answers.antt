@@ -1,5 +1,4 @@
-use Rattle.std.proofs.Common.{subst}
-use Rattle.std.specs.List.Sorted.{IsPermutation}
+use Rattle.std.proofs.Common.{subst, IsPermutation}
 use Rattle.blot_report.proofs.KeyLemmas.{orders-sorted}
 use Rattle.blot_report.proofs.orders.sorted_orders.Goals as goal
 

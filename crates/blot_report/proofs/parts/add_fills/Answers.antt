@@ -1,8 +1,5 @@
-use Rattle.std.proofs.Common.{◌≡◌, ◌+◌, arith, ◌∷◌, [], ◌++◌, Option, Some, sym, ap, subst, ◌∙◌}
-use Rattle.std.specs.Prelude.{IfSome}
-use Rattle.std.specs.List.{filter_map}
-use Rattle.blot_types.specs.declared.command.Entry.{Entry}
-use Rattle.blot_types.specs.declared.part.Part.{Part}
+use Rattle.std.proofs.Common.{◌≡◌, ◌+◌, arith, ◌∷◌, [], ◌++◌, Option, Some, sym, ap, subst, ◌∙◌, IfSome, filter_map}
+use Rattle.blot_types.specs.declared.{command.Entry.Entry, part.Part.Part}
 use Rattle.blot_types.specs.Position.{IsSmall}
 use Rattle.blot_command.specs.declared.standing.Standing.{Standing}
 use Rattle.blot_command.specs.Standings.{standing_of}

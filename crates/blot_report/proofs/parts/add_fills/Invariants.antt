@@ -1,5 +1,4 @@
-use Rattle.std.proofs.Common.{◌≤◌}
-use Rattle.std.specs.Prelude.{All}
+use Rattle.std.proofs.Common.{◌≤◌, All}
 use Rattle.blot_types.specs.Position.{IsSmall}
 use Rattle.blot_report.specs.Standings.{between, entries_in, parts_among}
 use Rattle.blot_report.specs.Sums.{MadeOf}

@@ -1,11 +1,5 @@
-use Rattle.std.proofs.Common.{◌≡◌, ◌+◌, arith, List, [], ◌∷◌, ◌++◌, Option, Some, take, sym, ap, subst, ◌∙◌}
-use Rattle.std.specs.Prelude.{All}
-use Rattle.std.specs.List.{flat_map}
-use Rattle.std.specs.Option.{option_copied}
-use Rattle.std.proofs.lemmas.List.{append_assoc, take_all}
-use Rattle.blot_types.specs.declared.allocation.Terms.{Terms}
-use Rattle.blot_types.specs.declared.command.Entry.{Entry}
-use Rattle.blot_types.specs.declared.part.Part.{Part}
+use Rattle.std.proofs.Common.{◌≡◌, ◌+◌, arith, List, [], ◌∷◌, ◌++◌, Option, Some, take, sym, ap, subst, ◌∙◌, All, flat_map, option_copied, append_assoc, take_all}
+use Rattle.blot_types.specs.declared.{allocation.Terms.Terms, command.Entry.Entry, part.Part.Part}
 use Rattle.blot_types.specs.Position.{moves_of, TermsFit}
 use Rattle.blot_command.specs.declared.standing.Standing.{Standing}
 use Rattle.blot_position.specs.Positions.{with_part}

@@ -1,5 +1,4 @@
-use Rattle.std.proofs.Common.{◌≤◌, ◌++◌, take}
-use Rattle.std.specs.Prelude.{All}
+use Rattle.std.proofs.Common.{◌≤◌, ◌++◌, take, All}
 use Rattle.blot_types.specs.Position.{TermsFit}
 use Rattle.blot_report.specs.Standings.{between, entries_in, moves_among, parts_among, terms_among}
 use Rattle.blot_report.specs.Sums.{MadeOf}

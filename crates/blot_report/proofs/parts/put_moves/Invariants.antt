@@ -1,6 +1,4 @@
-use Rattle.std.proofs.Common.{◌≡◌, ◌++◌, take}
-use Rattle.std.specs.Prelude.{All}
-use Rattle.std.specs.List.{flat_map}
+use Rattle.std.proofs.Common.{◌≡◌, ◌++◌, take, All, flat_map}
 use Rattle.blot_types.specs.Position.{moves_of_line, part_of_line, IsSmall}
 use Rattle.blot_report.proofs.parts.put_moves.Given as goal
 

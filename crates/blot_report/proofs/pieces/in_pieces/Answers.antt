@@ -1,6 +1,4 @@
-use Rattle.std.proofs.Common.{arith, ap, ◌∙◌}
-use Rattle.std.specs.Prelude.{max}
-use Rattle.std.specs.List.{flat_map}
+use Rattle.std.proofs.Common.{arith, ap, ◌∙◌, max, flat_map}
 use Rattle.rayon.specs.Lists.{chunks_of}
 use Rattle.rayon.proofs.ListFacts.{IfOk-then}
 use Rattle.blot_report.proofs.PieceLemmas.{chunks-joined}

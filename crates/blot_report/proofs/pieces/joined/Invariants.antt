@@ -1,5 +1,4 @@
-use Rattle.std.proofs.Common.{◌≡◌, ◌++◌}
-use Rattle.std.specs.List.{flat_map}
+use Rattle.std.proofs.Common.{◌≡◌, ◌++◌, flat_map}
 use Rattle.blot_report.proofs.pieces.joined.Given as goal
 
 abbrev pub invariant-loop-piece : goal.invariant-loop-piece

@@ -1,5 +1,4 @@
-use Rattle.std.proofs.Common.{ap, ◌∙◌}
-use Rattle.std.specs.List.{filter_map}
+use Rattle.std.proofs.Common.{ap, ◌∙◌, filter_map}
 use Rattle.blot_report.specs.Day.{day_parts_of}
 use Rattle.blot_report.specs.Lines.{position_row}
 use Rattle.blot_report.specs.Standings.{entries_in}

@@ -1,5 +1,4 @@
-use Rattle.std.proofs.Common.{None, ap, ◌∙◌}
-use Rattle.std.specs.Prelude.{filter}
+use Rattle.std.proofs.Common.{None, ap, ◌∙◌, filter}
 use Rattle.blot_report.specs.declared.lines.OrderRow.{OrderRow}
 use Rattle.blot_report.specs.Day.{fills_on}
 use Rattle.blot_report.specs.Lines.{is_of, order_rows}

@@ -1,5 +1,4 @@
-use Rattle.std.proofs.Common.{None, ap, ◌∙◌}
-use Rattle.std.specs.Prelude.{filter}
+use Rattle.std.proofs.Common.{None, ap, ◌∙◌, filter}
 use Rattle.blot_report.specs.declared.lines.PositionRow.{PositionRow}
 use Rattle.blot_report.specs.Day.{day_parts_of}
 use Rattle.blot_report.specs.Lines.{is_of, position_rows}

@@ -1,5 +1,4 @@
-use Rattle.std.proofs.Common.{◌≡◌, take}
-use Rattle.std.specs.Prelude.{filter}
+use Rattle.std.proofs.Common.{◌≡◌, take, filter}
 use Rattle.blot_report.specs.Lines.{is_of}
 use Rattle.blot_report.proofs.whole.positions_of.Given as goal
 

@@ -1,5 +1,4 @@
-use Rattle.std.proofs.Common.{◌<◌, ap, sym, subst, ◌∙◌}
-use Rattle.std.specs.Prelude.{IsSome, is_some, option_to_list}
+use Rattle.std.proofs.Common.{◌<◌, ap, sym, subst, ◌∙◌, IsSome, is_some, option_to_list}
 use Rattle.blot_session.proofs.ActionLemmas.{popped}
 use Rattle.blot_session.proofs.delivery.delivered.Goals as goal
 

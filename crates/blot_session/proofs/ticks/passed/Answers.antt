@@ -1,6 +1,5 @@
+use Rattle.std.proofs.Common.{◌≡◌, ◌*◌, arith, to_z, of_z, pos, ◌+ℤ◌, int_le}
 use mir.Syntax.{w128}
-use Rattle.std.proofs.Common.{◌≡◌, ◌*◌, arith, to_z, of_z, pos, ◌+ℤ◌}
-use Rattle.std.specs.Prelude.{int_le}
 use Rattle.std.proofs.lemmas.Int.{ints}
 use Rattle.blot_session.proofs.ticks.passed.Goals as goal
 

@@ -1,8 +1,7 @@
-use Rattle.std.proofs.Common.{◌≤◌, length, take, drop, arith, subst}
+use Rattle.std.proofs.Common.{◌≤◌, length, take, drop, arith, subst, take-add, take-append-drop, length-drop}
 use Rattle.std.specs.Io.KnownBytes.{Appends}
 use Rattle.std.proofs.KnownBytes.{Appends-trans, Appends-kept}
-use Rattle.std.proofs.Math.Seq.{take-add}
-use Rattle.std.proofs.lemmas.List.{take-append-drop, take_rest, length-drop}
+use Rattle.std.proofs.lemmas.List.{take_rest}
 use Rattle.blot_stream.proofs.transfer.write_all.Goals as goal
 
 pub loop-preserved : goal.loop-preserved

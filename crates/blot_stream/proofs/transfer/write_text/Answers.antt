@@ -1,5 +1,4 @@
-use Rattle.std.proofs.Common.{[]}
-use Rattle.std.proofs.lemmas.List.{append-nil}
+use Rattle.std.proofs.Common.{[], append-nil}
 use Rattle.std.proofs.KnownBytes.{Appends-kept}
 use Rattle.blot_stream.proofs.ResultLemmas.{err-always}
 use Rattle.blot_stream.proofs.transfer.write_text.Goals as goal

@@ -1,5 +1,4 @@
-use Rattle.std.proofs.Common.{drop, arith, sym}
-use Rattle.std.proofs.lemmas.List.{length-drop}
+use Rattle.std.proofs.Common.{drop, arith, sym, length-drop}
 use Rattle.blot_tag.proofs.FrameLemmas.{look_of-ok}
 use Rattle.blot_tag.proofs.FindLemmas.{neither-inside, NeitherBefore-next}
 use Rattle.blot_tag.proofs.find.find.Goals as goal

@@ -1,5 +1,5 @@
-use Rattle.std.proofs.Common.{◌≡◌, ◌-◌, ◌≤◌, length, take, drop, get_or, true, codes, sym, ap, ◌∙◌, arith, rules}
-use Rattle.std.proofs.lemmas.List.{length-drop, take_rest}
+use Rattle.std.proofs.Common.{◌≡◌, ◌-◌, ◌≤◌, length, take, drop, get_or, true, codes, sym, ap, ◌∙◌, arith, rules, length-drop}
+use Rattle.std.proofs.lemmas.List.{take_rest}
 use Rattle.blot_tag.specs.Bytes.{is_soh}
 use Rattle.blot_tag.specs.Looking.{behind}
 use Rattle.blot_tag.proofs.StepLemmas.{body_look-trailer}

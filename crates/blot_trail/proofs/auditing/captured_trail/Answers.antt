@@ -1,5 +1,4 @@
-use Rattle.std.proofs.Common.{◌≡◌, ◌<◌, ◌≤◌, List, ℕ, length, ap, subst, arith, ◌∙◌}
-use Rattle.std.specs.Prelude.{IfOk, IfSome}
+use Rattle.std.proofs.Common.{◌≡◌, ◌<◌, ◌≤◌, List, ℕ, length, ap, subst, arith, ◌∙◌, IfOk, IfSome}
 use Rattle.blot_types.specs.declared.TheConstants.{EVENTS_MAX}
 use Rattle.blot_tag.specs.Walking.{frames_of}
 use Rattle.blot_stream.specs.declared.outcome.ReplayFault.TheVariants.{Full}
@@ -16,8 +15,8 @@ use Rattle.blot_trail.proofs.auditing.captured_trail.Goals as goal
 pub returns-in-Ok-clause-text : goal.returns-in-Ok-clause-text
 returns-in-Ok-clause-text g c =
     let first : taking_of c.in-Ok.sessions c.new-desk.result ≡ first_taking c.args.own c.args.peers.now =
-    ap (λ (sessions : Sessions). record { sessions = sessions; journal = c.new-desk.result }) c.in-Ok.ensures
-    ∙ ap (λ journal. record { sessions = first_sessions c.args.own c.args.peers.now; journal = journal }) c.new-desk.ensures in
+    ap (λ (sessions : Sessions). record { sessions = sessions; desk = c.new-desk.result }) c.in-Ok.ensures
+    ∙ ap (λ desk. record { sessions = first_sessions c.args.own c.args.peers.now; desk = desk }) c.new-desk.ensures in
     told-whole (λ text. text.items) (g.R.Read.remaining c.args.input.now) (first_taking c.args.own c.args.peers.now) c.tell_all-told.result
     (subst (λ (taking : Taking). IfOk c.tell_all-told.result (λ text. IfSome (g.R.Read.remaining c.args.input.now) (λ bytes. text.items ≡ trail_from none_yet taking bytes)))
     first c.tell_all-told.ensures.text)

@@ -1,10 +1,9 @@
-use Rattle.std.proofs.Common.{◌≡◌, length, take, drop, arith, refl, sym, ap, ◌∙◌}
-use Rattle.std.proofs.lemmas.List.{length-append, length-take-le}
+use Rattle.std.proofs.Common.{◌≡◌, length, take, drop, arith, refl, sym, ap, ◌∙◌, length-append, length-take-le}
 use Rattle.blot_capture.specs.Sessions.{taking_of}
 use Rattle.blot_stream.proofs.PieceLemmas.{front_of_buffer}
 use Rattle.blot_capture.proofs.StreamLemmas.{CameOf-first, CameOf-piece, CameOf-stopped}
 use Rattle.blot_trail.specs.Making.{Making, Telling, none_yet, offset_of}
-use Rattle.blot_trail.proofs.AuditLemmas.{ToldOf-first, ToldOf-piece, stops-nil}
+use Rattle.blot_trail.proofs.AuditLemmas.{SameTrailOf-first, SameTrailOf-piece, stops-nil}
 use Rattle.blot_trail.proofs.auditing.tell_all.Goals as goal
 
 pub loop-init : goal.loop-init
@@ -15,7 +14,7 @@ loop-init g c =
     let passed = ap (λ (trail : Making). trail.passed) empty in
     let offset = ap offset_of empty in
     let none = ap length c.new-reader.ensures.unread in (
-      ToldOf-first (g.R.Read.remaining c.args.input.now) (record { trail = none_yet; taking = taking }) (record { trail = c.new-trail.result; taking = taking })
+      SameTrailOf-first (g.R.Read.remaining c.args.input.now) (record { trail = none_yet; taking = taking }) (record { trail = c.new-trail.result; taking = taking })
           c.new-reader.result.unread c.new-reader.ensures.unread (ap (λ (trail : Making). record { trail = trail; taking = taking }) (sym empty)),
       CameOf-first (g.R.Read.remaining c.args.input.now) taking taking c.new-reader.result.unread c.new-reader.ensures.unread refl,
       record { skipped = omega (arith, skipped, passed, c.new-reader.ensures.skipped); low = omega (arith, offset, c.new-reader.ensures.skipped) },
@@ -39,7 +38,7 @@ loop-preserved g c =
     let from : Telling = record { trail = none_yet; taking = first } in
     let mid : Telling = record { trail = c.loop.trail; taking = before } in
     let now : Telling = record { trail = c.tell_piece.new.trail; taking = after } in (
-      ToldOf-piece (g.R.Read.remaining c.args.input.now) (g.R.Read.remaining c.loop.input) (g.R.Read.remaining c.read_piece.new.input) from mid now
+      SameTrailOf-piece (g.R.Read.remaining c.args.input.now) (g.R.Read.remaining c.loop.input) (g.R.Read.remaining c.read_piece.new.input) from mid now
           c.loop.reader.unread c.tell_piece.new.reader.unread (take c.in-Some.count c.deref.result.now)
           c.loop.invariant.0 (rw piece consumed.0) c.in-Ok.ensures.told,
       CameOf-piece (g.R.Read.remaining c.args.input.now) (g.R.Read.remaining c.loop.input) (g.R.Read.remaining c.read_piece.new.input) first before after

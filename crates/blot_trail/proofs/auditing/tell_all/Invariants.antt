@@ -3,12 +3,12 @@ use Rattle.blot_tag.specs.Walking.{stops_at, walk_of}
 use Rattle.blot_capture.specs.Replay.{CameOf}
 use Rattle.blot_capture.specs.Sessions.{taking_of}
 use Rattle.blot_gateway.specs.declared.piece.TheConstants.{PIECE}
-use Rattle.blot_trail.specs.Making.{IsInStep, ToldOf, none_yet, offset_of, telling_of}
+use Rattle.blot_trail.specs.Making.{IsInStep, SameTrailOf, none_yet, offset_of, telling_of}
 use Rattle.blot_trail.proofs.auditing.tell_all.Given as goal
 
 abbrev pub invariant-loop : goal.invariant-loop
 invariant-loop g l =
-    ToldOf (g.R.Read.remaining l.initial.input) (telling_of none_yet l.initial.sessions l.initial.desk)
+    SameTrailOf (g.R.Read.remaining l.initial.input) (telling_of none_yet l.initial.sessions l.initial.desk)
     (g.R.Read.remaining l.input) l.reader.unread (telling_of l.trail l.sessions l.desk)
     × CameOf (g.R.Read.remaining l.initial.input) (taking_of l.initial.sessions l.initial.desk) (g.R.Read.remaining l.input) l.reader.unread
     (taking_of l.sessions l.desk)

@@ -1,5 +1,4 @@
-use Rattle.std.proofs.Common.{◌≡◌, arith, sym, subst}
-use Rattle.std.specs.Prelude.{is_some}
+use Rattle.std.proofs.Common.{◌≡◌, arith, sym, subst, is_some}
 use Rattle.blot_stream.specs.declared.outcome.ReplayFault.TheVariants.{NoMemory}
 use Rattle.blot_stream.proofs.ResultLemmas.{if-both-ok, if-err}
 use Rattle.blot_capture.specs.Replay.{StoppedOn}

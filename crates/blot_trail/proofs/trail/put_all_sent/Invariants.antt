@@ -1,5 +1,4 @@
-use Rattle.std.proofs.Common.{◌≡◌, ◌++◌, take}
-use Rattle.std.specs.List.{flat_map}
+use Rattle.std.proofs.Common.{◌≡◌, ◌++◌, take, flat_map}
 use Rattle.blot_trail.specs.TrailText.{action_text}
 use Rattle.blot_trail.proofs.trail.put_all_sent.Given as goal
 

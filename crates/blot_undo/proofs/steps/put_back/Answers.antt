@@ -1,5 +1,4 @@
-use Rattle.std.proofs.Common.{◌≡◌, ap, ◌∙◌, arith, length}
-use Rattle.std.specs.List.{swap}
+use Rattle.std.proofs.Common.{◌≡◌, ap, ◌∙◌, arith, length, swap}
 use Rattle.blot_undo.proofs.PutLemmas.{put_back_is}
 use Rattle.blot_undo.proofs.steps.put_back.Goals as goal
 

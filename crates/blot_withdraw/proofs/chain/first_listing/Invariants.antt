@@ -1,5 +1,4 @@
-use Rattle.std.proofs.Common.{◌≡◌, drop}
-use Rattle.std.specs.Prelude.{find}
+use Rattle.std.proofs.Common.{◌≡◌, drop, find}
 use Rattle.blot_withdraw.specs.Erasure.{lists_chain}
 use Rattle.blot_withdraw.proofs.chain.first_listing.Given as goal
 

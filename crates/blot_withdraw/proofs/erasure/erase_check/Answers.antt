@@ -1,6 +1,5 @@
 -- Where no fault applies, nobody needs the chain.
-use Rattle.std.proofs.Common.{ap, sym, ◌∙◌}
-use Rattle.std.specs.Prelude.{is_some}
+use Rattle.std.proofs.Common.{ap, sym, ◌∙◌, is_some}
 use Rattle.blot_types.specs.Order.{order_of}
 use Rattle.blot_types.specs.Position.{position_of}
 use Rattle.blot_withdraw.proofs.ErasureLemmas.{without_chain-book, without_chain-order, without_chain-position}

@@ -1,15 +1,10 @@
 -- An entry after others, in a book, is above them, and they accept it.
 use Rattle.std.proofs.Common.{◌≡◌, ℕ, true, List, [], ◌∷◌, ◌++◌, Some, None, ap, sym, subst, ◌∙◌, inl, inr}
 use Rattle.std.specs.Option.{option_map_or}
-use Rattle.blot_types.specs.declared.command.Command.{Command}
-use Rattle.blot_types.specs.declared.command.Entry.{Entry}
-use Rattle.blot_types.specs.declared.refused.Refused.{Refused as Reason}
+use Rattle.blot_types.specs.declared.{command.Command.Command, command.Entry.Entry, refused.Refused.Refused as Reason}
 use Rattle.blot_types.specs.Legal.{is_book, refusal_of}
 use Rattle.blot_types.proofs.AcceptLemmas.{enters}
-use Rattle.blot_command.specs.declared.fault.ApplyFault.{ApplyFault}
-use Rattle.blot_command.specs.declared.fault.ApplyFault.TheVariants.{Refused}
-use Rattle.blot_command.specs.declared.inverse.Inverse.{Inverse}
-use Rattle.blot_command.specs.declared.inverse.Inverse.TheVariants.{Number}
+use Rattle.blot_command.specs.declared.{fault.ApplyFault.ApplyFault, fault.ApplyFault.TheVariants.Refused, inverse.Inverse.Inverse, inverse.Inverse.TheVariants.Number}
 use Rattle.blot_command.specs.Book.{Shown, numbers_of, taken_of}
 use Rattle.blot_command.specs.Meanings.{StaysFor, command_meaning}
 use Rattle.blot_command.specs.Undoable.{AllBelow, IsStep, IsRefusal, Adds, numbers_in}

@@ -1,8 +1,7 @@
 -- The entries that stay, up to this one, are the front of a book.
-use Rattle.std.proofs.Common.{◌≡◌, ℕ, ◌+◌, ◌<◌, Bool, true, false, List, [], ◌∷◌, ◌++◌, length, take, get_or, ◌∙◌, refl, sym, ap}
-use Rattle.std.proofs.lemmas.List.{append-nil, take_all, take_more}
+use Rattle.std.proofs.Common.{◌≡◌, ℕ, ◌+◌, ◌<◌, Bool, true, false, List, [], ◌∷◌, ◌++◌, length, take, get_or, ◌∙◌, refl, sym, ap, append-nil, take_all, not, filter}
+use Rattle.std.proofs.lemmas.List.{take_more}
 use Rattle.std.proofs.lemmas.List.Elements.{filter-append}
-use Rattle.std.specs.Prelude.{not, filter}
 use Rattle.blot_types.specs.declared.command.Entry.{Entry}
 use Rattle.blot_command.specs.Book.{Shown}
 use Rattle.blot_withdraw.specs.Erasure.{is_of_chain}

@@ -1,5 +1,4 @@
-use Rattle.std.proofs.Common.{◌≡◌, [], take}
-use Rattle.std.specs.Prelude.{not, filter}
+use Rattle.std.proofs.Common.{◌≡◌, [], take, not, filter}
 use Rattle.blot_withdraw.specs.Erasure.{is_of_chain}
 use Rattle.blot_withdraw.proofs.erasure.without_chain.Given as goal
 

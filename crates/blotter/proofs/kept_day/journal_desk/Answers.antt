@@ -1,5 +1,4 @@
-use Rattle.std.proofs.Common.{ap, map, sym, ◌∙◌}
-use Rattle.std.proofs.lemmas.Bool.{eqb-true}
+use Rattle.std.proofs.Common.{ap, map, sym, ◌∙◌, eqb-true}
 use Rattle.std.proofs.lemmas.List.{nil_from_length}
 use Rattle.blot_capture.proofs.StreamLemmas.{frames_of-nil}
 use Rattle.blot_diary.specs.Diary.{desk_events}

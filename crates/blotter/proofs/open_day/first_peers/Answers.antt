@@ -1,5 +1,4 @@
-use Rattle.std.proofs.Common.{◌≡◌, [], ◌∷◌, ◌++◌, Some, length, map, take, ap, rules, arith, sym, ◌∙◌}
-use Rattle.std.specs.Option.{option_to_list}
+use Rattle.std.proofs.Common.{◌≡◌, [], ◌∷◌, ◌++◌, Some, length, map, take, ap, rules, arith, sym, ◌∙◌, option_to_list}
 use Rattle.std.proofs.lemmas.List.{map_more}
 use Rattle.blot_gateway.specs.AtOnce.{are_submits}
 use Rattle.blotter.specs.Serving.{begins_as}

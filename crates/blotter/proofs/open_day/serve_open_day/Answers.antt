@@ -1,4 +1,4 @@
-use Rattle.std.proofs.Common.{rules, refl}
+use Rattle.std.proofs.Common.{rules}
 use Rattle.blot_stream.proofs.ResultLemmas.{on-ok, ok-says}
 use Rattle.blotter.proofs.ServingLemmas.{is-open-day, of-some}
 use Rattle.blotter.proofs.open_day.serve_open_day.Goals as goal

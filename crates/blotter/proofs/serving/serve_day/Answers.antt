@@ -1,5 +1,5 @@
 use Rattle.std.proofs.Common.{◌∙◌, rules}
-use Rattle.blot_rounds.specs.Rounds.{ServesRound}
+use Rattle.blotter.specs.Rounds.{ServesRound}
 use Rattle.blot_stream.proofs.ResultLemmas.{on-ok, ok-says}
 use Rattle.blotter.proofs.ServingLemmas.{at-end, err-has, is-served, round-adds, tells-all}
 use Rattle.blotter.proofs.serving.serve_day.Goals as goal

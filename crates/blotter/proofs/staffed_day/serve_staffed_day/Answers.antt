@@ -1,5 +1,4 @@
-use Rattle.std.proofs.Common.{◌≡◌, [], subst, sym}
-use Rattle.std.specs.List.{All}
+use Rattle.std.proofs.Common.{◌≡◌, [], subst, sym, All}
 use Rattle.std.proofs.lemmas.List.Elements.{All-take}
 use Rattle.blot_stream.proofs.ResultLemmas.{on-ok, ok-says}
 use Rattle.blotter.proofs.ServingLemmas.{of-some}

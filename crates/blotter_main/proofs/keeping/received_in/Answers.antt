@@ -1,7 +1,5 @@
-use Rattle.std.proofs.Common.{ap, sym, ◌∙◌}
-use Rattle.std.proofs.lemmas.Bool.{eqb-true}
+use Rattle.std.proofs.Common.{ap, sym, ◌∙◌, eqb-true, flat_map}
 use Rattle.std.proofs.lemmas.List.{nil_from_length}
-use Rattle.std.specs.List.{flat_map}
 use Rattle.blot_capture.proofs.StreamLemmas.{frames_of-nil}
 use Rattle.blot_recovery.specs.Received.{received_in, received_of}
 use Rattle.blotter_main.proofs.keeping.received_in.Goals as goal

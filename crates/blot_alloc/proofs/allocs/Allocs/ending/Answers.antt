@@ -1,5 +1,4 @@
-use Rattle.std.proofs.Common.{ap, ◌∙◌}
-use Rattle.std.specs.Prelude.{find}
+use Rattle.std.proofs.Common.{ap, ◌∙◌, find}
 use Rattle.blot_alloc.specs.Allocs.{is_ending}
 use Rattle.blot_alloc.proofs.HoldsLemmas.{ending-held}
 use Rattle.blot_alloc.proofs.allocs.Allocs.ending.Goals as goal

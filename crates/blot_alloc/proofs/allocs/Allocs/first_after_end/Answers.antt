@@ -1,5 +1,4 @@
-use Rattle.std.proofs.Common.{None, Some, sym, ap, ◌∙◌}
-use Rattle.std.specs.Option.{option_map}
+use Rattle.std.proofs.Common.{None, Some, sym, ap, ◌∙◌, option_map}
 use Rattle.blot_types.specs.Instructions.{first_instruction, names_any}
 use Rattle.blot_alloc.proofs.NeedLemmas.{ended_roots-by, ended_roots-none, none-asked}
 use Rattle.blot_alloc.proofs.allocs.Allocs.first_after_end.Goals as goal

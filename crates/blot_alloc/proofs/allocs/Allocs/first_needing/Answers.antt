@@ -1,5 +1,4 @@
-use Rattle.std.proofs.Common.{◌≡◌, Some, reverse, sym, ap, ◌∙◌}
-use Rattle.std.specs.Option.{option_copied}
+use Rattle.std.proofs.Common.{◌≡◌, Some, reverse, sym, ap, ◌∙◌, option_copied}
 use Rattle.blot_places.specs.Shown.{item_at}
 use Rattle.blot_types.specs.Numbers.{lesser}
 use Rattle.blot_alloc.specs.Allocs.{number_of}

@@ -1,5 +1,4 @@
-use Rattle.std.proofs.Common.{Some, None, ap, sym, ◌∙◌, cond, reverse}
-use Rattle.std.specs.Option.{option_copied}
+use Rattle.std.proofs.Common.{Some, None, ap, sym, ◌∙◌, cond, reverse, option_copied}
 use Rattle.blot_types.proofs.InstructionLemmas.{named_once}
 use Rattle.blot_alloc.proofs.HoldsLemmas.{holder-held, shown-instructed}
 use Rattle.blot_alloc.proofs.allocs.Allocs.holder.Goals as goal

@@ -1,5 +1,4 @@
-use Rattle.std.proofs.Common.{Some, None, ap, sym, ◌∙◌}
-use Rattle.std.specs.Option.{option_copied}
+use Rattle.std.proofs.Common.{Some, None, ap, sym, ◌∙◌, option_copied}
 use Rattle.blot_alloc.proofs.HolderLemmas.{allocation-taker}
 use Rattle.blot_alloc.proofs.allocs.Allocs.is_allocation.Goals as goal
 

@@ -1,6 +1,4 @@
-use Rattle.std.proofs.Common.{Some, None, ap, sym, ◌∙◌, cond}
-use Rattle.std.specs.Prelude.{not}
-use Rattle.std.specs.Option.{option_copied, option_map}
+use Rattle.std.proofs.Common.{Some, None, ap, sym, ◌∙◌, cond, not, option_copied, option_map}
 use Rattle.blot_types.specs.declared.allocation.Instruction.{Instruction}
 use Rattle.blot_alloc.proofs.HolderLemmas.{other-holder}
 use Rattle.blot_alloc.proofs.allocs.Allocs.other_holder_of.Goals as goal

@@ -1,5 +1,4 @@
-use Rattle.std.proofs.Common.{ap, ◌∙◌, reverse}
-use Rattle.std.specs.Prelude.{find}
+use Rattle.std.proofs.Common.{ap, ◌∙◌, reverse, find}
 use Rattle.blot_types.specs.Instructions.{is_keyed}
 use Rattle.blot_alloc.proofs.HolderLemmas.{keyed_once}
 use Rattle.blot_alloc.proofs.HoldsLemmas.{shown-instructed, taker-held}

@@ -8,7 +8,7 @@ returns-clause-ok g c =
     rw (← c.self.view_is)
     (on_ok_weaker c.add.result
     (puts-at g.K.PartialEq.eq g.met.K.Eq.laws c.self.inside.cells c.get_index_mut.ensures.unique c.args.at c.in-Some.cell.now c.add.new.self c.in-Some.ensures.value
-    c.args.part c.args.place)
+    c.args.relation c.args.place)
     c.add.ensures.ok)
 
 pub returns-clause-err : goal.returns-clause-err

@@ -8,4 +8,4 @@ returns-clause-takes g c =
     (takes-under g.K.PartialEq.eq g.met.K.Eq.laws _ _ c.args.key.now c.pop.new.self c.in-Some.cell.now
     (there-places g.K.PartialEq.eq _ c.args.key.now c.in-Some.cell.now c.in-Some.ensures.value)
     (λ other. ((c.get_mut.follows.holds c.pop.new.self).3 (ap is_some (sym c.in-Some.ensures.value))).0 other)
-    c.args.part c.pop.ensures)
+    c.args.relation c.pop.ensures)

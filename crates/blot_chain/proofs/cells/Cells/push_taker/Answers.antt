@@ -1,7 +1,6 @@
 use Rattle.std.proofs.Common.{refl}
 use Rattle.indexmap.proofs.CallerLemmas.{keys-with_value_at}
-use Rattle.blot_chain.specs.declared.cell.Cell.{Cell}
-use Rattle.blot_chain.specs.declared.cell.Part.TheVariants.{Taker}
+use Rattle.blot_chain.specs.declared.{cell.Cell.Cell, cell.Relation.TheVariants.Taker}
 use Rattle.blot_chain.proofs.PlaceLemmas.{puts-at, same-keys}
 use Rattle.blot_chain.proofs.cells.Cells.push_taker.Goals as goal
 

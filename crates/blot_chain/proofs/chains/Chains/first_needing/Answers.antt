@@ -1,5 +1,4 @@
-use Rattle.std.proofs.Common.{◌≡◌, Some, None, reverse, sym, ap, subst, ◌∙◌}
-use Rattle.std.specs.Option.{option_copied}
+use Rattle.std.proofs.Common.{◌≡◌, Some, None, reverse, sym, ap, subst, ◌∙◌, option_copied}
 use Rattle.std.proofs.lemmas.Option.{same_Some}
 use Rattle.blot_places.specs.Shown.{item_at}
 use Rattle.blot_places.specs.Slots.{live}
@@ -7,7 +6,7 @@ use Rattle.blot_types.specs.Chains.{first_needing_link}
 use Rattle.blot_types.specs.Numbers.{lesser}
 use Rattle.blot_chain.specs.Cells.{key_at}
 use Rattle.blot_chain.specs.Index.{UpToFirst, referring_at}
-use Rattle.blot_chain.specs.Rooted.{link_number}
+use Rattle.blot_chain.specs.ChainLinks.{link_number}
 use Rattle.blot_chain.proofs.AroundLemmas.{needing-held, needing-none, needing-placed, busts_under, parted-busts, parted-versions, versions_under}
 use Rattle.blot_chain.proofs.IndexLemmas.{turned}
 use Rattle.blot_chain.proofs.chains.Chains.first_needing.Goals as goal

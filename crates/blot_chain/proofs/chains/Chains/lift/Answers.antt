@@ -1,10 +1,9 @@
-use Rattle.std.proofs.Common.{◌≡◌, ap, sym, subst, ◌∙◌, reverse, true, false}
-use Rattle.std.specs.Prelude.{IsSome}
+use Rattle.std.proofs.Common.{◌≡◌, ap, sym, subst, ◌∙◌, reverse, true, false, IsSome}
 use Rattle.blot_places.specs.Slots.{marked}
 use Rattle.blot_places.proofs.MarkLemmas.{marked-items}
 use Rattle.blot_types.specs.Chains.{is_chained}
 use Rattle.blot_chain.specs.Holds.{HoldsChains, shown_of}
-use Rattle.blot_chain.specs.Rooted.{link_number}
+use Rattle.blot_chain.specs.ChainLinks.{link_number}
 use Rattle.blot_chain.specs.Steps.{CanReturn, lifted_out, link_at, put_back}
 use Rattle.blot_chain.proofs.LiftLemmas.{held-lift, lift-back, lift-kept, shown-lift}
 use Rattle.blot_chain.proofs.chains.Chains.lift.Goals as goal

@@ -1,5 +1,4 @@
-use Rattle.std.proofs.Common.{◌≡◌, true, sym, ap, subst, ◌∙◌}
-use Rattle.std.specs.Prelude.{IfSome}
+use Rattle.std.proofs.Common.{◌≡◌, true, sym, ap, subst, ◌∙◌, IfSome}
 use Rattle.blot_places.specs.Slots.{newest_live}
 use Rattle.blot_types.specs.Chains.{root_in, is_chained}
 use Rattle.blot_chain.proofs.ChainLemmas.{one_trade-found}

@@ -1,5 +1,4 @@
-use Rattle.std.proofs.Common.{ap, sym, ◌∙◌}
-use Rattle.std.specs.Option.{option_copied}
+use Rattle.std.proofs.Common.{ap, sym, ◌∙◌, option_copied}
 use Rattle.blot_chain.proofs.StandingLemmas.{version-told}
 use Rattle.blot_chain.proofs.chains.Chains.standing_version.Goals as goal
 

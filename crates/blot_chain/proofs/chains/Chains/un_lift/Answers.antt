@@ -3,7 +3,7 @@ use Rattle.blot_places.specs.Slots.{marked}
 use Rattle.blot_places.proofs.MarkLemmas.{marked-items}
 use Rattle.blot_types.specs.Chains.{is_chained}
 use Rattle.blot_chain.specs.Holds.{HoldsChains, shown_of}
-use Rattle.blot_chain.specs.Rooted.{link_number}
+use Rattle.blot_chain.specs.ChainLinks.{link_number}
 use Rattle.blot_chain.specs.Steps.{CanReturn, put_back}
 use Rattle.blot_chain.proofs.LiftLemmas.{held-return, shown-return}
 use Rattle.blot_chain.proofs.chains.Chains.un_lift.Goals as goal

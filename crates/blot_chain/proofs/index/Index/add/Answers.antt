@@ -1,5 +1,4 @@
-use Rattle.std.proofs.Common.{Some, ap, ◌∙◌}
-use Rattle.std.specs.Prelude.{OnErr, Result, Ok, Err}
+use Rattle.std.proofs.Common.{Some, ap, ◌∙◌, OnErr, Result, Ok, Err}
 use Rattle.std.proofs.lemmas.Result.{on_err_weaker, on_ok_weaker}
 use Rattle.blot_chain.specs.declared.index.Index.{Index}
 use Rattle.blot_chain.proofs.IndexLemmas.{chain-named, first-named, reached-key, same-indexed, stays-then}
@@ -57,5 +56,5 @@ returns-clause-ok c =
     (stays-then old roomy reached (record { same = c.make_taker_room.ensures.same; keeps = c.make_taker_room.ensures.places })
     (record { same = c.reach.ensures.same; keeps = c.reach.ensures.places }))
     c.requires.placed (reached-key _ c.root.result.now c.in_ok-chain.ensures.place ∙ ap Some c.root.ensures)
-    (rw c.part_in_chain.ensures at c.in_ok-add.ensures.ok) c.add-2.ensures.places
+    (rw c.relation_in_chain.ensures at c.in_ok-add.ensures.ok) c.add-2.ensures.places
     (rw c.place-3.ensures at c.push_taker.ensures.puts) c.push_taker.ensures.places

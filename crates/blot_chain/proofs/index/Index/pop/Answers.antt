@@ -8,4 +8,4 @@ returns-then-begins c =
 pub returns : goal.returns
 returns c =
     chain-taken c.args.slot.now c.args.key.now c.args.self.now (record { cells = c.pop-2.new.self }) _ c.requires c.pop-2.ensures.takes c.pop-2.ensures.places
-    (rw (c.part_in_chain.ensures, c.root.ensures) at c.pop-3.ensures.takes) c.pop-3.ensures.places
+    (rw (c.relation_in_chain.ensures, c.root.ensures) at c.pop-3.ensures.takes) c.pop-3.ensures.places

@@ -1,10 +1,8 @@
-use Rattle.std.proofs.Common.{◌≡◌, Some, refl, ap, ◌∙◌, sym}
-use Rattle.std.specs.Prelude.{find}
-use Rattle.std.specs.Option.{option_map, option_and_then, option_copied}
+use Rattle.std.proofs.Common.{◌≡◌, Some, refl, ap, ◌∙◌, sym, find, option_map, option_and_then, option_copied}
 use Rattle.blot_types.specs.Legal.{is_book, without}
 use Rattle.blot_types.specs.Position.{part_of}
 use Rattle.blot_types.specs.Refusals.{alloc_reference}
-use Rattle.blot_types.specs.Standing.{standing, chain_by, chain_of}
+use Rattle.blot_types.specs.StandingVersion.{standing, chain_by, chain_of}
 use Rattle.blot_types.specs.Survivors.{link_of, links_of}
 use Rattle.blot_command.specs.Book.{Shown, has_number}
 use Rattle.blot_command.specs.Booking.{rebooked, released, allocated}

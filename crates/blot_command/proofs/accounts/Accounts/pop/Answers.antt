@@ -1,5 +1,4 @@
-use Rattle.std.proofs.Common.{◌≡◌, refl, ap, ◌∙◌, sym}
-use Rattle.std.specs.Option.{option_map}
+use Rattle.std.proofs.Common.{◌≡◌, refl, ap, ◌∙◌, sym, option_map}
 use Rattle.blot_types.specs.Position.{part_of}
 use Rattle.blot_types.specs.Refusals.{alloc_reference}
 use Rattle.blot_types.specs.Survivors.{version_of}

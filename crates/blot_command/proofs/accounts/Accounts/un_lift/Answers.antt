@@ -1,8 +1,7 @@
-use Rattle.std.proofs.Common.{ap, ◌∙◌, sym, subst}
-use Rattle.std.specs.Option.{option_map}
+use Rattle.std.proofs.Common.{ap, ◌∙◌, sym, subst, option_map}
 use Rattle.blot_types.specs.Position.{part_of}
 use Rattle.blot_types.specs.Refusals.{alloc_reference}
-use Rattle.blot_types.specs.Standing.{chain_by}
+use Rattle.blot_types.specs.StandingVersion.{chain_by}
 use Rattle.blot_types.specs.Survivors.{link_of, links_of}
 use Rattle.blot_command.specs.Booking.{rebooked, released, allocated}
 use Rattle.blot_command.specs.Withdrawing.{CanReturn}

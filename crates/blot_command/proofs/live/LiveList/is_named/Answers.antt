@@ -1,5 +1,4 @@
-use Rattle.std.proofs.Common.{sym, ◌∙◌, ap}
-use Rattle.std.specs.Prelude.{is_some}
+use Rattle.std.proofs.Common.{sym, ◌∙◌, ap, is_some}
 use Rattle.blot_types.specs.Position.{is_named}
 use Rattle.blot_command.specs.Book.{Shown}
 use Rattle.blot_command.specs.Slots.{entries_in}

@@ -1,8 +1,5 @@
-use Rattle.std.proofs.Common.{◌≡◌, ◌<◌, ◌+◌, length, Some, None, sym, ap, subst, ◌∙◌}
+use Rattle.std.proofs.Common.{◌≡◌, ◌<◌, ◌+◌, length, Some, None, sym, ap, subst, ◌∙◌, option_copied, if◌then◌else◌, ltb-true}
 use Rattle.std.specs.List.{last_or}
-use Rattle.std.specs.Option.{option_copied}
-use Rattle.std.specs.Prelude.{if◌then◌else◌}
-use Rattle.std.proofs.lemmas.Bool.{ltb-true}
 use Rattle.blot_types.specs.Legal.{is_above_entries}
 use Rattle.blot_types.proofs.OrderLemmas.{last_or-push}
 use Rattle.blot_command.specs.Book.{Shown}

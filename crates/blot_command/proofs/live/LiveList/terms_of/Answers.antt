@@ -1,6 +1,4 @@
-use Rattle.std.proofs.Common.{sym, ap, ◌∙◌}
-use Rattle.std.specs.Prelude.{find}
-use Rattle.std.specs.Option.{option_and_then, option_copied}
+use Rattle.std.proofs.Common.{sym, ap, ◌∙◌, find, option_and_then, option_copied}
 use Rattle.blot_command.specs.Book.{Shown, has_number}
 use Rattle.blot_command.specs.Shown.{terms_of_key, terms_keyed}
 use Rattle.blot_command.specs.Slots.{entries_in}

@@ -1,8 +1,6 @@
-use Rattle.std.proofs.Common.{ap, ◌∙◌, sym, subst}
-use Rattle.std.specs.Prelude.{find, IfSome}
-use Rattle.std.specs.Option.{option_and_then}
+use Rattle.std.proofs.Common.{ap, ◌∙◌, sym, subst, find, IfSome, option_and_then}
 use Rattle.blot_types.specs.Legal.{is_book, without}
-use Rattle.blot_types.specs.Standing.{standing, chain_of}
+use Rattle.blot_types.specs.StandingVersion.{standing, chain_of}
 use Rattle.blot_command.specs.Book.{Shown, has_number}
 use Rattle.blot_command.specs.Shown.{Shows, with_put, IsKept}
 use Rattle.blot_command.proofs.LiftLemmas.{lifts}

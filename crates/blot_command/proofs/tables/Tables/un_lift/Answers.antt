@@ -1,7 +1,5 @@
-use Rattle.std.proofs.Common.{ap, ◌∙◌, sym, subst}
-use Rattle.std.specs.Prelude.{IfSome}
-use Rattle.std.specs.Option.{option_and_then}
-use Rattle.blot_types.specs.Standing.{standing, chain_by}
+use Rattle.std.proofs.Common.{ap, ◌∙◌, sym, subst, IfSome, option_and_then}
+use Rattle.blot_types.specs.StandingVersion.{standing, chain_by}
 use Rattle.blot_types.specs.Survivors.{link_of, links_of}
 use Rattle.blot_command.specs.Book.{Shown}
 use Rattle.blot_command.specs.Shown.{Shows, with_put, IsKept}

@@ -1,4 +1,4 @@
-use Rattle.std.proofs.lemmas.List.{take_all}
+use Rattle.std.proofs.Common.{take_all}
 use Rattle.blot_console.specs.Words.{words_of}
 use Rattle.blot_console.proofs.WordLemmas.{words_of-few}
 use Rattle.blot_console.proofs.words.Words.of.Goals as goal

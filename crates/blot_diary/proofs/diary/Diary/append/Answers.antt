@@ -1,7 +1,7 @@
 use Rattle.std.proofs.Common.{◌≡◌, ◌≤◌, [], ◌++◌, length, sym, ap, subst, ◌∙◌}
 use Rattle.std.specs.List.{cons_option}
 use Rattle.blot_diary.specs.Diary.{desk_events, diary_of, event_in}
-use Rattle.blot_diary.proofs.DiaryLemmas.{Holds, appended, desk_events-last, grown}
+use Rattle.blot_diary.proofs.DiaryLemmas.{HoldsDiary, appended, desk_events-last, grown}
 use Rattle.blot_diary.proofs.diary.Diary.append.Goals as goal
 
 pub invariant_of-self : goal.invariant_of-self
@@ -13,7 +13,7 @@ invariant_of-self g c =
     let a = c.append.ensures in
     let same = grown g.D.Device.seen g.D.Device.may_leave g.D.Device.left_since g.D.Device.moment own.opened.value own.last.value own.journal
     c.append.new.self frame c.requires.valid room a.waiting a.device a.broken in
-    subst (Holds g.D.Device.seen g.D.Device.may_leave g.D.Device.left_since g.D.Device.moment) (sym same)
+    subst (HoldsDiary g.D.Device.seen g.D.Device.may_leave g.D.Device.left_since g.D.Device.moment) (sym same)
     (appended g.D.Device.seen g.D.Device.may_leave g.D.Device.left_since g.D.Device.moment diary frame c.append.new.self.room c.requires.valid
     c.self.invariant)
 

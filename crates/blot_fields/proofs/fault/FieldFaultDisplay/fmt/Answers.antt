@@ -1,5 +1,5 @@
 -- The number in the text is the reason's.
-use Rattle.std.proofs.lemmas.List.{append_assoc}
+use Rattle.std.proofs.Common.{append_assoc}
 use Rattle.blot_fields.proofs.fault.FieldFaultDisplay.fmt.Goals as goal
 
 pub returns-clause-writes : goal.returns-clause-writes

@@ -1,5 +1,4 @@
-use Rattle.std.proofs.Common.{◌≡◌, None, sym, ap, ◌∙◌}
-use Rattle.std.specs.Option.{option_map}
+use Rattle.std.proofs.Common.{◌≡◌, None, sym, ap, ◌∙◌, option_map}
 use Rattle.blot_tag.specs.Views.{item_of, tag_value}
 use Rattle.blot_fields.specs.Walk.{sound_field, sound_behind}
 use Rattle.blot_fields.proofs.WalkLemmas.{sound_behind-none, sound_behind-last}

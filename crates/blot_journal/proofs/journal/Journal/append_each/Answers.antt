@@ -1,5 +1,4 @@
-use Rattle.std.proofs.Common.{◌≡◌, ℕ, List, false, length, refl, sym, subst, arith}
-use Rattle.std.proofs.lemmas.List.{append-nil}
+use Rattle.std.proofs.Common.{◌≡◌, ℕ, List, false, length, refl, sym, subst, arith, append-nil}
 use Rattle.blot_journal.specs.File.{Stands}
 use Rattle.blot_journal.specs.Journal.{StandsAmong, contents, text_in_journal}
 use Rattle.blot_journal.proofs.BatchesLemmas.{all_text, among, fewer, meanwhile, next_text}

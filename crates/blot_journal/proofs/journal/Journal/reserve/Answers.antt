@@ -1,5 +1,4 @@
-use Rattle.std.proofs.Common.{true≢false, ap, ◌≡◌, ◌+◌, ◌<◌, ◌^◌, false, length, refl, subst, sym, arith, rules}
-use Rattle.std.specs.Result.{is_err}
+use Rattle.std.proofs.Common.{true≢false, ap, ◌≡◌, ◌+◌, ◌<◌, ◌^◌, false, length, refl, subst, sym, arith, rules, is_err}
 use Rattle.blot_journal.specs.File.{text_of}
 use Rattle.blot_journal.specs.Journal.{text_in_journal}
 use Rattle.blot_journal.proofs.JournalLemmas.{text_long}

@@ -1,7 +1,6 @@
-use Rattle.std.proofs.Common.{◌≡◌, ◌+◌, ◌++◌, ◌<◌, inl, ℕ, List, [], not, length, sym, ap, subst, arith, rules, ◌∙◌}
-use Rattle.std.proofs.lemmas.Bool.{eqb-false, eqb-true}
-use Rattle.std.proofs.lemmas.List.{append-nil, nil_from_length}
-use Rattle.std.specs.Vec.{vec_len}
+use Rattle.std.proofs.Common.{◌≡◌, ◌+◌, ◌++◌, ◌<◌, inl, ℕ, List, [], not, length, sym, ap, subst, arith, rules, ◌∙◌, eqb-true, append-nil, vec_len}
+use Rattle.std.proofs.lemmas.Bool.{eqb-false}
+use Rattle.std.proofs.lemmas.List.{nil_from_length}
 use Rattle.blot_journal.specs.Device.{LeavesOnly}
 use Rattle.blot_journal.specs.File.{HasHead, Stands, StandsBeforeOrAfter, text_of}
 use Rattle.blot_journal.specs.Journal.{text_in_journal}

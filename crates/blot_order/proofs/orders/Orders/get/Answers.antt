@@ -1,5 +1,4 @@
-use Rattle.std.proofs.Common.{◌≡◌, Option, pos, ◌≤ℤ◌, refl, sym, ap, subst, ◌∙◌}
-use Rattle.std.specs.Option.{unwrap_or}
+use Rattle.std.proofs.Common.{◌≡◌, Option, pos, ◌≤ℤ◌, refl, sym, ap, subst, ◌∙◌, unwrap_or}
 use Rattle.blot_order.specs.Cells.{Tally, no_tally, tally_at}
 use Rattle.blot_order.specs.Slots.{held_in_slots}
 use Rattle.blot_order.proofs.HoldsLemmas.{line-read, small}

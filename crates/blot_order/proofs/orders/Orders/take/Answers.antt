@@ -1,6 +1,6 @@
 use Rattle.std.proofs.Common.{◌≡◌, ◌<◌, Some, None, ap, subst, sym, ◌∙◌, true, false, length, arith}
 use Rattle.std.specs.FinMap as finite
-use Rattle.blot_order.specs.declared.held.Held.TheVariants.{Kept}
+use Rattle.blot_order.specs.declared.stored_fill.FillState.TheVariants.{Kept}
 use Rattle.blot_order.specs.Cells.{CanTake, Changes, tally_at, with_fill_taken}
 use Rattle.blot_order.specs.Slots.{Placed, held_by, held_in_slots}
 use Rattle.blot_order.proofs.HoldsLemmas.{can_take, holds-taken}

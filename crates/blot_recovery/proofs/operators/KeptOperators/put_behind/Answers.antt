@@ -1,11 +1,9 @@
-use Rattle.std.proofs.Common.{◌++◌, ap, ◌∙◌}
+use Rattle.std.proofs.Common.{◌++◌, ap, ◌∙◌, option_to_list}
 use Rattle.std.specs.List.{list_any}
-use Rattle.std.specs.Option.{option_to_list}
 use Rattle.blot_types.specs.Keys.{same_text}
 use Rattle.blot_recovery.specs.declared.parties.KeptOperator.{KeptOperator}
 use Rattle.blot_recovery.specs.Parties.{operator_names}
 use Rattle.blot_recovery.proofs.OperatorLemmas.{first-more, operators-more, seat-put}
-use Rattle.blot_recovery.specs.declared.parties.KeptOperator.{KeptOperator}
 use Rattle.blot_recovery.proofs.operators.KeptOperators.put_behind.Goals as goal
 
 pub returns-clause-kept : goal.returns-clause-kept

@@ -1,8 +1,6 @@
-use Rattle.std.proofs.Common.{◌≡◌, ◌+◌, [], length, rules, refl, subst, sym}
-use Rattle.std.specs.List.{All}
+use Rattle.std.proofs.Common.{◌≡◌, ◌+◌, [], length, rules, refl, subst, sym, All}
 use Rattle.std.proofs.lemmas.List.Elements.{All-take}
-use Rattle.blot_recovery.specs.declared.fault.RecoverFault.TheVariants.{NoMemory}
-use Rattle.blot_recovery.specs.declared.operators.TheConstants.{OPERATOR_SEATS}
+use Rattle.blot_recovery.specs.declared.{fault.RecoverFault.TheVariants.NoMemory, operators.TheConstants.OPERATOR_SEATS}
 use Rattle.blot_recovery.specs.Taking.{AreApart}
 use Rattle.blot_recovery.proofs.TestLemmas.{if-told}
 use Rattle.blot_recovery.proofs.TakingLemmas.{none-taken}

@@ -1,5 +1,4 @@
-use Rattle.std.proofs.Common.{◌≡◌, Err, [], ◌∷◌, length, sym, ap, ◌∙◌, rules}
-use Rattle.std.specs.Option.{option_map}
+use Rattle.std.proofs.Common.{◌≡◌, Err, [], ◌∷◌, length, sym, ap, ◌∙◌, rules, option_map}
 use Rattle.std.proofs.lemmas.List.{nil_from_length}
 use Rattle.blot_tag.specs.Views.{tag_value}
 use Rattle.blot_tag.proofs.FieldLemmas.{items_behind-nil, items_behind-of}

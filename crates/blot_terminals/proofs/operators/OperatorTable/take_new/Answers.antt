@@ -1,6 +1,4 @@
-use Rattle.std.proofs.Common.{◌≡◌, [], ◌++◌, None, ap, subst, ◌∙◌}
-use Rattle.std.specs.List.{All}
-use Rattle.std.specs.Option.{option_to_list}
+use Rattle.std.proofs.Common.{◌≡◌, [], ◌++◌, None, ap, subst, ◌∙◌, All, option_to_list}
 use Rattle.blot_terminals.proofs.StaffLemmas.{all-front, own-inserted}
 use Rattle.blot_terminals.proofs.operators.OperatorTable.take_new.Goals as goal
 

@@ -1,5 +1,4 @@
-use Rattle.std.proofs.Common.{◌≡◌, ◌-◌, ◌∙◌, Some, ap, sym, arith}
-use Rattle.std.specs.Prelude.{slice_get}
+use Rattle.std.proofs.Common.{◌≡◌, ◌-◌, ◌∙◌, Some, ap, sym, arith, slice_get}
 use Rattle.blot_undo.specs.Book.{Stack}
 use Rattle.blot_undo.proofs.RowLemmas.{back_at}
 use Rattle.blot_undo.proofs.steps.Steps.done_before.Goals as goal
