@@ -2,9 +2,10 @@
 
 use crate::expect::expect;
 use blot_decimal::DecimalFault;
+use blot_fields::first_value;
 use blot_tag::{Frame, Reader};
 use blot_time::TimeFault;
-use callers::{day_of, first_value, has_frame, logout, number_of, worth};
+use callers::{day_of, has_frame, logout, number_of, worth};
 use std::alloc::Global;
 use std::test::Fail;
 

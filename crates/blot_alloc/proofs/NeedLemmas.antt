@@ -1,5 +1,5 @@
 -- The first instruction that needs another, and the first that lists a root.
-use Rattle.std.proofs.Common.{◌≡◌, ℕ, ◌+◌, ◌<◌, Bool, true, false, cond, ◌&&◌, ◌||◌, List, [], ◌∷◌, get_or, length, reverse, take, Option, Some, None, refl, sym, ap, subst, ◌∙◌, inl, inr, arith, All, find, nat_eq, nat_lt, option_and_then, option_map, eqb-true, ltb-true}
+use Rattle.std.proofs.Common.{◌≡◌, ℕ, ◌+◌, ◌<◌, Bool, true, false, cond, ◌&&◌, ◌||◌, List, [], ◌∷◌, get_or, length, reverse, take, Option, Some, None, sym, ap, subst, ◌∙◌, inl, inr, arith, All, find, nat_eq, nat_lt, option_and_then, option_map, eqb-true, ltb-true}
 use Rattle.std.specs.Option.{option_map_or, option_or}
 use Rattle.std.proofs.lemmas.Bool.{and_parts, cases_Bool}
 use Rattle.std.proofs.lemmas.List.{reverse-reverse}
@@ -12,7 +12,7 @@ use Rattle.blot_types.specs.Keys.{same_exec}
 use Rattle.blot_types.specs.Numbers.{lesser}
 use Rattle.blot_types.proofs.AllocOutLemmas.{ends-other, live-reference}
 use Rattle.blot_types.proofs.InstructionLemmas.{follows, unended}
-use Rattle.blot_types.proofs.GeneralLemmas.{and-false, or-none}
+use Rattle.blot_types.proofs.GeneralLemmas.{and-false, or-none, and-either}
 use Rattle.blot_places.specs.declared.slots.Slot.{Slot}
 use Rattle.blot_places.specs.Places.{places_in}
 use Rattle.blot_places.specs.Shown.{Shown, item_at, shown_of}
@@ -43,10 +43,6 @@ pub shown-falls : (index : Index) (slots : List (Slot Instruction)) (shown : Sho
 shown-falls index slots shown holds view = subst (λ (shown : Shown Instruction). numbers_fall number_of shown.list ≡ true) view (falling-side number_of true slots holds.fall)
 
 -- ---- one of some roots
-
-pub and-either : (after a b : Bool) → (after && (a || b)) ≡ ((after && a) || (after && b))
-and-either true a b = refl
-and-either false a b = refl
 
 -- the first that passes one of two tests
 first-of_two :

@@ -10,7 +10,7 @@ use clap::{Arg, Command};
 use std::alloc::{AllocError, Global};
 
 /// The version of the program, which `blotter --version` tells.
-pub const VERSION: &str = "1.3.1";
+pub const VERSION: &str = "1.3.2";
 /// The subcommand that replays a capture.
 pub const REPLAY: &str = "replay";
 /// The subcommand that keeps a desk for its operator.

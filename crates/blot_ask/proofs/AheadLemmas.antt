@@ -1,6 +1,6 @@
 -- Lines that are taken of what was read ahead, and of the stream behind it.
 use Rattle.std.proofs.Common.{◌≡◌, ◌≢◌, ℕ, ◌+◌, ◌<◌, ◌≤◌, Bool, true, false, List, [], ◌∷◌, ◌++◌, length, Option, Some, None, inl, inr, refl, sym, ap, subst, ◌∙◌, arith, ◌==◌, not, nat_lt, eqb-true, ltb-false, ltb-true, append_assoc, append-nil, take_all}
-use Rattle.std.specs.List.{after_first, before_first, list_any, position_or_len}
+use Rattle.std.specs.List.{after_first, before_first, list_any, position_or_len, onto_first}
 use Rattle.std.specs.Io.KnownBytes.{Consumes, IsAtEnd}
 use Rattle.std.proofs.KnownBytes.{Consumes-trans}
 use Rattle.std.proofs.lemmas.Bool.{both_ways, cases_Bool, or_parts}
@@ -8,7 +8,8 @@ use Rattle.std.proofs.lemmas.List.{drop_all}
 use Rattle.std.proofs.lemmas.List.Folds.{list_any_at, list_any_none, list_any-append}
 use Rattle.std.proofs.lemmas.List.Sums.{fails_before_first, passes_at_first, split_at_first}
 use Rattle.std.proofs.lemmas.Grind.{common_steps}
-use Rattle.blot_ask.specs.Lines.{Refills, TakesInput, TakesLine, is_end, lines_of, onto_first, unread, with_end}
+use Rattle.blot_ask.specs.Lines.{Refills, TakesInput, TakesLine, is_end, unread, with_end}
+use Rattle.blot_stream.specs.Texts.{lines_of}
 
 pub passed : (text : List ℕ) → position_or_len is_end text < length text → true ≡ list_any is_end text
 passed text within = sym (list_any_at is_end text (position_or_len is_end text) 0 within (passes_at_first is_end text 0 within))

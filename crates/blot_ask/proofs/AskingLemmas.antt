@@ -7,11 +7,11 @@ use Rattle.std.proofs.lemmas.Bool.{and_from, and_parts, not-true}
 use Rattle.std.proofs.lemmas.List.{map-append}
 use Rattle.std.proofs.lemmas.List.Folds.{list_all-append}
 use Rattle.std.proofs.lemmas.Grind.{flat_map-append}
-use Rattle.blot_stream.specs.Texts.{AppendsFront, AppendsFrontOf, AppendsOf}
+use Rattle.blot_stream.specs.Texts.{AppendsFront, AppendsFrontOf, AppendsOf, lines_of}
 use Rattle.blot_stream.proofs.ResultLemmas.{same-fault}
 use Rattle.blot_ask.specs.Answers.{is_answer, is_answer_from, is_complete}
 use Rattle.blot_ask.specs.Asking.{IsAnsweredBy, IsAsked, IsTalked, IsTurnedAwayBy, TakesLines, Talks, TalksOn, TellsAnswer, TellsLine, Turn, came_of, is_turn, naming, prompt_by, request_of, requests_of, sent_by, sent_of, shown_of}
-use Rattle.blot_ask.specs.Lines.{TakesInput, is_blank, lines_of, text_of, unread, with_end}
+use Rattle.blot_ask.specs.Lines.{TakesInput, is_blank, text_of, unread, with_end}
 use Rattle.blot_ask.specs.Typed.{typed}
 use Rattle.blot_ask.proofs.AheadLemmas.{ahead_read}
 

@@ -5,9 +5,8 @@ use Rattle.std.proofs.lemmas.List.Elements.{All-nil, All-cons, All-append}
 use Rattle.std.proofs.lemmas.Option.{same_Some}
 use Rattle.blot_types.specs.declared.command.Command.{Command}
 use Rattle.blot_types.specs.Refusals.{withdrawn_by}
-use Rattle.blot_fields.specs.declared.allocation.Allocation.{Allocation}
+use Rattle.blot_fields.specs.declared.{allocation.Allocation.Allocation, fault.FieldFault.FieldFault, message.Body.Body, message.Message.Message, report.Report.Report}
 use Rattle.blot_fields.specs.declared.allocation.Allocation.TheVariants as allocations
-use Rattle.blot_fields.specs.declared.{fault.FieldFault.FieldFault, message.Body.Body, message.Message.Message, report.Report.Report}
 use Rattle.blot_fields.specs.declared.message.Body.TheVariants as bodies
 use Rattle.blot_fields.specs.declared.report.Report.TheVariants as reports
 use Rattle.blot_fields.specs.Commands.{command_of_allocation, command_of_body, command_of_report}

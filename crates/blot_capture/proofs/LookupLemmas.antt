@@ -11,6 +11,7 @@ use Rattle.blot_fields.specs.Sender.{sender_of}
 use Rattle.blot_types.specs.Keys.{same_text}
 use Rattle.blot_types.specs.Text.{is_text}
 use Rattle.blot_types.proofs.GeneralLemmas.{or-none}
+use Rattle.blot_types.proofs.KeyLemmas.{same_text-true, same_text-refl}
 use Rattle.blot_session.specs.declared.state.State.{State}
 use Rattle.blot_session.specs.Runs.{behind_calls}
 use Rattle.blot_slots.specs.Slots.{Slots, slot_of, with_slot, all_in, answer_of}
@@ -65,18 +66,12 @@ among-skip peer first sessions none = elim (cases_Bool (same_text first.peer pee
     some-none : {A : Type 0} {x : A} → Some x ≡ None → ⊥
     some-none is = cc
 
-same-texts : (peer other : List ℕ) → same_text peer other ≡ true → peer ≡ other
-same-texts peer other same = (bytes_decides peer other).0 same
-
-text-itself : (peer : List ℕ) → same_text peer peer ≡ true
-text-itself peer = (bytes_decides peer peer).1 refl
-
 -- the session at the first place of a peer is the one that is found
 pub among-at : (peer : List ℕ) (sessions : List State) (place : ℕ) (other : State) → place < length sessions → session_among peer (take place sessions) ≡ None
     → ((other : State) → (slice_index_or sessions place other).peer ≡ peer) → session_among peer sessions ≡ Some (slice_index_or sessions place other)
 among-at peer [] place other within none here = absurd (omega (arith, within))
 among-at peer (first ∷ sessions) zero other within none here =
-    rw (ap (λ text. same_text text peer) (here other) ∙ text-itself peer) refl
+    rw (ap (λ text. same_text text peer) (here other) ∙ same_text-refl peer) refl
 among-at peer (first ∷ sessions) (suc place) other within none here =
     let skipped = among-skip peer first (take place sessions) none in
     rw skipped.0 (among-at peer sessions place other (omega (arith, within)) skipped.1 here)
@@ -98,7 +93,7 @@ among-set peer other (first ∷ sessions) (suc place) changed within none here s
     let rest = among-set peer other sessions place changed (omega (arith, within)) skipped.1 here same in
     elim (cases_Bool (same_text peer other)) [
       | inl y ↦
-          let apart : same_text first.peer other ≡ false = ap (λ text. same_text first.peer text) (sym (same-texts peer other y)) ∙ skipped.0 in
+          let apart : same_text first.peer other ≡ false = ap (λ text. same_text first.peer text) (sym (same_text-true peer other y)) ∙ skipped.0 in
           rw apart rest
       | inr n ↦ rw n (ap (λ found. if same_text first.peer other then Some first else found) (rw n at rest))
     ]
@@ -133,7 +128,7 @@ sessions-out out slots next peer session none is left of_peer = everywhere (sess
     let here : same_text session.peer other ≡ same_text peer other = ap (λ text. same_text text other) of_peer in
     elim (cases_Bool (same_text peer other)) [
       | inl y ↦
-          let same = same-texts peer other y in
+          let same = same_text-true peer other y in
           let gone : session_among other out ≡ None = ap (λ text. session_among text out) (sym same) ∙ none in
           let was : slot_of slots other ≡ Some (Some session) = ap (slot_of slots) (sym same) ∙ is in
           rw (found, gone, here ∙ y, was) refl
@@ -172,7 +167,7 @@ sessions-changed peer out slots place session changed text at is same led sent =
     let from : is_from other text ≡ same_text peer other = ap (λ sent. option_map_or (λ sender. same_text sender other) sent false) sent in
     elim (cases_Bool (same_text peer other)) [
       | inl y ↦
-          let was : session_in out slots other ≡ Some session = ap (session_in out slots) (sym (same-texts peer other y)) ∙ session-at peer out slots place session at ∙ ap Some (sym is) in
+          let was : session_in out slots other ≡ Some session = ap (session_in out slots) (sym (same_text-true peer other y)) ∙ session-at peer out slots place session at ∙ ap Some (sym is) in
           rw (found, y, from ∙ y, was) (ap Some led)
       | inr n ↦ rw (found, n, from ∙ n) refl
     ])
@@ -211,7 +206,7 @@ sessions-strange sessions text peer sent none = everywhere (sessions_behind sess
     let from : is_from other text ≡ same_text peer other = ap (λ sent. option_map_or (λ sender. same_text sender other) sent false) sent in
     elim (cases_Bool (same_text peer other)) [
       | inl y ↦
-          let was : sessions other ≡ None = ap sessions (sym (same-texts peer other y)) ∙ none in
+          let was : sessions other ≡ None = ap sessions (sym (same_text-true peer other y)) ∙ none in
           rw (from ∙ y, was) refl
       | inr n ↦ rw (from ∙ n) refl
     ])

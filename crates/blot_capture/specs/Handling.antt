@@ -9,9 +9,8 @@ use Rattle.blot_session.specs.Met.{met_of}
 use Rattle.blot_session.specs.Runs.{delivered_by, said_by}
 use Rattle.blot_desk.specs.declared.event.Reply.{Reply}
 use Rattle.blot_desk.specs.Desk.{DeskState}
-use Rattle.blot_capture.specs.declared.became.Became.{Became}
+use Rattle.blot_capture.specs.declared.{became.Became.Became, handled.Handled.Handled}
 use Rattle.blot_capture.specs.declared.became.Became.TheVariants as became
-use Rattle.blot_capture.specs.declared.handled.Handled.{Handled}
 use Rattle.blot_capture.specs.declared.handled.Handled.TheVariants as handled
 use Rattle.blot_capture.specs.Capture.{Sessions, moment_at}
 use Rattle.blot_capture.specs.Replay.{Taking}

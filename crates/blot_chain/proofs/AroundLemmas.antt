@@ -8,7 +8,7 @@ use Rattle.std.proofs.lemmas.List.Elements.{All-cons, All-nil, All-weaker}
 use Rattle.std.proofs.lemmas.Option.{same_Some}
 use Rattle.blot_types.specs.declared.{keys.ExecKey.ExecKey, link.Link.Link, link.Role.Role}
 use Rattle.blot_types.specs.declared.link.Role.TheVariants.{Begins, Corrects, Busts}
-use Rattle.blot_types.specs.Chains.{current_in, first_needing_link, first_referring, is_chained, own_root, refers_to, root_in, version_after_in, version_before_in}
+use Rattle.blot_types.specs.Chains.{current_in, first_needing_link, first_referring, is_chained, own_root, refers_to, root_in, version_after_in, version_before_in, brings_version}
 use Rattle.blot_types.specs.Keys.{same_exec}
 use Rattle.blot_types.specs.Numbers.{lesser}
 use Rattle.blot_types.specs.Refusals.{first_of}
@@ -26,8 +26,8 @@ use Rattle.blot_chain.specs.Cells.{busts_in, versions_in}
 use Rattle.blot_chain.specs.Holds.{HoldsChains}
 use Rattle.blot_chain.specs.Index.{BelowFirst, IsPlaced, UpToFirst, newest_below, number_if_referring, oldest_above, places_after, referring_at}
 use Rattle.blot_types.specs.StandingVersion.{chain_under}
-use Rattle.blot_types.proofs.GeneralLemmas.{and-false, found-All}
-use Rattle.blot_chain.specs.ChainLinks.{AreRooted, has_key, is_bust, is_bust_of, is_version, is_version_of, kept_root, link_number, links_in, refers}
+use Rattle.blot_types.proofs.GeneralLemmas.{and-false, found-All, and-either}
+use Rattle.blot_chain.specs.ChainLinks.{AreRooted, has_key, is_bust, is_bust_of, is_version_of, kept_root, link_number, links_in, refers}
 use Rattle.blot_chain.specs.Steps.{number_of}
 use Rattle.blot_chain.proofs.ChainLemmas.{chained-parts, find-current, kept_root-own, version-is_root}
 use Rattle.blot_chain.proofs.HoldsLemmas.{rooted-live, vacant}
@@ -214,7 +214,7 @@ of_chain n (item ∷ earlier) k are chained fall found =
           let behind : item_at link_number n earlier ≡ Some k = sym (at-on link_number n item earlier other) ∙ found in
           All-cons (IsOfChain n k.link.key k.root) item earlier
           (λ after referring.
-          kept-same (is_version k.link.role) k.root item.root
+          kept-same (brings_version k.link.role) k.root item.root
           (sym (root-referred (links_in earlier) item.link.key k.link.key item.root item.link.role are.0 referring) ∙ root-at n earlier k are.1 parts.1 behind))
           (of_chain n earlier k are.1 parts.1 falling.1 behind)
     ]
@@ -230,16 +230,12 @@ unreferred true clashes = sym (clashes refl)
 unreferred false clashes = refl
 
 on_stack : (key : ExecKey) (role : Role) (same : Bool) → (refers_to key role ≡ true → same ≡ true)
-    → refers_to key role ≡ (((is_version role && same) && refers_to key role) || ((is_bust role && same) && refers_to key role))
+    → refers_to key role ≡ (((brings_version role && same) && refers_to key role) || ((is_bust role && same) && refers_to key role))
 on_stack key Begins same is = sym (ap (λ b. b || (false && false)) (and-false same))
 on_stack key (Corrects reference) true is = or-none (same_exec reference key)
 on_stack key (Corrects reference) false is = unreferred (same_exec reference key) is
 on_stack key (Busts reference) true is = refl
 on_stack key (Busts reference) false is = unreferred (same_exec reference key) is
-
-and-both : (above version bust : Bool) → (above && (version || bust)) ≡ ((above && version) || (above && bust))
-and-both true version bust = refl
-and-both false version bust = refl
 
 on_stacks :
     (n : ℕ) (key root : ExecKey) (item : ChainLink) → IsOfChain n key root item
@@ -250,7 +246,7 @@ on_stacks n key root item is =
       | inl after ↦
           ap (λ b. nat_lt n (link_number item) && b)
           (on_stack key item.link.role (same_exec item.root root) (λ referring. subst (λ k. same_exec item.root k ≡ true) (is after referring) (same_exec-refl item.root)))
-          ∙ and-both (nat_lt n (link_number item)) (is_version_of root item && refers key item) (is_bust_of root item && refers key item)
+          ∙ and-either (nat_lt n (link_number item)) (is_version_of root item && refers key item) (is_bust_of root item && refers key item)
       | inr before ↦
           ap (λ b. b && refers key item) before
           ∙ sym (ap (λ b. (b && (is_version_of root item && refers key item)) || (b && (is_bust_of root item && refers key item))) before)

@@ -4,27 +4,27 @@ use Rattle.std.proofs.lemmas.Option.{same_Some}
 use Rattle.std.proofs.lemmas.Bool.{cases_Bool, and_parts}
 use Rattle.blot_types.specs.declared.{keys.ExecKey.ExecKey, link.Link.Link, link.Role.Role}
 use Rattle.blot_types.specs.declared.link.Role.TheVariants.{Begins, Corrects, Busts}
-use Rattle.blot_types.specs.Chains.{takes_up, taker_in, own_root, root_in, is_root, busts, bust_in, current_in, link_refusal, is_chained}
+use Rattle.blot_types.specs.Chains.{takes_up, taker_in, own_root, root_in, is_root, busts, bust_in, current_in, link_refusal, is_chained, brings_version}
 use Rattle.blot_types.specs.Keys.{same_exec}
 use Rattle.blot_types.specs.Laws.{IsOneTrade}
 use Rattle.blot_types.proofs.ChainLemmas.{accepted_key, none_is}
 use Rattle.blot_types.proofs.KeyLemmas.{same_exec-true, same_exec-refl}
 use Rattle.blot_chain.specs.declared.chain_link.ChainLink.{ChainLink}
 use Rattle.blot_types.specs.StandingVersion.{chain_under}
-use Rattle.blot_chain.specs.ChainLinks.{is_version, is_bust, has_key, is_version_of, is_bust_of, kept_root, links_in, AreRooted}
+use Rattle.blot_chain.specs.ChainLinks.{is_bust, has_key, is_version_of, is_bust_of, kept_root, links_in, AreRooted}
 
 -- One link: what is said of the root beside it is what is said of its role.
 
 pub kept_root-own :
     (earlier : List Link) (key : ExecKey) (role : Role) (root : ExecKey) → chain_under earlier key role ≡ Some root
-    → (if is_version role then Some root else None) ≡ own_root (root_in earlier) key role
+    → (if brings_version role then Some root else None) ≡ own_root (root_in earlier) key role
 kept_root-own earlier key Begins root is = sym is
 kept_root-own earlier key (Corrects reference) root is = sym is
 kept_root-own earlier key (Busts reference) root is = refl
 
 pub version-is_root :
     (earlier : List Link) (key : ExecKey) (role : Role) (root wanted : ExecKey) → chain_under earlier key role ≡ Some root
-    → (is_version role && same_exec root wanted) ≡ is_root wanted (own_root (root_in earlier) key role)
+    → (brings_version role && same_exec root wanted) ≡ is_root wanted (own_root (root_in earlier) key role)
 version-is_root earlier key Begins root wanted is = ap (is_root wanted) (sym is)
 version-is_root earlier key (Corrects reference) root wanted is = ap (is_root wanted) (sym is)
 version-is_root earlier key (Busts reference) root wanted is = refl
@@ -54,7 +54,7 @@ pub find-current :
 find-current [] root rooted = refl
 find-current (item ∷ earlier) root rooted =
     let test = version-is_root (links_in earlier) item.link.key item.link.role item.root root rooted.0 in
-    elim (cases_Bool (is_version item.link.role && same_exec item.root root)) [
+    elim (cases_Bool (brings_version item.link.role && same_exec item.root root)) [
       | inl is ↦ rw (← test, is) refl
       | inr other ↦ rw (← test, other) (find-current earlier root rooted.1)
     ]

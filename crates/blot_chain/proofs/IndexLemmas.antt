@@ -8,12 +8,13 @@ use Rattle.blot_places.specs.Slots.{items, places_by}
 use Rattle.blot_types.specs.declared.{keys.ExecKey.ExecKey, link.Role.Role}
 use Rattle.blot_types.specs.declared.link.Role.TheVariants.{Begins, Corrects, Busts}
 use Rattle.blot_types.specs.Keys.{same_exec}
+use Rattle.blot_types.specs.Chains.{brings_version}
 use Rattle.blot_types.proofs.KeyLemmas.{same_exec-true}
 use Rattle.blot_chain.specs.declared.cell.Relation.TheVariants.{First, Taker}
 use Rattle.blot_chain.specs.declared.{index.Index.Index, chain_link.ChainLink.ChainLink}
 use Rattle.blot_chain.specs.Cells.{CellsByKey, KeepsPlaces, PutsAt, PutsUnder, SameUnder, TakesUnder, busts_in, has_bust, has_taker, has_version, key_at, one_less, one_more, relation_in_chain, takers_in, versions_in}
 use Rattle.blot_chain.specs.Index.{IsIndexed, IsPlaced}
-use Rattle.blot_chain.specs.ChainLinks.{has_key, is_bust, is_bust_of, is_version, is_version_of}
+use Rattle.blot_chain.specs.ChainLinks.{has_key, is_bust, is_bust_of, is_version_of}
 use Rattle.blot_chain.specs.RootedLink.{begun}
 
 -- ---- a stack that stands newest first elsewhere
@@ -28,7 +29,7 @@ taker-in_chain Begins = refl
 taker-in_chain (Corrects reference) = refl
 taker-in_chain (Busts reference) = refl
 
-version-in_chain : (role : Role) → has_version (relation_in_chain role) ≡ is_version role
+version-in_chain : (role : Role) → has_version (relation_in_chain role) ≡ brings_version role
 version-in_chain Begins = refl
 version-in_chain (Corrects reference) = refl
 version-in_chain (Busts reference) = refl

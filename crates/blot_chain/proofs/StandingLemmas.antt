@@ -11,12 +11,13 @@ use Rattle.blot_types.specs.declared.{keys.ExecKey.ExecKey, link.Link.Link}
 use Rattle.blot_types.specs.Chains.{bust_in, current_in, root_in}
 use Rattle.blot_types.specs.Keys.{same_exec}
 use Rattle.blot_types.specs.Survivors.{is_number, stands_under}
+use Rattle.blot_types.specs.StandingVersion.{standing_version_in}
 use Rattle.blot_chain.specs.declared.{cell.Cell.Cell, index.Index.Index, chain_link.ChainLink.ChainLink}
 use Rattle.blot_chain.specs.Holds.{HoldsChains, shown_of}
 use Rattle.blot_chain.specs.Index.{standing_at}
 use Rattle.blot_chain.specs.ChainLinks.{kept_root, link_number}
 use Rattle.blot_chain.specs.RootedLink.{begun}
-use Rattle.blot_chain.specs.Standing.{standing_root_in, standing_version_in}
+use Rattle.blot_chain.specs.Standing.{standing_root_in}
 use Rattle.blot_chain.proofs.HoldsLemmas.{bust-held, current-held, root-held, taker-key}
 
 -- ---- by the cell, if the key has one

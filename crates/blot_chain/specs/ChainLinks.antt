@@ -4,16 +4,10 @@ use Rattle.blot_places.specs.declared.slots.Slot.{Slot}
 use Rattle.blot_places.specs.Slots.{items, live}
 use Rattle.blot_types.specs.declared.{keys.ExecKey.ExecKey, link.Link.Link, link.Role.Role}
 use Rattle.blot_types.specs.declared.link.Role.TheVariants.{Begins, Corrects, Busts}
-use Rattle.blot_types.specs.Chains.{refers_to}
+use Rattle.blot_types.specs.Chains.{refers_to, brings_version}
 use Rattle.blot_types.specs.Keys.{same_exec}
 use Rattle.blot_types.specs.StandingVersion.{chain_under}
 use Rattle.blot_chain.specs.declared.chain_link.ChainLink.{ChainLink}
-
--- whether a link of this role brings a version to its chain: a Trade and a Correct do
-abbrev pub is_version : Role → Bool
-is_version Begins = true
-is_version (Corrects reference) = true
-is_version (Busts reference) = false
 
 -- whether a link of this role is a Bust
 abbrev pub is_bust : Role → Bool
@@ -27,7 +21,7 @@ has_key key item = same_exec item.link.key key
 
 -- whether it brings a version to the chain of this root
 abbrev pub is_version_of : ExecKey → ChainLink → Bool
-is_version_of root item = is_version item.link.role && same_exec item.root root
+is_version_of root item = brings_version item.link.role && same_exec item.root root
 
 -- whether it busts the chain of this root
 abbrev pub is_bust_of : ExecKey → ChainLink → Bool
@@ -39,7 +33,7 @@ refers key item = refers_to key item.link.role
 
 -- the root of its own key: the key of a Bust has none
 abbrev pub kept_root : ChainLink → Option ExecKey
-kept_root item = if is_version item.link.role then Some item.root else None
+kept_root item = if brings_version item.link.role then Some item.root else None
 
 -- the number of its link
 abbrev pub link_number : ChainLink → ℕ

@@ -1,9 +1,9 @@
 //! A link with the root of its chain.
 ghost use Rattle.std.specs.Prelude.{◌≡◌, IfOk, IsTrue};
 ghost use Rattle.blot_types.specs.declared.link.Role.TheVariants.{Begins};
-ghost use Rattle.blot_types.specs.Chains.{refers_to};
+ghost use Rattle.blot_types.specs.Chains.{refers_to, brings_version};
 ghost use Rattle.blot_chain.specs.Cells.{relation_in_chain};
-ghost use Rattle.blot_chain.specs.ChainLinks.{is_version, kept_root};
+ghost use Rattle.blot_chain.specs.ChainLinks.{kept_root};
 ghost use Rattle.blot_chain.specs.RootedLink.{begun, rooted};
 
 use crate::cell::Relation;
@@ -94,10 +94,10 @@ impl ChainLink {
 
     /// Whether the link brings a version to its chain: a Trade's and a Correct's do.
     pub(crate) fn is_version(&self) -> bool
-        ensures { result ≡ is_version self.now.link.role }
+        ensures { result ≡ brings_version self.now.link.role }
     {
         match &self.origin {
-            Some(origin) => is_version(&origin.role),
+            Some(origin) => brings_version(&origin.role),
             None => true,
         }
     }
@@ -147,8 +147,8 @@ impl Numbered for ChainLink {
 }
 
 // Whether a link of this role brings a version to its chain.
-fn is_version(role: &Role) -> bool
-    ensures { result ≡ is_version role.now }
+fn brings_version(role: &Role) -> bool
+    ensures { result ≡ brings_version role.now }
 {
     match role {
         Role::Begins | Role::Corrects(_) => true,

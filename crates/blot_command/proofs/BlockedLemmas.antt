@@ -16,6 +16,7 @@ use Rattle.blot_types.specs.Numbers.{lesser}
 use Rattle.blot_types.specs.Refusals.{listed_by, version_in}
 use Rattle.blot_types.specs.Survivors.{links_in, links_of}
 use Rattle.blot_types.specs.Withdrawal.{alike, needed_in}
+use Rattle.blot_types.specs.StandingVersion.{version_numbered}
 use Rattle.blot_types.proofs.BustLemmas.{reverse-middle}
 use Rattle.blot_types.proofs.ChainLemmas.{accepted_key, accepted_root, clash, none_is}
 use Rattle.blot_types.proofs.CorrectLemmas.{as_entry, front-legal}
@@ -25,7 +26,6 @@ use Rattle.blot_types.proofs.NeededLemmas.{needed_first, no_withdraw}
 use Rattle.blot_types.proofs.GeneralLemmas.{and-false, all-reversed}
 use Rattle.blot_command.specs.Blocking.{blocked_by, blocked_correct, changes_version, first_listing, lists_at, needed_until}
 use Rattle.blot_command.specs.Book.{has_number}
-use Rattle.blot_command.specs.Shown.{version_numbered}
 use Rattle.blot_command.proofs.AllocNeedLemmas.{cancel-needed, new-needed, replace-needed}
 use Rattle.blot_command.proofs.CorrectNeedLemmas.{first-listing, is_changed, key-root}
 use Rattle.blot_command.proofs.FirstEntryLemmas.{after, first_in, needed-in}

@@ -1,5 +1,6 @@
 -- What needs a Correct: the first link that refers to it, or the first allocation that lists it, or that lists its chain while it is the
 -- last version, where it changed the fill.
+use mathlib.Core.Bool.{or_comm}
 use Rattle.std.proofs.Common.{◌≡◌, ℕ, ◌<◌, Bool, true, false, cond, ◌&&◌, ◌||◌, List, [], ◌∷◌, ◌++◌, Option, Some, None, refl, sym, ap, ◌∙◌, inl, inr, arith, is_none, nat_lt, not, filter_map, option_and_then, lt-ltb, ltb-true, ne_eqb, eq-eqb}
 use Rattle.std.specs.List.{cons_option, list_any}
 use Rattle.std.specs.Option.{option_map_or, option_or}
@@ -28,15 +29,9 @@ use Rattle.blot_command.proofs.LinkNeedLemmas.{first-of_either, referring}
 
 -- ---- tests
 
-or-swap : (a b : Bool) → (a || b) ≡ (b || a)
-or-swap true true = refl
-or-swap true false = refl
-or-swap false true = refl
-or-swap false false = refl
-
 -- among those that name the chain, those that list the key, or that see a changed fill
 among-named : (listed named changed last : Bool) → listed ≡ (named && listed) → (listed || (changed && (named && last))) ≡ (named && ((changed && last) || listed))
-among-named listed true changed last is = or-swap listed (changed && last)
+among-named listed true changed last is = or_comm listed (changed && last)
 among-named listed false changed last is = ap (λ b. b || (changed && false)) is ∙ and-false changed
 
 any-and : {A : Type 0} (p : A → Bool) (b : Bool) (xs : List A) → list_any (λ x. p x && b) xs ≡ (list_any p xs && b)

@@ -1,7 +1,6 @@
 -- The cells of the house account: there is one in each symbol in which an account has one, whatever is opened, put and taken.
-use Rattle.std.proofs.Common.{◌≡◌, ℕ, ◌<◌, arith, Bool, true, false, ◌||◌, List, [], ◌∷◌, Option, Some, None, refl, sym, ap, subst, ◌∙◌, inl, inr, is_some}
+use Rattle.std.proofs.Common.{◌≡◌, ℕ, ◌<◌, arith, Bool, true, false, ◌||◌, List, [], ◌∷◌, Option, Some, None, refl, sym, ap, subst, ◌∙◌, inl, inr, is_some, unwrap_or}
 use Rattle.std.specs.FinMap as finite
-use Rattle.std.proofs.Common.{unwrap_or}
 use Rattle.std.proofs.lemmas.Bool.{cases_Bool, or_right}
 use Rattle.blot_types.specs.declared.part.Part.{Part}
 use Rattle.blot_types.specs.Keys.{position_at}

@@ -1,10 +1,10 @@
 -- The parts of chains that are named go to the house account, and come back from it.
-use Rattle.std.proofs.Common.{◌≡◌, ℕ, ◌+◌, ◌*◌, ◌^◌, ◌≤◌, pos, ◌+ℤ◌, ◌≤ℤ◌, arith, Bool, true, false, List, [], ◌∷◌, Option, Some, None, refl, sym, ap, subst, ◌∙◌, inl, inr, ℤ, unsigned_abs, ◌&&◌, ◌||◌, not, filter, find, is_none, ◌==◌, All, IsTrue, if◌then◌else◌, flat_map, option_and_then, option_map}
+use Rattle.std.proofs.Common.{◌≡◌, ℕ, ◌+◌, ◌*◌, ◌^◌, ◌≤◌, pos, ◌+ℤ◌, ◌≤ℤ◌, arith, Bool, true, false, List, [], ◌∷◌, Option, Some, None, refl, sym, ap, subst, ◌∙◌, inl, inr, ℤ, unsigned_abs, ◌||◌, not, filter, find, is_none, ◌==◌, All, IsTrue, if◌then◌else◌, flat_map, option_and_then, option_map}
 use Rattle.std.specs.List.{cons_option}
-use Rattle.std.proofs.lemmas.Bool.{cases_Bool, and_from, and_parts, not-true}
+use Rattle.std.proofs.lemmas.Bool.{cases_Bool, and_parts, not-true}
 use Rattle.std.proofs.lemmas.Int.{ints}
-use Rattle.std.proofs.lemmas.List.Elements.{All-nil, All-cons, All-head, All-tail, All-weaker}
-use Rattle.blot_types.specs.declared.{command.Entry.Entry, keys.ExecKey.ExecKey, part.Part.Part, lines.Version.Version}
+use Rattle.std.proofs.lemmas.List.Elements.{All-weaker}
+use Rattle.blot_types.specs.declared.{command.Entry.Entry, fill.Fill.Fill, keys.ExecKey.ExecKey, part.Part.Part, lines.Version.Version}
 use Rattle.blot_types.specs.Chains.{bust_in, current_in}
 use Rattle.blot_types.specs.Instructions.{are_apart}
 use Rattle.blot_types.specs.Keys.{is_among, same_exec}
@@ -15,12 +15,12 @@ use Rattle.blot_types.specs.Position.{house, account_of, part_of_fill, IsSmall, 
 use Rattle.blot_types.specs.StandingVersion.{standing}
 use Rattle.blot_types.specs.Survivors.{links_of, versions_of, survivors}
 use Rattle.blot_types.proofs.ChainLemmas.{differing}
-use Rattle.blot_types.proofs.KeyLemmas.{same_exec-refl, same_exec-sym}
+use Rattle.blot_types.proofs.KeyLemmas.{same_exec-refl, same_exec-sym, same_exec-true}
 use Rattle.blot_types.proofs.PartLemmas.{part_under, parts_under, total-named, NamesMore, moves-chain, chain-standing, MovesChain}
 use Rattle.blot_types.proofs.SumLemmas.{total-cons}
-use Rattle.blot_types.proofs.GeneralLemmas.{and-true, and-false, found-All}
+use Rattle.blot_types.proofs.GeneralLemmas.{found-All}
 use Rattle.blot_position.specs.Positions.{Cells, has_cell}
-use Rattle.blot_command.specs.Booking.{Change, put_in, taken_out, changed, changed_all, to_house, from_house, chains_to_house, chains_from_house}
+use Rattle.blot_command.specs.Booking.{Change, put_in, taken_out, changed, changed_all}
 use Rattle.blot_command.specs.Shown.{standing_fill}
 use Rattle.blot_position.specs.Carried.{Carries}
 use Rattle.blot_command.specs.Carried.{HasFillCells}
@@ -106,17 +106,6 @@ booked-stays list changes cells booked = record {
   fits = booked.fits;
 }
 
-rest_low : (list : List Entry) (root : ExecKey) (before after : ExecKey → Bool) (more_named : NamesMore root before after) (others : Whole) → IsCount others
-    → IsCount (λ f. (moves-chain f list root before after more_named).rest +ℤ others f)
-rest_low list root before after more_named others some a s =
-    let low = count-under (λ v. one_at a s (part_under before (links_of list) v)) (filter (λ v. not (is_of_chain list root v)) (survivors list)) (λ v. one_low a s (part_under before (links_of list) v)) in
-    let is = (moves-chain (one_at a s) list root before after more_named).rest_is in
-    let other = some a s in
-    omega (arith, ints, low, is, other)
-
-one_part : (f : Part → ℤ) (named : Bool) (version : Version) → total (λ v. f (part_of_fill named v.fill)) (version ∷ []) ≡ f (part_of_fill named version.fill)
-one_part f named version = omega (arith, ints)
-
 -- however the chains are named, so much is carried
 abbrev pub AlwaysLight : List Entry → Whole → ℕ → ℕ → Type 0
 AlwaysLight list others count qty = (named : ExecKey → Bool) → Light count qty (beside list named others)
@@ -124,152 +113,119 @@ AlwaysLight list others count qty = (named : ExecKey → Bool) → Light count q
 pub relight : (changes : List Change) (cells : Cells) (count qty count' qty' : ℕ) (whole : Whole) → Reaches changes cells count qty whole → Light count' qty' whole → Reaches changes cells count' qty' whole
 relight changes cells count qty count' qty' whole reached light = record { can = reached.can; carried = reached.carried; light = light }
 
--- the version that stands of a chain leaves one account for another: its own and the house account, by what it was named and is
+-- ---- a chain becomes named, or isn't any more
+
+-- one chain becomes named where `now` is true, else it isn't named any more: the parts of its survivors move, and the rest stays
+record Moves (now : Bool) (list : List Entry) (chain : List Version) (before after : ExecKey → Bool) : Type 0 where
+  rest : Whole
+  low : IsCount rest
+  was : (f : Part → ℤ) → total f (parts_under before (links_of list) (survivors list)) ≡ (total (λ v. f (part_of_fill (not now) v.fill)) chain +ℤ rest f)
+  is : (f : Part → ℤ) → total f (parts_under after (links_of list) (survivors list)) ≡ (total (λ v. f (part_of_fill now v.fill)) chain +ℤ rest f)
+
+rest_low :
+    (list : List Entry) (root : ExecKey) (before after : ExecKey → Bool) (names : NamesMore root before after)
+    → IsCount (λ f. (moves-chain f list root before after names).rest)
+rest_low list root before after names a s =
+    let at : Version → ℤ = λ v. one_at a s (part_under before (links_of list) v) in
+    let low = count-under at (filter (λ v. not (is_of_chain list root v)) (survivors list)) (λ v. one_low a s (part_under before (links_of list) v)) in
+    let is = (moves-chain (one_at a s) list root before after names).rest_is in
+    omega (arith, ints, low, is)
+
+moves :
+    (now : Bool) (list : List Entry) (root : ExecKey) (before after : ExecKey → Bool) → before root ≡ not now → after root ≡ now
+    → ((other : ExecKey) → same_exec other root ≡ false → before other ≡ after other)
+    → Moves now list (survivors_of_chain list root) before after
+moves true list root before after was is others =
+    let names : NamesMore root before after = record { was = was; is = is; others = others } in
+    let chain : (f : Part → ℤ) → MovesChain f list root before after = λ f. moves-chain f list root before after names in
+    record { rest = λ f. (chain f).rest; low = rest_low list root before after names; was = λ f. (chain f).was; is = λ f. (chain f).is }
+moves false list root before after was is others =
+    let names : NamesMore root after before = record { was = is; is = was; others = λ other apart. sym (others other apart) } in
+    let chain : (f : Part → ℤ) → MovesChain f list root after before = λ f. moves-chain f list root after before names in
+    record { rest = λ f. (chain f).rest; low = rest_low list root after before names; was = λ f. (chain f).is; is = λ f. (chain f).was }
+
+-- a fill goes to the house account, as `to_house`, or comes back, as `from_house`; so do the fills of the versions that stand of some chains
+abbrev pub moved_by : Bool → Fill → List Change
+moved_by now fill = taken_out (part_of_fill (not now) fill) ∷ put_in (part_of_fill now fill) ∷ []
+
+abbrev pub chains_moved : Bool → List Entry → List ExecKey → List Change
+chains_moved now list roots = flat_map (λ root. flat_map (moved_by now) (cons_option (standing_fill list root) [])) roots
+
+has-come : (now : Bool) (cells : Cells) (fill : Fill) → HasFillCells cells fill → has_cell cells (account_of now fill) fill.symbol ≡ true
+has-come true cells fill made = made.housed
+has-come false cells fill made = made.own
+
+-- the version that stands of one chain
 move_one :
-    (list : List Entry) (cells : Cells) (count qty : ℕ) (root : ExecKey) (found : Option Version) (before after : ExecKey → Bool) (others rest : Whole) (was is : Bool)
-    → standing list root ≡ found → IsBooked list cells
-    → ((f : Part → ℤ) → total f (parts_under before (links_of list) (survivors list)) ≡ (total (λ v. f (part_of_fill was v.fill)) (survivors_of_chain list root) +ℤ rest f))
-    → ((f : Part → ℤ) → total f (parts_under after (links_of list) (survivors list)) ≡ (total (λ v. f (part_of_fill is v.fill)) (survivors_of_chain list root) +ℤ rest f))
-    → ((version : Version) → HasFillCells cells version.fill → has_cell cells (account_of is version.fill) version.fill.symbol ≡ true)
-    → Carries (beside list before others) cells → AlwaysLight list others count qty → IsCount (λ f. rest f +ℤ others f) → IsLightEnough (count + 2) (qty + 2 * 10 ^ 16)
-    → Reaches (flat_map (λ fill. taken_out (part_of_fill was fill) ∷ put_in (part_of_fill is fill) ∷ []) (cons_option (option_map (λ version. version.fill) found) [])) cells count qty (beside list after others)
-move_one list cells count qty root None before after others rest was is stands booked sum_was sum_is made carried light low enough =
-    let chain : survivors_of_chain list root ≡ [] = chain-standing list root booked.book ∙ ap (λ o. cons_option o []) stands in
-    let same : SameWhole (beside list before others) (beside list after others) =
-    λ f.
-    let old : total f (parts_under before (links_of list) (survivors list)) ≡ (pos 0 +ℤ rest f) = rw chain at sum_was f in
-    let new : total f (parts_under after (links_of list) (survivors list)) ≡ (pos 0 +ℤ rest f) = rw chain at sum_is f in
-    omega (arith, ints, old, new) in
-    reach-same [] cells count qty (beside list before others) (beside list after others) same (reach-nothing cells count qty (beside list before others) carried (light before))
-move_one list cells count qty root (Some version) before after others rest was is stands booked sum_was sum_is made carried light low enough =
-    let chain : survivors_of_chain list root ≡ version ∷ [] = chain-standing list root booked.book ∙ ap (λ o. cons_option o []) stands in
+    (now : Bool) (list : List Entry) (cells : Cells) (count qty : ℕ) (root : ExecKey) (found : Option Version) (before after : ExecKey → Bool) (others : Whole)
+    → standing list root ≡ found → IsBooked list cells → Moves now list (cons_option found []) before after
+    → Carries (beside list before others) cells → AlwaysLight list others count qty → IsCount others → IsLightEnough (count + 2) (qty + 2 * 10 ^ 16)
+    → Reaches (flat_map (moved_by now) (cons_option (option_map (λ version. version.fill) found) [])) cells count qty (beside list after others)
+move_one now list cells count qty root None before after others stands booked move carried light some enough =
+    let same : SameWhole (beside list before others) (beside list after others) = λ f. omega (arith, ints, move.was f, move.is f) in
+    reach-same [] cells count qty (beside list before others) (beside list after others) same
+    (reach-nothing cells count qty (beside list before others) carried (light before))
+move_one now list cells count qty root (Some version) before after others stands booked move carried light some enough =
     let fits : FillFits version.fill = standing-All list (λ v. FillFits v.fill) root version booked.fits stands in
     let there : HasFillCells cells version.fill = standing-All list (λ v. HasFillCells cells v.fill) root version booked.made stands in
-    let gone = part_of_fill was version.fill in
-    let come = part_of_fill is version.fill in
-    let whole : Whole = λ f. rest f +ℤ others f in
-    let old : SameWhole (beside list before others) (more gone whole) =
-    λ f.
-    let sum : total f (parts_under before (links_of list) (survivors list)) ≡ (total (λ v. f (part_of_fill was v.fill)) (version ∷ []) +ℤ rest f) = rw chain at sum_was f in
-    let one = one_part f was version in
-    omega (arith, ints, sum, one) in
-    let new : SameWhole (more come whole) (beside list after others) =
-    λ f.
-    let sum : total f (parts_under after (links_of list) (survivors list)) ≡ (total (λ v. f (part_of_fill is v.fill)) (version ∷ []) +ℤ rest f) = rw chain at sum_is f in
-    let one = one_part f is version in
-    omega (arith, ints, sum, one) in
-    let small_gone = fits was in
-    let small_come = fits is in
-    let small : (qty + unsigned_abs gone.qty) + unsigned_abs come.qty ≤ qty + 2 * 10 ^ 16 = omega (arith, small_gone.qty, small_come.qty) in
+    let gone = part_of_fill (not now) version.fill in
+    let come = part_of_fill now version.fill in
+    let whole : Whole = λ f. move.rest f +ℤ others f in
+    let low : IsCount whole = λ a s. omega (arith, ints, move.low a s, some a s) in
+    let old : SameWhole (beside list before others) (more gone whole) = λ f. omega (arith, ints, move.was f) in
+    let new : SameWhole (more come whole) (beside list after others) = λ f. omega (arith, ints, move.is f) in
+    let small_gone = fits (not now) in
+    let small_come = fits now in
+    let changes = taken_out gone ∷ put_in come ∷ [] in
+    let sizes = (qty + unsigned_abs gone.qty) + unsigned_abs come.qty in
+    let small : sizes ≤ qty + 2 * 10 ^ 16 = omega (arith, small_gone.qty, small_come.qty) in
     let swapped =
-    reach-swap gone come cells count qty whole (Carries-same (beside list before others) (more gone whole) cells old carried) (Light-same (beside list before others) (more gone whole) count qty old (light before))
-    low small_gone small_come (made version there)
-    (less_enough (count + 2) (count + 2) (qty + 2 * 10 ^ 16) ((qty + unsigned_abs gone.qty) + unsigned_abs come.qty) (omega arith) small enough) in
-    relight (taken_out gone ∷ put_in come ∷ []) cells (count + 2) ((qty + unsigned_abs gone.qty) + unsigned_abs come.qty) count qty (beside list after others)
-    (reach-same (taken_out gone ∷ put_in come ∷ []) cells (count + 2) ((qty + unsigned_abs gone.qty) + unsigned_abs come.qty) (more come whole) (beside list after others) new swapped) (light after)
+    reach-swap gone come cells count qty whole (Carries-same (beside list before others) (more gone whole) cells old carried)
+    (Light-same (beside list before others) (more gone whole) count qty old (light before)) low small_gone small_come (has-come now cells version.fill there)
+    (less_enough (count + 2) (count + 2) (qty + 2 * 10 ^ 16) sizes (omega arith) small enough) in
+    relight changes cells (count + 2) sizes count qty (beside list after others)
+    (reach-same changes cells (count + 2) sizes (more come whole) (beside list after others) new swapped) (light after)
 
 -- ---- the chains of some roots
 
-not_among : (root : ExecKey) (roots : List ExecKey) → is_among roots root ≡ false → All (λ other. same_exec other root ≡ false) roots
-not_among root [] none = All-nil (λ other. same_exec other root ≡ false)
-not_among root (first ∷ roots) none =
-    elim (cases_Bool (same_exec first root)) [
-      | inl same ↦ absurd (differing (rw same refl) none)
-      | inr other ↦ All-cons (λ other. same_exec other root ≡ false) first roots other (not_among root roots (rw other at none))
-    ]
-
--- with some chains more, or less
-abbrev pub with_roots : List ExecKey → (ExecKey → Bool) → ExecKey → Bool
-with_roots roots named root = is_among roots root || named root
-
-abbrev pub without_roots : List ExecKey → (ExecKey → Bool) → ExecKey → Bool
-without_roots roots named root = named root && not (is_among roots root)
-
-all_free : (root : ExecKey) (named : ExecKey → Bool) (roots : List ExecKey) → All (λ r. named r ≡ false) roots → All (λ r. same_exec r root ≡ false) roots → All (λ r. (same_exec root r || named r) ≡ false) roots
-all_free root named [] free other = All-nil (λ r. (same_exec root r || named r) ≡ false)
-all_free root named (r ∷ roots) free other =
-    let apart : same_exec root r ≡ false = same_exec-sym root r ∙ All-head (λ x. same_exec x root ≡ false) r roots other in
-    All-cons (λ x. (same_exec root x || named x) ≡ false) r roots (rw apart (All-head (λ x. named x ≡ false) r roots free))
-    (all_free root named roots (All-tail (λ x. named x ≡ false) r roots free) (All-tail (λ x. same_exec x root ≡ false) r roots other))
-
-all_held : (root : ExecKey) (named : ExecKey → Bool) (roots : List ExecKey) → All (λ r. named r ≡ true) roots → All (λ r. same_exec r root ≡ false) roots → All (λ r. (named r && not (same_exec root r)) ≡ true) roots
-all_held root named [] held other = All-nil (λ r. (named r && not (same_exec root r)) ≡ true)
-all_held root named (r ∷ roots) held other =
-    let apart : same_exec root r ≡ false = same_exec-sym root r ∙ All-head (λ x. same_exec x root ≡ false) r roots other in
-    All-cons (λ x. (named x && not (same_exec root x)) ≡ true) r roots (and_from _ _ (All-head (λ x. named x ≡ true) r roots held) (ap not apart))
-    (all_held root named roots (All-tail (λ x. named x ≡ true) r roots held) (All-tail (λ x. same_exec x root ≡ false) r roots other))
-
-or_shuffle : (a b c : Bool) → (b || (a || c)) ≡ ((a || b) || c)
-or_shuffle true true c = refl
-or_shuffle true false c = refl
-or_shuffle false true c = refl
-or_shuffle false false c = refl
-
-and_shuffle : (a b c : Bool) → ((a && not b) && not c) ≡ (a && not (b || c))
-and_shuffle true true c = refl
-and_shuffle true false c = refl
-and_shuffle false b c = refl
-
-same-beside : (list : List Entry) (a b : ExecKey → Bool) (others : Whole) → ((root : ExecKey) → a root ≡ b root) → SameWhole (beside list a others) (beside list b others)
+-- where the same chains are named, as much is carried
+pub same-beside :
+    (list : List Entry) (a b : ExecKey → Bool) (others : Whole) → ((root : ExecKey) → a root ≡ b root) → SameWhole (beside list a others) (beside list b others)
 same-beside list a b others same f = ap (λ sum. sum +ℤ others f) (total-named f a b (links_of list) (survivors list) same)
 
-pub reach-house :
-    (list : List Entry) (roots : List ExecKey) (cells : Cells) (count qty : ℕ) (named : ExecKey → Bool) (others : Whole) → IsBooked list cells
-    → All (λ root. named root ≡ false) roots → are_apart roots ≡ true → Carries (beside list named others) cells → AlwaysLight list others count qty → IsCount others
-    → IsLightEnough (count + 2) (qty + 2 * 10 ^ 16)
-    → Reaches (chains_to_house list roots) cells count qty (beside list (with_roots roots named) others)
-reach-house list [] cells count qty named others booked free apart carried light some enough = reach-nothing cells count qty (beside list named others) carried (light named)
-reach-house list (root ∷ roots) cells count qty named others booked free apart carried light some enough =
-    let parts : (not (is_among roots root) ≡ true) × (are_apart roots ≡ true) = and_parts _ _ apart in
-    let after : ExecKey → Bool = λ y. same_exec root y || named y in
-    let here : named root ≡ false = All-head (λ r. named r ≡ false) root roots free in
-    let own : after root ≡ true = rw (same_exec-refl root) refl in
-    let names : NamesMore root named after = record {
-      was = here;
-      is = own;
-      others = λ other apart_from. sym (ap (λ b. b || named other) (same_exec-sym root other ∙ apart_from));
-    } in
-    let chain : (f : Part → ℤ) → MovesChain f list root named after = λ f. moves-chain f list root named after names in
-    let first =
-    move_one list cells count qty root (standing list root) named after others (λ f. (chain f).rest) false true refl booked (λ f. (chain f).was) (λ f. (chain f).is)
-    (λ version made. made.housed) carried light (rest_low list root named after names others some) enough in
-    let moved = flat_map to_house (cons_option (standing_fill list root) []) in
-    let cells_after = changed_all moved cells in
-    let free_rest : All (λ r. after r ≡ false) roots =
-    all_free root named roots (All-tail (λ r. named r ≡ false) root roots free) (not_among root roots (not-true _ parts.0)) in
-    let rest = reach-house list roots cells_after count qty after others (booked-stays list moved cells booked) free_rest parts.1 first.carried light some enough in
-    let whole = reach-append moved (chains_to_house list roots) cells count qty count qty (beside list after others) (beside list (with_roots roots after) others) first rest in
-    reach-same (chains_to_house list (root ∷ roots)) cells count qty (beside list (with_roots roots after) others) (beside list (with_roots (root ∷ roots) named) others)
-    (same-beside list (with_roots roots after) (with_roots (root ∷ roots) named) others (λ y. or_shuffle (same_exec root y) (is_among roots y) (named y))) whole
+-- the first root's chain, and then the later ones'
+one-by-one : (first later now other : Bool) → (if (first || later) then now else other) ≡ (if later then now else (if first then now else other))
+one-by-one true true now other = refl
+one-by-one true false now other = refl
+one-by-one false later now other = refl
 
-pub reach-home :
-    (list : List Entry) (roots : List ExecKey) (cells : Cells) (count qty : ℕ) (named : ExecKey → Bool) (others : Whole) → IsBooked list cells
-    → All (λ root. named root ≡ true) roots → are_apart roots ≡ true → Carries (beside list named others) cells → AlwaysLight list others count qty → IsCount others
-    → IsLightEnough (count + 2) (qty + 2 * 10 ^ 16)
-    → Reaches (chains_from_house list roots) cells count qty (beside list (without_roots roots named) others)
-reach-home list [] cells count qty named others booked held apart carried light some enough =
-    reach-same [] cells count qty (beside list named others) (beside list (without_roots [] named) others)
-    (same-beside list named (without_roots [] named) others (λ y. sym (and-true (named y))))
-    (reach-nothing cells count qty (beside list named others) carried (light named))
-reach-home list (root ∷ roots) cells count qty named others booked held apart carried light some enough =
+-- they become named where `now` is true, else they aren't named any more
+pub reach-moved :
+    (now : Bool) (list : List Entry) (roots : List ExecKey) (cells : Cells) (count qty : ℕ) (before after : ExecKey → Bool) (others : Whole) → IsBooked list cells
+    → ((root : ExecKey) → is_among roots root ≡ true → before root ≡ not now)
+    → ((root : ExecKey) → after root ≡ (if is_among roots root then now else before root)) → are_apart roots ≡ true
+    → Carries (beside list before others) cells → AlwaysLight list others count qty → IsCount others → IsLightEnough (count + 2) (qty + 2 * 10 ^ 16)
+    → Reaches (chains_moved now list roots) cells count qty (beside list after others)
+reach-moved now list [] cells count qty before after others booked was is apart carried light some enough =
+    reach-same [] cells count qty (beside list before others) (beside list after others) (same-beside list before after others (λ y. sym (is y)))
+    (reach-nothing cells count qty (beside list before others) carried (light before))
+reach-moved now list (root ∷ roots) cells count qty before after others booked was is apart carried light some enough =
     let parts : (not (is_among roots root) ≡ true) × (are_apart roots ≡ true) = and_parts _ _ apart in
-    let after : ExecKey → Bool = λ y. named y && not (same_exec root y) in
-    let here : named root ≡ true = All-head (λ r. named r ≡ true) root roots held in
-    let own : after root ≡ false = rw (same_exec-refl root) (and-false (named root)) in
-    let names : NamesMore root after named = record {
-      was = own;
-      is = here;
-      others = λ other apart_from. ap (λ b. named other && not b) (same_exec-sym root other ∙ apart_from) ∙ and-true (named other);
-    } in
-    let chain : (f : Part → ℤ) → MovesChain f list root after named = λ f. moves-chain f list root after named names in
+    let between : ExecKey → Bool = λ y. if same_exec root y then now else before y in
+    let move : Moves now list (survivors_of_chain list root) before between =
+    moves now list root before between (was root (rw (same_exec-refl root) refl)) (rw (same_exec-refl root) refl)
+    (λ other different. sym (ap (λ same. if same then now else before other) (same_exec-sym root other ∙ different))) in
     let first =
-    move_one list cells count qty root (standing list root) named after others (λ f. (chain f).rest) true false refl booked (λ f. (chain f).is) (λ f. (chain f).was)
-    (λ version made. made.own) carried light (rest_low list root after named names others some) enough in
-    let moved = flat_map from_house (cons_option (standing_fill list root) []) in
-    let cells_after = changed_all moved cells in
-    let held_rest : All (λ r. after r ≡ true) roots =
-    all_held root named roots (All-tail (λ r. named r ≡ true) root roots held) (not_among root roots (not-true _ parts.0)) in
-    let rest = reach-home list roots cells_after count qty after others (booked-stays list moved cells booked) held_rest parts.1 first.carried light some enough in
-    let whole = reach-append moved (chains_from_house list roots) cells count qty count qty (beside list after others) (beside list (without_roots roots after) others) first rest in
-    reach-same (chains_from_house list (root ∷ roots)) cells count qty (beside list (without_roots roots after) others) (beside list (without_roots (root ∷ roots) named) others)
-    (same-beside list (without_roots roots after) (without_roots (root ∷ roots) named) others (λ y. and_shuffle (named y) (same_exec root y) (is_among roots y))) whole
+    move_one now list cells count qty root (standing list root) before between others refl booked
+    (subst (λ chain. Moves now list chain before between) (chain-standing list root booked.book) move) carried light some enough in
+    let moved = flat_map (moved_by now) (cons_option (standing_fill list root) []) in
+    let still : (y : ExecKey) → is_among roots y ≡ true → between y ≡ not now =
+    λ y among.
+    elim (cases_Bool (same_exec root y)) [
+      | inl same ↦ absurd (differing (ap (is_among roots) (same_exec-true root y same) ∙ among) (not-true _ parts.0))
+      | inr other ↦ rw other (was y (rw other among))
+    ] in
+    let rest =
+    reach-moved now list roots (changed_all moved cells) count qty between after others (booked-stays list moved cells booked) still
+    (λ y. is y ∙ one-by-one (same_exec root y) (is_among roots y) now (before y)) parts.1 first.carried light some enough in
+    reach-append moved (chains_moved now list roots) cells count qty count qty (beside list between others) (beside list after others) first rest

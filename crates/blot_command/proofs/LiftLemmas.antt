@@ -1,11 +1,11 @@
 -- A book with an entry in its middle, and without it: what holds of its entries, and the fills that are shown.
-use Rattle.std.proofs.Common.{◌≡◌, ℕ, true, List, [], ◌∷◌, ◌++◌, reverse, Option, Some, None, refl, sym, ap, subst, ◌∙◌, append_assoc, inl, inr, find, not, nat_eq, nat_lt, is_none, All, IfSome, option_and_then, eqb-true}
+use Rattle.std.proofs.Common.{◌≡◌, ℕ, true, List, [], ◌∷◌, ◌++◌, reverse, Option, Some, None, refl, sym, ap, subst, ◌∙◌, append_assoc, inl, inr, find, not, nat_eq, nat_lt, is_none, All, IfSome, option_and_then}
 use Rattle.std.proofs.lemmas.Bool.{cases_Bool, and_parts}
 use Rattle.std.proofs.lemmas.List.{reverse-reverse, reverse-append}
 use Rattle.std.proofs.lemmas.List.Elements.{All-cons, All-head, All-tail, All-append, All-filter}
 use Rattle.blot_places.specs.Shown.{item_at, with_item}
 use Rattle.blot_types.specs.declared.{command.Entry.Entry, keys.ExecKey.ExecKey, lines.Version.Version, link.Link.Link}
-use Rattle.blot_types.specs.Legal.{rises_in, numbers_rise, is_legal, entry_refusal, is_book, without}
+use Rattle.blot_types.specs.Legal.{is_legal, entry_refusal, is_book, without}
 use Rattle.blot_types.specs.Refusals.{withdrawn_by}
 use Rattle.blot_types.specs.StandingVersion.{standing, chain_by, chain_of, stood}
 use Rattle.blot_types.specs.Survivors.{link_of, links_of, version_of}
@@ -15,12 +15,11 @@ use Rattle.blot_types.proofs.BustLemmas.{reverse-middle}
 use Rattle.blot_types.proofs.ChainLemmas.{none_is}
 use Rattle.blot_types.proofs.LawLemmas.{book_parts}
 use Rattle.blot_types.proofs.LegalLemmas.{is_legal-front, is_legal-push}
-use Rattle.blot_types.proofs.NeedLemmas.{without-out}
-use Rattle.blot_types.proofs.StayLemmas.{filter-reverse}
 use Rattle.blot_types.proofs.SurvivorLemmas.{without as without_version}
 use Rattle.blot_types.proofs.GeneralLemmas.{all-front, all-back, found-All}
 use Rattle.blot_order.specs.Fills.{Fills}
 use Rattle.blot_command.specs.Book.{Shown, entry_number, has_number}
+use Rattle.blot_command.specs.Law.{has_entry, without-split}
 use Rattle.blot_command.specs.Shown.{Shows}
 use Rattle.blot_command.specs.Withdrawing.{lifted, returned, CanReturn}
 use Rattle.blot_command.proofs.ApartLemmas.{LinkApart, link-apart, InstructionApart, instruction-apart}
@@ -49,35 +48,6 @@ around-list : (P : Entry → Type 0) (list rest : List Entry) (entry : Entry) �
 around-list P list rest entry it own all =
     let parts = subst (All P) it.rest_is all in
     subst (All P) (sym it.list_is) (All-append P it.front (entry ∷ it.back) (all-front P it.front it.back parts) (All-cons P entry it.back own (all-back P it.front it.back parts)))
-
--- ---- an entry that is found by its number
-
-record IsFound (list : List Entry) (number : ℕ) (entry : Entry) : Type 0 where
-  front : List Entry
-  back : List Entry
-  is : list ≡ front ++ entry ∷ back
-  own : entry.number ≡ number
-
-found-entry : (list : List Entry) (number : ℕ) (entry : Entry) → find (has_number number) list ≡ Some entry → IsFound list number entry
-found-entry [] number entry found = cc
-found-entry (first ∷ list) number entry found =
-    elim (cases_Bool (has_number number first)) [
-      | inl here ↦
-          let is : Some first ≡ Some entry = rw here at found in
-          let same : first ≡ entry = cc in
-          record { front = []; back = list; is = ap (λ e. e ∷ list) same; own = ap (λ (e : Entry). e.number) (sym same) ∙ eqb-true first.number number here }
-      | inr other ↦
-          let later = found-entry list number entry (rw other at found) in
-          record { front = first ∷ later.front; back = later.back; is = ap (λ l. first ∷ l) later.is; own = later.own }
-    ]
-
--- the list without it, where the numbers rise
-without-middle : (list front back : List Entry) (k : Entry) → list ≡ front ++ k ∷ back → numbers_rise list ≡ true → without k.number list ≡ front ++ back
-without-middle list front back k is rise =
-    let whole : reverse list ≡ reverse back ++ k ∷ reverse front = ap reverse is ∙ reverse-middle front back k in
-    let out : reverse (without k.number list) ≡ reverse back ++ reverse front =
-    sym (filter-reverse (λ (entry : Entry). not (nat_eq entry.number k.number)) list) ∙ ap (without k.number) whole ∙ without-out k (reverse back) (reverse front) (ap rises_in (sym whole) ∙ rise) in
-    sym (reverse-reverse (without k.number list)) ∙ ap reverse out ∙ reverse-append (reverse back) (reverse front) ∙ (λ i. reverse-reverse front i ++ reverse-reverse back i)
 
 -- ---- an entry that is put back
 
@@ -124,9 +94,9 @@ pub taken-out :
     (list : List Entry) (number : ℕ) (entry : Entry) → is_book list ≡ true → find (has_number number) list ≡ Some entry → is_book (without number list) ≡ true
     → IsWithout list (without entry.number list) entry
 taken-out list number entry book found rest_book =
-    let it = found-entry list number entry found in
+    let it = has_entry list number entry found in
     record {
-      around = record { front = it.front; back = it.back; list_is = it.is; rest_is = without-middle list it.front it.back entry it.is (book_parts list book).0 };
+      around = record { front = it.front; back = it.back; list_is = it.is; rest_is = without-split list it.front it.back entry it.is (book_parts list book).0 };
       book = book;
       rest_book = ap (λ n. is_book (without n list)) it.own ∙ rest_book;
     }

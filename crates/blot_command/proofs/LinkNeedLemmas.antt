@@ -23,8 +23,7 @@ use Rattle.blot_types.proofs.KeyLemmas.{same_exec-refl, same_exec-sym, same_exec
 use Rattle.blot_types.proofs.LinkOutLemmas.{links-whole}
 use Rattle.blot_types.proofs.NeedLemmas.{member-below}
 use Rattle.blot_types.proofs.VersionLemmas.{as_entry, as_link, trade-needs}
-use Rattle.blot_types.proofs.GeneralLemmas.{none-both, any-same}
-use Rattle.blot_alloc.proofs.NeedLemmas.{and-either}
+use Rattle.blot_types.proofs.GeneralLemmas.{none-both, any-same, and-either}
 use Rattle.blot_command.proofs.AllocNeedLemmas.{any-mapped}
 use Rattle.blot_command.proofs.FirstEntryLemmas.{IsTest, after, first_in, in-either, instruction_after, instructions-above, links-above, needed-by, needed-in}
 

@@ -1,5 +1,5 @@
 -- An allocation's changes to what the cells carry, as it comes and as it goes.
-use Rattle.std.proofs.Common.{◌≡◌, ℕ, ◌+◌, ◌*◌, ◌^◌, ◌≤◌, ◌+ℤ◌, arith, Bool, true, false, ◌&&◌, List, [], ◌∷◌, ◌++◌, length, Option, Some, None, refl, sym, ap, subst, ◌∙◌, ℤ, ◌||◌, not, All, flat_map, option_map}
+use Rattle.std.proofs.Common.{◌≡◌, ℕ, ◌+◌, ◌*◌, ◌^◌, ◌≤◌, ◌+ℤ◌, arith, Bool, true, false, List, [], ◌∷◌, ◌++◌, length, Option, Some, None, refl, sym, ap, subst, ◌∙◌, ℤ, ◌||◌, All, if◌then◌else◌, flat_map, option_map}
 use Rattle.std.proofs.lemmas.Int.{ints}
 use Rattle.std.proofs.lemmas.List.Elements.{All-nil, All-cons, All-head, All-tail, All-weaker}
 use Rattle.std.proofs.lemmas.Bool.{or_left}
@@ -10,18 +10,18 @@ use Rattle.blot_types.specs.Keys.{is_among}
 use Rattle.blot_types.specs.Order.{total}
 use Rattle.blot_types.specs.Position.{house, moves_of, moves_of_line, part_of_line, from_house, FillFits, IsSmall}
 use Rattle.blot_types.specs.Survivors.{links_of, survivors}
-use Rattle.blot_types.proofs.BringLemmas.{lines_of, BringsIf, each-root, among-root}
+use Rattle.blot_types.proofs.BringLemmas.{lines_of, BringsIf, among-root}
 use Rattle.blot_types.proofs.ChangeLemmas.{allocations_in}
 use Rattle.blot_types.proofs.LiveLemmas.{has_alloc_key}
 use Rattle.blot_types.proofs.PartLemmas.{parts_under}
 use Rattle.blot_types.proofs.SumLemmas.{total-cons}
-use Rattle.blot_types.proofs.GeneralLemmas.{and-true, found-All}
+use Rattle.blot_types.proofs.GeneralLemmas.{found-All}
 use Rattle.blot_position.specs.Positions.{Cells, has_cell}
 use Rattle.blot_command.specs.Booking.{Change, changed_all, moved_in, lines_put, lines_taken, chains_to_house, chains_from_house, allocated, allocated_by, released, released_by}
 use Rattle.blot_position.specs.Carried.{Carries}
 use Rattle.blot_command.specs.Carried.{HasTermsCells}
-use Rattle.blot_position.proofs.CarryLemmas.{Whole, SameWhole, IsCount, Carries-same, Light-same, IsLightEnough}
-use Rattle.blot_command.proofs.HouseLemmas.{beside, IsBooked, booked-stays, AlwaysLight, Light-weaker, relight, with_roots, without_roots, reach-house, reach-home}
+use Rattle.blot_position.proofs.CarryLemmas.{SameWhole, IsCount, Carries-same, Light-same, IsLightEnough}
+use Rattle.blot_command.proofs.HouseLemmas.{beside, IsBooked, booked-stays, AlwaysLight, Light-weaker, relight, same-beside, reach-moved}
 use Rattle.blot_command.proofs.ReachLemmas.{Reaches, reach-append, reach-same, reach-nothing, reach-put, reach-take, sizes, stays, AreMade}
 use Rattle.blot_command.proofs.WeightLemmas.{AllBooked, AreBooked, moves_whole, Light-both, Light-moves, Light-under}
 
@@ -128,9 +128,14 @@ stocked-stays list changes cells stocked = record {
 
 -- ---- an allocation goes
 
-without-free : (a b : Bool) → (a ≡ true → b ≡ false) → ((a || b) && not a) ≡ b
-without-free true b free = sym (free refl)
-without-free false b free = and-true b
+-- what is named with some roots, and what without them
+with-roots : (among named : Bool) → (among || named) ≡ (if among then true else named)
+with-roots true named = refl
+with-roots false named = refl
+
+without-roots : (among named : Bool) → (among ≡ true → named ≡ false) → named ≡ (if among then false else (among || named))
+without-roots true named free = free refl
+without-roots false named free = refl
 
 lines-same : (list : List Entry) (named : ExecKey → Bool) (few many : List Allocation) (terms : Terms) → ((f : Part → ℤ) → lines_of f many ≡ (total f (moves_of terms) +ℤ lines_of f few))
     → SameWhole (beside list named (moves_whole many)) (λ f. total f (moves_of terms) +ℤ beside list named (moves_whole few) f)
@@ -138,9 +143,6 @@ lines-same list named few many terms lines f = let is = lines f in omega (arith,
 
 others-same : (list : List Entry) (named : ExecKey → Bool) (few many : List Allocation) → ((f : Part → ℤ) → lines_of f many ≡ lines_of f few) → SameWhole (beside list named (moves_whole many)) (beside list named (moves_whole few))
 others-same list named few many lines f = let is = lines f in omega (arith, ints, is)
-
-named-same : (list : List Entry) (a b : ExecKey → Bool) (others : Whole) → ((root : ExecKey) → a root ≡ b root) → SameWhole (beside list a others) (beside list b others)
-named-same list a b others same f k = total f (parts_under (λ root. same root k) (links_of list) (survivors list)) +ℤ others f
 
 -- the cells carry the chains that are named, or not, and the lines of allocations
 abbrev pub CarriesBeside : List Entry → Cells → (ExecKey → Bool) → List Allocation → Type 0
@@ -154,7 +156,7 @@ pub goes :
     → AreFew list few → AreFew list many → CarriesBeside list cells more many → ReachesBeside (released list key) list cells fewer few
 goes list cells None fewer more few many stocked brings little large carried =
     let same : SameWhole (beside list more (moves_whole many)) (beside list fewer (moves_whole few)) =
-    λ f. named-same list more fewer (moves_whole many) brings.named f ∙ others-same list fewer few many brings.lines f in
+    λ f. same-beside list more fewer (moves_whole many) brings.named f ∙ others-same list fewer few many brings.lines f in
     reach-same [] cells BOOK_PARTS BOOK_QTY (beside list more (moves_whole many)) (beside list fewer (moves_whole few)) same
     (reach-nothing cells BOOK_PARTS BOOK_QTY (beside list more (moves_whole many)) carried (always-light list many stocked.fits large more))
 goes list cells (Some key) fewer more few many stocked brings little large carried =
@@ -173,18 +175,15 @@ goes list cells (Some key) fewer more few many stocked brings little large carri
     (light_few more).some own.small enough in
     let between = changed_all (lines_taken terms terms.lines) cells in
     let free : (root : ExecKey) → is_among roots root ≡ true → fewer root ≡ false = λ root among. among-root fewer false roots root brings.free among in
-    let held : All (λ root. more root ≡ true) roots = each-root more true roots (λ root among. brings.named root ∙ or_left (is_among roots root) (fewer root) among) in
     let second =
-    reach-home list roots between BOOK_PARTS BOOK_QTY more (moves_whole few) (booked-stays list (lines_taken terms terms.lines) cells stocked.booked) held brings.apart first.carried light_few
-    (lines_low few little.booked) (light_enough 2 (2 * 10 ^ 16) (omega arith) (omega arith)) in
+    reach-moved false list roots between BOOK_PARTS BOOK_QTY more fewer (moves_whole few) (booked-stays list (lines_taken terms terms.lines) cells stocked.booked)
+    (λ root among. brings.named root ∙ or_left (is_among roots root) (fewer root) among)
+    (λ root. without-roots (is_among roots root) (fewer root) (free root) ∙ ap (λ b. if is_among roots root then false else b) (sym (brings.named root)))
+    brings.apart first.carried light_few (lines_low few little.booked) (light_enough 2 (2 * 10 ^ 16) (omega arith) (omega arith)) in
     let whole =
-    reach-append (lines_taken terms terms.lines) (chains_from_house list roots) cells (BOOK_PARTS + length (moves_of terms)) (BOOK_QTY + sizes (moves_of terms)) BOOK_PARTS BOOK_QTY (beside list more (moves_whole few))
-    (beside list (without_roots roots more) (moves_whole few)) first second in
-    let less : (root : ExecKey) → without_roots roots more root ≡ fewer root =
-    λ root. ap (λ b. b && not (is_among roots root)) (brings.named root) ∙ without-free (is_among roots root) (fewer root) (free root) in
-    subst (λ all. ReachesBeside all list cells fewer few) (sym changes)
-    (reach-same (lines_taken terms terms.lines ++ chains_from_house list roots) cells BOOK_PARTS BOOK_QTY (beside list (without_roots roots more) (moves_whole few)) (beside list fewer (moves_whole few))
-    (named-same list (without_roots roots more) fewer (moves_whole few) less) whole)
+    reach-append (lines_taken terms terms.lines) (chains_from_house list roots) cells (BOOK_PARTS + length (moves_of terms)) (BOOK_QTY + sizes (moves_of terms))
+    BOOK_PARTS BOOK_QTY (beside list more (moves_whole few)) (beside list fewer (moves_whole few)) first second in
+    subst (λ all. ReachesBeside all list cells fewer few) (sym changes) whole
 
 -- ---- an allocation comes
 
@@ -193,7 +192,7 @@ pub comes :
     → AreFew list few → AreFew list many → CarriesBeside list cells fewer few → ReachesBeside (allocated list key) list cells more many
 comes list cells None fewer more few many stocked brings little large carried =
     let same : SameWhole (beside list fewer (moves_whole few)) (beside list more (moves_whole many)) =
-    λ f. sym (named-same list more fewer (moves_whole many) brings.named f ∙ others-same list fewer few many brings.lines f) in
+    λ f. sym (same-beside list more fewer (moves_whole many) brings.named f ∙ others-same list fewer few many brings.lines f) in
     reach-same [] cells BOOK_PARTS BOOK_QTY (beside list fewer (moves_whole few)) (beside list more (moves_whole many)) same
     (reach-nothing cells BOOK_PARTS BOOK_QTY (beside list fewer (moves_whole few)) carried (always-light list few stocked.fits little fewer))
 comes list cells (Some key) fewer more few many stocked brings little large carried =
@@ -205,12 +204,9 @@ comes list cells (Some key) fewer more few many stocked brings little large carr
     let cells_own : HasTermsCells cells terms = found-All (λ a. HasTermsCells cells a.terms) (has_alloc_key key) (allocations_in list) brings.allocation stocked.made brings.found in
     let light_few = always-light list few stocked.fits little in
     let first =
-    reach-house list roots cells BOOK_PARTS BOOK_QTY fewer (moves_whole few) stocked.booked brings.free brings.apart carried light_few (lines_low few little.booked)
-    (light_enough 2 (2 * 10 ^ 16) (omega arith) (omega arith)) in
-    let more_named : (root : ExecKey) → with_roots roots fewer root ≡ more root = λ root. sym (brings.named root) in
-    let named =
-    reach-same (chains_to_house list roots) cells BOOK_PARTS BOOK_QTY (beside list (with_roots roots fewer) (moves_whole few)) (beside list more (moves_whole few))
-    (named-same list (with_roots roots fewer) more (moves_whole few) more_named) first in
+    reach-moved true list roots cells BOOK_PARTS BOOK_QTY fewer more (moves_whole few) stocked.booked
+    (λ root among. among-root fewer false roots root brings.free among) (λ root. brings.named root ∙ with-roots (is_among roots root) (fewer root))
+    brings.apart carried light_few (lines_low few little.booked) (light_enough 2 (2 * 10 ^ 16) (omega arith) (omega arith)) in
     let between = changed_all (chains_to_house list roots) cells in
     let there = terms-stay (chains_to_house list roots) cells terms cells_own in
     let put = moved terms terms.lines in
@@ -218,12 +214,12 @@ comes list cells (Some key) fewer more few many stocked brings little large carr
     let made : AreMade put between = moved-All (λ part. has_cell between part.account part.symbol ≡ true) terms terms.lines (made-moves terms terms.lines between there.lines there.housed) in
     let enough : IsLightEnough (BOOK_PARTS + length put) (BOOK_QTY + sizes put) =
     light_enough (length put) (sizes put) (omega (arith, own.few, moved-length terms terms.lines)) (omega (arith, own.qty, moved-sizes terms terms.lines)) in
-    let second = reach-put put between BOOK_PARTS BOOK_QTY (beside list more (moves_whole few)) named.carried (light_few more) small made enough in
+    let second = reach-put put between BOOK_PARTS BOOK_QTY (beside list more (moves_whole few)) first.carried (light_few more) small made enough in
     let same : SameWhole (λ f. total f put +ℤ beside list more (moves_whole few) f) (beside list more (moves_whole many)) =
     λ f. ap (λ sum. sum +ℤ beside list more (moves_whole few) f) (moved-total f terms terms.lines) ∙ sym (lines-same list more few many terms brings.lines f) in
     let whole =
     reach-append (chains_to_house list roots) (lines_put terms terms.lines) cells BOOK_PARTS BOOK_QTY (BOOK_PARTS + length put) (BOOK_QTY + sizes put) (beside list more (moves_whole few))
-    (λ f. total f put +ℤ beside list more (moves_whole few) f) named second in
+    (λ f. total f put +ℤ beside list more (moves_whole few) f) first second in
     subst (λ all. ReachesBeside all list cells more many) (sym changes)
     (relight (chains_to_house list roots ++ lines_put terms terms.lines) cells (BOOK_PARTS + length put) (BOOK_QTY + sizes put) BOOK_PARTS BOOK_QTY (beside list more (moves_whole many))
     (reach-same (chains_to_house list roots ++ lines_put terms terms.lines) cells (BOOK_PARTS + length put) (BOOK_QTY + sizes put)

@@ -1,9 +1,9 @@
 -- Cells that are made: no sums change, no cell is lost, and the house account has one in each symbol.
-use Rattle.std.proofs.Common.{◌≡◌, ℕ, ◌+◌, ◌^◌, ◌<◌, ◌≤◌, true, false, List, [], ◌∷◌, ◌++◌, length, take, get_or, Ok, Err, refl, sym, ap, subst, ◌∙◌, All, Result, OnOk, OnErr, take_all}
-use Rattle.std.proofs.lemmas.List.{take_more}
-use Rattle.std.proofs.lemmas.List.Elements.{All-push, All-weaker}
+use Rattle.std.proofs.Common.{◌≡◌, ℕ, ◌+◌, ◌^◌, ◌<◌, ◌≤◌, true, false, List, length, take, get_or, Ok, Err, refl, sym, ap, subst, ◌∙◌, All, Result, OnOk, OnErr, take_all}
+use Rattle.std.proofs.lemmas.List.Elements.{All-weaker}
 use Rattle.blot_types.specs.declared.{allocation.Line.Line, allocation.Terms.Terms, fill.Fill.Fill, part.Part.Part, TheConstants.ITEMS_MAX}
 use Rattle.blot_types.specs.Position.{house, part_of_fill, part_of_line, IsSmall, TermsFit}
+use Rattle.blot_types.proofs.GeneralLemmas.{all-more}
 use Rattle.blot_position.specs.Positions.{Cells, has_cell, with_cell}
 use Rattle.blot_position.proofs.PositionLemmas.{sums_at-with_cell, has_cell-with_cell, has_cell-stays_with_cell, has_cell-own_with_cell}
 use Rattle.blot_command.specs.Carried.{Opens, IsHoused, HasFillCells, HasTermsCells}
@@ -102,17 +102,12 @@ lines-kept : (a s : List ℕ) (terms : Terms) (lines : List Line) (old new : Cel
 lines-kept a s terms lines old new is made =
     All-weaker (LineMade old terms) (LineMade new terms) (λ line has. other-made a s line.account terms.symbol old new is has) lines made
 
-one-more : {X : Type 0} (P : X → Type 0) (items : List X) (index : ℕ) (item : X) → index < length items → item ≡ get_or items index item
-    → All P (take index items) → P item → All P (take (index + 1) items)
-one-more P items index item within is before here =
-    subst (All P) (sym (take_more items index item within ∙ ap (λ i. take index items ++ i ∷ []) (sym is))) (All-push P (take index items) item before here)
-
 pub line-made :
     (terms : Terms) (lines : List Line) (index : ℕ) (line : Line) (part : Part) (old new : Cells) → index < length lines → line ≡ get_or lines index line
     → part ≡ part_of_line terms line → new ≡ with_cell part.account part.symbol old → All (LineMade old terms) (take index lines)
     → All (LineMade new terms) (take (index + 1) lines)
 line-made terms lines index line part old new within at is made before =
-    one-more (LineMade new terms) lines index line within at (lines-kept part.account part.symbol terms (take index lines) old new made before)
+    all-more (LineMade new terms) lines index line within at (lines-kept part.account part.symbol terms (take index lines) old new made before)
     (subst (λ (p : Part). has_cell new p.account p.symbol ≡ true) is (own-made part.account part.symbol old new made))
 
 -- the house account's cell in their symbol is there, so each line's opens as it is to
@@ -127,7 +122,7 @@ line-opens terms line part first old new is made housed before =
 pub line-fits :
     (terms : Terms) (lines : List Line) (index : ℕ) (line : Line) (part : Part) → index < length lines → line ≡ get_or lines index line
     → part ≡ part_of_line terms line → IsSmall part → All (LineFits terms) (take index lines) → All (LineFits terms) (take (index + 1) lines)
-line-fits terms lines index line part within at is small before = one-more (LineFits terms) lines index line within at before (subst IsSmall is small)
+line-fits terms lines index line part within at is small before = all-more (LineFits terms) lines index line within at before (subst IsSmall is small)
 
 all-taken : {X : Type 0} (P : X → Type 0) (index : ℕ) (items all : List X) → length items ≤ index → items ≡ all → All P (take index items) → All P all
 all-taken P index items all past is each = subst (All P) (take_all index items past ∙ is) each

@@ -17,7 +17,7 @@ use Rattle.blot_command.specs.Book.{Shown}
 use Rattle.blot_command.specs.Carried.{HasFillCells, HasTermsCells, IsReady, ShowsPositions}
 use Rattle.blot_command.proofs.HouseCellLemmas.{housed-empty}
 
-ones : (parts : List Part) → total (λ part. pos 1) parts ≡ pos (length parts)
+pub ones : (parts : List Part) → total (λ part. pos 1) parts ≡ pos (length parts)
 ones [] = refl
 ones (part ∷ parts) = let sum = total-cons (λ (p : Part). pos 1) part parts in let rest = ones parts in omega (arith, ints, sum, rest)
 

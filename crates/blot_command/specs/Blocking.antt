@@ -9,8 +9,8 @@ use Rattle.blot_types.specs.Keys.{is_among}
 use Rattle.blot_types.specs.Numbers.{lesser}
 use Rattle.blot_types.specs.Refusals.{listed_by}
 use Rattle.blot_types.specs.Withdrawal.{alike}
+use Rattle.blot_types.specs.StandingVersion.{version_numbered}
 use Rattle.blot_command.specs.Book.{has_number}
-use Rattle.blot_command.specs.Shown.{version_numbered}
 
 -- whether the entry of a number lists an execution
 abbrev pub lists_at : List Entry → ExecKey → ℕ → Bool

@@ -5,7 +5,7 @@ use Rattle.blot_types.specs.Refusals.{withdrawn_by}
 use Rattle.blot_command.specs.declared.boxed_command.Effect.{Effect}
 use Rattle.blot_command.specs.declared.boxed_command.Effect.TheVariants.{Enters, Withdraws}
 
--- the command of an effect
+-- the command that has this effect
 abbrev pub command_in : Effect → Command
 command_in (Enters entry) = entry.command
 command_in (Withdraws number) = Withdraw number

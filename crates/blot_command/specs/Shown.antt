@@ -6,14 +6,10 @@ use Rattle.blot_types.specs.Chains.{current_in, replaced_by, root_in}
 use Rattle.blot_types.specs.Instructions.{is_keyed}
 use Rattle.blot_types.specs.Keys.{same_alloc}
 use Rattle.blot_types.specs.Legal.{is_book}
-use Rattle.blot_types.specs.StandingVersion.{chain_of, standing}
+use Rattle.blot_types.specs.StandingVersion.{chain_of, standing, version_numbered}
 use Rattle.blot_types.specs.Survivors.{link_of, links_of, versions_of, survivors}
 use Rattle.blot_command.specs.Book.{Shown, has_number}
 use Rattle.blot_order.specs.Fills.{Fills, put_at, kept_at, held_at, with_put as with_put_at, with_kept as with_kept_at}
-
--- the version of a number, of those that a list's entries bring
-abbrev pub version_numbered : List Entry → ℕ → Option Version
-version_numbered list number = find (λ version. version.number == number) (versions_of list)
 
 -- the last version of the chain of a key
 abbrev pub current_version : List Entry → ExecKey → Option Version

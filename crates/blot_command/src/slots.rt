@@ -3,8 +3,9 @@ ghost use Rattle.std.specs.Prelude.{◌≡◌, ◌≤◌, find, length, reverse,
 ghost use Rattle.std.specs.List.{last_or};
 ghost use Rattle.blot_places.specs.Slots.{AreBelow, NoneBelow, marked};
 ghost use Rattle.blot_types.specs.Survivors.{versions_of};
+ghost use Rattle.blot_types.specs.StandingVersion.{version_numbered};
 ghost use Rattle.blot_command.specs.Book.{has_number, entry_number};
-ghost use Rattle.blot_command.specs.Shown.{fill_numbered, version_numbered};
+ghost use Rattle.blot_command.specs.Shown.{fill_numbered};
 ghost use Rattle.blot_command.specs.Slots.{AreNumbered, IsLeft, entries_in};
 
 use crate::BoxedEntry;

@@ -4,9 +4,8 @@ use Rattle.std.proofs.lemmas.List.{take_more}
 use Rattle.blot_report.specs.Text.{end_text}
 use Rattle.blot_types.specs.declared.command.Command.{Command}
 use Rattle.blot_types.specs.declared.command.Command.TheVariants as commands
-use Rattle.blot_desk.specs.declared.question.Found.{Found}
+use Rattle.blot_desk.specs.declared.{question.Found.Found, question.RefusalRow.RefusalRow, question.StepRow.StepRow}
 use Rattle.blot_desk.specs.declared.question.Found.TheVariants as found
-use Rattle.blot_desk.specs.declared.{question.RefusalRow.RefusalRow, question.StepRow.StepRow}
 use Rattle.blot_desk.specs.declared.question.StepRow.TheVariants as steps
 use Rattle.blot_console.specs.Entries.{command_text}
 use Rattle.blot_console.specs.Replies.{told}

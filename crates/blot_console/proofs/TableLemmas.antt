@@ -5,12 +5,11 @@ use Rattle.blot_decimal.specs.Meaning.{qty_units}
 use Rattle.blot_time.specs.Results.{◌>>=◌}
 use Rattle.blot_types.specs.declared.{allocation.Line.Line, keys.ExecKey.ExecKey}
 use Rattle.blot_types.specs.Keys.{same_text}
-use Rattle.blot_console.specs.declared.{allocate.TheConstants.EXECS_PLACE, ask.Ask.Ask, fault.LineFault.LineFault, fault.Wrong.Wrong, kinds.Kind.Kind}
+use Rattle.blot_console.specs.declared.{allocate.TheConstants.EXECS_PLACE, ask.Ask.Ask, fault.LineFault.LineFault, fault.Wrong.Wrong, kinds.Kind.Kind, parsing.TheConstants.LINE_MAX}
 use Rattle.blot_console.specs.declared.ask.Ask.TheVariants.{Orders, Positions}
 use Rattle.blot_console.specs.declared.fault.LineFault.TheVariants as faults
 use Rattle.blot_console.specs.declared.fault.Wrong.TheVariants.{UnknownWord, WrongCount, BadValue, TooLong}
 use Rattle.blot_console.specs.declared.kinds.Kind.TheVariants as kinds
-use Rattle.blot_console.specs.declared.parsing.TheConstants.{LINE_MAX}
 use Rattle.blot_console.specs.Allocate.{are_pairs, counted_by, execs_counted, execs_of, line_of, lines_of, block_of, allocate_line}
 use Rattle.blot_console.specs.Forms.{number_form, count_form, rows_form, text_form, sign_form, day_form, price_form, qty_form}
 use Rattle.blot_console.specs.Lines.{undo_line, redo_line, withdraw_line, mine_line, order_line, position_line, report_line}

@@ -2,9 +2,8 @@
 use Rattle.std.specs.Prelude.{ℕ, List, [], ◌∷◌, ◌++◌, codes, Option, Some, None}
 use Rattle.blot_report.specs.Text.{order_text, position_text, report_text}
 use Rattle.blot_types.specs.declared.{keys.OrderKey.OrderKey, lines.OrderLine.OrderLine, lines.PositionLine.PositionLine}
-use Rattle.blot_console.specs.declared.answer.Answer.{Answer}
+use Rattle.blot_console.specs.declared.{answer.Answer.Answer, fault.LineFault.LineFault}
 use Rattle.blot_console.specs.declared.answer.Answer.TheVariants as answers
-use Rattle.blot_console.specs.declared.fault.LineFault.{LineFault}
 use Rattle.blot_console.specs.declared.fault.LineFault.TheVariants.{UnknownWord, WrongCount, BadValue, TooLong, NoMemory}
 use Rattle.blot_console.specs.FaultText.{fault_number}
 use Rattle.blot_console.specs.Founds.{found_by_text, found_text, orders_answer, positions_answer}

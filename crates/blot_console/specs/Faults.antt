@@ -1,7 +1,6 @@
 -- Faults of lines, as they are told.
-use Rattle.blot_console.specs.declared.fault.LineFault.{LineFault}
+use Rattle.blot_console.specs.declared.{fault.LineFault.LineFault, fault.Wrong.Wrong}
 use Rattle.blot_console.specs.declared.fault.LineFault.TheVariants as faults
-use Rattle.blot_console.specs.declared.fault.Wrong.{Wrong}
 use Rattle.blot_console.specs.declared.fault.Wrong.TheVariants as wrongs
 
 -- what is wrong with a line, as its fault

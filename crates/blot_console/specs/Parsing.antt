@@ -3,10 +3,9 @@
 use Rattle.std.specs.Prelude.{ℕ, Bool, true, false, nat_le, List, codes, length, Result, Ok, Err, if◌then◌else◌}
 use Rattle.blot_time.specs.Results.{◌>>=◌}
 use Rattle.blot_types.specs.Keys.{same_text}
-use Rattle.blot_console.specs.declared.{ask.Ask.Ask, fault.LineFault.LineFault, fault.LineFault.TheVariants.NoMemory, fault.Wrong.Wrong, kinds.Kind.Kind}
+use Rattle.blot_console.specs.declared.{ask.Ask.Ask, fault.LineFault.LineFault, fault.LineFault.TheVariants.NoMemory, fault.Wrong.Wrong, kinds.Kind.Kind, parsing.TheConstants.LINE_MAX}
 use Rattle.blot_console.specs.declared.fault.Wrong.TheVariants.{UnknownWord, TooLong}
 use Rattle.blot_console.specs.declared.kinds.Kind.TheVariants as kinds
-use Rattle.blot_console.specs.declared.parsing.TheConstants.{LINE_MAX}
 use Rattle.blot_console.specs.Allocate.{allocate_line}
 use Rattle.blot_console.specs.Faults.{fault_of}
 use Rattle.blot_console.specs.Lines.{undo_line, redo_line, withdraw_line, mine_line, order_line, position_line, report_line}

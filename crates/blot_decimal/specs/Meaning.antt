@@ -1,11 +1,10 @@
 -- What a decimal text means: the exact number that it writes, and the same as a function.
 use Rattle.std.specs.Prelude.{◌≡◌, ℕ, zero, suc, ◌^◌, ℤ, pos, negsuc, ◌*ℤ◌, neg_ℤ, unsigned_abs, Bool, true, false, not, nat_lt, if◌then◌else◌, IsTrue, List, [], ◌∷◌, ◌++◌, length, drop, Option, Some, None, Result, Ok, Err, ok_or}
 use Rattle.blot_decimal.specs.Text.{is_negative, unsigned_of, whole_of, fraction_of, is_size, is_decimal, are_zeros, number_of}
-use Rattle.blot_decimal.specs.declared.fault.DecimalFault.{DecimalFault}
+use Rattle.blot_decimal.specs.declared.{fault.DecimalFault.DecimalFault, reading.TheConstants.SIZE_LIMIT}
 use Rattle.blot_decimal.specs.declared.fault.DecimalFault.TheVariants.{Format, TooFine, TooLarge}
 use Rattle.blot_decimal.specs.declared.price.TheConstants.Price as price
 use Rattle.blot_decimal.specs.declared.qty.TheConstants.Qty as qty
-use Rattle.blot_decimal.specs.declared.reading.TheConstants.{SIZE_LIMIT}
 
 -- a size with its sign
 abbrev pub signed : Bool → ℕ → ℤ

@@ -1,5 +1,5 @@
 -- The newest rows of a list, found one by one.
-use Rattle.std.proofs.Common.{◌≡◌, ℕ, zero, suc, ◌+◌, ◌<◌, ◌≤◌, List, [], ◌∷◌, ◌++◌, length, map, reverse, take, get_or, Option, Some, None, refl, sym, ap, ◌∙◌, arith, slice_get, append_assoc, length-append, length-take}
+use Rattle.std.proofs.Common.{◌≡◌, ℕ, zero, suc, ◌+◌, ◌<◌, ◌≤◌, List, [], ◌∷◌, ◌++◌, length, reverse, take, get_or, Option, Some, None, refl, sym, ap, ◌∙◌, arith, slice_get, append_assoc, length-append, length-take}
 use Rattle.std.specs.List.{cons_option}
 use Rattle.std.proofs.lemmas.List.{reverse-append, take_more}
 use Rattle.blot_desk.specs.declared.{event.Recorded.Recorded, question.RefusalRow.RefusalRow}
@@ -25,10 +25,6 @@ no_more [] (suc i) (suc n) is less = refl
 no_more (y ∷ xs) zero n is less = absurd cc
 no_more (y ∷ xs) (suc i) zero is less = absurd (omega arith)
 no_more (y ∷ xs) (suc i) (suc n) is less = ap (λ rest. y ∷ rest) (no_more xs i n is (omega arith))
-
-pub map_more : {A B : Type 0} (f : A → B) (xs : List A) (x : A) → map f (xs ++ x ∷ []) ≡ map f xs ++ f x ∷ []
-map_more f [] x = refl
-map_more f (y ∷ xs) x = ap (λ rest. f y ∷ rest) (map_more f xs x)
 
 -- ---- refused commands
 

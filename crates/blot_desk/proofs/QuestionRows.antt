@@ -5,9 +5,8 @@ use Rattle.blot_types.specs.declared.{command.Entry.Entry, fill.Fill.Fill, fill.
 use Rattle.blot_types.specs.declared.refused.Refused.TheVariants.{BustedExec, Needed, NotLive}
 use Rattle.blot_types.specs.Legal.{refusal_of}
 use Rattle.blot_command.specs.Questions.{allocation_of, execution_of}
-use Rattle.blot_desk.specs.declared.{event.Event.Event, event.Event.TheVariants.Submit}
+use Rattle.blot_desk.specs.declared.{event.Event.Event, event.Event.TheVariants.Submit, question.StepRow.StepRow}
 use Rattle.blot_desk.specs.declared.question.CommandKey.TheVariants as keys
-use Rattle.blot_desk.specs.declared.question.StepRow.{StepRow}
 use Rattle.blot_desk.specs.declared.question.StepRow.TheVariants.{Entry as Live, Withdraw, Withdrawn}
 use Rattle.blot_desk.specs.Desk.{DeskState, empty_desk, recorded_of}
 use Rattle.blot_desk.specs.Questions.{newest_refusals, newest_steps}

@@ -2,19 +2,17 @@
 use Rattle.std.specs.Prelude.{◌≡◌, ℕ, ◌+◌, List, [], ◌∷◌, find, map, reverse, take, Option, Some, None}
 use Rattle.std.specs.List.{cons_option}
 use Rattle.std.specs.Option.{option_map_or}
-use Rattle.blot_types.specs.declared.command.Command.{Command}
+use Rattle.blot_types.specs.declared.{command.Command.Command, command.Entry.Entry}
 use Rattle.blot_types.specs.declared.command.Command.TheVariants as commands
-use Rattle.blot_types.specs.declared.command.Entry.{Entry}
 use Rattle.blot_types.specs.Legal.{refusal_of}
 use Rattle.blot_command.specs.declared.inverse.Inverse.{Inverse}
 use Rattle.blot_command.specs.declared.inverse.Inverse.TheVariants.{Number, Taken}
 use Rattle.blot_command.specs.Book.{has_number}
 use Rattle.blot_command.specs.Questions.{allocation_of, execution_of}
 use Rattle.blot_undo.specs.declared.step.Done.{Done}
-use Rattle.blot_desk.specs.declared.{event.Event.Event, event.Event.TheVariants.Submit, event.Recorded.Recorded, event.Reply.Reply, event.Reply.TheVariants.Refused, question.CommandKey.CommandKey, question.Found.Found, question.RefusalRow.RefusalRow, question.StepRow.StepRow}
+use Rattle.blot_desk.specs.declared.{event.Event.Event, event.Event.TheVariants.Submit, event.Recorded.Recorded, event.Reply.Reply, event.Reply.TheVariants.Refused, question.CommandKey.CommandKey, question.Found.Found, question.RefusalRow.RefusalRow, question.StepRow.StepRow, question.Question.Question}
 use Rattle.blot_desk.specs.declared.question.CommandKey.TheVariants.{Trade, Correct, Bust, AllocNew, AllocReplace, AllocCancel, Withdraw}
 use Rattle.blot_desk.specs.declared.question.Found.TheVariants as found
-use Rattle.blot_desk.specs.declared.question.Question.{Question}
 use Rattle.blot_desk.specs.declared.question.Question.TheVariants as questions
 use Rattle.blot_desk.specs.declared.question.StepRow.TheVariants as steps
 use Rattle.blot_desk.specs.Desk.{DeskBook, IsRun, DeskState}

@@ -10,6 +10,7 @@ use Rattle.blot_tag.specs.Joined.{IsWhole}
 use Rattle.blot_tag.specs.Walking.{Walk, frames_of}
 use Rattle.blot_tag.proofs.JoinedLemmas.{has_last}
 use Rattle.blot_tag.proofs.WalkLemmas.{walk_of-append}
+use Rattle.blot_tag.proofs.FrameLemmas.{length-frame}
 use Rattle.blot_desk.specs.declared.event.Event.{Event}
 use Rattle.blot_desk.specs.Keeping.{IsBeginning}
 use Rattle.blot_journal.specs.Device.{LeavesOnly}
@@ -19,7 +20,6 @@ use Rattle.blot_diary.specs.declared.{kept.Kept.Kept, kept.Noted.Noted}
 use Rattle.blot_diary.specs.Diary.{Begins, Diarized, IsDiary, Keeps, Leaves, desk_events, diary_of, event_in}
 use Rattle.blot_diary.specs.Events.{events_in, noted_of}
 use Rattle.blot_diary.specs.Keeping.{kept_in, kept_of}
-use Rattle.blot_diary.proofs.OneLemmas.{frame_some}
 
 -- ---- events
 
@@ -176,7 +176,7 @@ module _ {D : Type 0} (seen : D → List ℕ) (may_leave : D → List ℕ → Ty
         → next.device ≡ journal.device
         → next.is_broken ≡ journal.is_broken → diary_in next ≡ record (diary_in journal) { text = (diary_in journal).text ++ frame; room = next.room }
     grown journal next frame valid room waiting device broken =
-        let on = has_room journal.is_broken journal.room (length frame) (frame_some frame valid) room in
+        let on = has_room journal.is_broken journal.room (length frame) (length-frame frame valid) room in
         unbroken next (broken ∙ on)
         ∙ (λ i. plain (device i) (waiting i) next.room)
         ∙ ap (λ text. record (plain journal.device journal.waiting next.room) { text = text })

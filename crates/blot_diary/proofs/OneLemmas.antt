@@ -1,18 +1,13 @@
 -- A text that is one frame.
-use Rattle.std.proofs.Common.{◌≡◌, ℕ, ◌<◌, Bool, true, false, not, List, [], Option, Some, sym, ap, subst, ◌∙◌, arith, length, length-append, ◌↔◌, IsTrue, slice_get, bytes_eq, append-nil}
+use Rattle.std.proofs.Common.{◌≡◌, ℕ, Bool, true, false, not, List, [], Option, Some, sym, ap, subst, ◌∙◌, ◌↔◌, IsTrue, slice_get, bytes_eq, append-nil}
 use Rattle.std.proofs.lemmas.Bool.{false≢true, not-false}
 use Rattle.std.proofs.lemmas.Slice.Eq.{bytes_eq-Decides}
-use Rattle.blot_tag.specs.Frames.{IsFrame, front_of, trailer_of}
+use Rattle.blot_tag.specs.Frames.{IsFrame}
 use Rattle.blot_tag.specs.Walking.{Walk, first_frame, walk_of}
 use Rattle.blot_tag.proofs.JoinedLemmas.{comes_first}
 use Rattle.blot_diary.specs.Events.{IsPlain, keeps_message}
 
 -- it isn't empty
-pub frame_some : (frame : List ℕ) → IsFrame frame → 0 < length frame
-frame_some frame valid =
-    let front = front_of valid.digits valid.body in
-    omega (arith, ap length valid.whole, length-append front (trailer_of front))
-
 -- it is the first frame of itself
 pub first-alone : (text unread : List ℕ) (frame : Option (List ℕ)) → unread ≡ text → frame ≡ first_frame unread → IsFrame text → frame ≡ Some text
 first-alone text unread frame is first valid =

@@ -6,9 +6,8 @@ use Rattle.blot_types.specs.Keys.{same_text}
 use Rattle.blot_fields.specs.Decoding.{decoded}
 use Rattle.blot_fields.specs.declared.{fault.FieldFault.FieldFault, message.Message.Message}
 use Rattle.blot_gateway.specs.Counting.{CountsItself}
-use Rattle.blot_diary.specs.declared.kept.Content.{Content}
+use Rattle.blot_diary.specs.declared.{kept.Content.Content, kept.Kept.Kept}
 use Rattle.blot_diary.specs.declared.kept.Content.TheVariants as contents
-use Rattle.blot_diary.specs.declared.kept.Kept.{Kept}
 use Rattle.blot_diary.specs.Events.{IsPlain, IsQuiet, is_message, noted_by, noted_of}
 use Rattle.blot_diary.specs.Keeping.{content_of, kept_of, kept_said}
 use Rattle.blot_diary.specs.Laws.{kept_from}

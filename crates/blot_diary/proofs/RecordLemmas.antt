@@ -7,7 +7,7 @@ use Rattle.blot_tag.specs.Bytes.{is_number, number_of}
 use Rattle.blot_tag.specs.Fields.{Item, TagValue, field_of, fields_of}
 use Rattle.blot_tag.specs.Frames.{IsFrame}
 use Rattle.blot_tag.specs.Writing.{MayFollow, Written, frame_fields, frame_of}
-use Rattle.blot_tag.proofs.FrameLemmas.{length-frame-le}
+use Rattle.blot_tag.proofs.FrameLemmas.{length-frame-le, length-frame}
 use Rattle.blot_types.specs.Text.{is_text}
 use Rattle.blot_fields.specs.Kinds as fields
 use Rattle.blot_console.specs.Parsing as console
@@ -23,7 +23,6 @@ use Rattle.blot_session.specs.Outbound.{IsShort}
 use Rattle.blot_session.proofs.HeaderLemmas.{IsReadable}
 use Rattle.blot_session.proofs.ShortLemmas.{is_number-decimal, number_of-decimal, short_day, short_decimal, short_moment, short_text}
 use Rattle.blot_diary.proofs.HeaderLemmas.{IsHeaded, decoded-plain}
-use Rattle.blot_diary.proofs.OneLemmas.{frame_some}
 use Rattle.blot_diary.proofs.ShortLemmas.{fits-short}
 
 -- what is read of a message
@@ -162,7 +161,7 @@ wrapped_kept own peer number now frame valid reads made =
       body = refl;
       some = (
         (short_text own reads.from).some,
-        ((short_text peer reads.target).some, (digits, ((short_moment now).some, (size, (frame_some frame valid, tt))))),
+        ((short_text peer reads.target).some, (digits, ((short_moment now).some, (size, (length-frame frame valid, tt))))),
       );
       few = omega arith;
     })

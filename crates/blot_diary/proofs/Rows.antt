@@ -29,9 +29,8 @@ use Rattle.blot_console.specs.Forms as console_forms
 use Rattle.blot_console.specs.Lines.{undo_line, order_line}
 use Rattle.blot_console.specs.Parsing as console
 use Rattle.blot_console.specs.Rows.{counted, value_at}
-use Rattle.blot_diary.specs.declared.kept.Content.{Content}
+use Rattle.blot_diary.specs.declared.{kept.Content.Content, kept.Kept.Kept, kept.Noted.Noted, numbers.SequenceNumbers.SequenceNumbers}
 use Rattle.blot_diary.specs.declared.kept.Content.TheVariants as contents
-use Rattle.blot_diary.specs.declared.{kept.Kept.Kept, kept.Noted.Noted, numbers.SequenceNumbers.SequenceNumbers}
 use Rattle.blot_diary.specs.declared.kept.Party.TheVariants.{Peer, Operator}
 use Rattle.blot_diary.specs.Beginnings.{beginning_of, begun_by}
 use Rattle.blot_diary.specs.Diary.{desk_events}

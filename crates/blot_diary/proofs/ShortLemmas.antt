@@ -4,8 +4,9 @@ use Rattle.std.proofs.lemmas.Bool.{and_from}
 use Rattle.blot_tag.specs.FieldText.{field_text}
 use Rattle.blot_tag.specs.Fields.{TagValue}
 use Rattle.blot_tag.specs.Writing.{Written, begun, body_of, kind_field, with_field}
+use Rattle.blot_tag.proofs.WritingLemmas.{body_of-push}
 use Rattle.blot_session.specs.Outbound.{IsShort}
-use Rattle.blot_session.proofs.ShortLemmas.{length-field, refusal-short, body_of-push}
+use Rattle.blot_session.proofs.ShortLemmas.{length-field, refusal-short}
 use Rattle.blot_diary.specs.Writing.{fits, takes_all}
 
 -- each field of some has a short tag and a short value

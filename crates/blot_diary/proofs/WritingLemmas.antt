@@ -1,8 +1,9 @@
 -- A frame of given fields: what is left of them at each field.
 use Rattle.std.proofs.Common.{◌≡◌, ℕ, suc, ◌+◌, ◌<◌, Bool, false, ◌&&◌, List, [], ◌∷◌, ◌++◌, length, drop, get_or, Option, Some, None, refl, sym, ap, subst, ◌∙◌, add-one, append_assoc, Bor, is_none, drop-cons}
 use Rattle.blot_tag.specs.Fields.{TagValue, field_of}
-use Rattle.blot_tag.specs.Writing.{IsWriteFault, Written, begun, body_of, kind_field, last_field, last_of, refusal_of, with_field}
+use Rattle.blot_tag.specs.Writing.{IsWriteFault, Written, begun, body_of, kind_field, last_field, refusal_of, with_field}
 use Rattle.blot_tag.specs.declared.{write_fault.WriteFault.WriteFault, write_fault.WriteFault.TheVariants.NoMemory}
+use Rattle.blot_tag.proofs.WritingLemmas.{last_of-push}
 use Rattle.blot_diary.specs.Writing.{EachMayFollow, fields_in, fits, takes_all, written}
 
 -- where a field is refused the message can't be written
@@ -26,10 +27,6 @@ starts whole follow taken = record {
   all = refl;
   same = ap (λ refusal. is_none refusal && takes_all (begun whole.kind) whole.fields) (sym taken);
 }
-
-last_of-push : (first : TagValue) (fields : List TagValue) (field : TagValue) → last_of first (fields ++ field ∷ []) ≡ field
-last_of-push first [] field = refl
-last_of-push first (next ∷ fields) field = last_of-push next fields field
 
 module _ (whole : Written) (fields : List (ℕ × Bor (List ℕ))) (place : ℕ) (other : ℕ × Bor (List ℕ)) (message : Written) (inside : place < length fields)
     (goes : Goes whole message (fields_in (drop place fields))) where

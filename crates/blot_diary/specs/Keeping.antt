@@ -7,11 +7,9 @@ use Rattle.blot_fields.specs.Commands.{command_of}
 use Rattle.blot_fields.specs.Decoding.{decoded}
 use Rattle.blot_fields.specs.declared.{fault.FieldFault.FieldFault, message.Message.Message, TheConstants.SEQUENCE_MAX}
 use Rattle.blot_console.specs.Asks.{SubmitsAllocNew}
-use Rattle.blot_diary.specs.declared.kept.Content.{Content}
+use Rattle.blot_diary.specs.declared.{kept.Content.Content, kept.Kept.Kept, kinds.Kind.Kind, numbers.SequenceNumbers.SequenceNumbers}
 use Rattle.blot_diary.specs.declared.kept.Content.TheVariants as contents
-use Rattle.blot_diary.specs.declared.{kept.Kept.Kept, kinds.Kind.Kind}
 use Rattle.blot_diary.specs.declared.kinds.Kind.TheVariants as kinds
-use Rattle.blot_diary.specs.declared.numbers.SequenceNumbers.{SequenceNumbers}
 use Rattle.blot_diary.specs.Kinds.{kind_of}
 use Rattle.blot_diary.specs.Own.{asked_said, beginning_said, numbers_said, wrapped_said}
 

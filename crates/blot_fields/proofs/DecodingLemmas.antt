@@ -4,9 +4,8 @@ use Rattle.std.specs.Option.{option_or}
 use Rattle.std.specs.Result.{result_err}
 use Rattle.blot_tag.specs.Fields.{TagValue, Item}
 use Rattle.blot_types.specs.Text.{is_text}
-use Rattle.blot_fields.specs.declared.{fault.FieldFault.FieldFault, fault.Flaw.TheVariants.ValueIncorrect, fault.Wrong.Wrong, head.Head.Head, kinds.AllocType.AllocType, message.Body.Body, message.Message.Message}
+use Rattle.blot_fields.specs.declared.{fault.FieldFault.FieldFault, fault.Flaw.TheVariants.ValueIncorrect, fault.Wrong.Wrong, head.Head.Head, kinds.AllocType.AllocType, message.Body.Body, message.Message.Message, kinds.Kind.Kind}
 use Rattle.blot_fields.specs.declared.kinds.AllocType.TheVariants as allocs
-use Rattle.blot_fields.specs.declared.kinds.Kind.{Kind}
 use Rattle.blot_fields.specs.declared.kinds.Kind.TheVariants as kinds
 use Rattle.blot_fields.specs.Allocations.{terms_of, allocation_by, allocation_of}
 use Rattle.blot_fields.specs.Decoding.{message_under, message_of, decoded_before, decoded}

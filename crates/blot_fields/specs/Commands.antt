@@ -3,9 +3,8 @@ use Rattle.std.specs.Prelude.{ℕ, ℤ, pos, ◌+ℤ◌, List, map, Option, Some
 use Rattle.blot_time.specs.Moment.{utc_day}
 use Rattle.blot_types.specs.declared.{allocation.Line.Line, allocation.Terms.Terms, command.Command.Command, fill.Fill.Fill, keys.AllocKey.AllocKey, keys.ExecKey.ExecKey}
 use Rattle.blot_types.specs.declared.command.Command.TheVariants as commands
-use Rattle.blot_fields.specs.declared.allocation.Allocation.{Allocation}
+use Rattle.blot_fields.specs.declared.{allocation.Allocation.Allocation, allocation.AllocationLine.AllocationLine, allocation.AllocationTerms.AllocationTerms, message.Body.Body, message.Message.Message, report.Execution.Execution, report.OrderSize.OrderSize, report.Report.Report}
 use Rattle.blot_fields.specs.declared.allocation.Allocation.TheVariants as allocations
-use Rattle.blot_fields.specs.declared.{allocation.AllocationLine.AllocationLine, allocation.AllocationTerms.AllocationTerms, message.Body.Body, message.Message.Message, report.Execution.Execution, report.OrderSize.OrderSize, report.Report.Report}
 use Rattle.blot_fields.specs.declared.message.Body.TheVariants as bodies
 use Rattle.blot_fields.specs.declared.report.OrderSize.TheVariants.{Given, Filled}
 use Rattle.blot_fields.specs.declared.report.Report.TheVariants as reports

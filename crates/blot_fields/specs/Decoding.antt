@@ -3,10 +3,9 @@
 use Rattle.std.specs.Prelude.{◌≡◌, Bool, true, false, List, Option, Some, None, Result, Ok, Err, IsOkAnd}
 use Rattle.std.specs.Result.{result_ok}
 use Rattle.blot_tag.specs.Fields.{TagValue, Item}
-use Rattle.blot_fields.specs.declared.{fault.FieldFault.FieldFault, fault.FieldReason.FieldReason, fault.FieldReason.TheVariants.NoMemory, fault.Refusal.Refusal, fault.Wrong.Wrong, head.Head.Head, message.Body.Body}
+use Rattle.blot_fields.specs.declared.{fault.FieldFault.FieldFault, fault.FieldReason.FieldReason, fault.FieldReason.TheVariants.NoMemory, fault.Refusal.Refusal, fault.Wrong.Wrong, head.Head.Head, message.Body.Body, message.Message.Message}
 use Rattle.blot_fields.specs.declared.fault.Refusal.TheVariants as refusals
 use Rattle.blot_fields.specs.declared.message.Body.TheVariants as bodies
-use Rattle.blot_fields.specs.declared.message.Message.{Message}
 use Rattle.blot_fields.specs.Faults.{fault_under, no_memory_under}
 use Rattle.blot_fields.specs.Kinds.{kind_of}
 use Rattle.blot_fields.specs.Messages.{head_of, body_of}

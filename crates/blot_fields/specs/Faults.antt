@@ -1,10 +1,8 @@
 -- Faults, as they are answered.
 use Rattle.std.specs.Prelude.{◌≡◌, Option, Some, Result, Ok, Err, IsOk}
-use Rattle.blot_fields.specs.declared.{fault.FieldFault.FieldFault, fault.FieldReason.FieldReason, fault.Wrong.Wrong, head.Head.Head}
+use Rattle.blot_fields.specs.declared.{fault.FieldFault.FieldFault, fault.FieldReason.FieldReason, fault.Wrong.Wrong, head.Head.Head, fault.Flaw.Flaw, fault.Refusal.Refusal}
 use Rattle.blot_fields.specs.declared.fault.FieldReason.TheVariants as reasons
-use Rattle.blot_fields.specs.declared.fault.Flaw.{Flaw}
 use Rattle.blot_fields.specs.declared.fault.Flaw.TheVariants as flaws
-use Rattle.blot_fields.specs.declared.fault.Refusal.{Refusal}
 use Rattle.blot_fields.specs.declared.fault.Refusal.TheVariants as refusals
 
 -- the reason that the standard gives a fault of a field (FIX 4.4 volume 2, SessionRejectReason)

@@ -2,11 +2,9 @@
 use Rattle.std.specs.Prelude.{ℕ, List, [], ◌∷◌, codes, unwrap_or, Result, ok_or}
 use Rattle.std.specs.Map.{lookup}
 use Rattle.blot_types.specs.Keys.{same_text}
-use Rattle.blot_fields.specs.declared.{fault.Flaw.Flaw, fault.Flaw.TheVariants.ValueIncorrect, kinds.AllocType.AllocType}
+use Rattle.blot_fields.specs.declared.{fault.Flaw.Flaw, fault.Flaw.TheVariants.ValueIncorrect, kinds.AllocType.AllocType, kinds.Kind.Kind, kinds.ExecType.ExecType}
 use Rattle.blot_fields.specs.declared.kinds.AllocType.TheVariants as allocs
-use Rattle.blot_fields.specs.declared.kinds.Kind.{Kind}
 use Rattle.blot_fields.specs.declared.kinds.Kind.TheVariants as kinds
-use Rattle.blot_fields.specs.declared.kinds.ExecType.{ExecType}
 use Rattle.blot_fields.specs.declared.kinds.ExecType.TheVariants as types
 
 -- the message types that have a table

@@ -2,12 +2,10 @@
 use Rattle.std.specs.Prelude.{ℕ, Bool, false, List, Option, Some, None, Result, Ok, unwrap_or, if◌then◌else◌}
 use Rattle.blot_tag.specs.Fields.{TagValue}
 use Rattle.blot_tag.specs.Results.{◌>>=◌}
-use Rattle.blot_fields.specs.declared.{admin.Admin.Admin, fault.Wrong.Wrong, head.Head.Head, kinds.Kind.Kind, report.Execution.Execution, report.OrderSize.OrderSize, report.Report.Report}
+use Rattle.blot_fields.specs.declared.{admin.Admin.Admin, fault.Wrong.Wrong, head.Head.Head, kinds.Kind.Kind, report.Execution.Execution, report.OrderSize.OrderSize, report.Report.Report, kinds.ExecType.ExecType, message.Body.Body}
 use Rattle.blot_fields.specs.declared.admin.Admin.TheVariants.{Logon, Heartbeat, TestRequest, ResendRequest, Reject, SequenceReset, Logout}
 use Rattle.blot_fields.specs.declared.kinds.Kind.TheVariants as kinds
-use Rattle.blot_fields.specs.declared.kinds.ExecType.{ExecType}
 use Rattle.blot_fields.specs.declared.kinds.ExecType.TheVariants as types
-use Rattle.blot_fields.specs.declared.message.Body.{Body}
 use Rattle.blot_fields.specs.declared.message.Body.TheVariants as bodies
 use Rattle.blot_fields.specs.declared.report.OrderSize.TheVariants.{Given, Filled}
 use Rattle.blot_fields.specs.declared.report.Report.TheVariants as reports

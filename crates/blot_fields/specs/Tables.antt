@@ -4,12 +4,10 @@ use Rattle.std.specs.Result.{result_ok, result_err}
 use Rattle.std.specs.List.{AllByRecursion}
 use Rattle.blot_tag.specs.Bytes.{number_of}
 use Rattle.blot_tag.specs.Fields.{TagValue, Item}
-use Rattle.blot_fields.specs.declared.{fault.FieldFault.FieldFault, fault.Flaw.Flaw, fault.Wrong.Wrong, head.Head.Head, kinds.AllocType.AllocType}
+use Rattle.blot_fields.specs.declared.{fault.FieldFault.FieldFault, fault.Flaw.Flaw, fault.Wrong.Wrong, head.Head.Head, kinds.AllocType.AllocType, kinds.ExecType.ExecType, kinds.Kind.Kind}
 use Rattle.blot_fields.specs.declared.fault.Flaw.TheVariants.{RequiredTagMissing, TagRepeated, IncorrectGroupCount}
 use Rattle.blot_fields.specs.declared.kinds.AllocType.TheVariants as allocs
-use Rattle.blot_fields.specs.declared.kinds.ExecType.{ExecType}
 use Rattle.blot_fields.specs.declared.kinds.ExecType.TheVariants as execs
-use Rattle.blot_fields.specs.declared.kinds.Kind.{Kind}
 use Rattle.blot_fields.specs.declared.kinds.Kind.TheVariants as kinds
 use Rattle.blot_fields.specs.Faults.{fault_under}
 use Rattle.blot_fields.specs.Forms.{text_form, sequence_form, end_form, seconds_form, count_form, flag_form, zero_form, any_form, qty_form, positive_form, price_form, moment_form, day_form, side_form}

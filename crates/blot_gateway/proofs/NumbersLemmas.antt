@@ -5,19 +5,19 @@ use Rattle.std.proofs.lemmas.Bool.{and_parts, cases_Bool, cond-false, cond-true,
 use Rattle.std.proofs.lemmas.List.Concat.{flat_map-append}
 use Rattle.std.proofs.lemmas.List.Elements.{All-append, All-cons, All-nil, All-weaker, Contains-append_right}
 use Rattle.std.proofs.lemmas.List.Sums.{fold-append}
-use Rattle.blot_session.specs.declared.{action.Action.Action, state.Phase.Phase}
+use Rattle.blot_session.specs.declared.{action.Action.Action, state.Phase.Phase, state.State.State}
 use Rattle.blot_session.specs.declared.action.Action.TheVariants.{Close, Deliver, Send}
 use Rattle.blot_session.specs.declared.state.Phase.TheVariants as phases
-use Rattle.blot_session.specs.declared.state.State.{State}
 use Rattle.blot_session.specs.Runs.{AreMet, Call, HasNoReset, Meets, Numbered, delivered_by, delivered_of, outcome, said_by}
 use Rattle.blot_session.specs.Runs.Call.{Closing, Frame, Reply, Stop, Tick, WaitAgain}
 use Rattle.blot_session.specs.Sending.{CountUp, is_of_connection, numbers_sent}
 use Rattle.blot_session.specs.States.{IsAwaiting, IsIdle, awaited_of, phase_of}
 use Rattle.blot_session.proofs.SendingLemmas.{IsUnspent, MovesNumbers, closed_idle, moves-numbers}
+use Rattle.blot_session.proofs.StateLemmas.{idle-none}
 use Rattle.blot_gateway.specs.declared.{calling.Before.Before, wire.Heard.Heard}
 use Rattle.blot_gateway.specs.Hearing.{before_frame, heard, heard_by, is_on, is_renumbered, word_of}
-use Rattle.blot_gateway.specs.Numbers.{AreKept, Entry, KeepsNumbers, entries_in, entries_of, expected_after, expected_by, kept_by, next_after, next_by, sent_number, sent_numbers}
-use Rattle.blot_gateway.specs.Numbers.Entry.{Taken, Numbers, Sent}
+use Rattle.blot_gateway.specs.Numbers.{AreKept, KeptNumber, KeepsNumbers, kept_numbers_in, kept_numbers_of, expected_after, expected_by, kept_by, next_after, next_by, sent_number, sent_numbers}
+use Rattle.blot_gateway.specs.Numbers.KeptNumber.{Taken, Numbers, Sent}
 use Rattle.blot_gateway.specs.Serving.{told_by, told_in}
 
 -- ---- beginnings
@@ -42,7 +42,7 @@ AllBelow next numbers = All (λ number. number < next) numbers
 
 -- what a beginning of the messages that a call sends says: the next number isn't below the first of them, nor any number that was sent, and the expected
 -- number stays
-record SendsWell (next start : ℕ) (front : List Entry) : Type 0 where
+record SendsWell (next start : ℕ) (front : List KeptNumber) : Type 0 where
   pub low : next ≤ next_by start front
   pub above : AllBelow (next_by start front) (sent_numbers front)
   pub same : (expected : ℕ) → expected_by expected front ≡ expected
@@ -50,7 +50,7 @@ record SendsWell (next start : ℕ) (front : List Entry) : Type 0 where
 sends-none : (next start : ℕ) → next ≤ start → SendsWell next start []
 sends-none next start low = record { low = low; above = All-nil _; same = λ expected. refl }
 
-sent-front : (numbers : List ℕ) (next start last : ℕ) (front back : List Entry) → next ≤ start → CountUp next numbers last → map Sent numbers ≡ front ++ back → SendsWell next start front
+sent-front : (numbers : List ℕ) (next start last : ℕ) (front back : List KeptNumber) → next ≤ start → CountUp next numbers last → map Sent numbers ≡ front ++ back → SendsWell next start front
 sent-front numbers next start last [] back low counts is = sends-none next start low
 sent-front [] next start last (entry ∷ front) back low counts is = absurd cc
 sent-front (number ∷ numbers) next start last (entry ∷ front) back low counts is =
@@ -81,12 +81,12 @@ count-grows (number ∷ numbers) next last counts = (let more = count-grows numb
 -- ---- one call
 
 -- what a call keeps gives the numbers of the session after it; and what a beginning of that says
-record Keeps (state after : State) (entries : List Entry) : Type 0 where
+record Keeps (state after : State) (entries : List KeptNumber) : Type 0 where
   pub expected : expected_by state.expected entries ≡ after.expected
   pub next : next_by state.next entries ≡ after.next
-  pub front : (front mid : List Entry) → entries ≡ front ++ mid → expected_by state.expected front ≤ after.expected
-  pub low : (front mid : List Entry) → entries ≡ front ++ mid → state.next ≤ next_by state.next front
-  pub above : (front mid : List Entry) → entries ≡ front ++ mid → AllBelow (next_by state.next front) (sent_numbers front)
+  pub front : (front mid : List KeptNumber) → entries ≡ front ++ mid → expected_by state.expected front ≤ after.expected
+  pub low : (front mid : List KeptNumber) → entries ≡ front ++ mid → state.next ≤ next_by state.next front
+  pub above : (front mid : List KeptNumber) → entries ≡ front ++ mid → AllBelow (next_by state.next front) (sent_numbers front)
 
 -- messages are sent, and the expected number stays
 keeps-sent : (state after : State) (numbers : List ℕ) → CountUp state.next numbers after.next → after.expected ≡ state.expected → Keeps state after (map Sent numbers)
@@ -100,12 +100,12 @@ keeps-sent state after numbers counts same =
     }
 
 -- an entry is kept before them that leaves these two numbers
-record Fronts (state after : State) (front : List Entry) : Type 0 where
+record Fronts (state after : State) (front : List KeptNumber) : Type 0 where
   pub expected : expected_by state.expected front ≤ after.expected
   pub low : state.next ≤ next_by state.next front
   pub above : AllBelow (next_by state.next front) (sent_numbers front)
 
-first-front : (state after : State) (first : Entry) (start : ℕ) (numbers : List ℕ) (front mid : List Entry) → state.next ≤ start → next_after state.next first ≡ start
+first-front : (state after : State) (first : KeptNumber) (start : ℕ) (numbers : List ℕ) (front mid : List KeptNumber) → state.next ≤ start → next_after state.next first ≡ start
     → sent_number first ≡ [] → expected_after state.expected first ≡ after.expected → state.expected ≤ after.expected → CountUp state.next numbers after.next
     → first ∷ map Sent numbers ≡ front ++ mid → Fronts state after front
 first-front state after first start numbers [] mid low begins sends leaves grows counts is = record { expected = grows; low = omega arith; above = All-nil _ }
@@ -122,13 +122,13 @@ first-front state after first start numbers (entry ∷ front) mid low begins sen
           (subst (λ found. AllBelow (next_by start front) (found ++ sent_numbers front)) (sym sends) well.above);
     })
 
-keeps-first : (state after : State) (first : Entry) (numbers : List ℕ) → (next_after state.next first ≡ state.next) ⊎ (next_after state.next first ≡ after.next)
+keeps-first : (state after : State) (first : KeptNumber) (numbers : List ℕ) → (next_after state.next first ≡ state.next) ⊎ (next_after state.next first ≡ after.next)
     → sent_number first ≡ [] → expected_after state.expected first ≡ after.expected → state.expected ≤ after.expected → CountUp state.next numbers after.next
     → Keeps state after (first ∷ map Sent numbers)
 keeps-first state after first numbers either sends leaves grows counts =
     let rises = count-grows numbers state.next after.next counts in
     let low : state.next ≤ next_after state.next first = from either rises in
-    let fronts : (f mid : List Entry) → first ∷ map Sent numbers ≡ f ++ mid → Fronts state after f =
+    let fronts : (f mid : List KeptNumber) → first ∷ map Sent numbers ≡ f ++ mid → Fronts state after f =
     λ f mid is. first-front state after first (next_after state.next first) numbers f mid low refl sends leaves grows counts is in
     record {
       expected = ap (λ begun. expected_by begun (map Sent numbers)) leaves ∙ sent-stays numbers after.expected;
@@ -145,7 +145,7 @@ keeps-first state after first numbers either sends leaves grows counts =
 -- ---- a frame
 
 -- what is kept of a frame of which the sink hears, or doesn't
-abbrev kept_heard : Option Heard → List Entry
+abbrev kept_heard : Option Heard → List KeptNumber
 kept_heard None = []
 kept_heard (Some heard) = if heard.is_renumbered then Numbers heard.expected heard.next ∷ [] else []
 
@@ -186,7 +186,7 @@ off-phase : (phase : Phase) → is_on phase ≡ false → phase ≢ phases.On
 off-phase phase off is = false≢true (sym off ∙ ap is_on is)
 
 frame-keeps : (state : State) (text : List ℕ) (now : ℤ) (moves : MovesNumbers state (Frame text now true) (outcome state (Frame text now true)))
-    → Keeps state (outcome state (Frame text now true)).state (entries_in state (Frame text now true))
+    → Keeps state (outcome state (Frame text now true)).state (kept_numbers_in state (Frame text now true))
 frame-keeps state text now moves =
     let after = (outcome state (Frame text now true)).state in
     let numbers = numbers_sent state (Frame text now true) in
@@ -201,12 +201,12 @@ frame-keeps state text now moves =
 
 -- a call that tells the sink nothing, and leaves the expected number
 rests-keeps : (state : State) (call : Call) → told_in state call ≡ [] → (moves : MovesNumbers state call (outcome state call)) → (outcome state call).state.expected ≡ state.expected
-    → Keeps state (outcome state call).state (entries_in state call)
+    → Keeps state (outcome state call).state (kept_numbers_in state call)
 rests-keeps state call nothing moves same =
     subst (λ told. Keeps state (outcome state call).state (flat_map (kept_by state) told ++ map Sent (numbers_sent state call))) (sym nothing)
     (keeps-sent state (outcome state call).state (numbers_sent state call) moves.sent same)
 
-call-keeps : (state : State) (call : Call) → is_of_connection call ≡ true → (moves : MovesNumbers state call (outcome state call)) → Keeps state (outcome state call).state (entries_in state call)
+call-keeps : (state : State) (call : Call) → is_of_connection call ≡ true → (moves : MovesNumbers state call (outcome state call)) → Keeps state (outcome state call).state (kept_numbers_in state call)
 call-keeps state (Frame text now true) of moves = frame-keeps state text now moves
 call-keeps state (Frame text now false) of moves = rests-keeps state (Frame text now false) refl moves refl
 call-keeps state (Reply (Ok reply) now memory) of moves =
@@ -234,18 +234,15 @@ unheard-closed before session was is = cond-true _ None _ (nothing (is_some (awa
     nothing false false true off shut = absurd (false≢true (sym shut))
     nothing false false false off shut = refl
 
-idle-awaits : (state : State) → IsIdle state → IsAwaiting state → ⊥
-idle-awaits state idle awaits = false≢true (sym (ap is_some idle) ∙ awaits)
-
 closed-entries : (state : State) (call : Call) → phase_of state ≡ phases.Closed → is_of_connection call ≡ true → Meets state call
-    → MovesNumbers state call (outcome state call) → entries_in state call ≡ []
+    → MovesNumbers state call (outcome state call) → kept_numbers_in state call ≡ []
 closed-entries state (Frame text now true) shut of met moves =
     let after = (outcome state (Frame text now true)).state in
     let none = unheard-closed (before_frame state (said_by text) now) after shut (moves.shut shut).0 in
     ap (λ heard. flat_map (kept_by state) (map told_by (word_of text heard)) ++ map Sent (numbers_sent state (Frame text now true))) none
     ∙ ap (map Sent) (moves.shut shut).1
 closed-entries state (Frame text now false) shut of met moves = refl
-closed-entries state (Reply reply now memory) shut of met moves = absurd (idle-awaits state (closed_idle state shut) met)
+closed-entries state (Reply reply now memory) shut of met moves = absurd (idle-none state (closed_idle state shut) met)
 closed-entries state (Tick now memory) shut of met moves = ap (map Sent) (moves.shut shut).1
 closed-entries state (Stop now memory) shut of met moves = ap (map Sent) (moves.shut shut).1
 closed-entries state Closing shut of met moves = refl
@@ -263,19 +260,19 @@ delivered-from number (Send bytes ∷ actions) = delivered-from number actions
 delivered-from number (Deliver command ∷ actions) = All-cons (λ it. number ≤ it.number) _ (delivered_by number actions) (omega arith) (delivered-from number actions)
 delivered-from number (Close reason ∷ actions) = delivered-from number actions
 
-kept-none : (front : List Entry) (expected number : ℕ) (delivered : List Numbered) → expected ≤ number → AllFrom number delivered → AreKept front expected delivered
+kept-none : (front : List KeptNumber) (expected number : ℕ) (delivered : List Numbered) → expected ≤ number → AllFrom number delivered → AreKept front expected delivered
 kept-none front expected number delivered low all =
     All-weaker (λ it. number ≤ it.number) (λ it. it.number < expected → Contains front (Taken it.number)) (λ it first below. absurd (omega (arith, low, first, below))) delivered all
 
-kept-on : (front : List Entry) (expected : ℕ) (delivered more : List Numbered) → AreKept front expected delivered → AreKept front expected more → AreKept front expected (delivered ++ more)
+kept-on : (front : List KeptNumber) (expected : ℕ) (delivered more : List Numbered) → AreKept front expected delivered → AreKept front expected more → AreKept front expected (delivered ++ more)
 kept-on front expected = All-append (λ it. it.number < expected → Contains front (Taken it.number))
 
-kept-behind : (first front : List Entry) (expected : ℕ) (delivered : List Numbered) → AreKept front expected delivered → AreKept (first ++ front) expected delivered
+kept-behind : (first front : List KeptNumber) (expected : ℕ) (delivered : List Numbered) → AreKept front expected delivered → AreKept (first ++ front) expected delivered
 kept-behind first front expected =
     All-weaker (λ it. it.number < expected → Contains front (Taken it.number)) (λ it. it.number < expected → Contains (first ++ front) (Taken it.number))
     (λ it kept below. Contains-append_right first front (Taken it.number) (kept below))
 
-kept-one : (front : List Entry) (expected number : ℕ) (actions : List Action) → (number < expected → Contains front (Taken number)) → AreKept front expected (delivered_by number actions)
+kept-one : (front : List KeptNumber) (expected number : ℕ) (actions : List Action) → (number < expected → Contains front (Taken number)) → AreKept front expected (delivered_by number actions)
 kept-one front expected number [] kept = All-nil _
 kept-one front expected number (Send bytes ∷ actions) kept = kept-one front expected number actions kept
 kept-one front expected number (Deliver command ∷ actions) kept =
@@ -286,11 +283,11 @@ kept-one front expected number (Close reason ∷ actions) kept = kept-one front 
 record Law (state : State) (calls : List Call) : Type 0 where
   pub numbers : KeepsNumbers state calls
   pub late : AllFrom state.expected (delivered_of state calls)
-  pub awaited : IsAwaiting state → (front back : List Entry) → entries_of state calls ≡ front ++ back → state.expected < expected_by state.expected front
+  pub awaited : IsAwaiting state → (front back : List KeptNumber) → kept_numbers_of state calls ≡ front ++ back → state.expected < expected_by state.expected front
       → Contains front (Taken state.expected)
-  pub shut : phase_of state ≡ phases.Closed → entries_of state calls ≡ []
+  pub shut : phase_of state ≡ phases.Closed → kept_numbers_of state calls ≡ []
 
-no-front : (front back : List Entry) → [] ≡ front ++ back → front ≡ []
+no-front : (front back : List KeptNumber) → [] ≡ front ++ back → front ≡ []
 no-front [] back is = refl
 no-front (entry ∷ front) back is = absurd cc
 
@@ -311,43 +308,43 @@ law-none state =
     }
 
 -- what is kept of a call, and then of more
-expected-on : (state after : State) (entries rest : List Entry) → Keeps state after entries → expected_by state.expected (entries ++ rest) ≡ expected_by after.expected rest
+expected-on : (state after : State) (entries rest : List KeptNumber) → Keeps state after entries → expected_by state.expected (entries ++ rest) ≡ expected_by after.expected rest
 expected-on state after entries rest keeps = fold-append expected_after state.expected entries rest ∙ ap (λ expected. expected_by expected rest) keeps.expected
 
-next-on : (state after : State) (entries rest : List Entry) → Keeps state after entries → next_by state.next (entries ++ rest) ≡ next_by after.next rest
+next-on : (state after : State) (entries rest : List KeptNumber) → Keeps state after entries → next_by state.next (entries ++ rest) ≡ next_by after.next rest
 next-on state after entries rest keeps = fold-append next_after state.next entries rest ∙ ap (λ next. next_by next rest) keeps.next
 
 -- a reply that was awaited: what was taken is kept first, and of what wasn't the session is closed
 awaited-front : (state : State) (call : Call) (calls : List Call) → IsAwaiting state → Meets state call → is_of_connection call ≡ true
-    → MovesNumbers state call (outcome state call) → Keeps state (outcome state call).state (entries_in state call) → Law (outcome state call).state calls
-    → (front back : List Entry) → entries_of state (call ∷ calls) ≡ front ++ back → state.expected < expected_by state.expected front → Contains front (Taken state.expected)
+    → MovesNumbers state call (outcome state call) → Keeps state (outcome state call).state (kept_numbers_in state call) → Law (outcome state call).state calls
+    → (front back : List KeptNumber) → kept_numbers_of state (call ∷ calls) ≡ front ++ back → state.expected < expected_by state.expected front → Contains front (Taken state.expected)
 awaited-front state (Reply (Ok reply) now memory) calls awaits met of moves keeps later [] back is below = absurd (omega (arith, below))
 awaited-front state (Reply (Ok reply) now memory) calls awaits met of moves keeps later (entry ∷ front) back is below =
     let first : Taken state.expected ≡ entry = cc in
     subst (λ entry. Contains (entry ∷ front) (Taken state.expected)) first (0, omega arith, refl)
 awaited-front state (Reply (Err fault) now memory) calls awaits met of moves keeps later front back is below =
-    let entries = entries_in state (Reply (Err fault) now memory) in
+    let entries = kept_numbers_in state (Reply (Err fault) now memory) in
     let none = later.shut moves.expects.1 in
     let whole : entries ≡ front ++ back = sym (append-nil entries) ∙ ap (λ rest. entries ++ rest) (sym none) ∙ is in
     let most = keeps.front front back whole in
     let same = moves.expects.0 in
     absurd (omega (arith, most, same, below))
-awaited-front state (Frame text now memory) calls awaits met of moves keeps later front back is below = absurd (idle-awaits state met awaits)
-awaited-front state (Tick now memory) calls awaits met of moves keeps later front back is below = absurd (idle-awaits state met awaits)
-awaited-front state (Stop now memory) calls awaits met of moves keeps later front back is below = absurd (idle-awaits state met awaits)
-awaited-front state Closing calls awaits met of moves keeps later front back is below = absurd (idle-awaits state met awaits)
+awaited-front state (Frame text now memory) calls awaits met of moves keeps later front back is below = absurd (idle-none state met awaits)
+awaited-front state (Tick now memory) calls awaits met of moves keeps later front back is below = absurd (idle-none state met awaits)
+awaited-front state (Stop now memory) calls awaits met of moves keeps later front back is below = absurd (idle-none state met awaits)
+awaited-front state Closing calls awaits met of moves keeps later front back is below = absurd (idle-none state met awaits)
 awaited-front state WaitAgain calls awaits met of moves keeps later front back is below = absurd (false≢true of)
 
 -- of the commands that are delivered over the calls
-taken-on : (state : State) (call : Call) (calls : List Call) → MovesNumbers state call (outcome state call) → Keeps state (outcome state call).state (entries_in state call)
-    → Law (outcome state call).state calls → (front back : List Entry) → entries_of state (call ∷ calls) ≡ front ++ back
+taken-on : (state : State) (call : Call) (calls : List Call) → MovesNumbers state call (outcome state call) → Keeps state (outcome state call).state (kept_numbers_in state call)
+    → Law (outcome state call).state calls → (front back : List KeptNumber) → kept_numbers_of state (call ∷ calls) ≡ front ++ back
     → AreKept front (expected_by state.expected front) (delivered_of state (call ∷ calls))
 taken-on state call calls moves keeps later front back is =
     let given = outcome state call in
-    let entries = entries_in state call in
+    let entries = kept_numbers_in state call in
     let delivered = delivered_by state.expected given.actions in
     let more = delivered_of given.state calls in
-    elim (cut entries (entries_of given.state calls) front back is) [
+    elim (cut entries (kept_numbers_of given.state calls) front back is) [
       | inl here ↦
           let most = keeps.front front here.0 here.1 in
           kept-on front (expected_by state.expected front) delivered more
@@ -375,12 +372,12 @@ taken-on state call calls moves keeps later front back is =
           (kept-behind entries rest (expected_by given.state.expected rest) more (later.numbers.taken rest back there.1.1))))
     ]
 
-above-on : (state : State) (call : Call) (calls : List Call) → Keeps state (outcome state call).state (entries_in state call)
-    → Law (outcome state call).state calls → (front back : List Entry) → entries_of state (call ∷ calls) ≡ front ++ back → AllBelow (next_by state.next front) (sent_numbers front)
+above-on : (state : State) (call : Call) (calls : List Call) → Keeps state (outcome state call).state (kept_numbers_in state call)
+    → Law (outcome state call).state calls → (front back : List KeptNumber) → kept_numbers_of state (call ∷ calls) ≡ front ++ back → AllBelow (next_by state.next front) (sent_numbers front)
 above-on state call calls keeps later front back is =
     let given = outcome state call in
-    let entries = entries_in state call in
-    elim (cut entries (entries_of given.state calls) front back is) [
+    let entries = kept_numbers_in state call in
+    elim (cut entries (kept_numbers_of given.state calls) front back is) [
       | inl here ↦ keeps.above front here.0 here.1
       | inr there ↦
           let rest = there.0 in
@@ -395,12 +392,12 @@ above-on state call calls keeps later front back is =
           (later.numbers.above rest back there.1.1))))
     ]
 
-low-on : (state : State) (call : Call) (calls : List Call) → MovesNumbers state call (outcome state call) → Keeps state (outcome state call).state (entries_in state call)
-    → Law (outcome state call).state calls → (front back : List Entry) → entries_of state (call ∷ calls) ≡ front ++ back → state.next ≤ next_by state.next front
+low-on : (state : State) (call : Call) (calls : List Call) → MovesNumbers state call (outcome state call) → Keeps state (outcome state call).state (kept_numbers_in state call)
+    → Law (outcome state call).state calls → (front back : List KeptNumber) → kept_numbers_of state (call ∷ calls) ≡ front ++ back → state.next ≤ next_by state.next front
 low-on state call calls moves keeps later front back is =
     let given = outcome state call in
-    let entries = entries_in state call in
-    elim (cut entries (entries_of given.state calls) front back is) [
+    let entries = kept_numbers_in state call in
+    elim (cut entries (kept_numbers_of given.state calls) front back is) [
       | inl here ↦ keeps.low front here.0 here.1
       | inr there ↦
           let on = next-on state given.state entries there.0 keeps in
@@ -421,7 +418,7 @@ law : (calls : List Call) (state : State) → (IsAwaiting state → IsUnspent st
 law [] state low met kept of = law-none state
 law (call ∷ calls) state low met kept of =
     let given = outcome state call in
-    let entries = entries_in state call in
+    let entries = kept_numbers_in state call in
     let both : (is_of_connection call ≡ true) × (list_all is_of_connection calls ≡ true) = and_parts (is_of_connection call) (list_all is_of_connection calls) of in
     let here = both.0 in
     let moves = moves-numbers state call met.0 kept.0 here low in
@@ -432,13 +429,13 @@ law (call ∷ calls) state low met kept of =
         taken = taken-on state call calls moves keeps later;
         above = above-on state call calls keeps later;
         low = low-on state call calls moves keeps later;
-        expected = expected-on state given.state entries (entries_of given.state calls) keeps ∙ later.numbers.expected;
-        next = next-on state given.state entries (entries_of given.state calls) keeps ∙ later.numbers.next;
+        expected = expected-on state given.state entries (kept_numbers_of given.state calls) keeps ∙ later.numbers.expected;
+        next = next-on state given.state entries (kept_numbers_of given.state calls) keeps ∙ later.numbers.next;
       };
       late = late-on state call calls moves later;
       awaited = λ awaits. awaited-front state call calls awaits met.0 here moves keeps later;
-      shut = λ shut. ap (λ front. front ++ entries_of given.state calls) (closed-entries state call shut here met.0 moves) ∙ later.shut (moves.shut shut).0;
+      shut = λ shut. ap (λ front. front ++ kept_numbers_of given.state calls) (closed-entries state call shut here met.0 moves) ∙ later.shut (moves.shut shut).0;
     }
 
 pub keeps_all_numbers : (state : State) (calls : List Call) → IsIdle state → AreMet state calls → HasNoReset calls → list_all is_of_connection calls ≡ true → KeepsNumbers state calls
-keeps_all_numbers state calls idle met kept of = (law calls state (λ awaits. absurd (idle-awaits state idle awaits)) met kept of).numbers
+keeps_all_numbers state calls idle met kept of = (law calls state (λ awaits. absurd (idle-none state idle awaits)) met kept of).numbers

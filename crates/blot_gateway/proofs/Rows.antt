@@ -7,11 +7,11 @@ use Rattle.blot_session.specs.Rows.{beat_row, heartbeat_row, quiet_row, stop_row
 use Rattle.blot_session.specs.Runs.Call.{Stop, Tick}
 use Rattle.blot_session.specs.States.{opened, resumed}
 use Rattle.blot_gateway.specs.declared.wire.Heard.{Heard}
-use Rattle.blot_gateway.specs.Numbers.{Entry, entries_of, expected_by, kept_by, next_by, sent_numbers}
-use Rattle.blot_gateway.specs.Numbers.Entry.{Taken, Numbers, Sent}
+use Rattle.blot_gateway.specs.Numbers.{KeptNumber, kept_numbers_of, expected_by, kept_by, next_by, sent_numbers}
+use Rattle.blot_gateway.specs.Numbers.KeptNumber.{Taken, Numbers, Sent}
 
 -- BRKA's Trade 2 is taken, and a TestRequest 3 is answered under 5
-abbrev kept : List Entry
+abbrev kept : List KeptNumber
 kept = Taken 2 ∷ Numbers 4 6 ∷ Sent 5 ∷ []
 
 expected : map (λ count. expected_by 2 (take count kept)) (0 ∷ 1 ∷ 2 ∷ 3 ∷ []) ≡ 2 ∷ 3 ∷ 4 ∷ 4 ∷ []
@@ -35,6 +35,6 @@ told : map (kept_by session) (inl (Ok seen.Accepted) ∷ inl (Err (record {})) �
 told = refl
 
 -- a Heartbeat and the Logout at the end of the day
-sent : entries_of session (Tick (pos 1_000) true ∷ Tick (pos 30_000) true ∷ Stop (pos 30_000) true ∷ []) ≡ Sent 5 ∷ Sent 6 ∷ []
+sent : kept_numbers_of session (Tick (pos 1_000) true ∷ Tick (pos 30_000) true ∷ Stop (pos 30_000) true ∷ []) ≡ Sent 5 ∷ Sent 6 ∷ []
 unfolding tick_row beat_row quiet_row heartbeat_row stop_row
 sent = refl

@@ -7,12 +7,10 @@ use Rattle.blot_session.specs.declared.state.State.{State}
 use Rattle.blot_session.specs.Runs.{Call, DeliversJust, Meets, outcome, bytes_of, delivered_by, delivered_of, sent_of}
 use Rattle.blot_session.specs.Runs.Call.{Frame, Reply, Tick}
 use Rattle.blot_session.specs.States.{IsIdle, IsAwaiting}
-use Rattle.blot_gateway.specs.declared.ended.Ended.{Ended}
+use Rattle.blot_gateway.specs.declared.{ended.Ended.Ended, ended.Stop.Stop, wire.Heard.Heard, parties.Parties.Parties}
 use Rattle.blot_gateway.specs.declared.ended.Ended.TheVariants as ended
-use Rattle.blot_gateway.specs.declared.ended.Stop.{Stop}
 use Rattle.blot_gateway.specs.declared.ended.Stop.TheVariants as stops
 use Rattle.blot_gateway.specs.Endings.{ended_by}
-use Rattle.blot_gateway.specs.declared.{wire.Heard.Heard, parties.Parties.Parties}
 use Rattle.blot_gateway.specs.Hearing.{word_in, word_of}
 use Rattle.blot_gateway.specs.Wires.{Read, Did, Answered, Notice, StepByStep, command_in, commands_of, reads_of, written_of}
 use Rattle.blot_gateway.specs.Wires.Notice.{Handed}

@@ -1,5 +1,5 @@
 -- What is written, piece by piece.
-use Rattle.std.proofs.Common.{◌≡◌, ℕ, ◌+◌, Result, Ok, Err, get_or, ◌<◌, List, [], ◌∷◌, ◌++◌, length, take, drop, refl, sym, ap, subst, ◌∙◌, arith, length-append, append_assoc, OnErr, flat_map, take-add, append-nil, take-append-drop, length-drop}
+use Rattle.std.proofs.Common.{◌≡◌, ℕ, ◌+◌, get_or, ◌<◌, List, [], ◌∷◌, ◌++◌, length, take, drop, refl, sym, ap, subst, ◌∙◌, arith, length-append, append_assoc, flat_map, take-add, append-nil, take-append-drop, length-drop}
 use Rattle.std.proofs.lemmas.List.{take_more, at_drop_more}
 use Rattle.std.proofs.lemmas.List.Concat.{flat_map-append}
 use Rattle.blot_session.specs.declared.action.Action.{Action}
@@ -99,9 +99,3 @@ front-action does actions index action a b c within is one two =
     ∙ sym (flat_map-append bytes_of (take index actions) (drop index actions)) ∙ ap (flat_map bytes_of) (take-append-drop index actions) in
     subst (λ text. WritesFront does a text c) all
     (front-on does (flat_map bytes_of (take index actions)) (bytes_of action ++ rest) a b c one (front-before does (bytes_of action) rest b c two))
-
--- ---- results
-
-pub on-err : {T E P : Type 0} (result : Result T E) → P → OnErr result P
-on-err (Ok x) p = tt
-on-err (Err e) p = p

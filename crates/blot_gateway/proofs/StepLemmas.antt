@@ -7,10 +7,9 @@ use Rattle.blot_session.specs.Calls.{Outcome, Awaits}
 use Rattle.blot_session.specs.Runs.{Call, DeliversJust, outcome, bytes_of}
 use Rattle.blot_session.specs.Runs.Call.{Frame}
 use Rattle.blot_session.specs.States.{IsIdle}
-use Rattle.blot_gateway.specs.declared.{ended.Ended.Ended, ended.Stop.Stop}
+use Rattle.blot_gateway.specs.declared.{ended.Ended.Ended, ended.Stop.Stop, parties.Parties.Parties}
 use Rattle.blot_gateway.specs.declared.ended.Stop.TheVariants as stops
 use Rattle.blot_gateway.specs.Endings.{ended_by}
-use Rattle.blot_gateway.specs.declared.parties.Parties.{Parties}
 use Rattle.blot_gateway.specs.Hearing.{word_in}
 use Rattle.blot_gateway.specs.Wires.{Did, Notice, StepByStep}
 use Rattle.blot_gateway.specs.Serving.{close_in}

@@ -9,9 +9,8 @@ use Rattle.blot_session.specs.declared.state.State.{State}
 use Rattle.blot_slots.specs.declared.slot_fault.SlotFault.{SlotFault}
 use Rattle.blot_slots.specs.declared.slot_fault.SlotFault.TheVariants as faults
 use Rattle.blot_slots.specs.Slots.{IsWaiting}
-use Rattle.blot_gateway.specs.declared.ended.Ended.{Ended}
+use Rattle.blot_gateway.specs.declared.{ended.Ended.Ended, ended.TheConstants.READS_MAX}
 use Rattle.blot_gateway.specs.declared.ended.Ended.TheVariants as ended
-use Rattle.blot_gateway.specs.declared.ended.TheConstants.{READS_MAX}
 use Rattle.blot_gateway.specs.Greeting.{Greeted}
 use Rattle.blot_gateway.specs.Serving.{Served, IsCounted, parties}
 use Rattle.blot_gateway.specs.Wires.{Did, Answered, hands}

@@ -3,9 +3,8 @@ use Rattle.std.specs.Prelude.{◌≡◌, ◌≤◌, ◌⊎◌, ℕ, List, [], �
 use Rattle.blot_tag.specs.Walking.{frames_of, rest_of}
 use Rattle.blot_types.specs.Keys.{same_text}
 use Rattle.blot_fields.specs.declared.admin.Admin.TheVariants as admin
-use Rattle.blot_fields.specs.declared.{fault.FieldFault.FieldFault, message.Body.Body}
+use Rattle.blot_fields.specs.declared.{fault.FieldFault.FieldFault, message.Body.Body, message.Message.Message}
 use Rattle.blot_fields.specs.declared.message.Body.TheVariants as bodies
-use Rattle.blot_fields.specs.declared.message.Message.{Message}
 use Rattle.blot_session.specs.declared.action.CloseReason.{CloseReason}
 use Rattle.blot_session.specs.declared.action.CloseReason.TheVariants as reasons
 use Rattle.blot_session.specs.Runs.{said_by}

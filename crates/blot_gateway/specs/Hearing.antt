@@ -5,9 +5,8 @@ use Rattle.blot_session.specs.Calls.{on_frame}
 use Rattle.blot_session.specs.Met.{met_of}
 use Rattle.blot_session.specs.Runs.{Call, said_by}
 use Rattle.blot_session.specs.Runs.Call.{Frame}
-use Rattle.blot_session.specs.declared.state.Phase.{Phase}
+use Rattle.blot_session.specs.declared.{state.Phase.Phase, state.State.State}
 use Rattle.blot_session.specs.declared.state.Phase.TheVariants as phases
-use Rattle.blot_session.specs.declared.state.State.{State}
 use Rattle.blot_session.specs.States.{awaited_of, phase_of}
 use Rattle.blot_gateway.specs.declared.{calling.Before.Before, wire.Heard.Heard}
 use Rattle.blot_gateway.specs.Wires.{Notice}

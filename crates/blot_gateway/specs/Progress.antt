@@ -1,9 +1,8 @@
 -- What is due to a session, done part by part, whatever is due after each part.
 use Rattle.std.specs.Prelude.{◌≡◌, ℕ, ℤ, List, [], ◌∷◌, ◌++◌}
-use Rattle.blot_gateway.specs.declared.{ended.Ended.Ended, ended.Stop.Stop}
+use Rattle.blot_gateway.specs.declared.{ended.Ended.Ended, ended.Stop.Stop, parties.Parties.Parties}
 use Rattle.blot_gateway.specs.declared.ended.Stop.TheVariants as stops
 use Rattle.blot_gateway.specs.Endings.{ended_by}
-use Rattle.blot_gateway.specs.declared.parties.Parties.{Parties}
 use Rattle.blot_gateway.specs.Serving.{Due, Ends, Runs, due_behind, due_fed}
 use Rattle.blot_gateway.specs.Wires.{Counts, Did, Notice, Read}
 

@@ -5,12 +5,11 @@ use Rattle.blot_desk.specs.declared.{event.Reply.Reply as DeskReply, fault.DeskF
 use Rattle.blot_session.specs.declared.{action.Action.Action, state.State.State}
 use Rattle.blot_session.specs.Runs.{Call, DeliversJust, outcome, bytes_of}
 use Rattle.blot_session.specs.Runs.Call.{Frame, Reply}
-use Rattle.blot_gateway.specs.declared.ended.Stop.{Stop}
+use Rattle.blot_gateway.specs.declared.{ended.Stop.Stop, parties.Parties.Parties}
 use Rattle.blot_gateway.specs.declared.ended.Stop.TheVariants as stops
 use Rattle.blot_gateway.specs.Hearing.{word_in}
 use Rattle.blot_gateway.specs.Wires.{Did, Notice, StepByStep, reads_of, written_of}
 use Rattle.blot_gateway.specs.Wires.Notice.{Handed}
-use Rattle.blot_gateway.specs.declared.parties.Parties.{Parties}
 use Rattle.blot_gateway.specs.Serving.{IsFront, close_in, seen_reply}
 
 -- a wire takes just these bytes

@@ -7,15 +7,13 @@ use Rattle.blot_types.specs.RefusalNames.{refused_number}
 use Rattle.blot_desk.specs.declared.event.Reply.{Reply as DeskReply}
 use Rattle.blot_desk.specs.declared.event.Reply.TheVariants as replies
 use Rattle.blot_desk.specs.declared.fault.DeskFault.{DeskFault}
-use Rattle.blot_session.specs.declared.{action.Action.Action, action.Action.TheVariants.Close, action.CloseReason.CloseReason, replies.NotTaken.NotTaken, replies.SeenReply.SeenReply}
+use Rattle.blot_session.specs.declared.{action.Action.Action, action.Action.TheVariants.Close, action.CloseReason.CloseReason, replies.NotTaken.NotTaken, replies.SeenReply.SeenReply, state.State.State}
 use Rattle.blot_session.specs.declared.replies.SeenReply.TheVariants as seen
-use Rattle.blot_session.specs.declared.state.State.{State}
 use Rattle.blot_session.specs.Runs.{Call, AreMet, actions_of, behind_calls, delivered_of, outcome, sent_of}
 use Rattle.blot_session.specs.Runs.Call.{Frame, Reply, Tick}
 use Rattle.blot_session.specs.States.{closed}
-use Rattle.blot_gateway.specs.declared.ended.Ended.{Ended}
+use Rattle.blot_gateway.specs.declared.{ended.Ended.Ended, parties.Parties.Parties, wire.Heard.Heard}
 use Rattle.blot_gateway.specs.declared.ended.Ended.TheVariants as ended
-use Rattle.blot_gateway.specs.declared.{parties.Parties.Parties, wire.Heard.Heard}
 use Rattle.blot_gateway.specs.Hearing.{word_in}
 use Rattle.blot_gateway.specs.Wires.{Read, Did, Notice, Counts, StepByStep, commands_of, reads_of, written_of}
 use Rattle.blot_gateway.specs.Wires.Did.{Gave}

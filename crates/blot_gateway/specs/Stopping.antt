@@ -3,9 +3,8 @@ use Rattle.std.specs.Prelude.{◌≡◌, ◌≤◌, ◌⊎◌, ◌++◌, ℕ, �
 use Rattle.blot_session.specs.declared.action.CloseReason.TheVariants as reasons
 use Rattle.blot_session.specs.declared.state.State.{State}
 use Rattle.blot_session.specs.Runs.Call.{Stop as StopCall}
-use Rattle.blot_gateway.specs.declared.ended.Ended.{Ended}
+use Rattle.blot_gateway.specs.declared.{ended.Ended.Ended, ended.Stop.Stop, ended.TheConstants.READS_MAX, parties.Parties.Parties, stopping.TheConstants.LAST_READS}
 use Rattle.blot_gateway.specs.declared.ended.Ended.TheVariants as ended
-use Rattle.blot_gateway.specs.declared.{ended.Stop.Stop, ended.TheConstants.READS_MAX, parties.Parties.Parties, stopping.TheConstants.LAST_READS}
 use Rattle.blot_gateway.specs.Endings.{ended_by}
 use Rattle.blot_gateway.specs.Sending.{Called, Halted}
 use Rattle.blot_gateway.specs.Serving.{Due, EndsWithin, Runs, Served, due_behind, due_of, left_by}

@@ -2,9 +2,8 @@
 use Rattle.std.specs.Prelude.{◌≡◌, ℕ, ◌≤◌, ◌<◌, ◌-◌, ◌^◌, ◌⊎◌, List, [], ◌∷◌, take, Result, flat_map}
 use Rattle.blot_types.specs.declared.command.Command.{Command}
 use Rattle.blot_desk.specs.declared.{event.Reply.Reply, fault.DeskFault.DeskFault}
-use Rattle.blot_gateway.specs.declared.{wire.Heard.Heard, wire.Reading.Reading}
+use Rattle.blot_gateway.specs.declared.{wire.Heard.Heard, wire.Reading.Reading, wire.Writing.Writing}
 use Rattle.blot_gateway.specs.declared.wire.Reading.TheVariants as reading
-use Rattle.blot_gateway.specs.declared.wire.Writing.{Writing}
 use Rattle.blot_gateway.specs.declared.wire.Writing.TheVariants as writing
 
 -- one read of a wire: these bytes came, nothing came in time, the wire is at its end, or it failed

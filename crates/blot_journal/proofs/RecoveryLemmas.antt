@@ -1,5 +1,5 @@
 -- What a recovery finds.
-use Rattle.std.proofs.Common.{◌≡◌, ℕ, ◌+◌, ◌≤◌, Bool, true, false, List, length, take, drop, Result, Ok, Err, IfErr, nat_eq, refl, sym, ◌∙◌, ap, subst, arith, take-take, take_all, w64}
+use Rattle.std.proofs.Common.{◌≡◌, ℕ, ◌+◌, ◌≤◌, Bool, true, false, List, length, take, drop, nat_eq, refl, sym, ◌∙◌, ap, subst, arith, take-take, take_all, w64}
 use Rattle.std.specs.Cmp.Lexicographic.{pointwise, same_text, other_text}
 use Rattle.std.specs.Int.{from_le_bytes}
 use Rattle.blot_journal.specs.Device.{Cut, Follows, Only}
@@ -67,10 +67,6 @@ decided xs ys zs true is same = (λ _. same_text xs ys is ∙ same, λ _. refl)
 decided xs ys zs false is same = (λ e. cc, λ e. absurd (other_text xs ys is (e ∙ sym same)))
 
 -- what holds of a fault
-pub err_weaker : {T E : Type 0} (r : Result T E) (P Q : E → Type 0) → ((e : E) → P e → Q e) → IfErr r P → IfErr r Q
-err_weaker (Ok x) P Q so holds = holds
-err_weaker (Err e) P Q so holds = so e holds
-
 -- ---- a file that is only read
 
 -- by the head that was found, what stands behind the head is the text

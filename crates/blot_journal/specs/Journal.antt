@@ -4,9 +4,8 @@ use Rattle.std.specs.Borrow.{Bor}
 use Rattle.std.specs.List.{concat}
 use Rattle.blot_journal.specs.Device.{Only}
 use Rattle.blot_journal.specs.File.{HasHead, Stands, text_of}
-use Rattle.blot_journal.specs.declared.device.DeviceFault.{DeviceFault}
+use Rattle.blot_journal.specs.declared.{device.DeviceFault.DeviceFault, journal.JournalFault.JournalFault}
 use Rattle.blot_journal.specs.declared.device.DeviceFault.TheVariants as device
-use Rattle.blot_journal.specs.declared.journal.JournalFault.{JournalFault}
 use Rattle.blot_journal.specs.declared.journal.JournalFault.TheVariants.{NoMemory, Failed}
 
 -- what a contract sees of a journal: its file, what waits to be made durable, whether a sync has failed, and for how many bytes

@@ -2,9 +2,8 @@
 use Rattle.std.specs.Prelude.{◌≡◌, ◌⊎◌, ℕ, ◌+◌, ◌<◌, ◌≤◌, Bool, true, false, List, length, take}
 use Rattle.blot_journal.specs.Device.{LeavesOnly}
 use Rattle.blot_journal.specs.File.{IsJournal, IsWhole, Stands, is_second, signature, signed_in, size_in, text_of}
-use Rattle.blot_journal.specs.declared.device.DeviceFault.{DeviceFault}
+use Rattle.blot_journal.specs.declared.{device.DeviceFault.DeviceFault, recovery.RecoveryFault.RecoveryFault}
 use Rattle.blot_journal.specs.declared.device.DeviceFault.TheVariants as device
-use Rattle.blot_journal.specs.declared.recovery.RecoveryFault.{RecoveryFault}
 use Rattle.blot_journal.specs.declared.recovery.RecoveryFault.TheVariants.{NoMemory, Failed, NoJournal, Damaged}
 
 -- the fault of a device, told by a recovery

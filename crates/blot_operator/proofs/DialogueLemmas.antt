@@ -15,11 +15,12 @@ use Rattle.blot_console.specs.Answers.{CanBeTold, answer_text}
 use Rattle.blot_console.specs.Parsing.{parsed, ask_of, told}
 use Rattle.blot_operator.specs.declared.answering.Asked.TheVariants as asks
 use Rattle.blot_operator.specs.Dialogue.{Ways, AnswersAsk, AnswersBy, AnswersLine, TellsLine, TellsFront, StopsAtLine, AnswersLines, TellsLines, StopsAmong, HasTold, Closes, ComesOn}
-use Rattle.blot_operator.specs.Lines.{lines_of, split_of, kept}
+use Rattle.blot_operator.specs.Lines.{split_of, kept}
 use Rattle.blot_operator.specs.OpenDay.{closes_by, day_ask_by, heard_by}
 use Rattle.blot_operator.specs.Operating.{asked_by, with_key}
 use Rattle.blot_operator.proofs.LineLemmas.{last_line, onto, lines_of-append, lines_of-ended, lines_of-last, split_of-end, split_of-more, kept-nil, kept-none, kept-byte, lines_of-begun}
 use Rattle.blot_operator.proofs.OpenDayLemmas.{heard-all, heard-last, heard-close, still-open, closed-in, day_ask-kept, closes-kept}
+use Rattle.blot_stream.specs.Texts.{lines_of}
 
 -- ---- one line
 

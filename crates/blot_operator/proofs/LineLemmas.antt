@@ -3,8 +3,10 @@ use Rattle.std.proofs.Common.{◌≡◌, ◌≢◌, ℕ, ◌+◌, ◌<◌, ◌�
 use Rattle.std.proofs.lemmas.Bool.{cases_Bool, lt-leb}
 use Rattle.std.proofs.lemmas.List.{take-append-le, nil_from_length}
 use Rattle.std.proofs.lemmas.List.Sums.{fold-append}
+use Rattle.std.specs.List.{onto_first}
 use Rattle.blot_console.specs.declared.parsing.TheConstants.{LINE_MAX}
-use Rattle.blot_operator.specs.Lines.{onto_first, lines_of, Split, split_on, split_of, kept}
+use Rattle.blot_operator.specs.Lines.{Split, split_on, split_of, kept}
+use Rattle.blot_stream.specs.Texts.{lines_of}
 
 -- texts and their lines
 none_of_nothing : lines_of [] ≡ []

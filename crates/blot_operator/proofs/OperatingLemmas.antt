@@ -8,11 +8,9 @@ use Rattle.blot_types.specs.declared.{command.Command.TheVariants.Withdraw, TheC
 use Rattle.blot_desk.specs.declared.{event.Event.Event, event.Event.TheVariants.Submit, event.Reply.Reply}
 use Rattle.blot_desk.specs.declared.fault.DeskFault.TheVariants.{Full, NoMemory, Broken, Unsettled}
 use Rattle.blot_desk.specs.Desk.{DeskState, newest_entry_of, step_of, recorded_of}
-use Rattle.blot_console.specs.declared.answer.Answer.{Answer}
+use Rattle.blot_console.specs.declared.{answer.Answer.Answer, ask.Ask.Ask, fault.LineFault.LineFault}
 use Rattle.blot_console.specs.declared.answer.Answer.TheVariants as answers
-use Rattle.blot_console.specs.declared.ask.Ask.{Ask}
 use Rattle.blot_console.specs.declared.ask.Ask.TheVariants as asks
-use Rattle.blot_console.specs.declared.fault.LineFault.{LineFault}
 use Rattle.blot_console.specs.Answers.{answer_text}
 use Rattle.blot_console.specs.Parsing.{parsed}
 use Rattle.blot_operator.specs.declared.operated.Declined.{Declined}

@@ -13,20 +13,18 @@ use Rattle.blot_desk.specs.Receipts.{IsOneMore, newest_of}
 use Rattle.blot_desk.specs.Makers.{IsFoundBy}
 use Rattle.blot_desk.specs.Questions.{IsFound, found_of}
 use Rattle.blot_report.specs.Lines.{day_lines_of, order_lines_of, position_lines_of}
-use Rattle.blot_console.specs.declared.answer.Answer.{Answer}
+use Rattle.blot_console.specs.declared.{answer.Answer.Answer, ask.Ask.Ask, fault.LineFault.LineFault, fault.LineFault.TheVariants.TooLong, open_day.DayAsk.DayAsk, open_day.SessionLine.SessionLine}
 use Rattle.blot_console.specs.declared.answer.Answer.TheVariants as answers
-use Rattle.blot_console.specs.declared.ask.Ask.{Ask}
 use Rattle.blot_console.specs.declared.ask.Ask.TheVariants as asks
-use Rattle.blot_console.specs.declared.{fault.LineFault.LineFault, fault.LineFault.TheVariants.TooLong, open_day.DayAsk.DayAsk}
 use Rattle.blot_console.specs.declared.open_day.DayAsk.TheVariants as day
-use Rattle.blot_console.specs.declared.open_day.SessionLine.{SessionLine}
 use Rattle.blot_console.specs.Answers.{answer_text}
 use Rattle.blot_console.specs.Parsing.{parsed}
 use Rattle.blot_stream.specs.declared.outcome.ReplayFault.{ReplayFault}
 use Rattle.blot_stream.specs.declared.outcome.ReplayFault.TheVariants as stopped
+use Rattle.blot_stream.specs.Texts.{lines_of}
 use Rattle.blot_operator.specs.declared.operated.Declined.{Declined}
 use Rattle.blot_operator.specs.declared.operated.Declined.TheVariants.{Desk, Unkept}
-use Rattle.blot_operator.specs.Lines.{split_of, kept, lines_of}
+use Rattle.blot_operator.specs.Lines.{split_of, kept}
 use Rattle.blot_operator.specs.OpenDay.{closes_by, day_ask_by, heard_by}
 use Rattle.blot_operator.specs.Operating.{asked_by, with_key}
 use Rattle.blot_operator.specs.Seats.{Named}

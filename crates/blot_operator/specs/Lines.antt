@@ -2,16 +2,6 @@
 use Rattle.std.specs.Prelude.{ℕ, ◌+◌, ◌==◌, List, [], ◌∷◌, ◌++◌, take, fold, if◌then◌else◌}
 use Rattle.blot_console.specs.declared.parsing.TheConstants.{LINE_MAX}
 
--- a byte before lines: it begins the first of them, or is a line of its own where there is none
-abbrev pub onto_first : ℕ → List (List ℕ) → List (List ℕ)
-onto_first byte [] = (byte ∷ []) ∷ []
-onto_first byte (line ∷ lines) = (byte ∷ line) ∷ lines
-
--- the lines of a text, without their LF; a last one without LF counts, an empty one too where an LF ends it
-abbrev pub lines_of : List ℕ → List (List ℕ)
-lines_of [] = []
-lines_of (byte ∷ text) = if byte == 10 then [] ∷ lines_of text else onto_first byte (lines_of text)
-
 -- a text as far as it came: the lines that have ended, and the bytes of the one that has begun
 pub record Split : Type 0 where
   pub ended : List (List ℕ)

@@ -4,7 +4,7 @@ use Rattle.std.specs.List.{list_any}
 use Rattle.std.specs.Io.KnownBytes.{IsAtEnd}
 use Rattle.blot_console.specs.declared.{answer.Answer.Answer, answer.Answer.TheVariants.Closed, fault.LineFault.LineFault, open_day.DayAsk.DayAsk, open_day.DayAsk.TheVariants.Close}
 use Rattle.blot_console.specs.OpenDay.{day_parsed}
-use Rattle.blot_operator.specs.Lines.{lines_of}
+use Rattle.blot_stream.specs.Texts.{lines_of}
 
 -- whether what a line asks of an open day is that it is closed
 abbrev pub is_close : Option (Result DayAsk LineFault) → Bool

@@ -9,16 +9,14 @@ use Rattle.blot_desk.specs.declared.event.Reply.TheVariants as replies
 use Rattle.blot_desk.specs.Desk.{DeskState, newest_entry_of, step_of, recorded_of}
 use Rattle.blot_desk.specs.Questions.{found_of}
 use Rattle.blot_report.specs.Lines.{day_lines_of, order_lines_of, position_lines_of}
-use Rattle.blot_console.specs.declared.answer.Answer.{Answer}
+use Rattle.blot_console.specs.declared.{answer.Answer.Answer, ask.Ask.Ask, fault.LineFault.LineFault}
 use Rattle.blot_console.specs.declared.answer.Answer.TheVariants as answers
-use Rattle.blot_console.specs.declared.ask.Ask.{Ask}
 use Rattle.blot_console.specs.declared.ask.Ask.TheVariants as asks
-use Rattle.blot_console.specs.declared.fault.LineFault.{LineFault}
 use Rattle.blot_console.specs.Answers.{answer_text}
 use Rattle.blot_console.specs.Parsing.{parsed}
-use Rattle.blot_operator.specs.Lines.{lines_of}
 use Rattle.blot_operator.specs.declared.answering.Asked.{Asked}
 use Rattle.blot_operator.specs.declared.answering.Asked.TheVariants as asked
+use Rattle.blot_stream.specs.Texts.{lines_of}
 
 -- what a desk holds, and what its operator was told
 pub record Conversation : Type 0 where

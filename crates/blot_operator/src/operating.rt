@@ -3,9 +3,8 @@
 ghost use Rattle.std.specs.Prelude.{◌≡◌, ◌≢◌, ◌⊎◌, Err, IfSome, OnOk, OnErr};
 ghost use Rattle.std.specs.Io.KnownBytes.{IsAtEnd};
 ghost use Rattle.blot_desk.specs.Keeping.{IsUnwritten};
-ghost use Rattle.blot_stream.specs.Texts.{AppendsOf};
+ghost use Rattle.blot_stream.specs.Texts.{AppendsOf, lines_of};
 ghost use Rattle.blot_operator.specs.Dialogue.{open_ways, seat_ways, HeardOf, StopsOf, TellsOf};
-ghost use Rattle.blot_operator.specs.Lines.{lines_of};
 ghost use Rattle.blot_operator.specs.OpenDay.{ClosedOf, EndsOf};
 ghost use Rattle.blot_operator.specs.Operating.{answers_of, told_over, StoppedIn};
 

@@ -1,12 +1,12 @@
 -- The fills by number: what stands under a number after a change, and the fills that are put.
-use Rattle.std.proofs.Common.{◌≡◌, ◌≢◌, ℕ, ◌+◌, ◌<◌, ◌≤◌, List, [], ◌∷◌, map, Option, Some, None, Bool, true, false, ◌&&◌, refl, sym, ap, ◌∙◌, arith, inl, inr, ◌==◌, T, find, nat_le, nat_lt, if◌then◌else◌}
+use Rattle.std.proofs.Common.{◌≡◌, ◌≢◌, ℕ, ◌+◌, ◌<◌, ◌≤◌, List, [], ◌∷◌, map, Option, Some, None, Bool, true, false, ◌&&◌, refl, sym, ap, ◌∙◌, arith, inl, inr, ◌==◌, T, find, nat_le, nat_lt, if◌then◌else◌, filter_map, option_map, option_and_then, nat_cmp, is_lt, leb-true, ltb-true, ltb-false, ne_eqb, eq-eqb, eqb-true}
 use Rattle.std.specs.Cmp.{nat_cmp_total, unsigned_tied}
 use Rattle.std.specs.FinMap as finite
-use Rattle.std.proofs.Common.{filter_map, option_map, option_and_then, nat_cmp, is_lt, leb-true, ltb-true, ltb-false, ne_eqb, eq-eqb, eqb-true}
 use Rattle.std.specs.FinMap.Entries.{below_all}
 use Rattle.std.specs.Ordering.{eq_by_cmp}
 use Rattle.std.proofs.lemmas.Bool.{cases_Bool, and_parts, eqb-false}
 use Rattle.blot_types.specs.declared.{fill.Fill.Fill, lines.Version.Version}
+use Rattle.blot_types.proofs.GeneralLemmas.{through}
 use Rattle.blot_order.specs.declared.stored_fill.FillState.{FillState}
 use Rattle.blot_order.specs.declared.stored_fill.FillState.TheVariants.{Kept, Put}
 use Rattle.blot_order.specs.Fills.{Fills, fill_put, fill_kept, fill_held, put_at, kept_at, held_at, with_put, with_kept, fills_put}
@@ -17,11 +17,6 @@ use Rattle.blot_order.specs.Fills.{Fills, fill_put, fill_kept, fill_held, put_at
 pub get-insert : (fills : Fills) (n k : ℕ) (held : FillState) → finite.get (finite.insert fills n held) k ≡ (if k == n then Some held else finite.get fills k)
 get-insert fills n k held =
     finite.get-insert nat_cmp_total fills n held k ∙ ap (λ test. if test then Some held else finite.get fills k) (unsigned_tied k n)
-
--- a choice is handed through what reads it
-through : {A B : Type 0} (f : A → B) (test : Bool) (a b : A) → f (if test then a else b) ≡ (if test then f a else f b)
-through f true a b = refl
-through f false a b = refl
 
 pub put_at-with_put : (n k : ℕ) (fill : Fill) (fills : Fills) → put_at (with_put n fill fills) k ≡ (if k == n then Some fill else put_at fills k)
 put_at-with_put n k fill fills =

@@ -1,4 +1,4 @@
--- The numbers that entries list as put: where an entry is marked, loses its mark, is put in or is dropped.
+-- The numbers that are listed as put: where one is marked, loses its mark, is put in or is dropped.
 use Rattle.std.proofs.Common.{◌≡◌, ◌≢◌, ℕ, zero, suc, ◌+◌, ◌-◌, ◌<◌, ◌≤◌, Bool, true, false, cond, List, [], ◌∷◌, length, get_or, set, take, Option, Some, None, Result, Ok, Err, refl, sym, ap, subst, ◌∙◌, arith, inl, inr, ⊎_elim, if◌then◌else◌, Contains, MatchResult, filter, insert, nat_eq, nat_lt, slice_get, option_map, is_lt, nat_cmp, Less, Equal, Greater, lt-ltb, le-ltb, eq-eqb, ne_eqb}
 use Rattle.std.specs.List.{last_or}
 use Rattle.std.specs.List.Sorted.{IsBinarySearchResult, IsSearchInRange}
@@ -13,7 +13,7 @@ use Rattle.blot_order.specs.FillNumbers.{with_number, without_number, numbers_pu
 abbrev listing : Bool → ℕ → List ℕ → List ℕ
 listing is_put number others = if is_put then number ∷ others else others
 
--- whether an entry is put
+-- whether a listed number is put
 abbrev pub is_put : ListedNumber → Bool
 is_put entry = entry.is_put
 
@@ -108,7 +108,7 @@ belongs-later number entry entries place belongs = record {
   above = λ k d le less. belongs.above (suc k) d (omega (arith, le)) (omega (arith, less));
 }
 
--- an entry changed but for its number
+-- one changed but for its number
 rise-set : (low place : ℕ) (entries : List ListedNumber) (new : ListedNumber) → RiseFrom low entries → ((d : ListedNumber) → (get_or entries place d).number ≡ new.number) → RiseFrom low (set entries place new)
 rise-set low place [] new rise at = tt
 rise-set low zero (entry ∷ entries) new rise at =
@@ -144,7 +144,7 @@ rise-filter low (entry ∷ entries) rise =
       | inr other ↦ subst (λ t. RiseFrom low (cond t (entry ∷ others) others)) (sym other) (rise-lower low (entry.number + 1) others (omega (arith, first)) rest)
     ]
 
--- ---- the last entry is put
+-- ---- the last is put
 
 ends-more : (before : Bool) (entries : List ListedNumber) → ends_put before entries ≡ true → ends_put true entries ≡ true
 ends-more before [] is = refl
@@ -175,7 +175,7 @@ ends-take before k [] d within put = absurd (omega (arith, within))
 ends-take before zero (entry ∷ entries) d within put = put
 ends-take before (suc k) (entry ∷ entries) d within put = ends-take entry.is_put k entries d (omega (arith, within)) put
 
--- so the last number that is put is that of the last entry
+-- so the last number that is put is that of the last listed one
 last-put : (put : Bool) (number : Option ℕ) (entry : Option ListedNumber) (entries : List ListedNumber) → (put ≡ true → number ≡ option_map (λ e. e.number) entry) → ends_put put entries ≡ true
     → last_or number (numbers_put entries) ≡ option_map (λ e. e.number) (last_or entry entries)
 last-put put number before [] same is = same is
@@ -231,11 +231,11 @@ with-lower number (entry ∷ entries) rise =
     with-before number entry.is_put entry.number (numbers_put entries) (omega (arith, first))
     (with-lower number entries (rise-lower (number + 1) (entry.number + 1) entries (omega (arith, first)) rise.1))
 
--- an entry that is put comes first
+-- a listed number that is put comes first
 put-first : (number : ℕ) (new : ListedNumber) (entries : List ListedNumber) → new.number ≡ number → new.is_put ≡ true → numbers_put (new ∷ entries) ≡ number ∷ numbers_put entries
 put-first number new entries is put = ap (λ t. listing t new.number (numbers_put entries)) put ∙ ap (λ n. n ∷ numbers_put entries) is
 
--- an entry that isn't put comes to be put
+-- a listed number that isn't put comes to be put
 pub put-marked :
     (low number : ℕ) (entries : List ListedNumber) (place : ℕ) (new : ListedNumber) → new.number ≡ number → new.is_put ≡ true → RiseFrom low entries → StandsAt number entries place
     → ¬ (Contains (numbers_put entries) number) → numbers_put (set entries place new) ≡ with_number number (numbers_put entries)
@@ -252,7 +252,7 @@ put-marked low number (entry ∷ entries) (suc place) new is put rise stands unp
     (put-marked (entry.number + 1) number entries place new is put rise.1 later (λ there. unput (contains-before entry.is_put entry.number (numbers_put entries) number there)))
     ∙ with-behind number entry.is_put entry.number (numbers_put entries) (omega (arith, high, at))
 
--- an entry that is put is put in where its number belongs
+-- a listed number that is put is put in where it belongs
 pub put-inserted :
     (low number : ℕ) (entries : List ListedNumber) (place : ℕ) (new : ListedNumber) → new.number ≡ number → new.is_put ≡ true → RiseFrom low entries → BelongsAt number entries place
     → numbers_put (insert entries place new) ≡ with_number number (numbers_put entries)
@@ -265,7 +265,7 @@ put-inserted low number (entry ∷ entries) (suc place) new is put rise belongs 
     ap (listing entry.is_put entry.number) (put-inserted (entry.number + 1) number entries place new is put rise.1 (belongs-later number entry entries place belongs))
     ∙ with-behind number entry.is_put entry.number (numbers_put entries) (belongs.below 0 entry (omega arith))
 
--- an entry that is put loses its mark
+-- a listed number that is put loses its mark
 pub put-taken :
     (low number : ℕ) (entries : List ListedNumber) (place : ℕ) (new : ListedNumber) → new.is_put ≡ false → RiseFrom low entries → StandsAt number entries place
     → Contains (numbers_put entries) number → numbers_put (set entries place new) ≡ without_number number (numbers_put entries)
@@ -284,7 +284,7 @@ put-taken low number (entry ∷ entries) (suc place) new unput rise stands there
     (put-taken (entry.number + 1) number entries place new unput rise.1 later (contains-behind entry.is_put entry.number (numbers_put entries) number other there))
     ∙ without-behind number entry.is_put entry.number (numbers_put entries) other
 
--- entries that aren't put are dropped, all or one at the end
+-- listed numbers that aren't put are dropped, all or one at the end
 pub put-filter : (entries : List ListedNumber) → numbers_put (filter is_put entries) ≡ numbers_put entries
 put-filter [] = refl
 put-filter (entry ∷ entries) =
@@ -300,7 +300,7 @@ put-take k [] d within unput = absurd (omega (arith, within))
 put-take zero (entry ∷ entries) d within unput = sym (ap (λ t. listing t entry.number []) unput)
 put-take (suc k) (entry ∷ entries) d within unput = ap (listing entry.is_put entry.number) (put-take k entries d (omega (arith, within)) unput)
 
--- ---- how many entries there are
+-- ---- how many are listed
 
 length-listing : (put : Bool) (number : ℕ) (others : List ℕ) → length (listing put number others) ≤ length others + 1
 length-listing true number others = omega arith
@@ -327,7 +327,7 @@ length-filter (entry ∷ entries) =
           ap (λ t. length (cond t (entry ∷ others) others)) other ∙ rest ∙ sym (ap (λ t. length (listing t entry.number (numbers_put entries))) other)
     ]
 
--- ---- entries in good order
+-- ---- listed numbers in good order
 
 pub listed-set : (number : ℕ) (entries : List ListedNumber) (place : ℕ) (new : ListedNumber) → new.number ≡ number → new.is_put ≡ true → AreListed entries → StandsAt number entries place
     → AreListed (set entries place new)
@@ -343,7 +343,7 @@ listed-insert number entries place new is put are belongs = record {
   last = ends-insert true place entries new put are.last;
 }
 
--- where an entry loses its mark, and those at the end that aren't put are dropped
+-- where a listed number loses its mark, and those at the end that aren't put are dropped
 pub listed-taken : (number : ℕ) (entries : List ListedNumber) (place : ℕ) (new : ListedNumber) (end : ℕ) → new.number ≡ number → AreListed entries → StandsAt number entries place
     → ends_put true (take end (set entries place new)) ≡ true → AreListed (take end (set entries place new))
 listed-taken number entries place new end is are stands last = record {

@@ -1,11 +1,11 @@
 -- The cells of the orders at their places, and room for slots.
-use Rattle.std.proofs.Common.{◌≡◌, ℕ, zero, suc, ◌+◌, ◌-◌, ◌≤◌, true, ◌&&◌, List, [], ◌∷◌, ◌++◌, length, get_or, replicate, take, Option, Some, None, refl, sym, ap, ◌∙◌, arith, inl, inr, if◌then◌else◌, OnErr, Result, Ok, Err, HashMap, position, slice_get, option_map, unwrap_or, length-append, take_all}
+use Rattle.std.proofs.Common.{◌≡◌, ℕ, zero, suc, ◌+◌, ◌-◌, ◌≤◌, true, ◌&&◌, List, [], ◌∷◌, ◌++◌, length, get_or, replicate, take, Option, Some, None, refl, sym, ap, ◌∙◌, arith, inl, inr, if◌then◌else◌, HashMap, position, slice_get, option_map, unwrap_or, length-append, take_all}
 use Rattle.std.specs.Cmp.{IsEquivalence}
-use Rattle.std.specs.Cmp.Lexicographic.{nat_list_eq_equiv, same_text}
+use Rattle.std.specs.Cmp.Lexicographic.{nat_list_eq_equiv}
 use Rattle.std.specs.HashMap.{IsUnique, values}
 use Rattle.std.specs.List.{FoldsTo}
 use Rattle.std.specs.Map.{keys_of, lookup}
-use Rattle.std.proofs.lemmas.Bool.{cases_Bool, and_from, and_parts}
+use Rattle.std.proofs.lemmas.Bool.{cases_Bool, and_from}
 use Rattle.std.proofs.lemmas.List.Quantifiers.{position-Some}
 use Rattle.std.proofs.lemmas.Map.Entries.{hash_map_get_place}
 use Rattle.std.proofs.lemmas.Option.{same_Some, slice_get-get_or, slice_get-map}
@@ -13,13 +13,9 @@ use Rattle.indexmap.proofs.CallerLemmas.{updates-with_value_at}
 use Rattle.indexmap.specs.IndexMap.{set_value_at}
 use Rattle.blot_types.specs.declared.keys.OrderKey.{OrderKey}
 use Rattle.blot_types.specs.Keys.{same_order}
+use Rattle.blot_types.proofs.KeyLemmas.{same_order-true}
 use Rattle.blot_order.specs.Cells.{Tally, no_tally, order_at, tally_at, Changes, KeepsPlaces}
 use Rattle.blot_order.specs.Slots.{reaching}
-
--- what is true is true where there is an error
-pub on_err : {T E P : Type 0} (result : Result T E) → P → OnErr result P
-on_err (Ok value) is = search
-on_err (Err error) is = is
 
 -- ---- room for slots
 
@@ -48,18 +44,11 @@ reaching-with R n old new more p q none short long is steps =
 pub same_order-refl : (order : OrderKey) → same_order order order ≡ true
 same_order-refl order = and_from _ _ (nat_list_eq_equiv.refl order.peer) (nat_list_eq_equiv.refl order.id)
 
-same_order-is : (a b : OrderKey) → same_order a b ≡ true → a ≡ b
-same_order-is a b same =
-    let parts = and_parts _ _ same in
-    let peer = same_text a.peer b.peer (sym parts.0) in
-    let id = same_text a.id b.id (sym parts.1) in
-    λ i. record { peer = peer i; id = id i }
-
 same_order-laws : IsEquivalence same_order
 same_order-laws = record {
   refl = same_order-refl;
   symm = λ a b i. nat_list_eq_equiv.symm a.peer b.peer i && nat_list_eq_equiv.symm a.id b.id i;
-  congr = λ a b c same. ap (λ key. same_order key c) (same_order-is a b same);
+  congr = λ a b c same. ap (λ key. same_order key c) (same_order-true a b same);
 }
 
 -- ---- the cell at a place
@@ -73,7 +62,7 @@ entry-there (cell ∷ cells) (suc place) order is = entry-there cells place orde
 pub found-there : (cells : List (OrderKey × Tally)) (order : OrderKey) (place : ℕ) → position (same_order order) (keys_of cells) ≡ Some place → order_at cells place ≡ Some order
 found-there cells order place is =
     let found = position-Some (same_order order) (keys_of cells) place order is in
-    slice_get-get_or (keys_of cells) place order found.0 ∙ ap Some (sym (same_order-is order (get_or (keys_of cells) place order) found.1))
+    slice_get-get_or (keys_of cells) place order found.0 ∙ ap Some (sym (same_order-true order (get_or (keys_of cells) place order) found.1))
 
 -- a tally that is written leaves the orders at their places
 pub places-written : (cells : List (OrderKey × Tally)) (at : ℕ) (tally : Tally) → KeepsPlaces cells (set_value_at cells at tally)
@@ -122,7 +111,7 @@ module _ {S : Type 0} (cells : HashMap OrderKey Tally S) (unique : IsUnique same
       let after = ap (λ found. unwrap_or found no_tally) (updates.0 key) in
       elim (cases_Bool (same_order order key)) [
         | inl own ↦
-            let here = same_order-is order key own in
+            let here = same_order-true order key own in
             rw own (after ∙ ap (λ test. unwrap_or (if test then Some new else lookup (same_order key) cells.entries) no_tally) own
             ∙ written ∙ ap change (tally-there old read ∙ ap (tally_at cells.entries) here))
         | inr other ↦ rw other (after ∙ ap (λ test. unwrap_or (if test then Some new else lookup (same_order key) cells.entries) no_tally) other)

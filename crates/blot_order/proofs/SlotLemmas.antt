@@ -1,9 +1,8 @@
 -- The slots of an order book and the fills by number that they stand for.
-use Rattle.std.proofs.Common.{◌≡◌, ℕ, zero, suc, ◌+◌, ◌-◌, ◌<◌, ◌≤◌, List, [], ◌∷◌, ◌++◌, length, get_or, set, replicate, map, Option, Some, None, true, false, refl, sym, ap, ◌∙◌, arith, inl, inr, ◌==◌, nat_lt, IsSome, if◌then◌else◌}
+use Rattle.std.proofs.Common.{◌≡◌, ℕ, zero, suc, ◌+◌, ◌-◌, ◌<◌, ◌≤◌, List, [], ◌∷◌, ◌++◌, length, get_or, set, replicate, map, Option, Some, None, true, false, refl, sym, ap, ◌∙◌, arith, inl, inr, ◌==◌, nat_lt, IsSome, if◌then◌else◌, filter_map, option_and_then, nat_cmp, is_lt, ltb-true, ltb-false, lt-ltb, ne_eqb, eq-eqb, eqb-true, get_or-set_same, get_or-set_other, append-nil, length-append}
 use Rattle.std.specs.Bool.{passes}
 use Rattle.std.specs.Cmp.{nat_cmp_total, unsigned_tied}
 use Rattle.std.specs.FinMap as finite
-use Rattle.std.proofs.Common.{filter_map, option_and_then, nat_cmp, is_lt, ltb-true, ltb-false, lt-ltb, ne_eqb, eq-eqb, eqb-true, get_or-set_same, get_or-set_other, append-nil, length-append}
 use Rattle.std.specs.Ordering.{eq_by_cmp}
 use Rattle.std.proofs.lemmas.Bool.{cases_Bool, and_from, eqb-false}
 use Rattle.std.proofs.lemmas.List.{get_or_append_left, get_or-append_right, get_or_past, length-replicate}

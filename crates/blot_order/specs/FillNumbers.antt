@@ -1,4 +1,4 @@
--- The numbers of the fills of an order: those that are put, and the entries that list them.
+-- The numbers of the fills of an order: those that are put, and the list that has them.
 use Rattle.std.specs.Prelude.{◌≡◌, ◌≢◌, ℕ, ◌+◌, ◌≤◌, ◌<◌, Bool, true, List, [], ◌∷◌, length, All, slice_index_or, nat_eq, nat_lt, if◌then◌else◌}
 use Rattle.blot_order.specs.declared.fill_numbers.ListedNumber.{ListedNumber}
 
@@ -17,37 +17,37 @@ abbrev pub without_number : ℕ → List ℕ → List ℕ
 without_number number [] = []
 without_number number (first ∷ others) = if nat_eq first number then others else first ∷ without_number number others
 
--- the numbers that entries list as put
+-- the numbers that are listed as put
 abbrev pub numbers_put : List ListedNumber → List ℕ
 numbers_put [] = []
-numbers_put (entry ∷ entries) = if entry.is_put then entry.number ∷ numbers_put entries else numbers_put entries
+numbers_put (first ∷ listed) = if first.is_put then first.number ∷ numbers_put listed else numbers_put listed
 
--- the numbers of entries rise, from a number on
+-- listed numbers rise, from a number on
 abbrev pub RiseFrom : ℕ → List ListedNumber → Type 0
 RiseFrom number [] = Unit {0}
-RiseFrom number (entry ∷ entries) = (number ≤ entry.number) × RiseFrom (entry.number + 1) entries
+RiseFrom number (first ∷ listed) = (number ≤ first.number) × RiseFrom (first.number + 1) listed
 
--- whether the last of entries is put; without any, what stands before them
+-- whether the last is put; without any, what stands before them
 abbrev pub ends_put : Bool → List ListedNumber → Bool
 ends_put before [] = before
-ends_put before (entry ∷ entries) = ends_put entry.is_put entries
+ends_put before (first ∷ listed) = ends_put first.is_put listed
 
--- entries in good order: their numbers rise, and the last is put, if there is one
-pub record AreListed (entries : List ListedNumber) : Type 0 where
-  pub rise : RiseFrom 0 entries
-  pub last : ends_put true entries ≡ true
+-- a list in good order: the numbers rise, and the last is put, if there is one
+pub record AreListed (listed : List ListedNumber) : Type 0 where
+  pub rise : RiseFrom 0 listed
+  pub last : ends_put true listed ≡ true
 
--- a number stands at a place in entries
-pub record StandsAt (number : ℕ) (entries : List ListedNumber) (place : ℕ) : Type 0 where
-  pub within : place < length entries
-  pub at : (d : ListedNumber) → (slice_index_or entries place d).number ≡ number
+-- a number stands at a place of the list
+pub record StandsAt (number : ℕ) (listed : List ListedNumber) (place : ℕ) : Type 0 where
+  pub within : place < length listed
+  pub at : (d : ListedNumber) → (slice_index_or listed place d).number ≡ number
 
--- no entry has a number, which belongs at a place: those before it have lower numbers, and those from it on higher ones
-pub record BelongsAt (number : ℕ) (entries : List ListedNumber) (place : ℕ) : Type 0 where
-  pub within : place ≤ length entries
-  pub below : (k : ℕ) (d : ListedNumber) → k < place → (slice_index_or entries k d).number < number
-  pub above : (k : ℕ) (d : ListedNumber) → place ≤ k → k < length entries → number < (slice_index_or entries k d).number
+-- a number isn't listed, and belongs at a place: those before it are lower, and those from it on higher
+pub record BelongsAt (number : ℕ) (listed : List ListedNumber) (place : ℕ) : Type 0 where
+  pub within : place ≤ length listed
+  pub below : (k : ℕ) (d : ListedNumber) → k < place → (slice_index_or listed k d).number < number
+  pub above : (k : ℕ) (d : ListedNumber) → place ≤ k → k < length listed → number < (slice_index_or listed k d).number
 
--- no entry has a number
+-- a number isn't listed
 abbrev pub IsUnlisted : ℕ → List ListedNumber → Type 0
-IsUnlisted number = All (λ entry. entry.number ≢ number)
+IsUnlisted number = All (λ it. it.number ≢ number)

@@ -1,8 +1,7 @@
 -- The fills of an order book by their number: a finite map from number to what is held there.
-use Rattle.std.specs.Prelude.{ℕ, List, Option, Some, None}
+use Rattle.std.specs.Prelude.{ℕ, List, Option, Some, None, filter_map, option_map, option_and_then}
 use Rattle.std.specs.Coded.{Coded, coded_ℕ}
 use Rattle.std.specs.FinMap as map
-use Rattle.std.specs.Prelude.{filter_map, option_map, option_and_then}
 use Rattle.std.specs.Ordering.{nat_cmp}
 use Rattle.blot_types.specs.declared.fill.Fill.{Fill}
 use Rattle.blot_order.specs.contracts.stored_fill.FillState as held_rust

@@ -1,8 +1,7 @@
 -- The slots in which an order book stores its fills: slot n is that of number n, and the numbers past the
 -- last slot hold nothing.
-use Rattle.std.specs.Prelude.{ℕ, Bool, true, false, ◌+◌, ◌-◌, List, [], ◌∷◌, ◌++◌, length, map, get_or, replicate, Option, Some, None, if◌then◌else◌}
+use Rattle.std.specs.Prelude.{ℕ, Bool, true, false, ◌+◌, ◌-◌, List, [], ◌∷◌, ◌++◌, length, map, get_or, replicate, Option, Some, None, if◌then◌else◌, filter, filter_map, option_and_then, option_map}
 use Rattle.std.specs.FinMap as finite
-use Rattle.std.specs.Prelude.{filter, filter_map, option_and_then, option_map}
 use Rattle.blot_types.specs.declared.{fill.Fill.Fill, keys.OrderKey.OrderKey}
 use Rattle.blot_types.specs.Keys.{same_order}
 use Rattle.blot_order.specs.declared.stored_fill.FillState.{FillState}

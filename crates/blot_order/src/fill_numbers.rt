@@ -16,7 +16,7 @@ pub(crate) struct FillNumbers {
     kept: usize,
 }
 
-/// An entry: a number, and whether its fill is put. A number that is taken stays listed, and only loses its mark, so that those
+/// A listed number, and whether its fill is put. A number that is taken stays listed, and only loses its mark, so that those
 /// behind it aren't moved; it leaves the list once none behind it is put.
 #[derive(Clone, Copy)]
 pub(crate) struct ListedNumber {
@@ -90,7 +90,7 @@ impl FillNumbers {
         ensures { result ≡ last_or None self.now.put }
     {
         match self.listed.last() {
-            Some(entry) => Some(u64::from(entry.number)),
+            Some(listed) => Some(u64::from(listed.number)),
             None => None,
         }
     }
@@ -129,7 +129,7 @@ fn mark_put(listed: &mut [ListedNumber], number: u64) -> bool
     true
 }
 
-// Makes room for one more entry, of those that aren't put.
+// Makes room for one more listed number, of those that aren't put.
 fn make_room(listed: &mut Vec<ListedNumber>)
     requires listed { AreListed listed.old.items }
     requires room { length (numbers_put listed.old.items) < vec_capacity listed.old }
@@ -140,7 +140,7 @@ fn make_room(listed: &mut Vec<ListedNumber>)
     ensures capacity { vec_capacity listed.new ≡ vec_capacity listed.old }
 {
     if listed.len() == listed.capacity() {
-        listed.retain(|entry| entry.is_put);
+        listed.retain(|it| it.is_put);
     }
 }
 
@@ -157,16 +157,16 @@ fn insert_put(listed: &mut Vec<ListedNumber>, number: u64)
     let Err(place) = find(listed, number) else {
         unreachable!()
     };
-    let entry = ListedNumber {
+    let new = ListedNumber {
         number: number as u32,
         is_put: true,
     };
-    let Ok(()) = listed.insert(place, entry) else {
+    let Ok(()) = listed.insert(place, new) else {
         unreachable!()
     };
 }
 
-// Takes a number that is put: its entry loses its mark, and those at the end that aren't put are dropped.
+// Takes a number that is put: it stays listed without its mark, and those at the end that aren't put are dropped.
 fn take_number(listed: &mut Vec<ListedNumber>, number: u64)
     requires listed { AreListed listed.old.items }
     requires put { Contains (numbers_put listed.old.items) number }
@@ -182,7 +182,7 @@ fn take_number(listed: &mut Vec<ListedNumber>, number: u64)
     listed.truncate(end);
 }
 
-// Where the entries end once those at the end that aren't put are dropped.
+// Where the list ends once those at the end that aren't put are dropped.
 fn end_of_put(listed: &[ListedNumber]) -> usize
     ensures within { result ≤ length listed.now }
     ensures same { numbers_put (take result listed.now) ≡ numbers_put listed.now }
@@ -195,7 +195,7 @@ fn end_of_put(listed: &[ListedNumber]) -> usize
     end
 }
 
-// The place of a number in entries whose numbers rise, or the one where it belongs.
+// The place of a number in a rising list, or the one where it belongs.
 fn find(listed: &[ListedNumber], number: u64) -> Result<usize, usize>
     requires { RiseFrom 0 listed.now }
     ensures { MatchResult result (StandsAt number listed.now) (BelongsAt number listed.now) }
@@ -203,7 +203,7 @@ fn find(listed: &[ListedNumber], number: u64) -> Result<usize, usize>
     // Mostly the number is above all others, which the last one tells.
     match listed.last() {
         Some(last) if number <= u64::from(last.number) => {
-            listed.binary_search_by_key(&number, |entry| u64::from(entry.number))
+            listed.binary_search_by_key(&number, |it| u64::from(it.number))
         }
         _ => Err(listed.len()),
     }

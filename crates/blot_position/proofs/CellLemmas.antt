@@ -1,7 +1,6 @@
 -- The cells as they are stored, and the positions that they stand for.
-use Rattle.std.proofs.Common.{◌≡◌, cond, List, [], ◌∷◌, Option, Some, None, false, refl, sym, ap, subst, ◌∙◌, inl, inr, if◌then◌else◌, is_some, is_none}
+use Rattle.std.proofs.Common.{◌≡◌, cond, List, [], ◌∷◌, Option, Some, None, false, refl, sym, ap, subst, ◌∙◌, inl, inr, if◌then◌else◌, is_some, is_none, unwrap_or}
 use Rattle.std.specs.FinMap as finite
-use Rattle.std.proofs.Common.{unwrap_or}
 use Rattle.std.specs.List.{list_any, IsDistinct}
 use Rattle.std.specs.Map.{keys_of, lookup}
 use Rattle.std.proofs.lemmas.Bool.{cases_Bool}

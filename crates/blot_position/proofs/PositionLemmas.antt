@@ -1,13 +1,13 @@
 -- The positions after a change: the sums and the cell of the same position, and of another one.
-use Rattle.std.proofs.Common.{◌≡◌, ℕ, ℤ, List, Option, Some, Bool, true, false, ◌||◌, refl, sym, ap, ◌∙◌, inl, inr, if◌then◌else◌, is_some}
+use Rattle.std.proofs.Common.{◌≡◌, ℕ, ℤ, List, Option, Some, Bool, true, false, ◌||◌, refl, sym, ap, ◌∙◌, inl, inr, if◌then◌else◌, is_some, unwrap_or, nat_cmp}
 use Rattle.std.specs.Cmp.{tied_then}
 use Rattle.std.specs.Cmp.Lexicographic.{slice_cmp, nat_list_eq_equiv, texts_ties, same_text as text_told}
 use Rattle.std.specs.FinMap as finite
-use Rattle.std.proofs.Common.{unwrap_or, nat_cmp}
 use Rattle.std.specs.Ordering.{eq_by_cmp}
 use Rattle.std.proofs.lemmas.Bool.{cases_Bool, and_from, and_parts, or_right}
 use Rattle.blot_types.specs.Keys.{same_text, position_at, position_cmp}
 use Rattle.blot_types.proofs.KeyLemmas.{position_cmp-total, position_cmp-exact}
+use Rattle.blot_types.proofs.GeneralLemmas.{through}
 use Rattle.blot_position.specs.declared.sums.Sums.{Sums}
 use Rattle.blot_position.specs.Sums.{no_parts, with_one, without_one}
 use Rattle.blot_position.specs.Positions.{Cells, same_position, sums_at, has_cell, with_cell, with_part, without_part}
@@ -37,11 +37,6 @@ pub get-insert : (cells : Cells) (a s a' s' : List ℕ) (sums : Sums) → finite
 get-insert cells a s a' s' sums =
     finite.get-insert position_cmp-total cells (position_at a s) sums (position_at a' s')
     ∙ ap (λ test. if test then Some sums else finite.get cells (position_at a' s')) (tied-same_position a' s' a s ∙ same_position-sym a' s' a s)
-
--- a choice is handed through what reads it
-through : {A B : Type 0} (f : A → B) (test : Bool) (a b : A) → f (if test then a else b) ≡ (if test then f a else f b)
-through f true a b = refl
-through f false a b = refl
 
 sums_at-insert : (cells : Cells) (a s a' s' : List ℕ) (sums : Sums) → sums_at (finite.insert cells (position_at a s) sums) a' s' ≡ (if same_position a s a' s' then sums else sums_at cells a' s')
 sums_at-insert cells a s a' s' sums =

@@ -1,8 +1,7 @@
 -- The positions by account and symbol: a finite map to the number and the sums of their parts.
-use Rattle.std.specs.Prelude.{◌≡◌, ℕ, ℤ, Bool, ◌&&◌, List}
+use Rattle.std.specs.Prelude.{◌≡◌, ℕ, ℤ, Bool, ◌&&◌, List, unwrap_or}
 use Rattle.std.specs.Coded.{Coded}
 use Rattle.std.specs.FinMap as map
-use Rattle.std.specs.Prelude.{unwrap_or}
 use Rattle.std.specs.List.{list_any, IsDistinct}
 use Rattle.blot_types.specs.contracts.keys.PositionKey as position_rust
 use Rattle.blot_types.specs.declared.keys.PositionKey.{PositionKey}

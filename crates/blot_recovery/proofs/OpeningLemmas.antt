@@ -18,10 +18,6 @@ use Rattle.blot_recovery.specs.Opening.{IfRefused, IsBeginning, IsOpenFault, IsO
 use Rattle.blot_recovery.proofs.FrameLemmas.{desk_events-last, desk_events-nil, keeps_last, whole-nil}
 
 -- a text of no bytes
-pub no-text : (text : List ℕ) → length text ≡ 0 → text ≡ []
-no-text [] none = refl
-no-text (byte ∷ text) none = absurd (omega (arith, none))
-
 -- the beginning brings no event
 pub beginning-quiet : (own : List ℕ) (day : ℤ) (text : List ℕ) → IsBeginning own day text → desk_events text ≡ []
 beginning-quiet own day text begins =

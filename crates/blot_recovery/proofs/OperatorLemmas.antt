@@ -8,7 +8,7 @@ use Rattle.std.proofs.lemmas.List.{get_or-map, length-map, map-append, get_or_ap
 use Rattle.std.proofs.lemmas.List.Elements.{All-push}
 use Rattle.std.proofs.lemmas.Option.{get_or_from_slice_get}
 use Rattle.blot_types.specs.Keys.{same_text}
-use Rattle.blot_types.proofs.GeneralLemmas.{all-front}
+use Rattle.blot_types.proofs.GeneralLemmas.{all-front, all-last}
 use Rattle.blot_desk.specs.declared.receipt.Receipt.{Receipt}
 use Rattle.blot_diary.specs.declared.{kept.Beginning.Beginning, kept.Kept.Kept}
 use Rattle.blot_diary.specs.Beginnings.{begun_by}
@@ -69,10 +69,6 @@ different-more names name apart none j k d before within same =
     by (inr (inr more)) = absurd (omega (arith, within, more, length_push names name))
 
 -- ---- an operator comes
-
-all-last : {X : Type 0} (P : X → Type 0) (front : List X) (x : X) → All P (front ++ x ∷ []) → P x
-all-last P [] x all = all 0 x (omega arith)
-all-last P (y ∷ front) x all = all-last P front x (λ k d less. all (suc k) d (omega (arith, less)))
 
 pub operators-more : {L : Type 0} (text : List ℕ) (old new : KeptOperators L) (operator : KeptOperator L) (seat : List Receipt)
     → new.named.items ≡ old.named.items ++ operator ∷ [] → old.spare.items ≡ new.spare.items ++ seat ∷ [] → operator.seat ≡ seat → operator.records ≡ 0

@@ -4,6 +4,7 @@ use Rattle.std.specs.List.{cons_option, list_all}
 use Rattle.std.proofs.lemmas.Bool.{and_from, and_parts, false≢true}
 use Rattle.std.proofs.lemmas.List.Folds.{list_all-append}
 use Rattle.blot_types.specs.Keys.{same_text}
+use Rattle.blot_types.proofs.KeyLemmas.{same_text-true, same_text-refl}
 use Rattle.blot_fields.specs.declared.TheConstants.{SEQUENCE_MAX}
 use Rattle.blot_desk.specs.declared.{event.Event.TheVariants.Submit, receipt.Receipt.Receipt}
 use Rattle.blot_diary.specs.declared.{kept.Content.Content, kept.Kept.Kept, kept.Noted.Noted, kept.Beginning.Beginning as Begun}
@@ -18,7 +19,7 @@ use Rattle.blot_gateway.specs.AtOnce.{are_submits, is_submit}
 use Rattle.blot_recovery.specs.Parties.{IsKeptOperator, IsKeptPeer, IsUnheard, brought_by, events_told, is_operator, is_peer, operator_record_after, operator_record_by, operator_records_of, peer_record_after, peer_record_by, peer_records_of}
 use Rattle.blot_recovery.specs.Taking.{IsAskedBy, KeepsLast, event_noted, stands_by, stands_for, with_event}
 use Rattle.blot_recovery.proofs.FrameLemmas.{brought-nil, brought-others, brought-theirs, frames_of-nil, numbers_of-last, operator_records_of-last, peer_records_of-last}
-use Rattle.blot_recovery.proofs.TestLemmas.{is_same, middle-false, not_same, same-itself}
+use Rattle.blot_recovery.proofs.TestLemmas.{middle-false, not_same}
 
 -- ---- the events
 
@@ -78,7 +79,7 @@ no-operator name from Message received sent is = refl
 pub asked : (name from : List ℕ) (content : Content) → IsAskedBy name content → of_operator name (noted_by from content) ≡ cons_option (noted_by from content) []
 asked name from (Asked operator event) is =
     let noted : Noted = record { party = Operator operator; event = event } in
-    ap (λ test. cond test (noted ∷ []) []) (ap (λ operator. same_text operator name) is ∙ same-itself name)
+    ap (λ test. cond test (noted ∷ []) []) (ap (λ operator. same_text operator name) is ∙ same_text-refl name)
 asked name from (Command command) is = absurd is
 asked name from (Beginning day) is = absurd is
 asked name from (Numbers numbers) is = absurd is
@@ -183,7 +184,7 @@ asked-record name peer last kept Message is = absurd is
 
 asked-own : (name : List ℕ) (last : ℕ) (kept : Kept) (content : Content) → IsAskedBy name content → operator_record_by name last kept content ≡ kept.number
 asked-own name last kept (Asked operator event) is =
-    ap (λ test. if test then kept.number else last) (ap (λ operator. same_text operator name) is ∙ same-itself name)
+    ap (λ test. if test then kept.number else last) (ap (λ operator. same_text operator name) is ∙ same_text-refl name)
 asked-own name last kept (Command command) is = absurd is
 asked-own name last kept (Beginning day) is = absurd is
 asked-own name last kept (Numbers numbers) is = absurd is
@@ -231,11 +232,11 @@ Ends own peer from to = ((from ≡ peer) × (to ≡ own)) ⊎ ((from ≡ own) ×
 
 ends-received : (own peer from to : List ℕ) → (same_text from peer && same_text to own) ≡ true → Ends own peer from to
 ends-received own peer from to is =
-    let both = and_parts (same_text from peer) (same_text to own) is in inl (is_same from peer both.0, is_same to own both.1)
+    let both = and_parts (same_text from peer) (same_text to own) is in inl (same_text-true from peer both.0, same_text-true to own both.1)
 
 ends-sent : (own peer from to : List ℕ) → (same_text from own && same_text to peer) ≡ true → Ends own peer from to
 ends-sent own peer from to is =
-    let both = and_parts (same_text from own) (same_text to peer) is in inr (is_same from own both.0, is_same to peer both.1)
+    let both = and_parts (same_text from own) (same_text to peer) is in inr (same_text-true from own both.0, same_text-true to peer both.1)
 
 ends-either : (own peer from to : List ℕ) (received sent : Bool) → (received ≡ true → Ends own peer from to) → (sent ≡ true → Ends own peer from to)
     → (received || sent) ≡ true → Ends own peer from to

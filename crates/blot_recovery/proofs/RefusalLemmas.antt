@@ -4,10 +4,10 @@ use Rattle.std.specs.List.{list_any}
 use Rattle.std.proofs.lemmas.Bool.{and_parts, false≢true, or_parts}
 use Rattle.std.proofs.lemmas.List.{length-map}
 use Rattle.blot_types.specs.Keys.{same_text}
+use Rattle.blot_types.proofs.KeyLemmas.{same_text-true}
 use Rattle.blot_tag.specs.Fields.{fields_of}
-use Rattle.blot_diary.specs.declared.{kept.Beginning.Beginning, kept.Content.Content}
+use Rattle.blot_diary.specs.declared.{kept.Beginning.Beginning, kept.Content.Content, kept.Kept.Kept}
 use Rattle.blot_diary.specs.declared.kept.Content.TheVariants as contents
-use Rattle.blot_diary.specs.declared.kept.Kept.{Kept}
 use Rattle.blot_diary.specs.Beginnings.{beginning_of}
 use Rattle.blot_diary.specs.Diary.{desk_events}
 use Rattle.blot_diary.specs.Events.{noted_of}
@@ -21,7 +21,7 @@ use Rattle.blot_recovery.specs.Taking.{AreInPlace, IsAskedBy, IsInPlace, IsOfPar
 use Rattle.blot_recovery.specs.Walking.{IsFaultIn, IsTakenBy, RefusesBehind}
 use Rattle.blot_recovery.proofs.FrameLemmas.{frames_of-nil, whole-nil}
 use Rattle.blot_recovery.proofs.TakingLemmas.{beginning_of-nil}
-use Rattle.blot_recovery.proofs.TestLemmas.{are_other, is_same, not_same}
+use Rattle.blot_recovery.proofs.TestLemmas.{are_other, not_same}
 use Rattle.blot_recovery.proofs.WalkLemmas.{no-frame-nil}
 use Rattle.blot_recovery.proofs.OperatorLemmas.{either-none}
 
@@ -204,11 +204,11 @@ stands-one contents.Message false sent is = inr is
 other-by : (own peer : List ℕ) (kept : Kept) → (peer ≡ own → ⊥)
     → ((same_text kept.from peer && same_text kept.to own) ≡ true) ⊎ ((same_text kept.from own && same_text kept.to peer) ≡ true) → other_of own kept ≡ peer
 other-by own peer kept foreign (inl received) =
-    let from : kept.from ≡ peer = is_same kept.from peer (and_parts (same_text kept.from peer) (same_text kept.to own) received).0 in
+    let from : kept.from ≡ peer = same_text-true kept.from peer (and_parts (same_text kept.from peer) (same_text kept.to own) received).0 in
     ap (λ test. if test then kept.to else kept.from) (not_same kept.from own (λ is. foreign (sym from ∙ is))) ∙ from
 other-by own peer kept foreign (inr sent) =
     let both = and_parts (same_text kept.from own) (same_text kept.to peer) sent in
-    ap (λ test. if test then kept.to else kept.from) both.0 ∙ is_same kept.to peer both.1
+    ap (λ test. if test then kept.to else kept.from) both.0 ∙ same_text-true kept.to peer both.1
 
 stands-other : (own peer : List ℕ) (kept : Kept) → (peer ≡ own → ⊥) → stands_for own peer kept ≡ true → other_of own kept ≡ peer
 stands-other own peer kept foreign is =
@@ -248,7 +248,7 @@ module _ {L : Type 0} (taking : Taking L) (kept : Kept) where
       by : (test : Bool) → same_text other taking.own ≡ test → IsOfNoParty taking kept fault
       by true same =
           subst (IsOfNoParty taking kept) (sym (told ∙ ap (λ test. if test then Damaged place else Unlisted other) same))
-          (not-theirs unasked (inl (sym is ∙ is_same other taking.own same)))
+          (not-theirs unasked (inl (sym is ∙ same_text-true other taking.own same)))
       by false differ =
           subst (IsOfNoParty taking kept) (sym (told ∙ ap (λ test. if test then Damaged place else Unlisted other) differ))
           (record { other_is = sym is; unlisted = none; foreign = are_other other taking.own differ })

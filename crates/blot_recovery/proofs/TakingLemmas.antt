@@ -9,14 +9,14 @@ use Rattle.std.proofs.lemmas.List.Elements.{All-push}
 use Rattle.std.proofs.lemmas.Map.Made.{AllPairs-from_IsDistinct}
 use Rattle.std.proofs.lemmas.Option.{get_or_from_slice_get}
 use Rattle.blot_types.specs.Keys.{same_text}
+use Rattle.blot_types.proofs.KeyLemmas.{same_text-true, same_text-refl}
 use Rattle.blot_tag.specs.Fields.{fields_of}
 use Rattle.blot_tag.specs.Joined.{FrameComesFirst, HasLastFrame}
 use Rattle.blot_tag.specs.Walking.{Walk, frames_of}
 use Rattle.blot_desk.specs.Desk.{DeskState, IsRun, empty_desk, events_of}
-use Rattle.blot_diary.specs.declared.{kept.Beginning.Beginning, kept.Content.Content}
+use Rattle.blot_diary.specs.declared.{kept.Beginning.Beginning, kept.Content.Content, kept.Kept.Kept}
 use Rattle.blot_desk.specs.declared.event.Event.{Event}
 use Rattle.blot_diary.specs.declared.kept.Content.TheVariants as contents
-use Rattle.blot_diary.specs.declared.kept.Kept.{Kept}
 use Rattle.blot_recovery.specs.declared.{operators.TheConstants.OPERATOR_SEATS, operators.KeptOperators.KeptOperators, parties.KeptPeer.KeptPeer, taking.Taking.Taking}
 use Rattle.blot_diary.specs.Beginnings.{beginning_of, begun_by}
 use Rattle.blot_diary.specs.Diary.{desk_events}
@@ -28,7 +28,7 @@ use Rattle.blot_recovery.specs.Taking.{AreApart, AreInPlace, AsksSame, HasTaken,
 use Rattle.blot_recovery.proofs.FrameLemmas.{brought-last, brought-theirs, desk_events-last, desk_events-nil, frames_of-nil, keeps_last}
 use Rattle.blot_recovery.proofs.OperatorLemmas.{operators-begun, operators-other}
 use Rattle.blot_recovery.proofs.PartyLemmas.{asked as asked-theirs, is-beginning, peer-asked, peer-begun, peer-other}
-use Rattle.blot_recovery.proofs.TestLemmas.{are_other, is_same, none-of, same-itself}
+use Rattle.blot_recovery.proofs.TestLemmas.{are_other, none-of}
 
 -- ---- a list of peers
 
@@ -36,7 +36,7 @@ length-names : {L : Type 0} (peers : List (KeptPeer L)) → length (names_of pee
 length-names peers = length-map peers (λ peer. peer.peer)
 
 decides : (a b : List ℕ) → Decides (same_text a b) (a ≡ b)
-decides a b = (is_same a b, λ is. ap (same_text a) (sym is) ∙ same-itself a)
+decides a b = (same_text-true a b, λ is. ap (same_text a) (sym is) ∙ same_text-refl a)
 
 module _ {L : Type 0} (own text more : List ℕ) (kept : Kept) (last : KeepsLast text kept more) (peers : List (KeptPeer L)) (all : All (IsKeptPeer own text) peers) where
   pub all-asked : (name : List ℕ) → IsAskedBy name kept.content → All (IsKeptPeer own more) peers
@@ -259,7 +259,7 @@ beginning_of-nil = ap (λ frames. option_and_then begun_by (option_and_then (λ 
 -- each of some names is one of them
 is-one : (names : List (List ℕ)) (k : ℕ) (d : List ℕ) → k < length names → list_any (same_text (get_or names k d)) names ≡ true
 is-one [] k d less = absurd (omega (arith, less))
-is-one (name ∷ names) zero d less = ap (λ test. test || list_any (same_text name) names) (same-itself name)
+is-one (name ∷ names) zero d less = ap (λ test. test || list_any (same_text name) names) (same_text-refl name)
 is-one (name ∷ names) (suc k) d less = or_right (same_text (get_or names k d) name) (list_any (same_text (get_or names k d)) names) (is-one names k d (omega (arith, less)))
 
 all-seated : (names : List (List ℕ)) → All (HasSeat names []) names

@@ -1,28 +1,20 @@
 -- Tests of texts, and results.
 use Rattle.std.proofs.Common.{◌≡◌, ℕ, zero, suc, ◌<◌, Bool, true, false, ◌&&◌, List, [], ◌∷◌, length, get_or, arith, Result, Ok, Err, refl, sym, ap, subst, ◌∙◌, IfErr, OnOk, IsErrAnd}
 use Rattle.std.specs.List.{list_any}
-use Rattle.std.specs.Cmp.Lexicographic.{same_text as text_same}
 use Rattle.std.proofs.lemmas.Bool.{false≢true, or_parts}
-use Rattle.std.proofs.lemmas.Cmp.{nat_list_eq_equiv}
 use Rattle.blot_types.specs.Keys.{same_text}
+use Rattle.blot_types.proofs.KeyLemmas.{same_text-true, same_text-refl}
 
--- texts that are found to be one are one
-pub is_same : (a b : List ℕ) → same_text a b ≡ true → a ≡ b
-is_same a b is = text_same a b (sym is)
-
-pub same-itself : (a : List ℕ) → same_text a a ≡ true
-same-itself a = nat_list_eq_equiv.refl a
-
--- and those that aren't one, aren't
+-- texts that aren't one aren't found to be one, and the other way round
 pub not_same : (a b : List ℕ) → (a ≡ b → ⊥) → same_text a b ≡ false
 not_same a b differ = by (same_text a b) refl
   where
     by : (test : Bool) → same_text a b ≡ test → same_text a b ≡ false
-    by true is = absurd (differ (is_same a b is))
+    by true is = absurd (differ (same_text-true a b is))
     by false is = is
 
 pub are_other : (a b : List ℕ) → same_text a b ≡ false → a ≡ b → ⊥
-are_other a b is same = false≢true (sym is ∙ ap (same_text a) (sym same) ∙ same-itself a)
+are_other a b is same = false≢true (sym is ∙ ap (same_text a) (sym same) ∙ same_text-refl a)
 
 -- where none of some passes a test, one doesn't
 pub none-of : {X : Type 0} (p : X → Bool) (xs : List X) (k : ℕ) (d : X) → list_any p xs ≡ false → k < length xs → p (get_or xs k d) ≡ false

@@ -1,6 +1,7 @@
 -- The frames of a text, taken one by one.
-use Rattle.std.proofs.Common.{◌≡◌, inl, inr, ℕ, ◌+◌, ◌<◌, ◌≤◌, List, [], ◌∷◌, ◌++◌, Option, Some, None, Result, Ok, Err, length, take, drop, refl, sym, ap, subst, ◌∙◌, arith, append_assoc, length-append, IfErr, IfOk, IfSome, OnOk, append-nil, drop-drop, take-append-drop}
+use Rattle.std.proofs.Common.{◌≡◌, inl, inr, ℕ, ◌+◌, ◌<◌, ◌≤◌, List, [], ◌++◌, Option, Some, None, Result, Ok, Err, length, take, drop, refl, sym, ap, subst, ◌∙◌, arith, append_assoc, length-append, IfErr, IfOk, IfSome, OnOk, append-nil, drop-drop, take-append-drop}
 use Rattle.std.proofs.Math.Seq.{take-append_seam}
+use Rattle.std.proofs.lemmas.List.{nil_from_length}
 use Rattle.blot_tag.specs.Frames.{BeginsWithFrame, IsFrame, IsFramePrefix, IsGarbled}
 use Rattle.blot_tag.specs.Looking.{look_of}
 use Rattle.blot_tag.proofs.FrameLemmas.{look_of-frame, look_of-neither, look_of-not_garbled, look_of-ok, look_of-prefix}
@@ -33,13 +34,9 @@ module _ {T : Type 0} (After : T → List ℕ → T → Type 0) (first : T) wher
   left-is text left other place now is so = subst (λ left. IsTakenTo After first text left place now) is so
 
   -- nothing is left
-  nothing : (left : List ℕ) → length left ≡ 0 → left ≡ []
-  nothing [] none = refl
-  nothing (byte ∷ left) none = absurd (omega (arith, none))
-
   pub all-taken : (text left : List ℕ) (place : ℕ) (now : T) → length text ≤ place → IsTakenTo After first text left place now → IsWhole text × After first text now
   all-taken text left place now end so =
-      let none : left ≡ [] = nothing left (omega (arith, end, so.place_is, ap length so.joined, length-append so.before left)) in
+      let none : left ≡ [] = nil_from_length left (omega (arith, end, so.place_is, ap length so.joined, length-append so.before left)) in
       let all : so.before ≡ text = sym (so.joined ∙ ap (λ left. so.before ++ left) none ∙ append-nil so.before) in
       (subst IsWhole all so.whole, subst (λ text. After first text now) all so.after)
 

@@ -6,9 +6,8 @@ use Rattle.blot_fields.specs.declared.TheConstants.{SEQUENCE_MAX}
 use Rattle.blot_tag.specs.Walking.{frames_of}
 use Rattle.blot_desk.specs.declared.{event.Event.Event, receipt.Receipt.Receipt}
 use Rattle.blot_gateway.specs.AtOnce.{are_submits}
-use Rattle.blot_diary.specs.declared.kept.Content.{Content}
+use Rattle.blot_diary.specs.declared.{kept.Content.Content, kept.Kept.Kept, kept.Party.Party}
 use Rattle.blot_diary.specs.declared.kept.Content.TheVariants as contents
-use Rattle.blot_diary.specs.declared.{kept.Kept.Kept, kept.Party.Party}
 use Rattle.blot_diary.specs.declared.kept.Party.TheVariants.{Peer, Operator}
 use Rattle.blot_diary.specs.Events.{events_of}
 use Rattle.blot_diary.specs.Keeping.{IsInRange, kept_in}

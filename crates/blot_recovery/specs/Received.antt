@@ -4,9 +4,8 @@ use Rattle.blot_types.specs.Keys.{same_text}
 use Rattle.blot_tag.specs.Fields.{Item, fields_of}
 use Rattle.blot_tag.specs.Walking.{frames_of}
 use Rattle.blot_fields.specs.First.{first_value}
-use Rattle.blot_diary.specs.declared.kept.Content.{Content}
+use Rattle.blot_diary.specs.declared.{kept.Content.Content, kept.Kept.Kept}
 use Rattle.blot_diary.specs.declared.kept.Content.TheVariants as contents
-use Rattle.blot_diary.specs.declared.kept.Kept.{Kept}
 use Rattle.blot_diary.specs.Beginnings.{beginning_of, begun_by}
 use Rattle.blot_diary.specs.Keeping.{kept_of}
 use Rattle.blot_recovery.specs.declared.{receiving.Receiving.Receiving, fault.RecoverFault.RecoverFault}

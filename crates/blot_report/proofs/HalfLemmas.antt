@@ -12,7 +12,7 @@ use Rattle.blot_types.specs.declared.{command.Entry.Entry, keys.PositionKey.Posi
 use Rattle.blot_types.specs.Keys.{position_at}
 use Rattle.blot_types.specs.Order.{total}
 use Rattle.blot_types.specs.Position.{is_at, moves_of, position_by}
-use Rattle.blot_types.proofs.SumLemmas.{total-append, total-cons, total-where}
+use Rattle.blot_types.proofs.SumLemmas.{total-append, total-where}
 use Rattle.blot_types.proofs.GeneralLemmas.{or-false}
 use Rattle.blot_position.specs.declared.sums.Sums.{Sums}
 use Rattle.blot_position.specs.Positions.{Cells, has_cell, same_key, sums_at, with_part, AreKeysOf}
@@ -21,7 +21,7 @@ use Rattle.blot_position.proofs.PositionLemmas.{has_cell-with_part, same_positio
 use Rattle.blot_report.specs.Day.{day_parts_of}
 use Rattle.blot_report.specs.Lines.{position_key}
 use Rattle.blot_command.specs.Standings.{standing_of}
-use Rattle.blot_command.proofs.PositionLineLemmas.{line-of}
+use Rattle.blot_command.proofs.PositionLineLemmas.{line-of, ones}
 use Rattle.blot_command.proofs.AllocNeedLemmas.{or-turned}
 use Rattle.blot_report.specs.Standings.{between, moves_among, part_on, parts_among, parts_between, terms_among, terms_on}
 use Rattle.blot_report.specs.Sums.{with_sums, AddsSums, LeavesHalf, MadeOf, ShowsParts}
@@ -162,10 +162,6 @@ half-light parts cells light made =
     }
 
 -- ---- what both show
-
-ones : (parts : List Part) → total (λ part. pos 1) parts ≡ pos (length parts)
-ones [] = refl
-ones (part ∷ parts) = omega (arith, ints, total-cons (λ (p : Part). pos 1) part parts, ones parts)
 
 -- sums are those of parts
 record SumUp (parts : List Part) (sums : Sums) : Type 0 where

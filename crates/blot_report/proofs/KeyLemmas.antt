@@ -1,8 +1,7 @@
 -- The keys of orders and positions: their orders are total and tie no two keys, and a tie is what the tests call one.
-use Rattle.std.proofs.Common.{◌≡◌, ℕ, Bool, true, false, ◌&&◌, ◌||◌, List, [], ◌∷◌, ◌++◌, map, Option, Some, None, refl, sym, ap, subst, ◌∙◌, inl, inr, filter, is_some}
+use Rattle.std.proofs.Common.{◌≡◌, ℕ, Bool, true, false, ◌&&◌, ◌||◌, List, [], ◌∷◌, ◌++◌, map, Option, Some, None, refl, sym, ap, subst, ◌∙◌, inl, inr, filter, is_some, IsPermutation, IsSorted, is_eq, nat_cmp, Ordering, Less, Equal, Greater}
 use Rattle.std.specs.Cmp.{IsTotalOrder, on_total, then_total}
 use Rattle.std.specs.FinMap as finite
-use Rattle.std.proofs.Common.{IsPermutation, IsSorted, is_eq, nat_cmp, Ordering, Less, Equal, Greater}
 use Rattle.std.specs.Cmp.Lexicographic.{slice_cmp, nat_list_cmp_total, nat_list_eq_equiv, texts_ties}
 use Rattle.std.specs.List.{list_any, last_or, IsDistinct}
 use Rattle.std.specs.Map.{keys_of}
@@ -11,6 +10,7 @@ use Rattle.std.proofs.lemmas.Bool.{cases_Bool}
 use Rattle.std.proofs.lemmas.List.Folds.{list_any-append}
 use Rattle.std.proofs.lemmas.Map.Lookups.{CmpEqualImpliesEq, exact_bytes, exact_pairs}
 use Rattle.std.proofs.lemmas.Map.Made.{is_some-lookup}
+use Rattle.std.proofs.lemmas.List.{map_push}
 use Rattle.blot_types.specs.declared.{fill.Fill.Fill, keys.OrderKey.OrderKey, keys.PositionKey.PositionKey, lines.OrderLine.OrderLine, part.Part.Part}
 use Rattle.blot_types.specs.Keys.{same_order, same_text, position_cmp}
 use Rattle.blot_types.specs.Order.{line_by, fills_of}
@@ -20,7 +20,7 @@ use Rattle.blot_report.specs.Lines.{order_cmp, orders_among, position_key, posit
 use Rattle.blot_report.specs.Orders.{AreLinesOf}
 use Rattle.blot_position.specs.Positions.{Cells, same_key, has_cell, with_part, AreKeysOf}
 use Rattle.blot_report.specs.Sums.{HasCells}
-use Rattle.blot_report.proofs.ListLemmas.{any-mapped, map-push}
+use Rattle.blot_report.proofs.ListLemmas.{any-mapped}
 use Rattle.blot_report.proofs.SortedLemmas.{sorted-once}
 use Rattle.blot_position.proofs.PositionLemmas.{has_cell-empty, has_cell-with_part}
 
@@ -102,7 +102,7 @@ pub cells-more :
 cells-more cells done part made key =
     has_cell-with_part part.account part.symbol key.account key.symbol part.qty part.value cells
     ∙ joined (same_key (position_key part) key) (has_cell cells key.account key.symbol) (same_key-sym (position_key part) key) (made key)
-    ∙ sym (ap (list_any (same_key key)) (map-push position_key done part) ∙ list_any-append (same_key key) (map position_key done) (position_key part ∷ []))
+    ∙ sym (ap (list_any (same_key key)) (map_push position_key done part) ∙ list_any-append (same_key key) (map position_key done) (position_key part ∷ []))
   where
     joined : (test has : Bool) {turned among : Bool} → test ≡ turned → has ≡ among → (test || has) ≡ (among || (turned || false))
     joined true true one two = rw (← one, ← two) refl

@@ -1,7 +1,7 @@
 -- What a loop has found, with one item more, and where nothing is left.
-use Rattle.std.proofs.Common.{◌≡◌, ℕ, zero, suc, arith, ◌+◌, ◌<◌, ◌≤◌, Bool, ◌||◌, List, [], ◌∷◌, ◌++◌, length, map, take, drop, get_or, Option, Some, None, Result, Ok, Err, refl, sym, ap, subst, ◌∙◌, All, IfOk, filter_map, flat_map, append-nil, append_assoc, length-append, take-append-drop}
+use Rattle.std.proofs.Common.{◌≡◌, ℕ, zero, suc, arith, ◌+◌, ◌<◌, ◌≤◌, Bool, ◌||◌, List, [], ◌∷◌, ◌++◌, length, map, take, drop, get_or, Option, Some, None, Result, Ok, Err, refl, sym, ap, subst, ◌∙◌, All, IfOk, filter_map, flat_map, append-nil, append_assoc, length-append, take-append-drop, length-drop, length-take-le}
 use Rattle.std.specs.List.{cons_option, list_any}
-use Rattle.std.proofs.lemmas.List.{drop-append-le, drop_all, length-drop, length-take-le, take_more}
+use Rattle.std.proofs.lemmas.List.{drop-append-le, drop_all, take_more}
 use Rattle.std.proofs.lemmas.List.Elements.{All-nil, All-cons, All-head, All-tail, All-push, filter_map-append}
 use Rattle.std.proofs.lemmas.Grind.{flat_map-append}
 use Rattle.blot_types.proofs.GeneralLemmas.{all-back, all-front}
@@ -28,10 +28,6 @@ more items index item within is = rw is (take_more items index item within)
 -- what was put behind a front, with more behind it
 pub behind : {B : Type 0} (initial done put items after : List B) → items ≡ initial ++ done → after ≡ items ++ put → after ≡ initial ++ (done ++ put)
 behind initial done put items after so_far is = is ∙ ap (λ front. front ++ put) so_far ∙ append_assoc initial done put
-
-pub map-push : {A B : Type 0} (f : A → B) (xs : List A) (x : A) → map f (xs ++ x ∷ []) ≡ map f xs ++ f x ∷ []
-map-push f [] x = refl
-map-push f (y ∷ xs) x = ap (λ rest. f y ∷ rest) (map-push f xs x)
 
 flat-push : {A B : Type 0} (f : A → List B) (xs : List A) (x : A) → flat_map f (xs ++ x ∷ []) ≡ flat_map f xs ++ f x
 flat-push f [] x = append-nil (f x)
@@ -86,9 +82,6 @@ any-mapped p f [] = refl
 any-mapped p f (x ∷ xs) = ap (λ any. p (f x) || any) (any-mapped p f xs)
 
 -- ---- what holds of all
-
-pub All-item : {A : Type 0} (P : A → Type 0) (items : List A) (index : ℕ) (item : A) → index < length items → item ≡ get_or items index item → All P (take index items) → P item → All P (take (index + 1) items)
-All-item P items index item within is all one = subst (All P) (sym (more items index item within is)) (All-push P (take index items) item all one)
 
 -- what holds of all that was found, holds with one item more
 pub all-found :

@@ -1,25 +1,17 @@
 -- The lines of orders as they grow, and the rows that they give.
-use Rattle.std.proofs.Common.{◌≡◌, ℕ, ◌+◌, ◌<◌, arith, true, List, [], ◌∷◌, ◌++◌, length, take, get_or, Option, Some, None, refl, sym, ap, subst, ◌∙◌, inl, inr, if◌then◌else◌, filter_map, option_map, append-nil}
-use Rattle.std.specs.Cmp.Lexicographic.{same_text as text_told}
+use Rattle.std.proofs.Common.{◌≡◌, ℕ, ◌+◌, ◌<◌, arith, List, [], ◌∷◌, ◌++◌, length, take, get_or, Option, Some, None, refl, sym, ap, subst, ◌∙◌, inl, inr, if◌then◌else◌, filter_map, option_map, append-nil}
 use Rattle.std.specs.List.{cons_option}
-use Rattle.std.proofs.lemmas.Bool.{and_parts, cases_Bool}
+use Rattle.std.proofs.lemmas.Bool.{cases_Bool}
 use Rattle.std.proofs.lemmas.Int.{ints}
 use Rattle.std.proofs.lemmas.List.Elements.{filter-append}
 use Rattle.blot_types.specs.declared.{command.Entry.Entry, fill.Fill.Fill, keys.OrderKey.OrderKey, lines.OrderLine.OrderLine}
-use Rattle.blot_types.specs.Keys.{same_order, same_text}
+use Rattle.blot_types.specs.Keys.{same_order}
 use Rattle.blot_types.specs.Order.{line_of, fills_of, with_fill, IsWithin}
 use Rattle.blot_types.proofs.OrderLemmas.{line_of-push, IsWithin-weaker}
+use Rattle.blot_types.proofs.KeyLemmas.{same_order-true}
 use Rattle.blot_report.specs.Lines.{order_row}
 use Rattle.blot_report.specs.Orders.{line_at, with_line, AddsFill, AreLinesOf, GrowsByOne, line_rows}
 use Rattle.blot_report.proofs.ListLemmas.{found-more, more}
-
--- orders that the test calls one are equal
-same_order-true : (a b : OrderKey) → same_order a b ≡ true → a ≡ b
-same_order-true a b same =
-    let parts : (same_text a.peer b.peer ≡ true) × (same_text a.id b.id ≡ true) = and_parts _ _ same in
-    let peers : a.peer ≡ b.peer = text_told a.peer b.peer (sym parts.0) in
-    let ids : a.id ≡ b.id = text_told a.id b.id (sym parts.1) in
-    λ i. record { peer = peers i; id = ids i }
 
 one-fill : (fill : Fill) (order : OrderKey) → fills_of (fill ∷ []) order ≡ (if same_order fill.order order then fill ∷ [] else [])
 one-fill fill order =

@@ -2,6 +2,7 @@
 use Rattle.std.proofs.Common.{◌≡◌, ℕ, ℤ, ◌+◌, ◌<◌, arith, true, List, [], ◌∷◌, ◌++◌, length, take, drop, get_or, Option, Some, sym, ap, subst, ◌∙◌, All, filter_map, flat_map, append-nil, append_assoc, take-append-drop}
 use Rattle.std.specs.List.{cons_option}
 use Rattle.std.proofs.lemmas.List.Elements.{All-nil}
+use Rattle.std.proofs.lemmas.List.Folds.{flat_map-map}
 use Rattle.blot_types.specs.declared.{allocation.Line.Line, allocation.Terms.Terms, command.Entry.Entry, part.Part.Part}
 use Rattle.blot_types.specs.Allocations.{Allocation}
 use Rattle.blot_types.specs.Legal.{is_book}
@@ -10,7 +11,7 @@ use Rattle.blot_types.proofs.GeneralLemmas.{length-found}
 use Rattle.blot_report.specs.Day.{survivor_parts_on, allocations_on, day_parts_of}
 use Rattle.blot_command.specs.Standings.{standing_of}
 use Rattle.blot_report.specs.Standings.{between, moves_among, part_on, parts_among, terms_among, terms_on}
-use Rattle.blot_report.proofs.StandingLemmas.{flat-mapped, parts-told, terms-told}
+use Rattle.blot_report.proofs.StandingLemmas.{parts-told, terms-told}
 use Rattle.blot_report.proofs.ListLemmas.{behind, between-few, between-none, flat-more, flat_found-more, more, All-between, all-mapped}
 use Rattle.blot_command.proofs.ReadyLemmas.{length-book}
 use Rattle.blot_report.proofs.WeightLemmas.{Books, IsLight, books-on, light-front, light-with}
@@ -34,7 +35,7 @@ moves-next initial items middle after terms lines index line part taken within i
 pub day_parts-told : (list : List Entry) (day : Option ℤ) → (parts_among list day list ++ moves_among list day list) ≡ day_parts_of list day
 day_parts-told list day =
     (λ i. parts-told list day i ++ flat_map moves_of (terms-told list day i))
-    ∙ ap (λ moves. survivor_parts_on list day ++ moves) (flat-mapped moves_of (λ (a : Allocation). a.terms) (allocations_on list day))
+    ∙ ap (λ moves. survivor_parts_on list day ++ moves) (flat_map-map moves_of (λ (a : Allocation). a.terms) (allocations_on list day))
 
 -- the terms of some entries book their blocks
 books-told : (list : List Entry) (day : Option ℤ) (first after : ℕ) → is_book list ≡ true → All Books (terms_among list day (between list first after))

@@ -1,7 +1,6 @@
 -- The rows of positions, from the parts that were added.
-use Rattle.std.proofs.Common.{◌≡◌, ◌+◌, arith, List, [], ◌∷◌, ◌++◌, length, Option, refl, sym, ap, subst}
+use Rattle.std.proofs.Common.{◌≡◌, ◌+◌, arith, List, [], ◌∷◌, ◌++◌, length, Option, refl, sym, ap, subst, filter_map, option_map}
 use Rattle.std.specs.FinMap as finite
-use Rattle.std.proofs.Common.{filter_map, option_map}
 use Rattle.std.specs.List.{cons_option}
 use Rattle.std.proofs.lemmas.Int.{ints}
 use Rattle.blot_types.specs.declared.{part.Part.Part, keys.PositionKey.PositionKey}

@@ -4,7 +4,7 @@ use Rattle.std.specs.List.{cons_option, list_any}
 use Rattle.std.proofs.lemmas.Bool.{cases_Bool, or_parts}
 use Rattle.blot_types.specs.declared.{command.Entry.Entry, fill.Fill.Fill, keys.OrderKey.OrderKey, lines.OrderLine.OrderLine, part.Part.Part, lines.PositionLine.PositionLine, keys.PositionKey.PositionKey}
 use Rattle.blot_types.specs.Keys.{same_order, same_text, position_cmp}
-use Rattle.blot_types.proofs.KeyLemmas.{position_cmp-exact}
+use Rattle.blot_types.proofs.KeyLemmas.{position_cmp-exact, same_order-true}
 use Rattle.blot_types.specs.Order.{line_of, fills_of}
 use Rattle.blot_types.specs.Position.{is_at, position_by}
 use Rattle.blot_position.proofs.PositionLemmas.{same_position-true}
@@ -85,9 +85,6 @@ found {K} {V} {R} line row same value test key (k ∷ keys) looks = by (line k) 
     by (Some v) is rest = found-some line row same value test key k v rows (list_any test keys) looks is rest
 
 -- ---- orders
-
-same_order-true : (a b : OrderKey) → same_order a b ≡ true → a ≡ b
-same_order-true a b same = (let parts = same_position-true a.peer a.id b.peer b.id same in λ i. record { peer = parts.0 i; id = parts.1 i })
 
 no-line : (fills : List Fill) (order : OrderKey) → list_any (λ k. same_order k order) (orders_among fills) ≡ false → line_of (fills_of fills order) ≡ None
 no-line fills order none =

@@ -1,5 +1,5 @@
 -- What the standings of a book tell of its entries on a day is what its definitions say.
-use Rattle.std.proofs.Common.{◌≡◌, ℕ, zero, suc, ◌<◌, arith, ℤ, true, List, [], ◌∷◌, ◌++◌, length, get_or, map, Option, Some, None, refl, sym, ap, ◌∙◌, inl, inr, filter, is_none, if◌then◌else◌, filter_map, flat_map}
+use Rattle.std.proofs.Common.{◌≡◌, ℕ, zero, suc, ◌<◌, arith, ℤ, true, List, [], ◌∷◌, length, get_or, map, Option, Some, None, refl, sym, ap, ◌∙◌, inl, inr, filter, is_none, if◌then◌else◌, filter_map}
 use Rattle.std.specs.List.{cons_option}
 use Rattle.std.proofs.lemmas.Bool.{cases_Bool}
 use Rattle.std.proofs.lemmas.List.{length-map}
@@ -148,11 +148,6 @@ terms-found links instructions day (entry ∷ list) =
 
 pub terms-told : (list : List Entry) (day : Option ℤ) → terms_among list day list ≡ map (λ (a : Allocation). a.terms) (allocations_on list day)
 terms-told list day = terms-found (links_of list) (instructions_of list) day list
-
--- what the items of a mapped list hold
-pub flat-mapped : {A B C : Type 0} (f : B → List C) (g : A → B) (xs : List A) → flat_map f (map g xs) ≡ flat_map (λ x. f (g x)) xs
-flat-mapped f g [] = refl
-flat-mapped f g (x ∷ xs) = ap (λ rest. f (g x) ++ rest) (flat-mapped f g xs)
 
 -- ---- the entries of a book, told
 

@@ -6,7 +6,7 @@ use Rattle.std.specs.Result.{result_ok}
 use Rattle.std.proofs.lemmas.Bool.{and_from, cases_Bool, cond-true, cond-false, false≢true, or_parts}
 use Rattle.std.proofs.lemmas.List.Elements.{All-head, All-tail}
 use Rattle.blot_time.specs.Moment.{moment_of, moment_text}
-use Rattle.blot_tag.specs.Fields.{TagValue, fields_of}
+use Rattle.blot_tag.specs.Fields.{TagValue, fields_of, field_of}
 use Rattle.blot_tag.specs.Results.{◌>>=◌}
 use Rattle.blot_tag.specs.Frames.{IsFrame, first_fields, trailer_of}
 use Rattle.blot_tag.specs.Writing.{Written, body_of, check_sum_field, frame_fields, frame_of, front_text}
@@ -23,7 +23,7 @@ use Rattle.blot_fields.specs.Walk.{field_wrong, refused_behind, sound_behind, so
 use Rattle.blot_session.specs.declared.{outbound.Outbound.Outbound, state.State.State}
 use Rattle.blot_session.specs.declared.outbound.Outbound.TheVariants.{Logon, Heartbeat, TestRequest, ResendRequest, Reject, GapFill, Logout, Unsupported, AllocationAck}
 use Rattle.blot_session.specs.declared.replies.SeenReply.TheVariants.{Accepted, Refused}
-use Rattle.blot_session.specs.Outbound.{AreShort, IsShort, body_fields, field, field_if, header_fields, is_gap_fill, kind_of as kind_of_message, number_of}
+use Rattle.blot_session.specs.Outbound.{AreShort, IsShort, body_fields, field_if, header_fields, is_gap_fill, kind_of as kind_of_message, number_of}
 use Rattle.blot_session.specs.Runs.{said_by}
 use Rattle.blot_session.specs.Sending.{number_by, number_used}
 use Rattle.blot_session.proofs.ShortLemmas.{is_number-decimal, number_of-decimal, short_decimal, short_text}
@@ -206,7 +206,7 @@ bare TestRequest next now = record { none = refl; few = omega arith }
 bare (ResendRequest begin) next now = record { none = refl; few = omega arith }
 bare (Reject number tag reason) next now = by_tag (not (tag == 0))
   where
-    by_tag : (names : Bool) → IsBare (field 45 (decimal number) ∷ (field_if names 371 (decimal tag) ++ field 373 (decimal reason) ∷ []))
+    by_tag : (names : Bool) → IsBare (field_of 45 (decimal number) ∷ (field_if names 371 (decimal tag) ++ field_of 373 (decimal reason) ∷ []))
     by_tag true = record { none = refl; few = omega arith }
     by_tag false = record { none = refl; few = omega arith }
 bare (GapFill begin) next now = record { none = refl; few = omega arith }
@@ -217,7 +217,7 @@ bare (AllocationAck id (Refused refusal)) next now = record { none = refl; few =
 
 abbrev header : List ℕ → List ℕ → ℕ → Bool → ℤ → List TagValue
 header own peer number gap now =
-    field 49 own ∷ field 56 peer ∷ field 34 (decimal number) ∷ (field_if gap 43 (codes "Y") ++ field 52 (moment_text now) ∷ field_if gap 122 (moment_text now))
+    field_of 49 own ∷ field_of 56 peer ∷ field_of 34 (decimal number) ∷ (field_if gap 43 (codes "Y") ++ field_of 52 (moment_text now) ∷ field_if gap 122 (moment_text now))
 
 abbrev headed : List ℕ → List ℕ → List ℕ → ℕ → Bool → ℤ → List TagValue → Written
 headed kind own peer number gap now body = record { kind = kind; fields = header own peer number gap now ++ body }

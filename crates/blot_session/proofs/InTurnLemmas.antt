@@ -5,11 +5,9 @@ use Rattle.blot_fields.specs.declared.{TheConstants.SEQUENCE_MAX, head.Head.Head
 use Rattle.blot_fields.specs.declared.message.Body.TheVariants as bodies
 use Rattle.blot_fields.specs.declared.report.Report.TheVariants as reports
 use Rattle.blot_fields.specs.Commands.{command_of, command_of_body}
-use Rattle.blot_session.specs.declared.{carrying.TheConstants.LAST_NUMBER, replies.NotTaken.NotTaken, replies.SeenReply.SeenReply, row.End.TheVariants.Delivers, row.Row.Row, state.Awaited.Awaited}
+use Rattle.blot_session.specs.declared.{carrying.TheConstants.LAST_NUMBER, replies.NotTaken.NotTaken, replies.SeenReply.SeenReply, row.End.TheVariants.Delivers, row.Row.Row, state.Awaited.Awaited, state.LinkState.LinkState, state.State.State}
 use Rattle.blot_session.specs.declared.state.Awaited.TheVariants as awaits
-use Rattle.blot_session.specs.declared.state.LinkState.{LinkState}
 use Rattle.blot_session.specs.declared.state.LinkState.TheVariants as links
-use Rattle.blot_session.specs.declared.state.State.{State}
 use Rattle.blot_session.specs.Calls.{Outcome, GivesCommand, ending, is_spent, carried_out, outcome_of, on_frame, on_reply, reply_row_by}
 use Rattle.blot_session.specs.InTurn.{is_about_fill, is_on, is_report_in_turn, delivering, is_of_report, is_taken, is_report_taken}
 use Rattle.blot_session.specs.Rows.{is_from_peer, report_row, body_row, expected_row, number_row, message_row, peer_row, head_row, on_row, frame_row_by, reply_row}

@@ -9,7 +9,7 @@ mod Rows
 mod BearingLemmas
 mod RunLemmas
 pub mod SendingLemmas
-mod StateLemmas
+pub mod StateLemmas
 pub mod ShortLemmas
 pub mod HeaderLemmas
 pub mod TextLemmas

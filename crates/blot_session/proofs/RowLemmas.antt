@@ -2,20 +2,17 @@
 use Rattle.std.proofs.Common.{◌≡◌, ◌⊎◌, ℕ, ◌+◌, ◌≤◌, ◌==◌, Bool, true, false, List, Option, Some, None, Result, Ok, Err, refl, sym, ap, subst, ◌∙◌, arith, inl, inr, nat_lt, nat_le, codes, ℤ, is_some, option_map, ltb-false, leb-false, eqb-true}
 use Rattle.std.proofs.lemmas.Bool.{cond_both}
 use Rattle.std.proofs.lemmas.Option.{same_Some}
-use Rattle.blot_fields.specs.declared.admin.Admin.{Admin}
+use Rattle.blot_fields.specs.declared.{admin.Admin.Admin, fault.FieldFault.FieldFault, head.Head.Head, message.Body.Body, message.Message.Message, report.Report.Report}
 use Rattle.blot_fields.specs.declared.admin.Admin.TheVariants as admin
-use Rattle.blot_fields.specs.declared.{fault.FieldFault.FieldFault, head.Head.Head, message.Body.Body, message.Message.Message, report.Report.Report}
 use Rattle.blot_fields.specs.declared.message.Body.TheVariants as bodies
 use Rattle.blot_fields.specs.declared.report.Report.TheVariants as reports
 use Rattle.blot_fields.specs.Numbers.{head_in}
 use Rattle.blot_types.specs.Keys.{same_text}
-use Rattle.blot_session.specs.declared.{row.End.End, row.Row.Row, row.Sends.TheVariants.Nothing, state.Live.Live}
+use Rattle.blot_session.specs.declared.{row.End.End, row.Row.Row, row.Sends.TheVariants.Nothing, state.Live.Live, state.LinkState.LinkState, state.State.State}
 use Rattle.blot_session.specs.declared.row.End.TheVariants.{Stays, Delivers, Closes}
 use Rattle.blot_session.specs.declared.action.CloseReason.TheVariants as reasons
 use Rattle.blot_session.specs.declared.outbound.Outbound.TheVariants.{Reject, Logout}
-use Rattle.blot_session.specs.declared.state.LinkState.{LinkState}
 use Rattle.blot_session.specs.declared.state.LinkState.TheVariants as links
-use Rattle.blot_session.specs.declared.state.State.{State}
 use Rattle.blot_session.specs.Calls.{command_said}
 use Rattle.blot_session.specs.Rows.{logon_row, low_logon_row, first_logon_row, waiting_logon_row, waiting_body_row, waiting_row, is_from_peer, resend_row, gap_fill_row, admin_row, report_row, other_row, body_row, expected_row, high_body_row, high_row, low_row, number_row, reset_row, logout_row, message_row, peer_row, comp_id_tag, comp_id_row, head_row, on_row_by, on_row, frame_row_by, frame_row}
 use Rattle.blot_session.specs.Runs.{Bears, is_reset_said}

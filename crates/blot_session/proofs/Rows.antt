@@ -1,19 +1,15 @@
 -- Worked rows that compute, among them those that no test can reach: the numbers to send are used up.
 use Rattle.std.proofs.Common.{◌≡◌, ℕ, true, false, [], ◌∷◌, Some, None, Result, Ok, Err, refl, codes, pos}
 use Rattle.blot_session.specs.declared.action.Action.TheVariants.{Close}
-use Rattle.blot_fields.specs.declared.admin.Admin.{Admin}
+use Rattle.blot_fields.specs.declared.{admin.Admin.Admin, fault.FieldFault.FieldFault, head.Head.Head, message.Message.Message}
 use Rattle.blot_fields.specs.declared.admin.Admin.TheVariants as admin
-use Rattle.blot_fields.specs.declared.fault.FieldFault.{FieldFault}
 use Rattle.blot_fields.specs.declared.fault.FieldReason.TheVariants as faults
-use Rattle.blot_fields.specs.declared.head.Head.{Head}
 use Rattle.blot_fields.specs.declared.message.Body.TheVariants as bodies
-use Rattle.blot_fields.specs.declared.message.Message.{Message}
 use Rattle.blot_session.specs.declared.action.CloseReason.TheVariants as reasons
 use Rattle.blot_session.specs.declared.met.Met.TheVariants as met
 use Rattle.blot_session.specs.declared.outbound.Outbound.TheVariants.{Heartbeat, TestRequest, ResendRequest, Reject, GapFill, Logout}
-use Rattle.blot_session.specs.declared.state.Live.{Live}
+use Rattle.blot_session.specs.declared.{state.Live.Live, state.State.State}
 use Rattle.blot_session.specs.declared.state.LinkState.TheVariants as links
-use Rattle.blot_session.specs.declared.state.State.{State}
 use Rattle.blot_session.specs.Calls.{Outcome, is_spent, on_frame, on_tick, on_stop, spent}
 use Rattle.blot_session.specs.Met.{met_of}
 use Rattle.blot_session.specs.Rows.{frame_row, logon_row, on_row, head_row, peer_row, message_row, number_row, high_row, high_body_row, low_row, expected_row, body_row, admin_row, resend_row, gap_fill_row, reset_row, logout_row, waiting_row, waiting_logon_row, first_logon_row, stop_row, tick_row, beat_row, quiet_row, heartbeat_row}

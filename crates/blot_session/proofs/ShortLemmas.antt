@@ -1,16 +1,15 @@
 -- Short values: fields of them aren't refused, and are read again.
-use Rattle.std.proofs.Common.{◌≡◌, ℕ, ◌+◌, ◌%◌, ◌^◌, ◌<◌, ◌≤◌, true, false, ◌&&◌, not, leb, List, [], ◌∷◌, ◌++◌, length, None, ap, ◌∙◌, inl, inr, arith, length-append, append_assoc, lit<, nat_lt, ℤ, decimal, le-leb, leb-true, ltb-true, ne_eqb}
+use Rattle.std.proofs.Common.{◌≡◌, ℕ, ◌+◌, ◌%◌, ◌^◌, ◌<◌, ◌≤◌, true, false, ◌&&◌, not, leb, List, [], ◌∷◌, ◌++◌, length, None, ap, ◌∙◌, inl, inr, arith, length-append, lit<, nat_lt, ℤ, decimal, le-leb, leb-true, ltb-true, ne_eqb}
 use Rattle.std.specs.Char.{is_ascii_digit}
 use Rattle.std.specs.List.{list_all}
 use Rattle.std.proofs.lemmas.Bool.{cases_Bool, cond-false, and_from, and_parts}
 use Rattle.std.proofs.lemmas.Fmt.{digits_decimal, digits_value-decimal, length-decimal-le, decimal_nonempty}
-use Rattle.std.proofs.lemmas.List.Concat.{flat_map-append}
 use Rattle.std.proofs.lemmas.List.Folds.{list_any_none}
 use Rattle.std.proofs.lemmas.List.Sums.{AllPass-from_list_all}
 use Rattle.blot_tag.specs.Bytes.{is_number, is_soh, number_of}
 use Rattle.blot_tag.specs.FieldText.{field_text}
 use Rattle.blot_tag.specs.Fields.{TagValue}
-use Rattle.blot_tag.specs.Writing.{Written, body_of, is_data_tag, kind_field, refusal_of, with_field}
+use Rattle.blot_tag.specs.Writing.{is_data_tag, refusal_of}
 use Rattle.blot_time.specs.Clock.{clock_text}
 use Rattle.blot_time.specs.Day.{day_text}
 use Rattle.blot_time.specs.Moment.{moment_text}
@@ -85,8 +84,3 @@ refusal-short size field room low short =
       | inr n ↦ n
     ] in
     cond-false _ _ _ within ∙ cond-false _ _ _ (ap (λ soh. soh && not (is_data_tag field.tag)) short.plain)
-
-pub body_of-push : (message : Written) (field : TagValue) → body_of (with_field message field) ≡ body_of message ++ field_text field
-body_of-push message field =
-    ap (λ text. field_text (kind_field message.kind) ++ text) (flat_map-append field_text message.fields (field ∷ []))
-    ∙ simp append_assoc

@@ -5,9 +5,11 @@ use Rattle.std.proofs.lemmas.List.Elements.{All-append, All-cons, All-nil}
 use Rattle.blot_tag.specs.FieldText.{field_text}
 use Rattle.blot_tag.specs.Writing.{Written, IsWriteFault, begun, body_of, kind_field, with_field, refusal_of, is_data_tag, is_own_tag}
 use Rattle.blot_tag.specs.declared.{write_fault.WriteFault.WriteFault, write_fault.WriteFault.TheVariants.NoMemory}
+use Rattle.blot_tag.specs.Fields.{field_of}
+use Rattle.blot_tag.proofs.WritingLemmas.{body_of-push}
 use Rattle.blot_types.specs.Text.{is_text}
-use Rattle.blot_session.specs.Outbound.{AreShort, IsShort, field, is_plain_tag}
-use Rattle.blot_session.proofs.ShortLemmas.{length-field, refusal-short, short_text, body_of-push}
+use Rattle.blot_session.specs.Outbound.{AreShort, IsShort, is_plain_tag}
+use Rattle.blot_session.proofs.ShortLemmas.{length-field, refusal-short, short_text}
 
 plain_tag-small : (tag : ℕ) → is_plain_tag tag ≡ true → tag < 1000
 plain_tag-small tag is =
@@ -19,22 +21,22 @@ plain_tag-small tag is =
     ltb-true tag 1000 (and_parts low high second).1
 
 pub put-fault : (size tag : ℕ) (value : List ℕ) (fault : WriteFault) → size ≤ 4000 → is_plain_tag tag ≡ true → IsShort value
-    → IsWriteFault (refusal_of size (field tag value)) fault → fault ≡ NoMemory
+    → IsWriteFault (refusal_of size (field_of tag value)) fault → fault ≡ NoMemory
 put-fault size tag value fault room plain short found =
-    subst (λ refusal. IsWriteFault refusal fault) (refusal-short size (field tag value) (omega (arith, room)) (plain_tag-small tag plain) short) found
+    subst (λ refusal. IsWriteFault refusal fault) (refusal-short size (field_of tag value) (omega (arith, room)) (plain_tag-small tag plain) short) found
 
-pub put-size : (written next : Written) (tag : ℕ) (value : List ℕ) → is_plain_tag tag ≡ true → IsShort value → next ≡ with_field written (field tag value)
+pub put-size : (written next : Written) (tag : ℕ) (value : List ℕ) → is_plain_tag tag ≡ true → IsShort value → next ≡ with_field written (field_of tag value)
     → length (body_of next) ≤ length (body_of written) + 80
 put-size written next tag value plain short grown =
-    let small = length-field (field tag value) (plain_tag-small tag plain) short in
-    let size : length (body_of next) ≡ length (body_of written) + length (field_text (field tag value)) =
-    ap (λ w. length (body_of w)) grown ∙ ap length (body_of-push written (field tag value)) ∙ length-append (body_of written) (field_text (field tag value)) in
+    let small = length-field (field_of tag value) (plain_tag-small tag plain) short in
+    let size : length (body_of next) ≡ length (body_of written) + length (field_text (field_of tag value)) =
+    ap (λ w. length (body_of w)) grown ∙ ap length (body_of-push written (field_of tag value)) ∙ length-append (body_of written) (field_text (field_of tag value)) in
     omega (arith, size, small)
 
-pub put-short : (written next : Written) (tag : ℕ) (value : List ℕ) → IsShort value → next ≡ with_field written (field tag value) → AreShort written.fields → AreShort next.fields
+pub put-short : (written next : Written) (tag : ℕ) (value : List ℕ) → IsShort value → next ≡ with_field written (field_of tag value) → AreShort written.fields → AreShort next.fields
 put-short written next tag value short grown all =
     subst (λ (w : Written). AreShort w.fields) (sym grown)
-    (All-append (λ f. IsShort f.value) written.fields (field tag value ∷ []) all (All-cons (λ f. IsShort f.value) (field tag value) [] short (All-nil _)))
+    (All-append (λ f. IsShort f.value) written.fields (field_of tag value ∷ []) all (All-cons (λ f. IsShort f.value) (field_of tag value) [] short (All-nil _)))
 
 -- ---- the kind
 

@@ -4,10 +4,9 @@ use Rattle.std.specs.List.{list_any}
 use Rattle.blot_fields.specs.Commands.{command_of}
 use Rattle.blot_fields.specs.declared.{fault.FieldFault.FieldFault, message.Message.Message}
 use Rattle.blot_types.specs.declared.command.Command.{Command}
-use Rattle.blot_session.specs.declared.action.Action.{Action}
+use Rattle.blot_session.specs.declared.{action.Action.Action, carrying.TheConstants.LAST_NUMBER, outbound.Outbound.Outbound, replies.NotTaken.NotTaken, replies.SeenReply.SeenReply, row.End.End, row.Row.Row, state.Awaited.Awaited, state.State.State}
 use Rattle.blot_session.specs.declared.action.Action.TheVariants.{Send, Deliver, Close}
 use Rattle.blot_session.specs.declared.action.CloseReason.TheVariants as reasons
-use Rattle.blot_session.specs.declared.{carrying.TheConstants.LAST_NUMBER, outbound.Outbound.Outbound, replies.NotTaken.NotTaken, replies.SeenReply.SeenReply, row.End.End, row.Row.Row, state.Awaited.Awaited, state.State.State}
 use Rattle.blot_session.specs.declared.row.End.TheVariants.{Stays, Delivers, Closes}
 use Rattle.blot_session.specs.Outbound.{next_behind, text_of}
 use Rattle.blot_session.specs.Rows.{frame_row, tick_row, stop_row, reply_row}

@@ -1,15 +1,12 @@
 -- Execution Reports about fills in their turn, and the replies to them. The table says what is done about them, too: these
 -- words only tell them from all else.
 use Rattle.std.specs.Prelude.{◌==◌, Bool, true, false, ◌&&◌, nat_le, ℤ, Option, Some, None, Result, Ok, Err}
-use Rattle.blot_fields.specs.declared.{fault.FieldFault.FieldFault, message.Body.Body}
+use Rattle.blot_fields.specs.declared.{fault.FieldFault.FieldFault, message.Body.Body, message.Message.Message}
 use Rattle.blot_fields.specs.declared.message.Body.TheVariants as bodies
-use Rattle.blot_fields.specs.declared.message.Message.{Message}
 use Rattle.blot_fields.specs.declared.report.Report.TheVariants as reports
-use Rattle.blot_session.specs.declared.{carrying.TheConstants.LAST_NUMBER, replies.NotTaken.NotTaken, replies.SeenReply.SeenReply, state.Awaited.Awaited}
+use Rattle.blot_session.specs.declared.{carrying.TheConstants.LAST_NUMBER, replies.NotTaken.NotTaken, replies.SeenReply.SeenReply, state.Awaited.Awaited, state.LinkState.LinkState, state.State.State}
 use Rattle.blot_session.specs.declared.state.Awaited.TheVariants as awaits
-use Rattle.blot_session.specs.declared.state.LinkState.{LinkState}
 use Rattle.blot_session.specs.declared.state.LinkState.TheVariants as links
-use Rattle.blot_session.specs.declared.state.State.{State}
 use Rattle.blot_session.specs.Rows.{is_from_peer}
 use Rattle.blot_session.specs.States.{awaited_of, changed}
 

@@ -2,14 +2,12 @@
 use Rattle.std.specs.Prelude.{◌≡◌, ◌≢◌, ◌⊎◌, ◌<◌, ℕ, ℤ, Bool, true, false, ◌&&◌, not, nat_lt, Option, Some, None, Result, Ok, Err, MatchOption, if◌then◌else◌, unwrap_or}
 use Rattle.std.specs.Option.{option_map_or, option_or}
 use Rattle.blot_fields.specs.declared.admin.Admin.TheVariants as admin
-use Rattle.blot_fields.specs.declared.{fault.FieldFault.FieldFault, message.Body.Body}
+use Rattle.blot_fields.specs.declared.{fault.FieldFault.FieldFault, message.Body.Body, message.Message.Message}
 use Rattle.blot_fields.specs.declared.message.Body.TheVariants as bodies
-use Rattle.blot_fields.specs.declared.message.Message.{Message}
 use Rattle.blot_fields.specs.Numbers.{head_in}
 use Rattle.blot_session.specs.declared.action.CloseReason.TheVariants as reasons
-use Rattle.blot_session.specs.declared.met.Met.{Met}
+use Rattle.blot_session.specs.declared.{met.Met.Met, outbound.Outbound.Outbound, row.End.End, row.Row.Row, row.Sends.Sends, state.State.State}
 use Rattle.blot_session.specs.declared.met.Met.TheVariants as met
-use Rattle.blot_session.specs.declared.{outbound.Outbound.Outbound, row.End.End, row.Row.Row, row.Sends.Sends, state.State.State}
 use Rattle.blot_session.specs.declared.outbound.Outbound.TheVariants.{Reject, ResendRequest, Unsupported}
 use Rattle.blot_session.specs.declared.row.End.TheVariants.{Stays, Delivers, Closes}
 use Rattle.blot_session.specs.declared.row.Sends.TheVariants.{Nothing, One, Two}

@@ -1,7 +1,7 @@
 -- The messages that a session sends (FIX 4.4 volume 2, "Administrative messages" and "Business Message Reject"; volume 5,
 -- "Allocation Instruction Ack").
 use Rattle.std.specs.Prelude.{◌≡◌, ◌<◌, ◌≤◌, ℕ, ◌+◌, ◌==◌, nat_lt, ◌&&◌, All, Bool, true, false, not, ℤ, List, [], ◌∷◌, ◌++◌, length, codes, Option, Some, None, if◌then◌else◌, decimal}
-use Rattle.blot_tag.specs.Fields.{TagValue}
+use Rattle.blot_tag.specs.Fields.{TagValue, field_of}
 use Rattle.blot_tag.specs.Writing.{Written, frame_of, has_soh, is_data_tag, is_own_tag}
 use Rattle.blot_time.specs.Moment.{moment_text}
 use Rattle.blot_types.specs.RefusalNames.{reject_code}
@@ -31,54 +31,50 @@ abbrev pub next_behind : Outbound → ℕ → ℕ
 next_behind (GapFill begin) next = next
 next_behind message next = next + 1
 
--- a field
-abbrev pub field : ℕ → List ℕ → TagValue
-field tag value = record { tag = tag; value = value }
-
 -- a field that is there where this is so
 abbrev pub field_if : Bool → ℕ → List ℕ → List TagValue
-field_if there tag value = if there then field tag value ∷ [] else []
+field_if there tag value = if there then field_of tag value ∷ [] else []
 
 -- TestReqID, where a TestRequest is answered
 abbrev pub id_fields : Option (List ℕ) → List TagValue
-id_fields (Some id) = field 112 id ∷ []
+id_fields (Some id) = field_of 112 id ∷ []
 id_fields None = []
 
 -- AllocStatus, and AllocRejCode for a refusal
 abbrev pub status_fields : SeenReply → List TagValue
-status_fields Accepted = field 87 (codes "0") ∷ []
-status_fields (Refused refusal) = field 87 (codes "1") ∷ field 88 (decimal (reject_code refusal)) ∷ []
+status_fields Accepted = field_of 87 (codes "0") ∷ []
+status_fields (Refused refusal) = field_of 87 (codes "1") ∷ field_of 88 (decimal (reject_code refusal)) ∷ []
 
 -- what stands after the header: of a Logon
 abbrev pub logon_fields : ℕ → Bool → List TagValue
-logon_fields heartbeat reset = field 98 (codes "0") ∷ field 108 (decimal heartbeat) ∷ field_if reset 141 (codes "Y")
+logon_fields heartbeat reset = field_of 98 (codes "0") ∷ field_of 108 (decimal heartbeat) ∷ field_if reset 141 (codes "Y")
 
 -- of a Resend Request, which asks for all from a number on
 abbrev pub resend_fields : ℕ → List TagValue
-resend_fields begin = field 7 (decimal begin) ∷ field 16 (codes "0") ∷ []
+resend_fields begin = field_of 7 (decimal begin) ∷ field_of 16 (codes "0") ∷ []
 
 -- of a Reject, which names a tag where there is one
 abbrev pub reject_fields : ℕ → ℕ → ℕ → List TagValue
 reject_fields number tag reason =
-    field 45 (decimal number) ∷ (field_if (not (tag == 0)) 371 (decimal tag) ++ field 373 (decimal reason) ∷ [])
+    field_of 45 (decimal number) ∷ (field_if (not (tag == 0)) 371 (decimal tag) ++ field_of 373 (decimal reason) ∷ [])
 
 -- of a gap fill up to a number
 abbrev pub gap_fill_fields : ℕ → List TagValue
-gap_fill_fields next = field 123 (codes "Y") ∷ field 36 (decimal next) ∷ []
+gap_fill_fields next = field_of 123 (codes "Y") ∷ field_of 36 (decimal next) ∷ []
 
 -- of a Business Message Reject: this type of message isn't supported
 abbrev pub unsupported_fields : ℕ → List ℕ → List TagValue
-unsupported_fields number kind = field 45 (decimal number) ∷ field 372 kind ∷ field 380 (codes "3") ∷ []
+unsupported_fields number kind = field_of 45 (decimal number) ∷ field_of 372 kind ∷ field_of 380 (codes "3") ∷ []
 
 -- of an Allocation Instruction Ack
 abbrev pub ack_fields : List ℕ → SeenReply → ℤ → List TagValue
-ack_fields id reply now = field 70 id ∷ field 60 (moment_text now) ∷ status_fields reply
+ack_fields id reply now = field_of 70 id ∷ field_of 60 (moment_text now) ∷ status_fields reply
 
 -- of a message, where this is the next number to send
 abbrev pub body_fields : Outbound → ℕ → ℤ → List TagValue
 body_fields (Logon heartbeat reset) next now = logon_fields heartbeat reset
 body_fields (Heartbeat id) next now = id_fields id
-body_fields TestRequest next now = field 112 (decimal next) ∷ []
+body_fields TestRequest next now = field_of 112 (decimal next) ∷ []
 body_fields (ResendRequest begin) next now = resend_fields begin
 body_fields (Reject number tag reason) next now = reject_fields number tag reason
 body_fields (GapFill begin) next now = gap_fill_fields next
@@ -95,9 +91,9 @@ is_gap_fill message = false
 -- PossDupFlag and OrigSendingTime
 abbrev pub header_fields : State → Outbound → ℤ → List TagValue
 header_fields state message now =
-    field 49 state.own ∷ field 56 state.peer ∷ field 34 (decimal (number_of message state.next))
+    field_of 49 state.own ∷ field_of 56 state.peer ∷ field_of 34 (decimal (number_of message state.next))
     ∷ (field_if (is_gap_fill message) 43 (codes "Y")
-    ++ field 52 (moment_text now) ∷ field_if (is_gap_fill message) 122 (moment_text now))
+    ++ field_of 52 (moment_text now) ∷ field_if (is_gap_fill message) 122 (moment_text now))
 
 -- the bytes of a message
 unfoldable pub text_of : State → Outbound → ℤ → List ℕ

@@ -2,11 +2,12 @@
 ghost use Rattle.std.specs.Prelude.{◌≡◌, ◌+◌, ◌<◌, ◌≤◌, length, true, IfOk, Ok, OnOk, decimal};
 ghost use Rattle.blot_tag.specs.Writing.{begun, body_of, with_field};
 ghost use Rattle.blot_tag.specs.declared.write_fault.WriteFault.TheVariants as WriteFault;
+ghost use Rattle.blot_tag.specs.Fields.{field_of};
 ghost use Rattle.blot_time.specs.Moment.{moment_of, moment_text};
 ghost use Rattle.blot_types.specs.Text.{is_text};
 ghost use Rattle.blot_fields.specs.Numbers.{head_in};
 ghost use Rattle.blot_fields.specs.declared.TheConstants.{SEQUENCE_MAX};
-ghost use Rattle.blot_session.specs.Outbound.{AreShort, IsShort, ack_fields, body_fields, field, gap_fill_fields, header_fields, logon_fields, reject_fields, resend_fields, text_of, unsupported_fields, with_fields, is_plain_tag};
+ghost use Rattle.blot_session.specs.Outbound.{AreShort, IsShort, ack_fields, body_fields, gap_fill_fields, header_fields, logon_fields, reject_fields, resend_fields, text_of, unsupported_fields, with_fields, is_plain_tag};
 ghost use Rattle.blot_session.specs.Runs.{said_by};
 ghost use Rattle.blot_session.specs.Sending.{number_by, number_used};
 
@@ -212,7 +213,7 @@ fn put_text(text: &mut FrameText, tag: u32, value: &Text64) -> Result<(), NoMemo
     requires tag { is_plain_tag tag ≡ true }
     requires room { length (body_of text.old) ≤ BODY_MAX }
     requires short { AreShort text.old.fields }
-    ensures field { OnOk result (text.new ≡ with_field text.old (field tag value.now)) }
+    ensures field { OnOk result (text.new ≡ with_field text.old (field_of tag value.now)) }
     ensures size { OnOk result (length (body_of text.new) ≤ length (body_of text.old) + FIELD_MAX) }
     ensures short { OnOk result (AreShort text.new.fields) }
     ensures text { is_text value.now ≡ true }
@@ -226,7 +227,7 @@ fn put_number(text: &mut FrameText, tag: u32, number: u64) -> Result<(), NoMemor
     requires tag { is_plain_tag tag ≡ true }
     requires room { length (body_of text.old) ≤ BODY_MAX }
     requires short { AreShort text.old.fields }
-    ensures field { OnOk result (text.new ≡ with_field text.old (field tag (decimal number))) }
+    ensures field { OnOk result (text.new ≡ with_field text.old (field_of tag (decimal number))) }
     ensures size { OnOk result (length (body_of text.new) ≤ length (body_of text.old) + FIELD_MAX) }
     ensures short { OnOk result (AreShort text.new.fields) }
 {
@@ -239,7 +240,7 @@ fn put_moment(text: &mut FrameText, tag: u32, moment: Moment) -> Result<(), NoMe
     requires tag { is_plain_tag tag ≡ true }
     requires room { length (body_of text.old) ≤ BODY_MAX }
     requires short { AreShort text.old.fields }
-    ensures field { OnOk result (text.new ≡ with_field text.old (field tag (moment_text moment))) }
+    ensures field { OnOk result (text.new ≡ with_field text.old (field_of tag (moment_text moment))) }
     ensures size { OnOk result (length (body_of text.new) ≤ length (body_of text.old) + FIELD_MAX) }
     ensures short { OnOk result (AreShort text.new.fields) }
     ensures read { moment_of (moment_text moment) ≡ Ok moment }
@@ -253,7 +254,7 @@ fn put(text: &mut FrameText, tag: u32, value: &[u8]) -> Result<(), NoMemory>
     requires value { IsShort value.now }
     requires room { length (body_of text.old) ≤ BODY_MAX }
     requires short { AreShort text.old.fields }
-    ensures field { OnOk result (text.new ≡ with_field text.old (field tag value.now)) }
+    ensures field { OnOk result (text.new ≡ with_field text.old (field_of tag value.now)) }
     ensures size { OnOk result (length (body_of text.new) ≤ length (body_of text.old) + FIELD_MAX) }
     ensures short { OnOk result (AreShort text.new.fields) }
 {

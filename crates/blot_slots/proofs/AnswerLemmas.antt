@@ -4,10 +4,9 @@ use Rattle.std.specs.Cmp.Lexicographic.{nat_list_eq_equiv}
 use Rattle.std.specs.Map.{lookup, set_value}
 use Rattle.std.proofs.lemmas.Map.{lookup-set_value}
 use Rattle.blot_types.specs.Keys.{same_text}
-use Rattle.blot_session.specs.declared.state.LinkState.{LinkState}
+use Rattle.blot_session.specs.declared.{state.LinkState.LinkState, state.State.State}
 use Rattle.blot_session.specs.declared.state.LinkState.TheVariants as links
 use Rattle.blot_session.specs.declared.state.Phase.TheVariants as phases
-use Rattle.blot_session.specs.declared.state.State.{State}
 use Rattle.blot_session.specs.States.{awaited_by, phase_by, IsIdle}
 use Rattle.blot_slots.proofs.WaitingLemmas.{waiting-slot_of, waiting_with_slot}
 use Rattle.blot_slots.specs.declared.slot_fault.SlotFault.{SlotFault}

@@ -1,5 +1,5 @@
 -- What holds of a result.
-use Rattle.std.proofs.Common.{◌≡◌, ap, subst, Result, Option, Ok, Err, Some, None, IsOk, OnOk, OnErr, IfOk, IfErr, IfSome}
+use Rattle.std.proofs.Common.{◌≡◌, ap, Result, Option, Ok, Err, Some, None, IsOk, OnOk, OnErr, IfOk, IfErr, IfSome}
 
 pub on-ok : {T E P Q : Type 0} (result : Result T E) → OnOk result P → (P → Q) → OnOk result Q
 on-ok (Ok x) p more = more p
@@ -25,10 +25,6 @@ pub on-err : {T E P Q : Type 0} (result : Result T E) → OnErr result P → (P 
 on-err (Ok x) p more = tt
 on-err (Err e) p more = more p
 
-pub err-always : {T E P : Type 0} (result : Result T E) → P → OnErr result P
-err-always (Ok x) p = tt
-err-always (Err e) p = p
-
 pub if-some : {A : Type 0} (P Q : A → Type 0) (known : Option A) → IfSome known P → ((x : A) → P x → Q x) → IfSome known Q
 if-some P Q None p more = tt
 if-some P Q (Some x) p more = more x p
@@ -40,7 +36,3 @@ fault_or other (Err e) = e
 pub same-fault : {T E : Type 0} (a b : E) → ◌≡◌ {A = Result T E} (Err a) (Err b) → a ≡ b
 unfolding fault_or
 same-fault a b is = ap (fault_or a) is
-
-pub err-says : {T E : Type 0} (P : E → Type 0) (result : Result T E) (e : E) → result ≡ Err e → IfErr result P → P e
-err-says P (Ok x) e is p = absurd cc
-err-says P (Err other) e is p = subst P (same-fault other e is) p

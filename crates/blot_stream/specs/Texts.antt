@@ -1,6 +1,7 @@
 -- What is read of an input and added to an output.
-use Rattle.std.specs.Prelude.{◌≡◌, ◌≢◌, ◌≤◌, ℕ, ◌++◌, List, length, take, Option, Some, None, IfSome}
+use Rattle.std.specs.Prelude.{◌≡◌, ◌≢◌, ◌≤◌, ℕ, ◌++◌, List, length, take, Option, Some, None, IfSome, [], ◌∷◌, ◌==◌, if◌then◌else◌}
 use Rattle.std.specs.Io.KnownBytes.{Appends, Consumes, IsAtEnd, Keeps}
+use Rattle.std.specs.List.{onto_first}
 use Rattle.blot_stream.specs.declared.{outcome.ReplayFault.ReplayFault, outcome.ReplayFault.TheVariants.Write}
 
 -- a read gave so many bytes, which stand at the front of the buffer, or none, at the end of the input
@@ -15,6 +16,11 @@ AppendsFront before after text = (front back : List ℕ) × (front ++ back ≡ t
 -- nothing is added, where it isn't a write that failed
 abbrev pub KeepsUnlessWrite : Option (List ℕ) → Option (List ℕ) → ReplayFault → Type 0
 KeepsUnlessWrite before after fault = fault ≢ Write → Keeps before after
+
+-- the lines of a text, without their LF; a last one without LF counts, an empty one too where an LF ends it
+abbrev pub lines_of : List ℕ → List (List ℕ)
+lines_of [] = []
+lines_of (byte ∷ text) = if byte == 10 then [] ∷ lines_of text else onto_first byte (lines_of text)
 
 -- ---- what comes of an input, where its bytes are known
 

@@ -134,7 +134,7 @@ look_of-frame frame more is =
     ∙ body_look-append (first_fields digits) body (trailer_of front ++ more) is.body_form
     ∙ trailer_look-append front more ∙ ap Ok (sym size)
 
-length-frame : (frame : List ℕ) → IsFrame frame → 0 < length frame
+pub length-frame : (frame : List ℕ) → IsFrame frame → 0 < length frame
 length-frame frame is = omega (arith, ap length is.whole, length-append (front_of is.digits is.body) (trailer_of (front_of is.digits is.body)))
 
 -- a frame of n bytes begins the text

@@ -12,7 +12,7 @@ pub mod FrameLemmas
 pub mod WalkLemmas
 pub mod PlaceLemmas
 pub mod JoinedLemmas
-mod WritingLemmas
+pub mod WritingLemmas
 mod FindLemmas
 mod ReadingLemmas
 mod Rows

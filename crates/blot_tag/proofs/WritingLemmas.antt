@@ -322,7 +322,7 @@ fields_of-frame_of written is =
 
 -- ---- one more field
 
-last_of-push : (before : TagValue) (fields : List TagValue) (field : TagValue) → last_of before (fields ++ field ∷ []) ≡ field
+pub last_of-push : (before : TagValue) (fields : List TagValue) (field : TagValue) → last_of before (fields ++ field ∷ []) ≡ field
 last_of-push before [] field = refl
 last_of-push before (next ∷ fields) field = last_of-push next fields field
 

@@ -100,10 +100,6 @@ length-front (y ∷ xs) x (suc k) less =
 pub all-front : {X : Type 0} (P : X → Type 0) (xs : List X) (x : X) → All P (xs ++ x ∷ []) → All P xs
 all-front P xs x all k d less = subst P (get_or-front xs x k d less) (all k d (length-front xs x k less))
 
-pub all-last : {X : Type 0} (P : X → Type 0) (front : List X) (x : X) → All P (front ++ x ∷ []) → P x
-all-last P [] x all = all 0 x (omega arith)
-all-last P (y ∷ front) x all = all-last P front x (λ k d less. all (suc k) d (omega (arith, less)))
-
 -- ---- more seats
 
 pub grows-both : (before between after : List (List Receipt)) → Grows before between → Grows between after → Grows before after

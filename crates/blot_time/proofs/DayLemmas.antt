@@ -1,6 +1,6 @@
 -- The day of a date, and the text of a day.
-use Rattle.std.proofs.Common.{◌≡◌, ℕ, ◌<◌, ◌≤◌, ◌&&◌, ◌↔◌, Bool, true, false, refl, ◌∙◌, ap, subst, inl, inr, arith, ℤ, pos, Ok, Err, le-leb, leb-true}
-use Rattle.std.proofs.lemmas.Bool.{cases_Bool, and_from}
+use Rattle.std.proofs.Common.{◌≡◌, ℕ, ◌<◌, ◌≤◌, ◌↔◌, true, refl, ◌∙◌, ap, subst, inl, inr, arith, ℤ, pos, Ok, Err, le-leb, leb-true}
+use Rattle.std.proofs.lemmas.Bool.{cases_Bool, and_from, and_parts}
 use Rattle.jiff.specs.Types.{Date}
 use Rattle.jiff.specs.Words.{epoch_day, days_in_month, IsDate, IsYmd}
 use Rattle.jiff.proofs.SpanFacts.{signed_arith}
@@ -10,10 +10,6 @@ use Rattle.blot_time.specs.Day.{civil_day, day_of, date_text}
 use Rattle.blot_time.proofs.DigitLemmas.{digit_fits, number-two, number-four}
 use Rattle.blot_time.proofs.CalendarLemmas.{day_number-date}
 
-and_both : (a b : Bool) → (a && b) ≡ true → (a ≡ true) × (b ≡ true)
-and_both true b e = (refl, e)
-and_both false b e = cc
-
 -- jiff's word for a date, as a test
 pub is_date-true : (year month day : ℕ) → 1 ≤ month → month ≤ 12 → 1 ≤ day → day ≤ days_in_month (pos year) month → is_date year month day ≡ true
 is_date-true year month day m₁ m₂ d₁ d₂ =
@@ -21,9 +17,9 @@ is_date-true year month day m₁ m₂ d₁ d₂ =
 
 pub IsDate-true : (year month day : ℕ) → year < 10000 → is_date year month day ≡ true → IsDate (pos year) (pos month) (pos day)
 IsDate-true year month day high e =
-    let halves = and_both _ _ e in
-    let m = and_both _ _ halves.0 in
-    let d = and_both _ _ halves.1 in
+    let halves = and_parts _ _ e in
+    let m = and_parts _ _ halves.0 in
+    let d = and_parts _ _ halves.1 in
     let m₁ = leb-true 1 month m.0 in
     let m₂ = leb-true month 12 m.1 in
     let d₁ = leb-true 1 day d.0 in

@@ -4,6 +4,7 @@ use Rattle.std.specs.List.{list_any}
 use Rattle.std.specs.Option.{option_map_or}
 use Rattle.std.proofs.lemmas.Bool.{cases_Bool, and_parts, and_from, and_left, not_from_false}
 use Rattle.std.proofs.lemmas.List.Elements.{All-cons, All-head, All-tail, All-weaker}
+use Rattle.std.proofs.lemmas.List.Folds.{list_any_none}
 use Rattle.blot_types.specs.declared.{allocation.AllocRole.AllocRole, allocation.Instruction.Instruction, keys.AllocKey.AllocKey, keys.ExecKey.ExecKey}
 use Rattle.blot_types.specs.declared.allocation.AllocRole.TheVariants.{Allocates, Replaces, Cancels}
 use Rattle.blot_types.specs.Instructions.{is_keyed, alloc_taker_in, brings_allocation, is_allocation_of, is_allocation_in, ends, ended_in, names, is_reference, is_live_in, holds_beside, other_holder_in, reference_of, is_live_key, may_follow, is_instructed}
@@ -14,7 +15,7 @@ use Rattle.blot_types.proofs.KeyLemmas.{same_alloc-true, same_alloc-refl, same_a
 use Rattle.blot_types.proofs.LawLemmas.{find-none}
 use Rattle.blot_types.proofs.AcceptOutLemmas.{unfound}
 use Rattle.blot_types.proofs.StayLemmas.{mapped-none}
-use Rattle.blot_types.proofs.VersionLemmas.{find-skip, none-any}
+use Rattle.blot_types.proofs.VersionLemmas.{find-skip}
 use Rattle.blot_types.proofs.CorrectLemmas.{All-pairs}
 use Rattle.blot_types.proofs.GeneralLemmas.{any-none}
 
@@ -75,7 +76,7 @@ alloc-key-out (i ∷ later) front j instructed =
 -- an allocation whose key nobody takes up isn't there
 pub unkeyed : (instructions : List Instruction) (key : AllocKey) → alloc_taker_in instructions key ≡ None → is_allocation_in instructions key ≡ false
 unkeyed instructions key fresh =
-    none-any (is_allocation_of key) instructions
+    list_any_none (is_allocation_of key) instructions
     (All-weaker (λ i. is_keyed key i ≡ false) (λ i. is_allocation_of key i ≡ false) (λ i other. and_left (is_keyed key i) (brings_allocation i.role) other) instructions
     (unfound (is_keyed key) instructions (unmapped (λ (i : Instruction). i.number) _ fresh)))
 
@@ -171,7 +172,7 @@ holder-back later front j reference root instructed beside some none =
     let there : list_any (regains j root) rest ≡ true = any-skip (regains j root) later front j own ∙ some in
     let free = unfound (holds_beside rest reference root) rest (unmapped (λ (i : Instruction). i.number) _ none) in
     differing there
-    (none-any (regains j root) rest
+    (list_any_none (regains j root) rest
     (All-weaker (λ i. holds_beside rest reference root i ≡ false) (λ i. regains j root i ≡ false)
     (λ i unheld.
     elim (cases_Bool (regains j root i)) [

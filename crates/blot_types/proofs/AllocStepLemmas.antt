@@ -4,6 +4,7 @@ use Rattle.std.specs.List.{cons_option, list_any}
 use Rattle.std.specs.Option.{option_map_or}
 use Rattle.std.proofs.lemmas.Bool.{cases_Bool, and_parts, and_left, and_right, or_from, or_left, or_right}
 use Rattle.std.proofs.lemmas.List.Elements.{All-nil, All-cons, All-weaker, filter_map-append}
+use Rattle.std.proofs.lemmas.List.Folds.{list_any_none}
 use Rattle.blot_types.specs.declared.allocation.AllocRole.TheVariants.{Allocates, Replaces, Cancels}
 use Rattle.blot_types.specs.declared.{allocation.Instruction.Instruction, command.AllocCancel.AllocCancel, command.AllocNew.AllocNew, command.AllocReplace.AllocReplace, command.Command.Command, command.Entry.Entry, keys.AllocKey.AllocKey, keys.ExecKey.ExecKey, lines.Version.Version}
 use Rattle.blot_types.specs.declared.command.Command.TheVariants.{AllocNew as NewCommand, AllocReplace as ReplaceCommand, AllocCancel as CancelCommand}
@@ -24,7 +25,7 @@ use Rattle.blot_types.proofs.AcceptOutLemmas.{accepts, accepted, accepts-out, An
 use Rattle.blot_types.proofs.AllocOutLemmas.{alloc_taker-out, alloc-key-out, unkeyed, allocation-out, unended-out, regains, holder-out, ended-whole, holder-back}
 use Rattle.blot_types.proofs.CorrectLemmas.{any-All}
 use Rattle.blot_types.proofs.NeedLemmas.{IsStep}
-use Rattle.blot_types.proofs.VersionLemmas.{none-any, unnamed}
+use Rattle.blot_types.proofs.VersionLemmas.{unnamed}
 use Rattle.blot_types.proofs.GeneralLemmas.{cons-append, all-of, any-agree, any-none}
 
 -- an entry of an allocation that is taken out
@@ -224,7 +225,7 @@ cancels-none j (Some key) brings = and_right (same_alloc j.key key) (brings_allo
 pub nothing-regained : (j : Instruction) (entries : List Entry) (found : Option ExecKey) → ((key : AllocKey) → ends key j.role ≡ false) → option_map_or (λ root. list_any (regains j root) (instructions_in entries)) found false ≡ false
 nothing-regained j entries None none = refl
 nothing-regained j entries (Some root) none =
-    none-any (regains j root) (instructions_in entries)
+    list_any_none (regains j root) (instructions_in entries)
     (all-of (λ i. regains j root i ≡ false) (instructions_in entries) (λ i. and_left _ (names root i) (and_left _ (brings_allocation i.role) (none i.key))))
 
 -- what ends an allocation gives back the chains that it names
@@ -249,7 +250,7 @@ pub new-needs : (j : Instruction) (entries : List Entry) (number : ℕ) (new : A
 new-needs j entries number new command key role =
     let first : refers_to j (alloc_reference command) ≡ is_reference (alloc_reference command) new.key = referred-brings j (alloc_reference command) (ap brings_allocation role) ∙ ap (is_reference (alloc_reference command)) key in
     let second : list_any (regained j entries) (listed_by command) ≡ false =
-    none-any (regained j entries) (listed_by command) (all-of (λ k. regained j entries k ≡ false) (listed_by command) (λ k. nothing-regained j entries (root_in (links_in entries) k) (λ a. ap (ends a) role))) in
+    list_any_none (regained j entries) (listed_by command) (all-of (λ k. regained j entries k ≡ false) (listed_by command) (λ k. nothing-regained j entries (root_in (links_in entries) k) (λ a. ap (ends a) role))) in
     sym (ap (λ b. b || list_any (regained j entries) (listed_by command)) first ∙ ap (λ b. is_reference (alloc_reference command) new.key || b) second)
 
 names-listed : (j : Instruction) (entries : List Entry) (reference : AllocKey) (command : Command) → ((key : AllocKey) → ends key j.role ≡ same_alloc reference key)

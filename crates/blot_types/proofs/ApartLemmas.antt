@@ -10,13 +10,13 @@ use Rattle.std.proofs.lemmas.Option.{IfSome_then}
 use Rattle.blot_types.specs.declared.{command.Entry.Entry, keys.ExecKey.ExecKey, lines.Version.Version, link.Link.Link, link.Role.Role, TheConstants.EVENTS_MAX}
 use Rattle.blot_types.specs.declared.link.Role.TheVariants.{Begins, Corrects, Busts}
 use Rattle.blot_types.specs.Allocations.{allocation_of, instructions_in, instructions_of, live_allocations}
-use Rattle.blot_types.specs.Chains.{takes_up, taker_in, own_root, root_in, is_root, busts, bust_in, current_in, link_refusal, reference_refusal, is_chained, falls}
+use Rattle.blot_types.specs.Chains.{takes_up, taker_in, own_root, root_in, is_root, busts, bust_in, current_in, link_refusal, reference_refusal, is_chained, falls, brings_version}
 use Rattle.blot_types.specs.Instructions.{ended_in, named_in}
 use Rattle.blot_types.specs.Keys.{same_exec, is_among}
 use Rattle.blot_types.specs.Laws.{is_of_chain, survivors_beside}
 use Rattle.blot_types.specs.Legal.{is_above_entries, rises_in, numbers_rise, legal_in, is_legal, is_book}
 use Rattle.blot_types.specs.Position.{is_named}
-use Rattle.blot_types.specs.StandingVersion.{standing, chain_under, chain_of, stood}
+use Rattle.blot_types.specs.StandingVersion.{standing, chain_under, chain_of, stood, standing_version_in, version_numbered}
 use Rattle.blot_types.specs.Survivors.{is_number, link_of, links_in, links_of, root_of, stands_under, stands_in, version_of, versions_of, survivors}
 use Rattle.blot_types.proofs.BustLemmas.{reverse-middle}
 use Rattle.blot_types.proofs.ChainLemmas.{clash, none_is, accepted_key, accepted_root, current-apart}
@@ -26,7 +26,7 @@ use Rattle.blot_types.proofs.CorrectLemmas.{front-legal}
 use Rattle.blot_types.proofs.EntryLemmas.{falls-links, refusal-link, version-of_bust}
 use Rattle.blot_types.proofs.KeyLemmas.{same_exec-true, same_exec-refl, same_exec-sym}
 use Rattle.blot_types.proofs.LinkOutLemmas.{GoneLink, links-whole, links-rest, chained-whole, chained-rest, instructions-gone}
-use Rattle.blot_types.proofs.StandLemmas.{brings, taken_other}
+use Rattle.blot_types.proofs.StandLemmas.{taken_other}
 use Rattle.blot_types.proofs.SurvivorLemmas.{filter-agree, filter-and, without, IsKnown, versions-known, of_its_link, IsCurrent, current-found, find-passes, current-stands}
 use Rattle.blot_types.proofs.UnbustLemmas.{bust-beside}
 use Rattle.blot_types.proofs.GeneralLemmas.{and-false}
@@ -45,27 +45,19 @@ book_of list book =
     let numbered : (rises_in (reverse list) ≡ true) × (is_above_entries (EVENTS_MAX + 1) (reverse list) ≡ true) = and_parts _ _ parts.0 in
     record { rise = numbered.0; above = numbered.1; legal = parts.1 }
 
--- the number of the version that stands of a chain, among links
-abbrev standing_number : List Link → ExecKey → Option ℕ
-standing_number links root = if is_none (bust_in links root) then current_in links root else None
-
 -- the number of a version, if there is one
 abbrev pub number_of : Option Version → Option ℕ
 number_of found = option_map (λ version. version.number) found
 
--- the version of a number
-abbrev found_at : List Entry → ℕ → Option Version
-found_at list number = find (λ version. version.number == number) (versions_of list)
-
 -- it is the number of the version that stands
-number-found : (list : List Entry) (root : ExecKey) (found : Option ℕ) → IsBook list → current_in (links_of list) root ≡ found → number_of (option_and_then (found_at list) found) ≡ found
+number-found : (list : List Entry) (root : ExecKey) (found : Option ℕ) → IsBook list → current_in (links_of list) root ≡ found → number_of (option_and_then (version_numbered list) found) ≡ found
 number-found list root None book is = refl
 number-found list root (Some number) book is =
     let version = current-found (reverse list) root number book.legal book.rise is in
-    let found : found_at list number ≡ Some version.0 = ap (λ l. found_at l number) (sym (reverse-reverse list)) ∙ version.1.found in
+    let found : version_numbered list number ≡ Some version.0 = ap (λ l. version_numbered l number) (sym (reverse-reverse list)) ∙ version.1.found in
     ap number_of found ∙ ap Some (eqb-true _ _ (find-passes (λ v. v.number == number) (versions_of list) version.0 found))
 
-standing-number : (list : List Entry) (root : ExecKey) → IsBook list → number_of (standing list root) ≡ standing_number (links_of list) root
+standing-number : (list : List Entry) (root : ExecKey) → IsBook list → number_of (standing list root) ≡ standing_version_in (links_of list) root
 standing-number list root book =
     elim (cases_Bool (is_none (bust_in (links_of list) root))) [
       | inl free ↦ rw free (number-found list root (current_in (links_of list) root) book refl)
@@ -80,7 +72,7 @@ pub record IsStanding (list : List Entry) (root : ExecKey) (version : Version) :
 
 standing-at :
     (list : List Entry) (root : ExecKey) (bust current : Option ℕ) → IsBook list → bust_in (links_of list) root ≡ bust → current_in (links_of list) root ≡ current
-    → IfSome (if is_none bust then option_and_then (found_at list) current else None) (IsStanding list root)
+    → IfSome (if is_none bust then option_and_then (version_numbered list) current else None) (IsStanding list root)
 standing-at list root (Some number) current book busted is = tt
 standing-at list root None None book free is = tt
 standing-at list root None (Some number) book free is =
@@ -103,14 +95,14 @@ standing-of list root book = standing-at list root (bust_in (links_of list) root
 -- a version that stands is the one that stands of a chain exactly where it is of that chain
 standing-own :
     (links : List Link) (root : ExecKey) (number : ℕ) (found : Option ExecKey) → falls links ≡ true → stands_under links number found ≡ true
-    → is_number number (standing_number links root) ≡ is_root root found
+    → is_number number (standing_version_in links root) ≡ is_root root found
 standing-own links root number None fall stands = cc
 standing-own links root number (Some other) fall stands =
     let parts : (is_none (bust_in links other) ≡ true) × (is_number number (current_in links other) ≡ true) = and_parts _ _ stands in
     elim (cases_Bool (same_exec other root)) [
       | inl same ↦
-          let own : is_number number (standing_number links other) ≡ true = rw parts.0 parts.1 in
-          ap (λ key. is_number number (standing_number links key)) (sym (same_exec-true other root same)) ∙ own ∙ sym same
+          let own : is_number number (standing_version_in links other) ≡ true = rw parts.0 parts.1 in
+          ap (λ key. is_number number (standing_version_in links key)) (sym (same_exec-true other root same)) ∙ own ∙ sym same
       | inr apart ↦
           let none : is_number number (current_in links root) ≡ false = current-apart links other root number fall apart parts.1 in
           elim (cases_Bool (is_none (bust_in links root))) [
@@ -185,12 +177,12 @@ own-root (link ∷ later) front k chained =
     let other : takes_up k.key link ≡ false = same_exec-sym link.key k.key ∙ untaken later front k link.key fresh.0 in
     rw other (own-root later front k parts.1)
 
-own-chain : (front : List Link) (key : ExecKey) (role : Role) → brings role ≡ true → own_root (root_in front) key role ≡ chain_under front key role
+own-chain : (front : List Link) (key : ExecKey) (role : Role) → brings_version role ≡ true → own_root (root_in front) key role ≡ chain_under front key role
 own-chain front key Begins one = refl
 own-chain front key (Corrects reference) one = refl
 own-chain front key (Busts reference) one = cc
 
-own-beside : (later front : List Link) (k : Link) (root : ExecKey) (version : Version) → IsApart later front k root → brings k.role ≡ true → version.key ≡ k.key → stands_beside (later ++ k ∷ front) root version ≡ false
+own-beside : (later front : List Link) (k : Link) (root : ExecKey) (version : Version) → IsApart later front k root → brings_version k.role ≡ true → version.key ≡ k.key → stands_beside (later ++ k ∷ front) root version ≡ false
 own-beside later front k root version it one key =
     let rooted : root_in (later ++ k ∷ front) version.key ≡ Some root =
     ap (root_in (later ++ k ∷ front)) key ∙ own-root later front k it.whole ∙ own-chain front k.key k.role one ∙ it.chain in
@@ -284,7 +276,7 @@ own-passed :
     (later front : List Link) (entry : Entry) (link : Link) (root : ExecKey) → IsApart later front link root → link_of entry ≡ Some link → (version : Version) → version_of entry ≡ Some version
     → stands_beside (later ++ link ∷ front) root version ≡ false
 own-passed later front entry link root it is version brought =
-    elim (cases_Bool (brings link.role)) [
+    elim (cases_Bool (brings_version link.role)) [
       | inl one ↦ own-beside later front link root version it one (of_its_link entry link is version brought).key
       | inr none ↦ absurd (clash (sym brought ∙ version-of_bust entry link is none))
     ]

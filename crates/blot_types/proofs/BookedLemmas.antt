@@ -22,7 +22,7 @@ use Rattle.blot_types.proofs.LiveLemmas.{turned}
 told : (a b : ℤ) → int_eq a b ≡ true → a ≡ b
 told a b same = (Decides-int_eq a b).0 same
 
-mismatch-none : (wanted block lines : ℤ) → mismatch wanted block lines ≡ None → lines ≡ block
+pub mismatch-none : (wanted block lines : ℤ) → mismatch wanted block lines ≡ None → lines ≡ block
 mismatch-none wanted block lines none =
     elim (cases_Bool (int_eq block wanted)) [
       | inl first ↦

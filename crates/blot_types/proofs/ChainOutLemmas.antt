@@ -126,15 +126,12 @@ bust-key (link ∷ later) front k whole none =
 
 -- ---- the chain to which it brought a version
 
-same_self : (n : ℕ) → (n == n) ≡ true
-same_self n = eq-eqb n n refl
-
 -- a chain whose last version is another has its last version
 pub current-behind : (later front : List Link) (k : Link) (root : ExecKey) → is_chained (later ++ k ∷ front) ≡ true → is_chained (later ++ front) ≡ true → is_number k.number (current_in (later ++ k ∷ front) root) ≡ false
     → current_in (later ++ front) root ≡ current_in (later ++ k ∷ front) root
 current-behind [] front k root whole out other =
     elim (cases_Bool (is_root root (own_root (root_in front) k.key k.role))) [
-      | inl own ↦ (let self : (k.number == k.number) ≡ false = rw own at other in absurd (differing (same_self k.number) self))
+      | inl own ↦ (let self : (k.number == k.number) ≡ false = rw own at other in absurd (differing (eq-eqb k.number k.number refl) self))
       | inr passed ↦ rw passed refl
     ]
 current-behind (link ∷ later) front k root whole out other =

@@ -5,6 +5,7 @@ use Rattle.std.proofs.lemmas.Bool.{cases_Bool, and_from, and_parts}
 use Rattle.std.proofs.lemmas.Int.{ints}
 use Rattle.std.proofs.lemmas.List.{reverse-reverse}
 use Rattle.std.proofs.lemmas.List.Elements.{All-weaker, All-filter, filter_map-append}
+use Rattle.std.proofs.lemmas.List.Folds.{list_any-append}
 use Rattle.blot_types.specs.declared.{allocation.Instruction.Instruction, command.Command.Command, command.Entry.Entry, keys.ExecKey.ExecKey, part.Part.Part, lines.Version.Version, link.Link.Link}
 use Rattle.blot_types.specs.declared.command.Command.TheVariants.{Trade, Correct, Bust, AllocNew, AllocReplace, AllocCancel, Withdraw}
 use Rattle.blot_types.specs.Allocations.{Allocation, allocation_of, instruction_by, instructions_of, live_allocations, named_roots}
@@ -223,21 +224,13 @@ link-moves f list entry link is legal rise above accepted =
 -- ---- an entry that is an instruction
 
 -- a chain is named where a live allocation names it
-any-append : {X : Type 0} (p : X → Bool) (xs ys : List X) → list_any p (xs ++ ys) ≡ (list_any p xs || list_any p ys)
-any-append p [] ys = refl
-any-append p (x ∷ xs) ys =
-    elim (cases_Bool (p x)) [
-      | inl passes ↦ rw passes refl
-      | inr fails ↦ rw fails (any-append p xs ys)
-    ]
-
 named-some : (live : List Instruction → Instruction → Bool) (instructions : List Instruction) (xs : List Instruction) (root : ExecKey)
     → is_among (flat_map (λ i. i.roots) (filter (live instructions) xs)) root ≡ list_any (λ i. live instructions i && names root i) xs
 named-some live instructions [] root = refl
 named-some live instructions (i ∷ xs) root =
     elim (cases_Bool (live instructions i)) [
       | inl stands ↦
-          rw stands (any-append (λ other. same_exec other root) i.roots (flat_map (λ j. j.roots) (filter (live instructions) xs))
+          rw stands (list_any-append (λ other. same_exec other root) i.roots (flat_map (λ j. j.roots) (filter (live instructions) xs))
           ∙ ap (λ rest. names root i || rest) (named-some live instructions xs root))
       | inr ended ↦ rw ended (named-some live instructions xs root)
     ]

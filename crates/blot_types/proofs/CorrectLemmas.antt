@@ -20,8 +20,8 @@ use Rattle.blot_types.specs.Survivors.{is_number, links_in, version_of}
 use Rattle.blot_types.proofs.AcceptLemmas.{unmapped, unrepeated_roots}
 use Rattle.blot_types.proofs.ChainLemmas.{clash, differing, none_is, current-below, accepted_key, accepted_root}
 use Rattle.blot_types.proofs.EntryLemmas.{version-number, is_above_links-links, refusal-link}
-use Rattle.blot_types.proofs.KeyLemmas.{same_exec-true, same_exec-refl, same_exec-sym}
-use Rattle.blot_types.proofs.SurvivorLemmas.{current-found, version_in-rising}
+use Rattle.blot_types.proofs.KeyLemmas.{same_exec-refl, same_exec-sym}
+use Rattle.blot_types.proofs.SurvivorLemmas.{current-found, version_in-rising, is_root-some}
 use Rattle.blot_types.specs.Withdrawal.{below, alike, changes_fill, is_last_of, needs_version, needs}
 use Rattle.blot_types.proofs.AcceptOutLemmas.{accepts, accepted, accepts-out, shape, shaped, amount, amount-shaped, cum-cons, cum-shaped, listed, unfound}
 use Rattle.blot_types.proofs.NeedLemmas.{IsStep}
@@ -149,10 +149,6 @@ has-fill entries r (Some n) legal rise is some =
 
 -- ---- the fills of a chain of which k is the last version, with it and without it
 
-root-is : (r : ExecKey) (found : Option ExecKey) → is_root r found ≡ true → found ≡ Some r
-root-is r None is = cc
-root-is r (Some other) is = ap Some (same_exec-true other r is)
-
 number-is : (n : ℕ) (found : Option ℕ) → is_number n found ≡ true → found ≡ Some n
 number-is n None is = cc
 number-is n (Some m) is = ap Some (eqb-true m n is)
@@ -179,7 +175,7 @@ last-fills later front number correct key (Some r) gone rise other rooted last =
     let entries = later ++ k ∷ front in
     let others = later ++ front in
     let is = last-of later front k l r gone rise last in
-    let referred : root_in (links_in front) correct.reference ≡ Some r = root-is r (root_in (links_in front) correct.reference) is.own in
+    let referred : root_in (links_in front) correct.reference ≡ Some r = is_root-some r (root_in (links_in front) correct.reference) is.own in
     let current : current_in (links_in entries) r ≡ Some number = number-is number (current_in (links_in entries) r) last in
     let before : current_in (links_in others) r ≡ current_in (links_in front) r = ap (λ ls. current_in ls r) (links-rest later front) ∙ is.before in
     let there : root_in (links_in others) key ≡ Some r = root-gone later front k l gone key other ∙ rooted in

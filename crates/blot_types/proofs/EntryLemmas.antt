@@ -7,11 +7,10 @@ use Rattle.std.proofs.lemmas.List.{reverse-append}
 use Rattle.blot_types.specs.declared.{command.Command.Command, command.Entry.Entry, keys.ExecKey.ExecKey, lines.Version.Version, link.Link.Link}
 use Rattle.blot_types.specs.declared.command.Command.TheVariants.{Trade, Correct, Bust, AllocNew, AllocReplace, AllocCancel, Withdraw}
 use Rattle.blot_types.specs.declared.refused.Refused.TheVariants.{DuplicateExec, UnknownExec, BustedExec}
-use Rattle.blot_types.specs.Chains.{taker_in, root_in, bust_in, chain_refusal, link_refusal, is_chained, is_above_links, falls}
+use Rattle.blot_types.specs.Chains.{taker_in, root_in, bust_in, chain_refusal, link_refusal, is_chained, is_above_links, falls, brings_version}
 use Rattle.blot_types.specs.Legal.{is_above_entries, rises_in, refusal_in, legal_in}
 use Rattle.blot_types.specs.Survivors.{link_by, link_of, links_in, links_of, version_by, version_of}
 use Rattle.blot_types.proofs.ChainLemmas.{none_is}
-use Rattle.blot_types.proofs.StandLemmas.{brings}
 
 -- ---- one entry
 
@@ -57,7 +56,7 @@ pub record IsVersionOf (link : Link) (version : Version) : Type 0 where
 -- an entry that is a link of a Trade or a Correct brings a version of it
 abbrev BringsVersion : Option Link → Option Version → Type 0
 BringsVersion None brought = brought ≡ None
-BringsVersion (Some link) brought = brings link.role ≡ true → (version : Version) × (brought ≡ Some version) × IsVersionOf link version
+BringsVersion (Some link) brought = brings_version link.role ≡ true → (version : Version) × (brought ≡ Some version) × IsVersionOf link version
 
 brought_by : (number : ℕ) (command : Command) → BringsVersion (link_by number command) (version_by number command)
 brought_by number (Trade trade) = λ is. (record { number = number; key = trade.key; fill = trade.fill }, refl, record { number = refl; key = refl })
@@ -69,7 +68,7 @@ brought_by number (AllocCancel cancel) = refl
 brought_by number (Withdraw withdrawn) = refl
 
 pub version-of_link :
-    (entry : Entry) (link : Link) → link_of entry ≡ Some link → brings link.role ≡ true → (version : Version) × (version_of entry ≡ Some version) × IsVersionOf link version
+    (entry : Entry) (link : Link) → link_of entry ≡ Some link → brings_version link.role ≡ true → (version : Version) × (version_of entry ≡ Some version) × IsVersionOf link version
 version-of_link entry link is =
     let brought = brought_by entry.number entry.command in
     subst (λ found. BringsVersion found (version_of entry)) is brought
@@ -81,7 +80,7 @@ version-unlinked entry is = subst (λ found. BringsVersion found (version_of ent
 -- nor does one that is the link of a Bust
 abbrev BringsNone : Option Link → Option Version → Type 0
 BringsNone None brought = brought ≡ None
-BringsNone (Some link) brought = brings link.role ≡ false → brought ≡ None
+BringsNone (Some link) brought = brings_version link.role ≡ false → brought ≡ None
 
 none_by : (number : ℕ) (command : Command) → BringsNone (link_by number command) (version_by number command)
 none_by number (Trade trade) = λ is. cc
@@ -92,7 +91,7 @@ none_by number (AllocReplace replace) = refl
 none_by number (AllocCancel cancel) = refl
 none_by number (Withdraw withdrawn) = refl
 
-pub version-of_bust : (entry : Entry) (link : Link) → link_of entry ≡ Some link → brings link.role ≡ false → version_of entry ≡ None
+pub version-of_bust : (entry : Entry) (link : Link) → link_of entry ≡ Some link → brings_version link.role ≡ false → version_of entry ≡ None
 version-of_bust entry link is = subst (λ found. BringsNone found (version_of entry)) is (none_by entry.number entry.command)
 
 -- ---- why an execution is refused

@@ -1,39 +1,32 @@
--- What std's lemmas don't say of truth values, options and lists.
-use Rattle.std.proofs.Common.{◌≡◌, ◌≤◌, ◌+◌, Bool, true, false, not, ◌&&◌, ◌||◌, cond, ℕ, List, [], ◌∷◌, ◌++◌, length, reverse, Option, Some, None, refl, sym, ap, subst, ◌∙◌, arith, inl, inr, filter, filter_map, find, All, Contains, option_map, is_some}
+-- What std's lemmas don't say of truth values, options, results and lists.
+use Rattle.std.proofs.Common.{◌≡◌, ◌≤◌, ◌+◌, Bool, true, false, not, ◌&&◌, ◌||◌, cond, ℕ, List, [], ◌∷◌, ◌++◌, length, reverse, Option, Some, None, refl, sym, ap, subst, ◌∙◌, arith, inl, inr, filter, filter_map, find, All, Contains, option_map, is_some, if◌then◌else◌, Result, Ok, Err, OnErr, ◌<◌, get_or, take}
+pub use mathlib.Core.Bool.{and-false, and-true, not-not, or-false}
 use Rattle.std.specs.List.{cons_option, list_any}
 use Rattle.std.specs.Option.{option_or}
 use Rattle.std.proofs.lemmas.Bool.{cases_Bool}
-use Rattle.std.proofs.lemmas.List.{reverse-append}
-use Rattle.std.proofs.lemmas.List.Elements.{All-nil, All-cons, All-head, All-tail, All-append, All-contains_itself}
+use Rattle.std.proofs.lemmas.List.{reverse-append, take_more}
+use Rattle.std.proofs.lemmas.List.Elements.{All-nil, All-cons, All-head, All-tail, All-append, All-contains_itself, All-push}
 
 -- ---- truth values
-
-pub not-not : (b : Bool) → not (not b) ≡ b
-not-not true = refl
-not-not false = refl
-
-pub and-true : (a : Bool) → (a && true) ≡ a
-and-true true = refl
-and-true false = refl
-
-pub and-false : (a : Bool) → (a && false) ≡ false
-and-false true = refl
-and-false false = refl
-
-pub or-false : (b : Bool) → (b || false) ≡ b
-or-false true = refl
-or-false false = refl
 
 pub or-falses : (b : Bool) → (b || false || false) ≡ b
 or-falses true = refl
 or-falses false = refl
+
+pub and-either : (a b c : Bool) → (a && (b || c)) ≡ ((a && b) || (a && c))
+and-either true b c = refl
+and-either false b c = refl
+
+pub through : {A B : Type 0} (f : A → B) (test : Bool) (a b : A) → f (if test then a else b) ≡ (if test then f a else f b)
+through f true a b = refl
+through f false a b = refl
 
 pub and-not : (x y : Bool) → x ≡ true → not (x && y) ≡ true → y ≡ false
 and-not true true is fails = sym fails
 and-not true false is fails = refl
 and-not false y is fails = cc
 
--- ---- options
+-- ---- options and results
 
 pub or-none : {A : Type 0} (o : Option A) → option_or o None ≡ o
 or-none None = refl
@@ -52,6 +45,10 @@ pub cons-append : {A : Type 0} (o : Option A) (xs ys : List A) → cons_option o
 cons-append None xs ys = refl
 cons-append (Some x) xs ys = refl
 
+pub on_err : {T E P : Type 0} (result : Result T E) → P → OnErr result P
+on_err (Ok value) is = tt
+on_err (Err error) is = is
+
 -- ---- what holds of all
 
 pub all-of : {X : Type 0} (P : X → Type 0) (xs : List X) → ((x : X) → P x) → All P xs
@@ -65,6 +62,15 @@ all-front P (x ∷ xs) ys all = All-cons P x xs (All-head P x (xs ++ ys) all) (a
 pub all-back : {X : Type 0} (P : X → Type 0) (xs ys : List X) → All P (xs ++ ys) → All P ys
 all-back P [] ys all = all
 all-back P (x ∷ xs) ys all = all-back P xs ys (All-tail P x (xs ++ ys) all)
+
+pub all-last : {X : Type 0} (P : X → Type 0) (front : List X) (x : X) → All P (front ++ x ∷ []) → P x
+all-last P front x all = All-head P x [] (all-back P front (x ∷ []) all)
+
+pub all-more :
+    {X : Type 0} (P : X → Type 0) (items : List X) (index : ℕ) (item : X) → index < length items → item ≡ get_or items index item
+    → All P (take index items) → P item → All P (take (index + 1) items)
+all-more P items index item within is before here =
+    subst (All P) (sym (take_more items index item within ∙ ap (λ x. take index items ++ x ∷ []) (sym is))) (All-push P (take index items) item before here)
 
 pub all-reversed : {X : Type 0} (P : X → Type 0) (xs : List X) → All P xs → All P (reverse xs)
 all-reversed P [] all = all

@@ -1,15 +1,27 @@
 -- When two keys are one: the test is an equivalence that decides equality; and the order of positions is total.
-use Rattle.std.proofs.Common.{◌≡◌, true, sym}
+use Rattle.std.proofs.Common.{◌≡◌, true, sym, ℕ, List, nat_cmp}
 use Rattle.std.specs.Cmp.{IsTotalOrder, on_total, then_total}
 use Rattle.std.specs.Cmp.Lexicographic.{slice_cmp, same_text as text_told, nat_list_cmp_total, nat_list_eq_equiv}
 use Rattle.std.specs.FinMap as finite
-use Rattle.std.proofs.Common.{nat_cmp}
 use Rattle.std.proofs.lemmas.Bool.{and_from, and_parts}
 use Rattle.std.proofs.lemmas.Map.Lookups.{exact_bytes, exact_pairs}
-use Rattle.blot_types.specs.declared.{keys.AllocKey.AllocKey, keys.ExecKey.ExecKey, keys.PositionKey.PositionKey}
-use Rattle.blot_types.specs.Keys.{same_text, same_exec, same_alloc, position_cmp}
+use Rattle.blot_types.specs.declared.{keys.AllocKey.AllocKey, keys.ExecKey.ExecKey, keys.PositionKey.PositionKey, keys.OrderKey.OrderKey}
+use Rattle.blot_types.specs.Keys.{same_text, same_exec, same_alloc, position_cmp, same_order}
 
--- keys that the test calls one are equal
+-- texts and keys that a test calls one are equal
+pub same_text-true : (a b : List ℕ) → same_text a b ≡ true → a ≡ b
+same_text-true a b same = text_told a b (sym same)
+
+pub same_text-refl : (a : List ℕ) → same_text a a ≡ true
+same_text-refl a = nat_list_eq_equiv.refl a
+
+pub same_order-true : (a b : OrderKey) → same_order a b ≡ true → a ≡ b
+same_order-true a b same =
+    let parts = and_parts _ _ same in
+    let peers = same_text-true a.peer b.peer parts.0 in
+    let ids = same_text-true a.id b.id parts.1 in
+    λ i. record { peer = peers i; id = ids i }
+
 pub same_exec-true : (a b : ExecKey) → same_exec a b ≡ true → a ≡ b
 same_exec-true a b same =
     let parts : (same_text a.peer b.peer ≡ true) × (same_text a.id b.id ≡ true) = and_parts _ _ same in

@@ -98,9 +98,6 @@ found_left : {X : Type 0} (a b : Option X) (x : X) → b ≡ None → option_or 
 found_left None b x none found = sym none ∙ found
 found_left (Some y) b x none found = found
 
-eqb-same : (n : ℕ) → (n == n) ≡ true
-eqb-same n = eq-eqb n n refl
-
 -- a test that only one number passes leaves one version: their numbers rise
 pub alone :
     (p : Version → Bool) (n : ℕ) (entries : List Entry) (version : Version) → rises_in entries ≡ true → ((other : Version) → p other ≡ true → other.number ≡ n)
@@ -127,7 +124,7 @@ alone p n (entry ∷ earlier) version rise only kept found =
           let here : find (λ v. v.number == n) new ≡ Some version = rw not_found at found_split in
           split ∙ ap (λ front. front ++ filter p new) none ∙ filter-single p (λ v. v.number == n) (version_of entry) version kept here
       | inr other ↦
-          let apart : entry.number ≡ n → ⊥ = λ equal. differing (ap (λ m. m == n) equal ∙ eqb-same n) other in
+          let apart : entry.number ≡ n → ⊥ = λ equal. differing (ap (λ m. m == n) equal ∙ eq-eqb n n refl) other in
           let brought : All (λ v. v.number ≡ entry.number) new = brought-number entry in
           let none : filter p new ≡ [] =
           filter-none p new (All-weaker (λ v. v.number ≡ entry.number) (λ v. p v ≡ false) (λ v is. fails p n only v (λ equal. apart (sym is ∙ equal))) new brought) in

@@ -1,11 +1,11 @@
 -- The parts of the positions: what moves where a chain is named, or isn't any more.
-use Rattle.std.proofs.Common.{◌≡◌, ℕ, ◌==◌, Bool, true, false, ◌&&◌, ◌+ℤ◌, arith, List, [], ◌∷◌, map, reverse, Option, Some, None, refl, sym, ap, subst, ◌∙◌, inl, inr, ℤ, neg_ℤ, unsigned_abs, filter, find, is_none, not, All, IsTrue, if◌then◌else◌, option_and_then, eqb-true, eq-eqb}
+use Rattle.std.proofs.Common.{◌≡◌, ℕ, ◌==◌, Bool, true, false, ◌&&◌, ◌+ℤ◌, arith, List, [], ◌∷◌, map, reverse, Option, Some, None, refl, sym, ap, subst, ◌∙◌, inl, inr, ℤ, neg_ℤ, unsigned_abs, filter, find, is_none, not, IsTrue, if◌then◌else◌, option_and_then, eqb-true, eq-eqb}
 use Rattle.std.specs.List.{cons_option}
 use Rattle.std.specs.Option.{option_map_or}
 use Rattle.std.proofs.lemmas.Bool.{cases_Bool, not-true}
 use Rattle.std.proofs.lemmas.Int.{ints}
 use Rattle.std.proofs.lemmas.List.{reverse-reverse}
-use Rattle.std.proofs.lemmas.List.Elements.{All-nil, All-cons, All-weaker}
+use Rattle.std.proofs.lemmas.List.Elements.{All-weaker, filter_passes}
 use Rattle.blot_types.specs.declared.{command.Entry.Entry, fill.Sign.Sign, keys.ExecKey.ExecKey, part.Part.Part, lines.Version.Version, link.Link.Link}
 use Rattle.blot_types.specs.declared.fill.Sign.TheVariants.{Buy, Sell}
 use Rattle.blot_types.specs.Chains.{root_in, is_root, bust_in, current_in}
@@ -33,14 +33,6 @@ signed-size Buy amount = refl
 signed-size Sell amount = neg-size amount
 
 -- ---- lists
-
-pub filter-passes : {X : Type 0} (p : X → Bool) (xs : List X) → All (λ x. p x ≡ true) (filter p xs)
-filter-passes p [] = All-nil (λ x. p x ≡ true)
-filter-passes p (x ∷ xs) =
-    elim (cases_Bool (p x)) [
-      | inl passes ↦ rw passes (All-cons (λ y. p y ≡ true) x (filter p xs) passes (filter-passes p xs))
-      | inr fails ↦ rw fails (filter-passes p xs)
-    ]
 
 -- ---- the version that stands of a chain
 
@@ -137,7 +129,7 @@ of_other : (root : ExecKey) (before after : ExecKey → Bool) (found : Option Ex
 of_other root before after None others apart = refl
 of_other root before after (Some other) others apart = others other apart
 
--- the sum of the parts of the survivors that pass a test, all-of named or all-of not
+-- the sum of the parts of the survivors that pass a test, all named or all not
 side :
     (f : Part → ℤ) (value : Bool) (named : ExecKey → Bool) (root : ExecKey) (list : List Entry) → named root ≡ value
     → total (λ v. f (part_under named (links_of list) v)) (survivors_of_chain list root) ≡ total (λ v. f (part_of_fill value v.fill)) (survivors_of_chain list root)
@@ -145,7 +137,7 @@ side f value named root list is =
     total-agree (λ v. f (part_under named (links_of list) v)) (λ v. f (part_of_fill value v.fill)) (survivors_of_chain list root)
     (All-weaker (λ v. is_of_chain list root v ≡ true) (λ v. f (part_under named (links_of list) v) ≡ f (part_of_fill value v.fill))
     (λ v here. ap (λ flag. f (part_of_fill flag v.fill)) (of_root named root value (root_in (links_of list) v.key) is here))
-    (survivors_of_chain list root) (filter-passes (is_of_chain list root) (survivors list)))
+    (survivors_of_chain list root) (filter_passes (is_of_chain list root) (survivors list)))
 
 -- what moves where a chain is named: the parts of its survivors leave their own accounts for the house account
 pub total-names_more :
@@ -162,7 +154,7 @@ total-names_more f list root before after more =
     total-agree (λ v. f (part_under before links v)) (λ v. f (part_under after links v)) rest
     (All-weaker (λ v. not (p v) ≡ true) (λ v. f (part_under before links v) ≡ f (part_under after links v))
     (λ v other. ap (λ flag. f (part_of_fill flag v.fill)) (of_other root before after (root_in links v.key) more.others (not-true (p v) other)))
-    rest (filter-passes (λ v. not (p v)) (survivors list))) in
+    rest (filter_passes (λ v. not (p v)) (survivors list))) in
     let side_after = side f true after root list more.is in
     let side_before = side f false before root list more.was in
     omega (arith, ints, split_after, split_before, same, side_after, side_before)

@@ -1,34 +1,22 @@
 -- What the quantity rule leaves: the lines of an allocation book what its block is.
-use Rattle.std.proofs.Common.{◌≡◌, true, ℤ, pos, List, [], ◌∷◌, reverse, Option, Some, None, sym, subst, ◌∙◌, inl, inr, is_none, All, IfSome, filter_map, option_map, option_and_then, int_eq}
-use Rattle.std.proofs.lemmas.Bool.{cases_Bool, and_parts}
-use Rattle.std.proofs.lemmas.Bool.Decides.{Decides-int_eq}
+use Rattle.std.proofs.Common.{◌≡◌, true, ℤ, pos, List, [], ◌∷◌, reverse, Option, Some, None, sym, subst, is_none, All, IfSome, filter_map, option_map, option_and_then}
+use Rattle.std.proofs.lemmas.Bool.{and_parts}
 use Rattle.std.proofs.lemmas.List.{reverse-reverse, reverse-append}
 use Rattle.std.proofs.lemmas.List.Elements.{All-nil, All-push}
-use Rattle.blot_types.specs.declared.{allocation.Terms.Terms, command.Command.Command, command.Entry.Entry, refused.Refused.TheVariants.Quantity}
+use Rattle.blot_types.specs.declared.{allocation.Terms.Terms, command.Command.Command, command.Entry.Entry}
 use Rattle.blot_types.specs.Allocations.{Allocation, allocation_of}
 use Rattle.blot_types.specs.Legal.{refusal_in, legal_in, is_legal}
 use Rattle.blot_types.specs.Order.{cum_of}
 use Rattle.blot_types.specs.Refusals.{current_fill, booked, mismatch}
 use Rattle.blot_types.proofs.AcceptOutLemmas.{accepts}
 use Rattle.blot_types.proofs.ChainLemmas.{none_is}
-use Rattle.blot_types.proofs.BookedLemmas.{BooksBlock}
-
-matched : (wanted block lines : ℤ) → mismatch wanted block lines ≡ None → lines ≡ block
-matched wanted block lines none =
-    elim (cases_Bool (int_eq block wanted)) [
-      | inl first ↦
-          elim (cases_Bool (int_eq lines wanted)) [
-            | inl second ↦ (Decides-int_eq lines wanted).0 second ∙ sym ((Decides-int_eq block wanted).0 first)
-            | inr other ↦ (let clash : Some (Quantity wanted lines) ≡ None = rw (first, other) at none in cc)
-          ]
-      | inr other ↦ (let clash : Some (Quantity wanted block) ≡ None = rw other at none in cc)
-    ]
+use Rattle.blot_types.proofs.BookedLemmas.{BooksBlock, mismatch-none}
 
 books_found :
     (wanted : Terms → ℤ) (found : Option Allocation)
     → option_and_then (λ terms. mismatch (wanted terms) (pos terms.block) (booked terms.lines)) (option_map (λ a. a.terms) found) ≡ None → IfSome found BooksBlock
 books_found wanted None none = tt
-books_found wanted (Some a) none = matched (wanted a.terms) (pos a.terms.block) (booked a.terms.lines) none
+books_found wanted (Some a) none = mismatch-none (wanted a.terms) (pos a.terms.block) (booked a.terms.lines) none
 
 accepted_books : (entries : List Entry) (command : Command) → refusal_in entries command ≡ None → IfSome (allocation_of command) BooksBlock
 accepted_books entries command accepted =

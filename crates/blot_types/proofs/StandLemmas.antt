@@ -4,7 +4,7 @@ use Rattle.std.proofs.lemmas.Bool.{cases_Bool}
 use Rattle.blot_types.specs.declared.{keys.ExecKey.ExecKey, lines.Version.Version, link.Link.Link, link.Role.Role}
 use Rattle.blot_types.specs.declared.link.Role.TheVariants.{Begins, Corrects, Busts}
 use Rattle.blot_types.specs.Keys.{same_exec}
-use Rattle.blot_types.specs.Chains.{takes_up, taker_in, own_root, root_in, is_root, bust_in, current_in, reference_refusal, link_refusal, replaced_in, falls}
+use Rattle.blot_types.specs.Chains.{takes_up, taker_in, own_root, root_in, is_root, bust_in, current_in, reference_refusal, link_refusal, replaced_in, falls, brings_version}
 use Rattle.blot_types.specs.Survivors.{is_number, stands_under, stands_in}
 use Rattle.blot_types.proofs.KeyLemmas.{same_exec-true, same_exec-refl, same_exec-sym}
 use Rattle.blot_types.proofs.ChainLemmas.{root-fresh, bust-fresh, accepted_key, accepted_root, current-apart, differing}
@@ -21,12 +21,6 @@ pub and-apart : (a b c : Bool) → (b ≡ true → c ≡ false) → (a && b) ≡
 and-apart true true c apart = rw (apart refl) refl
 and-apart true false c apart = refl
 and-apart false b c apart = refl
-
--- whether a link brings a version
-abbrev pub brings : Role → Bool
-brings Begins = true
-brings (Corrects reference) = true
-brings (Busts reference) = false
 
 -- the version of a number, after a link that begins another chain
 step-begins :
@@ -118,7 +112,7 @@ new-corrects :
 new-corrects links n key reference root is live = rw (is, live, same_exec-refl root) (eq-eqb n n refl)
 
 new-stands :
-    (links : List Link) (n : ℕ) (key : ExecKey) (role : Role) → taker_in links key ≡ None → reference_refusal links role ≡ None → brings role ≡ true
+    (links : List Link) (n : ℕ) (key : ExecKey) (role : Role) → taker_in links key ≡ None → reference_refusal links role ≡ None → brings_version role ≡ true
     → stands_under (record { number = n; key = key; role = role } ∷ links) n (own_root (root_in links) key role) ≡ true
 new-stands links n key Begins fresh accepted is_version = rw (bust-fresh links key fresh, same_exec-refl key) (eq-eqb n n refl)
 new-stands links n key (Corrects reference) fresh accepted is_version =
@@ -132,7 +126,7 @@ own-root :
 own-root links link = rw (same_exec-refl link.key) refl
 
 pub stands-new :
-    (links : List Link) (link : Link) (version : Version) → link_refusal links link.key link.role ≡ None → brings link.role ≡ true
+    (links : List Link) (link : Link) (version : Version) → link_refusal links link.key link.role ≡ None → brings_version link.role ≡ true
     → version.number ≡ link.number → version.key ≡ link.key → stands_in (link ∷ links) version ≡ true
 stands-new links link version accepted is_version number key =
     let parts = accepted_key links link.key link.role accepted in

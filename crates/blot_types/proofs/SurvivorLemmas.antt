@@ -8,14 +8,14 @@ use Rattle.std.proofs.lemmas.List.Elements.{All-nil, All-cons, All-head, All-tai
 use Rattle.std.proofs.lemmas.List.Folds.{find-append}
 use Rattle.blot_types.specs.declared.{command.Entry.Entry, keys.ExecKey.ExecKey, lines.Version.Version, link.Link.Link, link.Role.Role}
 use Rattle.blot_types.specs.declared.link.Role.TheVariants.{Begins, Corrects, Busts}
-use Rattle.blot_types.specs.Chains.{takes_up, taker_in, own_root, root_in, is_root, bust_in, current_in, link_refusal, reference_refusal, replaced_in, replaced_by, falls}
+use Rattle.blot_types.specs.Chains.{takes_up, taker_in, own_root, root_in, is_root, bust_in, current_in, link_refusal, reference_refusal, replaced_in, replaced_by, falls, brings_version}
 use Rattle.blot_types.specs.Legal.{is_above_entries, rises_in, numbers_rise, legal_in, is_legal, refusal_in, entry_refusal}
 use Rattle.blot_types.specs.Refusals.{version_in}
 use Rattle.blot_types.specs.Survivors.{link_of, links_in, links_of, version_of, versions_of, is_number, stands_in, survivors}
 use Rattle.blot_types.proofs.KeyLemmas.{same_exec-true, same_exec-refl}
 use Rattle.blot_types.proofs.ChainLemmas.{rootless, accepted_root, accepted_key, clash, none_is}
 use Rattle.blot_types.proofs.EntryLemmas.{links_of-push, link-number, version-number, version-of_link, version-of_bust, version-unlinked, IsVersionOf, refusal-link, falls-links}
-use Rattle.blot_types.proofs.StandLemmas.{brings, stands-older, stands-new}
+use Rattle.blot_types.proofs.StandLemmas.{stands-older, stands-new}
 use Rattle.blot_types.proofs.GeneralLemmas.{or-none, length-filtered, found-stays}
 
 -- ---- lists
@@ -85,7 +85,7 @@ same_version e = cc
 pub of_its_link :
     (entry : Entry) (link : Link) → link_of entry ≡ Some link → (version : Version) → version_of entry ≡ Some version → IsVersionOf link version
 of_its_link entry link is version brought =
-    elim (cases_Bool (brings link.role)) [
+    elim (cases_Bool (brings_version link.role)) [
       | inl one ↦
           let own = version-of_link entry link is one in
           subst (IsVersionOf link) (same_version (sym own.1 ∙ brought)) own.2
@@ -135,7 +135,7 @@ last_stands :
 last_stands links entry link is accepted =
     one-stands (stands_in (link ∷ links)) (version_of entry) (λ version brought.
     let own = of_its_link entry link is version brought in
-    elim (cases_Bool (brings link.role)) [
+    elim (cases_Bool (brings_version link.role)) [
       | inl one ↦ stands-new links link version accepted one own.number own.key
       | inr none ↦ absurd (clash (sym brought ∙ version-of_bust entry link is none))
     ])
@@ -197,7 +197,7 @@ pub record IsCurrent (list : List Entry) (root : ExecKey) (number : ℕ) (versio
   pub found : find (λ v. v.number == number) (versions_of list) ≡ Some version
   pub root_is : root_in (links_of list) version.key ≡ Some root
 
-is_root-some : (root : ExecKey) (found : Option ExecKey) → is_root root found ≡ true → found ≡ Some root
+pub is_root-some : (root : ExecKey) (found : Option ExecKey) → is_root root found ≡ true → found ≡ Some root
 is_root-some root None is = cc
 is_root-some root (Some other) is = ap Some (same_exec-true other root is)
 
@@ -220,7 +220,7 @@ not_taken links link key root fresh is =
     ]
 
 -- what a Trade or a Correct begins or continues is the chain of a root
-brings-root : (root : ExecKey) (roots : ExecKey → Option ExecKey) (key : ExecKey) (role : Role) → is_root root (own_root roots key role) ≡ true → brings role ≡ true
+brings-root : (root : ExecKey) (roots : ExecKey → Option ExecKey) (key : ExecKey) (role : Role) → is_root root (own_root roots key role) ≡ true → brings_version role ≡ true
 brings-root root roots key Begins own = refl
 brings-root root roots key (Corrects reference) own = refl
 brings-root root roots key (Busts reference) own = cc

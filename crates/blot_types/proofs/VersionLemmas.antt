@@ -1,8 +1,9 @@
 -- Legal entries without a Trade or a Correct: the fills of the chains, and the step for a Trade.
 use Rattle.std.proofs.Common.{◌≡◌, ℕ, ◌==◌, true, false, List, [], ◌∷◌, ◌++◌, Option, Some, None, refl, sym, ap, ◌∙◌, inl, inr, Bool, ◌||◌, not, find, is_none, All, filter_map, option_map, option_and_then, eqb-true, eq-eqb}
-use Rattle.std.specs.List.{cons_option, list_any}
+use Rattle.std.specs.List.{cons_option}
 use Rattle.std.proofs.lemmas.Bool.{cases_Bool}
-use Rattle.std.proofs.lemmas.List.Elements.{All-head, All-tail, All-weaker, filter_map-append}
+use Rattle.std.proofs.lemmas.List.Elements.{All-weaker, filter_map-append}
+use Rattle.std.proofs.lemmas.List.Folds.{list_any_none}
 use Rattle.blot_types.specs.declared.{command.Command.Command, command.Command.TheVariants.Trade as TradeCommand, command.Entry.Entry, command.Trade.Trade, keys.ExecKey.ExecKey, lines.Version.Version, link.Link.Link, link.Role.TheVariants.Begins}
 use Rattle.blot_types.specs.Chains.{root_in, is_root, current_in, falls}
 use Rattle.blot_types.specs.Keys.{same_exec, is_among}
@@ -28,10 +29,6 @@ find-skip p (x ∷ xs) ys y other =
       | inl here ↦ rw here refl
       | inr passed ↦ rw passed (find-skip p xs ys y other)
     ]
-
-pub none-any : {A : Type 0} (p : A → Bool) (xs : List A) → All (λ x. p x ≡ false) xs → list_any p xs ≡ false
-none-any p [] none = refl
-none-any p (x ∷ xs) none = rw (All-head (λ y. p y ≡ false) x xs none) (none-any p xs (All-tail (λ y. p y ≡ false) x xs none))
 
 pub unnamed : {A : Type 0} (o : Option A) → (o ≡ None → ⊥) → is_none o ≡ false
 unnamed None some = absurd (some refl)
@@ -139,7 +136,7 @@ pub refused-among : (later front : List Entry) (k : Entry) (l : Link) (command :
 refused-among later front k l command gone among is =
     let refers = references-other (later ++ front) l.key command (key-gone later front k l gone) (accepts (later ++ front) command is).rooted in
     differing among
-    (none-any (λ key. same_exec key l.key) (exec_references command)
+    (list_any_none (λ key. same_exec key l.key) (exec_references command)
     (All-weaker (IsOther l) (λ key. same_exec key l.key ≡ false) (λ key other. same_exec-sym key l.key ∙ other) (exec_references command) refers))
 
 or-false : (b : Bool) → (b || false || false || false) ≡ b

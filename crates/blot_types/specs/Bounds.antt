@@ -1,6 +1,6 @@
 -- How much the parts of a book's positions come to at most. Each bound follows from the most events of a day.
 use Rattle.std.specs.Prelude.{ℕ, ◌+◌, ◌*◌, ◌^◌}
-use Rattle.blot_types.specs.declared.TheConstants.{EVENTS_MAX, ITEMS_MAX}
+use Rattle.blot_types.specs.declared.{TheConstants.EVENTS_MAX, TheConstants.ITEMS_MAX}
 
 -- the most parts: one of each fill, and two of each line of an allocation
 abbrev pub BOOK_PARTS : ℕ

@@ -18,6 +18,12 @@ takes_up key link = same_exec link.key key
 abbrev pub taker_in : List Link → ExecKey → Option ℕ
 taker_in links key = option_map (λ link. link.number) (find (takes_up key) links)
 
+-- whether an entry of this role brings its chain a version
+abbrev pub brings_version : Role → Bool
+brings_version Begins = true
+brings_version (Corrects reference) = true
+brings_version (Busts reference) = false
+
 -- the root of the key of an entry, where `root` tells the roots of the keys before it: a Trade's key is its
 -- own root, a Correct's has the root of its reference, a Bust's has none
 abbrev pub own_root : (ExecKey → Option ExecKey) → ExecKey → Role → Option ExecKey

@@ -4,19 +4,13 @@ use Rattle.std.proofs.lemmas.Bool.{cases_Bool, and_parts}
 use Rattle.blot_types.specs.declared.{keys.ExecKey.ExecKey, link.Link.Link, link.Role.Role}
 use Rattle.blot_types.specs.declared.link.Role.TheVariants.{Begins, Corrects, Busts}
 use Rattle.blot_types.specs.Keys.{same_exec}
-use Rattle.blot_types.specs.Chains.{takes_up, taker_in, own_root, root_in, is_root, busts, bust_in, current_in, link_refusal, reference_refusal, is_chained}
+use Rattle.blot_types.specs.Chains.{takes_up, taker_in, own_root, root_in, is_root, busts, bust_in, current_in, link_refusal, reference_refusal, is_chained, brings_version}
+use Rattle.blot_types.specs.StandingVersion.{chain_root}
 use Rattle.blot_types.proofs.ChainLemmas.{clash, differing, none_is, rootless, accepted_key, accepted_root}
 use Rattle.blot_types.proofs.KeyLemmas.{same_exec-true, same_exec-refl}
-use Rattle.blot_types.proofs.StandLemmas.{brings}
 use Rattle.blot_withdraw.proofs.Split.{Split, Knows, chain_key, own_key}
 
 -- ---- the chain of a link
-
--- the root of the chain that a link begins, corrects or busts
-abbrev pub chain_root : (ExecKey → Option ExecKey) → ExecKey → Role → Option ExecKey
-chain_root root key Begins = Some key
-chain_root root key (Corrects reference) = root reference
-chain_root root key (Busts reference) = root reference
 
 -- it has this root, among the links before it and in the whole list, and so has what it refers to
 record IsOf (split : Split) (earlier : List Link) (key : ExecKey) (role : Role) (root : ExecKey) : Type 0 where
@@ -106,7 +100,7 @@ busts-chain links others root key (Corrects reference) same = refl
 busts-chain links others root key (Busts reference) same = ap (is_root root) same
 
 -- a Bust's own key has no root
-own-bust : (f : ExecKey → Option ExecKey) (key : ExecKey) (role : Role) → brings role ≡ false → own_root f key role ≡ None
+own-bust : (f : ExecKey → Option ExecKey) (key : ExecKey) (role : Role) → brings_version role ≡ false → own_root f key role ≡ None
 own-bust f key Begins none = cc
 own-bust f key (Corrects reference) none = cc
 own-bust f key (Busts reference) none = refl
@@ -114,7 +108,7 @@ own-bust f key (Busts reference) none = refl
 -- a link that goes, and yet takes up a key of a chain that stays, is a Bust
 gone-own : (split : Split) (f : ExecKey → Option ExecKey) (link : Link) → split.keeps link ≡ false → split.goes (split.roots link.key) ≡ false → own_root f link.key link.role ≡ None
 gone-own split f link gone stays =
-    elim (cases_Bool (brings link.role)) [
+    elim (cases_Bool (brings_version link.role)) [
       | inl one ↦ absurd (differing (split.gone link one gone) stays)
       | inr none ↦ own-bust f link.key link.role none
     ]
@@ -213,7 +207,7 @@ gone-version :
     (split : Split) (link : Link) (earlier : List Link) (root : ExecKey) (new : Newest split link earlier) → split.keeps link ≡ false → split.goes (Some root) ≡ false
     → is_root root (own_root (root_in earlier) link.key link.role) ≡ false
 gone-version split link earlier root new gone stays =
-    elim (cases_Bool (brings link.role)) [
+    elim (cases_Bool (brings_version link.role)) [
       | inl one ↦
           let goes = ap (λ key. split.goes (split.roots key)) (own_key link.key link.role one) ∙ split.gone link one gone in
           other-own (root_in earlier) root link.key link.role (gone-other split link earlier root new goes stays)

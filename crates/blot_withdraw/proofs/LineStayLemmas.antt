@@ -2,7 +2,7 @@
 use Rattle.std.proofs.Common.{◌≡◌, ℕ, true, false, ◌&&◌, List, [], ◌∷◌, ◌++◌, map, reverse, Option, Some, None, refl, sym, ap, ◌∙◌, inl, inr, not, filter, is_none, All, filter_map, flat_map}
 use Rattle.std.specs.Option.{option_map_or}
 use Rattle.std.proofs.lemmas.Bool.{cases_Bool, and_parts, not-true}
-use Rattle.std.proofs.lemmas.List.Elements.{All-head, All-tail, All-weaker, filter_agree}
+use Rattle.std.proofs.lemmas.List.Elements.{All-head, All-tail, All-weaker, filter_agree, filter_passes}
 use Rattle.blot_types.specs.declared.{command.Command.Command, command.Entry.Entry, keys.AllocKey.AllocKey, keys.ExecKey.ExecKey, keys.OrderKey.OrderKey, lines.Version.Version}
 use Rattle.blot_types.specs.declared.command.Command.TheVariants.{Trade, Correct, Bust, AllocNew, AllocReplace, AllocCancel, Withdraw}
 use Rattle.blot_types.specs.Allocations.{Allocation, allocation_of, instructions_in, instructions_of, live_allocations, named_roots}
@@ -13,7 +13,6 @@ use Rattle.blot_types.specs.Order.{order_of, line_of, fills_of}
 use Rattle.blot_types.specs.Position.{moves_of, is_at, part_of, part_of_fill, parts_of, position_of, position_by}
 use Rattle.blot_types.specs.Refusals.{alloc_key}
 use Rattle.blot_types.specs.Survivors.{links_in, links_of, root_of, versions_of, is_number, stands_under, stands_in, survivors}
-use Rattle.blot_types.proofs.PartLemmas.{filter-passes}
 use Rattle.blot_types.proofs.SurvivorLemmas.{filter-and}
 use Rattle.blot_withdraw.proofs.ChainStayLemmas.{GoWhole}
 use Rattle.blot_withdraw.proofs.InstructionStayLemmas.{instruction_stays, instructions-split}
@@ -134,7 +133,7 @@ parts-spared split list it =
     let same : All (λ version. part_of kept version ≡ part_of list version) (survivors list) =
     All-weaker (λ version. stands_in (links_of list) version ≡ true) (λ version. part_of kept version ≡ part_of list version)
     (λ version stands. part-spared split list version it (survivor-stays split list version it stands)) (survivors list)
-    (filter-passes (stands_in (links_of list)) (versions_of list)) in
+    (filter_passes (stands_in (links_of list)) (versions_of list)) in
     ap (λ versions. map (part_of kept) versions ++ flat_map (λ allocation. moves_of allocation.terms) (live_allocations kept)) (survivors-spared split list it)
     ∙ ap (λ parts. parts ++ flat_map (λ allocation. moves_of allocation.terms) (live_allocations kept)) (map-agree (part_of kept) (part_of list) (survivors list) same)
     ∙ ap (λ allocations. map (part_of list) (survivors list) ++ flat_map (λ allocation. moves_of allocation.terms) allocations) (live-spared split list it)

@@ -5,10 +5,9 @@ use Rattle.std.proofs.lemmas.Bool.{cases_Bool}
 use Rattle.blot_types.specs.declared.{command.Command.Command, command.Entry.Entry, keys.AllocKey.AllocKey, keys.ExecKey.ExecKey, lines.Version.Version, link.Link.Link, link.Role.Role}
 use Rattle.blot_types.specs.declared.command.Command.TheVariants.{Trade, Correct, Bust, AllocNew, AllocReplace, AllocCancel, Withdraw}
 use Rattle.blot_types.specs.declared.link.Role.TheVariants.{Begins, Corrects, Busts}
-use Rattle.blot_types.specs.Chains.{root_in}
+use Rattle.blot_types.specs.Chains.{root_in, brings_version}
 use Rattle.blot_types.specs.Refusals.{alloc_key, alloc_reference, listed_by}
 use Rattle.blot_types.specs.Survivors.{link_of, links_in, version_by, version_of}
-use Rattle.blot_types.proofs.StandLemmas.{brings}
 use Rattle.blot_types.proofs.StayLemmas.{filter_map-filter}
 
 -- the execution by which a link is of a chain: its own, or for a Bust its reference
@@ -31,7 +30,7 @@ pub record Split : Type 0 where
   pub keeps : Link → Bool
   pub linked : (entry : Entry) (link : Link) → link_of entry ≡ Some link → stays entry ≡ keeps link
   pub kept : (link : Link) → keeps link ≡ true → goes (roots (chain_key link.key link.role)) ≡ false
-  pub gone : (link : Link) → brings link.role ≡ true → keeps link ≡ false → goes (roots link.key) ≡ true
+  pub gone : (link : Link) → brings_version link.role ≡ true → keeps link ≡ false → goes (roots link.key) ≡ true
   pub allocated : (entry : Entry) (key : AllocKey) → alloc_key entry.command ≡ Some key → stays entry ≡ not (drops key)
 
 -- nobody needs what goes: an allocation that stays lists no execution of a chain that goes, and what refers to an
@@ -50,13 +49,13 @@ links-split split entries = filter_map-filter link_of split.stays split.keeps en
 
 -- ---- versions
 
-pub own_key : (key : ExecKey) (role : Role) → brings role ≡ true → chain_key key role ≡ key
+pub own_key : (key : ExecKey) (role : Role) → brings_version role ≡ true → chain_key key role ≡ key
 own_key key Begins is = refl
 own_key key (Corrects reference) is = refl
 own_key key (Busts reference) is = cc
 
 -- the link of a Trade or a Correct stays where its chain stays
-whole : (split : Split) (link : Link) → brings link.role ≡ true → split.keeps link ≡ not (split.goes (split.roots link.key))
+whole : (split : Split) (link : Link) → brings_version link.role ≡ true → split.keeps link ≡ not (split.goes (split.roots link.key))
 whole split link is =
     elim (cases_Bool (split.keeps link)) [
       | inl stays ↦
@@ -68,7 +67,7 @@ whole split link is =
 abbrev pub version_stays : Split → Version → Bool
 version_stays split version = not (split.goes (split.roots version.key))
 
-by_link : (split : Split) (entry : Entry) (link : Link) (version : Version) → link_of entry ≡ Some link → brings link.role ≡ true → link.key ≡ version.key → split.stays entry ≡ version_stays split version
+by_link : (split : Split) (entry : Entry) (link : Link) (version : Version) → link_of entry ≡ Some link → brings_version link.role ≡ true → link.key ≡ version.key → split.stays entry ≡ version_stays split version
 by_link split entry link version is one key = split.linked entry link is ∙ whole split link one ∙ ap (λ k. not (split.goes (split.roots k))) key
 
 -- what an entry brings stays where the entry stays

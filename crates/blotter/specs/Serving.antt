@@ -2,9 +2,8 @@
 use Rattle.std.specs.Prelude.{◌≡◌, ◌<◌, ℕ, ℤ, true, List, [], ◌∷◌, ◌++◌, codes, length, replicate, Option, All}
 use Rattle.std.specs.List.{list_all}
 use Rattle.std.specs.Io.KnownBytes.{Appends}
-use Rattle.blot_desk.specs.declared.{event.Event.Event, event.Recorded.Recorded, fault.DeskFault.DeskFault}
+use Rattle.blot_desk.specs.declared.{event.Event.Event, event.Recorded.Recorded, fault.DeskFault.DeskFault, receipt.Receipt.Receipt}
 use Rattle.blot_desk.specs.declared.fault.DeskFault.TheVariants as desk
-use Rattle.blot_desk.specs.declared.receipt.Receipt.{Receipt}
 use Rattle.blot_desk.specs.Desk.{events_of, run_of}
 use Rattle.blot_desk.specs.Keeping.{kept_events}
 use Rattle.blot_desk.specs.Receipts.{IsSettled}

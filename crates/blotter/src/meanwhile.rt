@@ -31,7 +31,7 @@ impl<'a, 'i, 'o, R: Wait, I: Read, O: Write, L: Ledger> Task for Lines<'a, 'i, '
     ghost use Rattle.std.specs.Prelude.{◌≡◌, OnOk, IfSome};
     ghost use Rattle.std.specs.Io.KnownBytes.{IsAtEnd};
     ghost use Rattle.blot_operator.specs.Dialogue.{TellsLines, seat_ways};
-    ghost use Rattle.blot_operator.specs.Lines.{lines_of};
+    ghost use Rattle.blot_stream.specs.Texts.{lines_of};
 
     type Output = (Result<(), ReplayFault>, Seat<L>, &'i mut I, &'o mut O);
 

@@ -4,7 +4,7 @@ use Rattle.std.specs.List.{list_all}
 use Rattle.std.specs.Io.KnownBytes.{Appends, IsAtEnd}
 use Rattle.blot_desk.specs.declared.{event.Event.Event, receipt.Receipt.Receipt}
 use Rattle.blot_desk.specs.Desk.{DeskState, IsRun}
-use Rattle.blot_stream.specs.Texts.{AppendsOf}
+use Rattle.blot_stream.specs.Texts.{AppendsOf, lines_of}
 use Rattle.blot_capture.specs.Replay.{replay_of}
 use Rattle.blot_operator.specs.Operating.{answers_of}
 use Rattle.blot_trail.specs.Audit.{trail_of}
@@ -12,7 +12,6 @@ use Rattle.blot_operator.specs.OpenDay.{EndsOf}
 use Rattle.blotter.specs.Keeping.{KeptDayServed, ServesStaffed}
 use Rattle.blotter.specs.Serving.{DayServed, OpenDayServed, StaffedDayServed}
 use Rattle.blot_ask.specs.Asking.{Turn, is_turn, shown_last, shown_of}
-use Rattle.blot_ask.specs.Lines.{lines_of}
 use Rattle.blot_arguments.specs.declared.words.Words.{Words}
 use Rattle.blot_arguments.specs.Words.{journal_named, operators_named}
 use Rattle.blot_arguments.specs.declared.words.Words.TheVariants.{Replay, Desk, Audit, Open, Serve, Ask}

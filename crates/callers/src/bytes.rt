@@ -42,18 +42,6 @@ pub fn has_frame(alloc: Global, stream: &[u8]) -> Result<bool, NoMemory>
     Ok(reader.next()?.is_some())
 }
 
-/// The value of a frame's first field with a tag, none without one.
-pub fn first_value<'a>(frame: &Frame<'a>, tag: u32) -> Option<&'a [u8]> {
-    for item in frame.fields() {
-        if let Ok(field) = item {
-            if field.tag == tag {
-                return Some(field.value);
-            }
-        }
-    }
-    None
-}
-
 /// A Logout that says why, as a frame; its header is left out here.
 pub fn logout(alloc: Global, reason: &[u8]) -> Result<Vec<u8>, WriteFault>
     ensures { IfOk result (λ frame. IsFrame frame.items) }

@@ -9,7 +9,7 @@ mod places;
 mod round_trip;
 mod tape;
 
-pub use bytes::{day_of, first_value, has_frame, logout, number_of, worth};
+pub use bytes::{day_of, has_frame, logout, number_of, worth};
 pub use counter::{Add, AddFault, TOTAL_MAX};
 pub use places::{PLACES, Put, PutFault, Was};
 pub use round_trip::there_and_back;

@@ -1,7 +1,8 @@
 use Rattle.std.proofs.Common.{Err, ap, codes}
-use Rattle.blot_stream.proofs.ResultLemmas.{err-always, on-err, on-ok}
+use Rattle.blot_stream.proofs.ResultLemmas.{on-err, on-ok}
 use Rattle.blot_ask.proofs.AskingLemmas.{asked_to_the_end, lines_in_part, name_in_part, passed, sent_in_all, turned_away}
 use Rattle.blot_ask.proofs.asking.ask.Goals as goal
+use Rattle.blot_types.proofs.GeneralLemmas.{on_err}
 
 pub returns-in_err-enter-clause-taken : goal.returns-in_err-enter-clause-taken
 returns-in_err-enter-clause-taken g c = λ same.
@@ -21,7 +22,7 @@ returns-clause-asked g c =
 
 pub returns-in_err-enter-clause-fault : goal.returns-in_err-enter-clause-fault
 returns-in_err-enter-clause-fault g c =
-    err-always c.from_residual-in_err-enter.result (name_in_part c.args.name.now (g.I.Read.remaining c.args.input.now) _ _ c.in_err-enter.ensures.fault)
+    on_err c.from_residual-in_err-enter.result (name_in_part c.args.name.now (g.I.Read.remaining c.args.input.now) _ _ c.in_err-enter.ensures.fault)
 
 pub returns-clause-sent : goal.returns-clause-sent
 returns-clause-sent g c =

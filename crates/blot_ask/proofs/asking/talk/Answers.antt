@@ -1,7 +1,7 @@
-use Rattle.blot_stream.proofs.ResultLemmas.{err-always}
 use Rattle.blot_ask.proofs.AheadLemmas.{rest_over}
 use Rattle.blot_ask.proofs.AskingLemmas.{nothing_said, nothing_sent, one_turn_more, talked, turns_sent}
 use Rattle.blot_ask.proofs.asking.talk.Goals as goal
+use Rattle.blot_types.proofs.GeneralLemmas.{on_err}
 
 pub loop-init : goal.loop-init
 loop-init g c =
@@ -20,7 +20,7 @@ returns-then-not-more-clause-read_to_the_end g c =
 
 pub returns-in_err-more-clause-fault : goal.returns-in_err-more-clause-fault
 returns-in_err-more-clause-fault g c =
-    err-always c.from_residual-in_err-more.result (turns_sent c.args.prompts _ _ _ _ _ _ _ _ _ c.loop.invariant c.in_err-more.ensures.fault)
+    on_err c.from_residual-in_err-more.result (turns_sent c.args.prompts _ _ _ _ _ _ _ _ _ c.loop.invariant c.in_err-more.ensures.fault)
 
 pub returns-clause-fault : goal.returns-clause-fault
 returns-clause-fault g c = turns_sent c.args.prompts _ _ _ _ _ _ _ _ _ c.loop.invariant (nothing_sent _ _)

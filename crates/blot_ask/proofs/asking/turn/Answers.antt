@@ -1,9 +1,9 @@
 use Rattle.std.proofs.Common.{◌∙◌, ap, sym}
-use Rattle.blot_stream.proofs.ResultLemmas.{err-always}
 use Rattle.blot_ask.specs.Lines.{is_blank, unread}
 use Rattle.blot_ask.specs.Typed.{typed}
 use Rattle.blot_ask.proofs.AskingLemmas.{asked_in_part, asked_of, front_all, nothing_sent, passed_over}
 use Rattle.blot_ask.proofs.asking.turn.Goals as goal
+use Rattle.blot_types.proofs.GeneralLemmas.{on_err}
 
 pub returns-then-is_blank-clause-talks : goal.returns-then-is_blank-clause-talks
 returns-then-is_blank-clause-talks g c =
@@ -20,12 +20,12 @@ returns-clause-talks g c =
 
 pub returns-in_err-asked-clause-fault : goal.returns-in_err-asked-clause-fault
 returns-in_err-asked-clause-fault g c =
-    err-always c.from_residual-in_err-asked.result
+    on_err c.from_residual-in_err-asked.result
     (nothing_sent (unread c.args.ahead.now (g.I.Read.remaining c.args.input.now)) (g.Q.Write.contents c.args.requests.now))
 
 pub returns-in_err-send-clause-fault : goal.returns-in_err-send-clause-fault
 returns-in_err-send-clause-fault g c =
-    err-always c.from_residual-in_err-send.result
+    on_err c.from_residual-in_err-send.result
     (asked_in_part c.in_ok-take_input.field-0 _ _ _ _ c.take_input.new.line.items c.in_ok-asked.asked.items c.if-not-branch.false
     c.in_ok-take_input.ensures.taken
     (sym (c.is_blank.ensures ∙ ap is_blank c.deref.ensures.value) ∙ c.if-is_blank.false)
@@ -33,7 +33,7 @@ returns-in_err-send-clause-fault g c =
 
 pub returns-in_err-tell_answer-clause-fault : goal.returns-in_err-tell_answer-clause-fault
 returns-in_err-tell_answer-clause-fault g c =
-    err-always c.from_residual-in_err-tell_answer.result
+    on_err c.from_residual-in_err-tell_answer.result
     (asked_in_part c.in_ok-take_input.field-0 _ _ _ _ c.take_input.new.line.items c.in_ok-asked.asked.items c.if-not-branch.false
     c.in_ok-take_input.ensures.taken
     (sym (c.is_blank.ensures ∙ ap is_blank c.deref.ensures.value) ∙ c.if-is_blank.false)

@@ -1,7 +1,8 @@
 use Rattle.std.proofs.Common.{List, [], ◌∷◌, ◌++◌, map, take, sym, ap, ◌∙◌, arith, slice_get, option_copied}
+use Rattle.std.proofs.lemmas.List.{map_push}
 use Rattle.blot_desk.specs.declared.question.StepRow.{StepRow}
 use Rattle.blot_desk.specs.Questions.{step_row}
-use Rattle.blot_desk.proofs.QuestionLemmas.{map_more, no_more, one_more}
+use Rattle.blot_desk.proofs.QuestionLemmas.{no_more, one_more}
 use Rattle.blot_desk.proofs.looking.newest_steps.Goals as goal
 
 pub loop-back-preserved : goal.loop-back-preserved
@@ -12,7 +13,7 @@ loop-back-preserved c =
     c.in_ok-push.ensures.items
     ∙ ap (λ (rows : List StepRow). rows ++ c.in_ok-row.row ∷ []) c.loop-back.invariant
     ∙ ap (λ (row : StepRow). map (step_row list) (take c.loop-back.back done) ++ row ∷ []) (c.in_ok-row.ensures ∙ ap (λ tables. step_row tables c.in-Some.step.now) (ap (λ (shown : _). shown.list) c.state.ensures))
-    ∙ sym (ap (map (step_row list)) (one_more done c.loop-back.back c.in-Some.step.now there) ∙ map_more (step_row list) (take c.loop-back.back done) c.in-Some.step.now)
+    ∙ sym (ap (map (step_row list)) (one_more done c.loop-back.back c.in-Some.step.now there) ∙ map_push (step_row list) (take c.loop-back.back done) c.in-Some.step.now)
 
 pub returns-in_default : goal.returns-in_default
 returns-in_default c =

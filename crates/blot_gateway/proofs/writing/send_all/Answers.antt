@@ -1,10 +1,11 @@
 use Rattle.std.proofs.Common.{arith}
-use Rattle.blot_gateway.proofs.SendingLemmas.{writes-action, front-action, on-err}
+use Rattle.blot_gateway.proofs.SendingLemmas.{writes-action, front-action}
 use Rattle.blot_gateway.proofs.writing.send_all.Goals as goal
+use Rattle.blot_types.proofs.GeneralLemmas.{on_err}
 
 pub returns-in_err-send-clause-err : goal.returns-in_err-send-clause-err
 returns-in_err-send-clause-err g c =
-    on-err c.from_residual.result
+    on_err c.from_residual.result
     (front-action g.W.Wire.does c.args.actions.now c.loop-action.action-index c.action-item.result c.args.wire.now c.loop-action.wire c.send.new.wire
     (omega arith) c.action-item.is c.loop-action.invariant.0 c.in_err-send.ensures.err)
 

@@ -1,11 +1,12 @@
 use Rattle.std.proofs.Common.{◌≤◌, length, arith, subst, length-drop}
 use Rattle.std.proofs.lemmas.List.{take_rest}
-use Rattle.blot_gateway.proofs.SendingLemmas.{writes-piece, front-piece, on-err}
+use Rattle.blot_gateway.proofs.SendingLemmas.{writes-piece, front-piece}
 use Rattle.blot_gateway.proofs.writing.write_text.Goals as goal
+use Rattle.blot_types.proofs.GeneralLemmas.{on_err}
 
 pub returns-in_err-written-clause-err : goal.returns-in_err-written-clause-err
 returns-in_err-written-clause-err g c =
-    on-err c.from_residual.result
+    on_err c.from_residual.result
     (front-piece g.W.Wire.does c.args.text.now c.loop-written.written c.args.wire.now c.loop-written.wire c.write_piece.new.wire (omega arith)
     c.loop-written.invariant.1 c.in_err-written.ensures.err)
 

@@ -3,8 +3,8 @@ use Rattle.std.specs.Io.KnownBytes.{Appends}
 use Rattle.std.proofs.KnownBytes.{Appends-nil}
 use Rattle.blot_console.specs.Answers.{answer_text}
 use Rattle.blot_operator.proofs.OpenDayLemmas.{closed-is}
-use Rattle.blot_stream.proofs.ResultLemmas.{err-always}
 use Rattle.blot_operator.proofs.answering.answer_line.Goals as goal
+use Rattle.blot_types.proofs.GeneralLemmas.{on_err}
 
 pub returns-clause-ok : goal.returns-clause-ok
 returns-clause-ok g c =
@@ -20,7 +20,7 @@ returns-clause-closed g c = c.is_closed.ensures ∙ closed-is g.D.Operated.ways 
 
 pub returns-in_err-text-clause-err : goal.returns-in_err-text-clause-err
 returns-in_err-text-clause-err g c =
-    err-always c.from_residual-in_err-text.result (inr (record {
+    on_err c.from_residual-in_err-text.result (inr (record {
       answer = c.in_ok-answer.answer;
       answered = c.in_ok-answer.ensures.ok;
       front = [];
@@ -32,7 +32,7 @@ returns-in_err-text-clause-err g c =
 pub returns-in_err-tell-clause-err : goal.returns-in_err-tell-clause-err
 returns-in_err-tell-clause-err g c =
     let wrote = c.in_err-tell.ensures.err in
-    err-always c.from_residual-in_err-tell.result (inr (record {
+    on_err c.from_residual-in_err-tell.result (inr (record {
       answer = c.in_ok-answer.answer;
       answered = c.in_ok-answer.ensures.ok;
       front = wrote.0;

@@ -1,9 +1,9 @@
 use Rattle.std.proofs.Common.{◌≡◌, ℕ, ◌+◌, ◌<◌, List, [], ◌∷◌, ◌++◌, length, take, drop, get_or, sym, ap, ◌∙◌, subst, append_assoc, arith, append-nil, take_all, take-append-drop}
 use Rattle.std.proofs.lemmas.List.{take_more}
-use Rattle.blot_operator.specs.Lines.{lines_of}
 use Rattle.blot_operator.specs.Dialogue.{Closes, HasTold, StopsAmong}
-use Rattle.blot_stream.proofs.ResultLemmas.{err-always}
 use Rattle.blot_operator.proofs.lines.answer_piece.Goals as goal
+use Rattle.blot_types.proofs.GeneralLemmas.{on_err}
+use Rattle.blot_stream.specs.Texts.{lines_of}
 
 -- one more byte of a piece that stands after a front
 one_more : (front piece : List ℕ) (index : ℕ) → index < length piece
@@ -43,7 +43,7 @@ pub returns-in_err-closed-clause-err : goal.returns-in_err-closed-clause-err
 returns-in_err-closed-clause-err g c =
     let piece = c.args.piece.now in
     let index = c.loop-byte.byte-index in
-    err-always c.from_residual.result (λ start bytes more before has.
+    on_err c.from_residual.result (λ start bytes more before has.
     subst (λ all. StopsAmong g.D.Operated.ways start (lines_of all) c.take_byte.new.state before (g.W.Write.contents c.take_byte.new.output))
     (whole bytes piece more index c.loop-byte-test.true)
     (c.in_err-closed.ensures.err start (bytes ++ take index piece) (drop (index + 1) piece ++ more) before

@@ -1,13 +1,13 @@
 use Rattle.std.proofs.Common.{◌≡◌, ℕ, ◌≤◌, List, [], ◌++◌, length, take, Option, arith, ap, subst, sym, ◌∙◌}
 use Rattle.std.specs.Io.KnownBytes.{Consumes}
 use Rattle.std.proofs.KnownBytes.{Consumes-nil, Consumes-trans}
-use Rattle.blot_operator.specs.Lines.{lines_of}
 use Rattle.blot_operator.specs.Dialogue.{StopsAmong}
-use Rattle.blot_stream.proofs.ResultLemmas.{err-always}
 use Rattle.blot_operator.proofs.DialogueLemmas.{HasTold-init, StopsAmong-between}
 use Rattle.blot_operator.proofs.OpenDayLemmas.{ends-closed, open-if-closed}
 use Rattle.blot_stream.proofs.PieceLemmas.{front_of_buffer, IfSome-front}
+use Rattle.blot_stream.specs.Texts.{lines_of}
 use Rattle.blot_operator.proofs.operating.answer_lines.Goals as goal
+use Rattle.blot_types.proofs.GeneralLemmas.{on_err}
 
 -- the piece that was read comes after the bytes before it
 comes-on : (first old new : Option (List ℕ)) (bytes : List ℕ) (count len : ℕ) (read behind slice : List ℕ) → Consumes first old bytes
@@ -38,14 +38,14 @@ loop-preserved g c =
 pub returns-in_err-buffer-clause-fault : goal.returns-in_err-buffer-clause-fault
 returns-in_err-buffer-clause-fault g c =
     let contents = g.W.Write.contents c.args.output.now in
-    err-always c.from_residual.result
+    on_err c.from_residual.result
     (IfSome-front (g.R.Read.remaining c.args.input.now) (g.R.Read.remaining c.args.input.now) [] (λ bytes. StopsAmong g.D.Operated.ways c.args.state.now (lines_of bytes) c.args.state.now contents contents)
     (Consumes-nil (g.R.Read.remaining c.args.input.now))
     (λ more. StopsAmong-between c.args.state.now [] more _ _ contents contents (HasTold-init c.args.state.now c.new-line.result.items contents c.new-line.ensures.items)))
 
 pub returns-in_err-count-clause-fault : goal.returns-in_err-count-clause-fault
 returns-in_err-count-clause-fault g c =
-    err-always c.from_residual-in_err-count.result
+    on_err c.from_residual-in_err-count.result
     (IfSome-front (g.R.Read.remaining c.args.input.now) (g.R.Read.remaining c.loop.input) c.loop.invariant.0 _ c.loop.invariant.1
     (λ more. StopsAmong-between c.args.state.now c.loop.invariant.0 more _ _ _ _ c.loop.invariant.2))
 
@@ -72,7 +72,7 @@ pub returns-in_err-closed-clause-fault : goal.returns-in_err-closed-clause-fault
 returns-in_err-closed-clause-fault g c =
     let read = (rw c.in-Some.is at c.in_ok-count.ensures.piece) in
     let bytes = c.loop.invariant.0 in
-    err-always c.from_residual-in_err-closed.result
+    on_err c.from_residual-in_err-closed.result
     (IfSome-front (g.R.Read.remaining c.args.input.now) (g.R.Read.remaining c.read_piece.new.input) (bytes ++ take c.in-Some.count c.deref-in-loop.result.now) _
     (comes-on _ _ _ bytes _ _ _ _ _ c.loop.invariant.1 read c.deref-in-loop.ensures.value (omega (arith, read.1)))
     (λ more. c.in_err-closed.ensures.err c.args.state.now bytes more (g.W.Write.contents c.args.output.now) c.loop.invariant.2))

@@ -1,6 +1,5 @@
-use Rattle.std.proofs.Common.{◌≡◌, None, false, ap, sym, ◌∙◌, rules}
+use Rattle.std.proofs.Common.{◌≡◌, None, false, ap, sym, ◌∙◌, rules, is_none}
 use Rattle.std.specs.FinMap as finite
-use Rattle.std.proofs.Common.{is_none}
 use Rattle.std.specs.Map.{lookup}
 use Rattle.blot_position.specs.Positions.{same_key}
 use Rattle.blot_position.specs.Cells.{cells_in}

@@ -2,9 +2,9 @@ use Rattle.std.proofs.Common.{◌≡◌, ◌+◌, suc, Some, length, take, refl,
 use Rattle.std.specs.List.{list_any}
 use Rattle.std.proofs.lemmas.Option.{slice_get-map, slice_get_read}
 use Rattle.blot_types.specs.Keys.{same_text}
+use Rattle.blot_types.proofs.KeyLemmas.{same_text-true}
 use Rattle.blot_recovery.specs.Taking.{names_of}
 use Rattle.blot_recovery.proofs.RefusalLemmas.{none-next}
-use Rattle.blot_recovery.proofs.TestLemmas.{is_same}
 use Rattle.blot_recovery.proofs.taking.place_of.Goals as goal
 
 pub returns-then-eq-clause-name : goal.returns-then-eq-clause-name
@@ -13,7 +13,7 @@ returns-then-eq-clause-name g c =
     let found = c.index-peers-at.result in
     slice_get-map (λ peer. peer.peer) peers c.loop-at.at
     ∙ ap (option_map (λ peer. peer.peer)) (slice_get_read peers (length peers) c.loop-at.at found refl c.loop-at-test.true c.index-peers-at.is)
-    ∙ ap (λ name. Some name) (is_same found.peer c.args.name.now (sym c.if-eq.ensures))
+    ∙ ap (λ name. Some name) (same_text-true found.peer c.args.name.now (sym c.if-eq.ensures))
 
 pub loop-at-preserved : goal.loop-at-preserved
 loop-at-preserved g c =

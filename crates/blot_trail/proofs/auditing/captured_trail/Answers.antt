@@ -1,8 +1,9 @@
 use Rattle.std.proofs.Common.{◌≡◌, ◌<◌, ◌≤◌, List, ℕ, length, ap, subst, arith, ◌∙◌, IfOk, IfSome}
+use Rattle.std.proofs.lemmas.Result.{IfErr-at_err}
 use Rattle.blot_types.specs.declared.TheConstants.{EVENTS_MAX}
 use Rattle.blot_tag.specs.Walking.{frames_of}
 use Rattle.blot_stream.specs.declared.outcome.ReplayFault.TheVariants.{Full}
-use Rattle.blot_stream.proofs.ResultLemmas.{both-ok, err-says, if-some}
+use Rattle.blot_stream.proofs.ResultLemmas.{both-ok, if-some}
 use Rattle.blot_capture.specs.Capture.{Sessions, commands_of, commands_over, first_sessions}
 use Rattle.blot_capture.specs.Replay.{Stopped, Taking, submitted}
 use Rattle.blot_capture.specs.Sessions.{sessions_of, taking_of}
@@ -26,8 +27,8 @@ returns-in-Ok-clause-full g c = λ full.
     let known = g.R.Read.remaining c.args.input.now in
     if-some (λ (bytes : List ℕ). Stopped c.new-desk.result c.tell_all-told.new.desk (commands_over (sessions_of c.in-Ok.sessions) (frames_of bytes)) Full)
     (λ (bytes : List ℕ). EVENTS_MAX < length (commands_of c.args.own c.args.peers.now bytes)) known
-    (err-says (λ fault. IfSome known (λ (bytes : List ℕ). Stopped c.new-desk.result c.tell_all-told.new.desk (commands_over (sessions_of c.in-Ok.sessions) (frames_of bytes)) fault))
-    c.tell_all-told.result Full full c.tell_all-told.ensures.stopped)
+    (IfErr-at_err (λ fault. IfSome known (λ (bytes : List ℕ). Stopped c.new-desk.result c.tell_all-told.new.desk (commands_over (sessions_of c.in-Ok.sessions) (frames_of bytes)) fault))
+    full c.tell_all-told.ensures.stopped)
     (λ bytes stopped. stopped-over c.new-desk.result c.tell_all-told.new.desk (commands_of c.args.own c.args.peers.now bytes) c.new-desk.ensures
     (subst (λ (sessions : Sessions). Stopped c.new-desk.result c.tell_all-told.new.desk (commands_over sessions (frames_of bytes)) Full) c.in-Ok.ensures stopped))
 

@@ -1,8 +1,8 @@
 use Rattle.std.proofs.Common.{◌≡◌, arith, subst}
-use Rattle.blot_stream.proofs.ResultLemmas.{err-always}
 use Rattle.blotter.specs.Rounds.{RoundsLead, ServesRound}
 use Rattle.blotter.proofs.RoundLemmas.{one-more, stops-at}
 use Rattle.blotter.proofs.rounds.serve_rounds.Goals as goal
+use Rattle.blot_types.proofs.GeneralLemmas.{on_err}
 
 pub loop-preserved : goal.loop-preserved
 loop-preserved g c =
@@ -10,7 +10,7 @@ loop-preserved g c =
 
 pub returns-in_err-serve_round-clause-fewer : goal.returns-in_err-serve_round-clause-fewer
 returns-in_err-serve_round-clause-fewer g c =
-    err-always c.from_residual.result
+    on_err c.from_residual.result
     (stops-at (ServesRound g.row.R.Denot g.N.Stream.Read.remaining g.N.Stream.Write.contents c.args.slots.now) c.loop.counter c.args.rounds _ _ _
     c.loop-test.true c.loop.invariant c.in_err-serve_round.ensures.kept)
 

@@ -1,5 +1,5 @@
 -- An empty body. The borrow is opened and closed at another ghost value.
-use Rattle.std.proofs.Common.{ℕ, List, [], ◌∷◌, refl, MutBor}
+use Rattle.std.proofs.Common.{ℕ, List, [], ◌∷◌, refl, MutBor, ◌<◌, ◌^◌, length}
 use seplogic.Ra.Ura.{Ura}
 use mir.Syntax.{named}
 use mir.Val.{Val, vunit, vptr}
@@ -32,7 +32,6 @@ use Rattle.blot_journal.specs.contracts.ghost_calls.GhostCalls.note.Key.{name as
 use Rattle.blot_journal.specs.contracts.ghost_calls.GhostCalls.note as it
 use Rattle.blot_journal.proofs.ghost_calls.GhostCalls.note.Statement as stated
 use Rattle.blot_journal.proofs.ghost_calls.GhostCalls.note.Code as code
-use Rattle.std.proofs.Common.{◌<◌, ◌^◌, length}
 use denote.Ref.{Bor}
 use denote.Builtin.{u8, u64}
 use denote.Exit.{yes}
