@@ -3,13 +3,13 @@ use Rattle.std.proofs.Common.{◌≡◌, ◌≤◌, Bool, true, false, ◌&&◌,
 use Rattle.std.specs.List.{list_any}
 use Rattle.std.specs.Option.{option_map_or}
 use Rattle.std.proofs.lemmas.Bool.{cases_Bool, and_parts, and_right}
-use Rattle.blot_places.proofs.SlotLemmas.{find_here, find_on}
 use Rattle.blot_types.specs.declared.{allocation.Instruction.Instruction, keys.AllocKey.AllocKey, keys.ExecKey.ExecKey}
 use Rattle.blot_types.specs.Instructions.{alloc_taker_in, brings_allocation, ends, holds_beside, holds_in, is_allocation_in, is_allocation_of, is_instructed, is_keyed, is_live_in, is_reference, may_follow, names, other_holder_in, reference_of}
 use Rattle.blot_types.proofs.ChainLemmas.{differing}
 use Rattle.blot_types.proofs.InstructionLemmas.{Follows, ends-reference, filter-unfound, follows, holds-step, live-step, named_once, named-free, no_number}
 use Rattle.blot_types.proofs.KeyLemmas.{same_alloc-true}
 use Rattle.blot_types.proofs.GeneralLemmas.{and-true}
+use Rattle.blot_places.proofs.SlotLemmas.{find_here, find_on}
 
 -- ---- lists
 

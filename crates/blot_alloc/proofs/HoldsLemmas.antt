@@ -3,6 +3,10 @@ use Rattle.std.proofs.Common.{◌≡◌, ℕ, ◌<◌, Bool, true, List, [], ◌
 use Rattle.std.specs.List.{list_all}
 use Rattle.std.proofs.lemmas.Bool.{cases_Bool, and_parts, and_from}
 use Rattle.std.proofs.lemmas.List.{reverse-append}
+use Rattle.blot_types.specs.declared.{allocation.AllocRole.AllocRole, allocation.Instruction.Instruction, keys.AllocKey.AllocKey, keys.ExecKey.ExecKey}
+use Rattle.blot_types.specs.Instructions.{are_apart, ends, holds_in, is_above_instructions, is_instructed, is_keyed, is_live_in, may_follow, names}
+use Rattle.blot_types.specs.Keys.{same_alloc, same_exec}
+use Rattle.blot_types.proofs.InstructionLemmas.{follows}
 use Rattle.blot_places.specs.declared.slots.Slot.{Slot}
 use Rattle.blot_places.specs.Places.{places_in}
 use Rattle.blot_places.specs.Shown.{Shown, shown_of}
@@ -10,10 +14,6 @@ use Rattle.blot_places.specs.Slots.{is_above, items, lifted, live, marked, newes
 use Rattle.blot_places.proofs.MarkLemmas.{above-both, above-side, at-apart, falling-side, items-marked, places-marked}
 use Rattle.blot_places.proofs.ShownLemmas.{falling-parts, put_back-lifted}
 use Rattle.blot_places.proofs.SlotLemmas.{lifted_here, lifted_on, live_here, live_on, newest_live-find}
-use Rattle.blot_types.specs.declared.{allocation.AllocRole.AllocRole, allocation.Instruction.Instruction, keys.AllocKey.AllocKey, keys.ExecKey.ExecKey}
-use Rattle.blot_types.specs.Instructions.{are_apart, ends, holds_in, is_above_instructions, is_instructed, is_keyed, is_live_in, may_follow, names}
-use Rattle.blot_types.specs.Keys.{same_alloc, same_exec}
-use Rattle.blot_types.proofs.InstructionLemmas.{follows}
 use Rattle.blot_alloc.specs.declared.index.Index.{Index}
 use Rattle.blot_alloc.specs.Allocs.{AddsOne, IsNewest, instruction_at, lifted_out, number_of, put_back}
 use Rattle.blot_alloc.specs.Holds.{HoldsAllocs}

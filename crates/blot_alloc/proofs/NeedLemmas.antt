@@ -9,14 +9,14 @@ use Rattle.std.proofs.lemmas.Option.{same_Some}
 use Rattle.blot_types.specs.declared.{allocation.AllocRole.AllocRole, allocation.Instruction.Instruction, keys.AllocKey.AllocKey, keys.ExecKey.ExecKey}
 use Rattle.blot_types.specs.Instructions.{ended_in, ended_roots, ends, first_instruction, first_naming, first_needing_instruction, is_instructed, is_keyed, may_follow, names, names_any, needs_instruction, reference_of}
 use Rattle.blot_types.specs.Keys.{same_exec}
-use Rattle.blot_types.specs.Numbers.{lesser}
+use Rattle.blot_types.specs.Lesser.{lesser}
 use Rattle.blot_types.proofs.AllocOutLemmas.{ends-other, live-reference}
 use Rattle.blot_types.proofs.InstructionLemmas.{follows, unended}
 use Rattle.blot_types.proofs.GeneralLemmas.{and-false, or-none, and-either}
 use Rattle.blot_places.specs.declared.slots.Slot.{Slot}
 use Rattle.blot_places.specs.Places.{places_in}
 use Rattle.blot_places.specs.Shown.{Shown, item_at, shown_of}
-use Rattle.blot_places.specs.Slots.{is_above, live, numbers_fall, places_by}
+use Rattle.blot_places.specs.Slots.{UpToFirst, is_above, live, numbers_fall, oldest_above, places_by}
 use Rattle.blot_places.proofs.AroundLemmas.{oldest-above, parted-above}
 use Rattle.blot_places.proofs.FirstLemmas.{first-either, first-more, first-none, first_by}
 use Rattle.blot_places.proofs.MarkLemmas.{falling-side}
@@ -24,7 +24,7 @@ use Rattle.blot_places.proofs.ShownLemmas.{at-here, at-number, at-on, falling-pa
 use Rattle.blot_alloc.specs.declared.index.Index.{Index}
 use Rattle.blot_alloc.specs.Allocs.{number_of, roots_in}
 use Rattle.blot_alloc.specs.Holds.{HoldsAllocs}
-use Rattle.blot_alloc.specs.Index.{UpToFirst, oldest_above, stack_under}
+use Rattle.blot_alloc.specs.Index.{stack_under}
 
 -- ---- the stack of a root
 
@@ -32,10 +32,10 @@ module _ (index : Index) (slots : List (Slot Instruction)) (holds : HoldsAllocs 
   named : reverse (stack_under index.holders root) ≡ places_by (names root) (reverse slots)
   named = reverse-reverse (places_in same_exec index.holders root) ∙ holds.indexed.holders root
 
-  pub parted-names : UpToFirst n slots index.holders root
+  pub parted-names : UpToFirst number_of n slots (stack_under index.holders root)
   parted-names = parted-above number_of n (names root) slots (stack_under index.holders root) named holds.fall
 
-  pub naming-held : option_map number_of (oldest_above n slots index.holders root) ≡ first_naming (live (reverse slots)) n root
+  pub naming-held : option_map number_of (oldest_above number_of n slots (stack_under index.holders root)) ≡ first_naming (live (reverse slots)) n root
   naming-held = ap (option_map number_of) (oldest-above number_of n (names root) slots (stack_under index.holders root) named)
 
 -- what a contract sees falls

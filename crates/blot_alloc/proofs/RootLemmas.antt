@@ -4,11 +4,11 @@ use Rattle.std.proofs.lemmas.Bool.{cases_Bool, and_parts, or_parts}
 use Rattle.std.proofs.Math.Seq.{take-length}
 use Rattle.std.proofs.lemmas.List.{at_drop_more, take_more}
 use Rattle.std.proofs.lemmas.List.Elements.{All-nil, All-cons, All-head, All-push, All-tail}
-use Rattle.blot_places.specs.Places.{Stacks, HasRoom}
 use Rattle.blot_types.specs.declared.keys.ExecKey.{ExecKey}
 use Rattle.blot_types.specs.Instructions.{are_apart}
 use Rattle.blot_types.specs.Keys.{is_among, same_exec}
 use Rattle.blot_types.proofs.KeyLemmas.{same_exec-true, same_exec-sym}
+use Rattle.blot_places.specs.Places.{Stacks, HasRoom}
 
 -- what was done, with the change under each of the rest, is the change under each of the roots
 abbrev pub ChangeEach : (List ℕ → List ℕ) → List ExecKey → List ExecKey → (ExecKey → List ℕ) → (ExecKey → List ℕ) → Type 0

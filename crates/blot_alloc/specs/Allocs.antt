@@ -1,8 +1,8 @@
 -- What a contract sees of the allocations, newest first: one instruction more and one less, one lifted out and put back.
 use Rattle.std.specs.Prelude.{◌≡◌, ℕ, Bool, true, List, ◌∷◌, Option, find, option_map}
-use Rattle.blot_places.specs.Shown.{Shown, item_at, lifted_out as item_lifted_out, put_back as item_put_back}
 use Rattle.blot_types.specs.declared.{allocation.AllocRole.AllocRole, allocation.Instruction.Instruction, keys.AllocKey.AllocKey, keys.ExecKey.ExecKey}
 use Rattle.blot_types.specs.Instructions.{ended_roots, ends, first_instruction, is_above_instructions, is_keyed, names_any}
+use Rattle.blot_places.specs.Shown.{Shown, item_at, lifted_out as item_lifted_out, put_back as item_put_back}
 
 -- the roots of the chains that the instruction which takes up a key lists
 abbrev pub roots_in : List Instruction → AllocKey → Option (List ExecKey)

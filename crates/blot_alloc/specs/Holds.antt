@@ -1,10 +1,10 @@
 -- What the allocations keep.
 use Rattle.std.specs.Prelude.{◌≡◌, List, true}
 use Rattle.std.specs.List.{list_all}
-use Rattle.blot_places.specs.declared.slots.Slot.{Slot}
-use Rattle.blot_places.specs.Slots.{items, live, numbers_fall}
 use Rattle.blot_types.specs.declared.allocation.Instruction.{Instruction}
 use Rattle.blot_types.specs.Instructions.{are_apart, is_instructed}
+use Rattle.blot_places.specs.declared.slots.Slot.{Slot}
+use Rattle.blot_places.specs.Slots.{items, live, numbers_fall}
 use Rattle.blot_alloc.specs.declared.index.Index.{Index}
 use Rattle.blot_alloc.specs.Allocs.{number_of}
 use Rattle.blot_alloc.specs.Index.{IsIndexed}

@@ -1,14 +1,13 @@
 -- Where the instructions that take up a key, that end the allocation of a key, and that name the chain of a root are.
-use Rattle.std.specs.Prelude.{◌≡◌, ℕ, reverse, List, Option, IfSome, All}
-use Rattle.std.specs.List.Sorted.{IsPartitionedBy}
-use Rattle.blot_places.specs.declared.slots.Slot.{Slot}
-use Rattle.blot_places.specs.Places.{HasRoom, Stacks, places_in}
-use Rattle.blot_places.specs.Slots.{is_up_to, newest_live, places_above, places_by}
+use Rattle.std.specs.Prelude.{◌≡◌, ℕ, reverse, List, IfSome, All}
 use Rattle.blot_types.specs.declared.{allocation.AllocRole.AllocRole, allocation.Instruction.Instruction, keys.AllocKey.AllocKey, keys.ExecKey.ExecKey}
 use Rattle.blot_types.specs.Instructions.{is_keyed, names, reference_of}
 use Rattle.blot_types.specs.Keys.{same_alloc, same_exec}
+use Rattle.blot_places.specs.declared.slots.Slot.{Slot}
+use Rattle.blot_places.specs.Places.{HasRoom, Stacks, places_in}
+use Rattle.blot_places.specs.Slots.{places_by}
 use Rattle.blot_alloc.specs.declared.index.Index.{Index}
-use Rattle.blot_alloc.specs.Allocs.{is_ending, number_of}
+use Rattle.blot_alloc.specs.Allocs.{is_ending}
 
 -- the index names the places of these slots, live or lifted
 pub record IsIndexed (index : Index) (slots : List (Slot Instruction)) : Type 0 where
@@ -26,20 +25,6 @@ pub record HasRoomFor (index : Index) (key : AllocKey) (role : AllocRole) (roots
 abbrev pub HasRoomForSlot : Index → Slot Instruction → Type 0
 HasRoomForSlot index slot = HasRoomFor index slot.item.key slot.item.role slot.item.roots
 
--- ---- what is found under a root. The slots stand oldest first
-
 -- the places under a root, oldest first
 abbrev pub stack_under : Stacks ExecKey → ExecKey → List ℕ
 stack_under holders root = reverse (places_in same_exec holders root)
-
--- those of some places at which no instruction is numbered up to a number
-abbrev pub places_after : ℕ → List (Slot Instruction) → List ℕ → List ℕ
-places_after number slots places = places_above number_of number slots places
-
--- under a root, the places of the instructions up to a number come first
-abbrev pub UpToFirst : ℕ → List (Slot Instruction) → Stacks ExecKey → ExecKey → Type 0
-UpToFirst number slots holders root = IsPartitionedBy (is_up_to number_of number slots) (stack_under holders root)
-
--- the oldest live instruction above a number, under a root
-abbrev pub oldest_above : ℕ → List (Slot Instruction) → Stacks ExecKey → ExecKey → Option Instruction
-oldest_above number slots holders root = newest_live slots (places_after number slots (stack_under holders root))

@@ -6,9 +6,8 @@ ghost use Rattle.blot_places.specs.Slots.{numbers_fall};
 ghost use Rattle.blot_alloc.specs.Allocs.{roots_in, is_ending, first_after_end, Adds, AddsOne, IsNewest, instruction_at, lifted_out, number_of, put_back};
 
 use crate::index::{Index, naming_above};
-use crate::roles::{brings_allocation, is_reference, reference_of};
 use blot_places::{Slot, live_numbered, mark, newest_live};
-use blot_types::{AllocKey, AllocRole, ExecKey, Instruction, Items, lesser};
+use blot_types::{AllocKey, AllocRole, ExecKey, Instruction, Items, is_reference, lesser};
 use std::alloc::{AllocError as NoMemory, Global};
 use std::marker::Model;
 
@@ -229,7 +228,7 @@ impl Allocs {
         ensures { result ≡ is_allocation_in self.now.list key.now }
     {
         match self.taker(key) {
-            Some(instruction) => brings_allocation(&instruction.role),
+            Some(instruction) => instruction.role.brings_allocation(),
             None => false,
         }
     }
@@ -239,7 +238,7 @@ impl Allocs {
     fn first_after_end(&self, role: &AllocRole, number: u64) -> Option<u64>
         ensures { result ≡ first_after_end self.now.list role.now number }
     {
-        let reference = reference_of(role)?;
+        let reference = role.reference()?;
         let roots = self.roots_of(&reference)?;
         self.first_naming_any(roots, number)
     }
@@ -287,7 +286,7 @@ impl Allocs {
     fn is_live(&self, instruction: &Instruction) -> bool
         ensures { result ≡ is_live_in self.now.list instruction.now }
     {
-        brings_allocation(&instruction.role) && self.ended_by(&instruction.key).is_none()
+        instruction.role.brings_allocation() && self.ended_by(&instruction.key).is_none()
     }
 
     // Puts an instruction after the others. All room is made before anything changes.

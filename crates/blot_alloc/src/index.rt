@@ -3,10 +3,11 @@
 ghost use Rattle.std.specs.Prelude.{◌≡◌, [], IfSome, IsTrue, OnOk, option_map};
 ghost use Rattle.blot_places.specs.Indexed.{NamesOneLess, NamesOneMore, NamesSame};
 ghost use Rattle.blot_places.specs.Places.{HasRoom, PutsPlace, SamePlaces, TakesPlace};
+ghost use Rattle.blot_places.specs.Slots.{UpToFirst, oldest_above};
 ghost use Rattle.blot_types.specs.Instructions.{are_apart, ends, reference_of};
 ghost use Rattle.blot_types.specs.Keys.{same_alloc};
 ghost use Rattle.blot_alloc.specs.Allocs.{number_of};
-ghost use Rattle.blot_alloc.specs.Index.{HasRoomFor, HasRoomForSlot, IsIndexed, UpToFirst, oldest_above};
+ghost use Rattle.blot_alloc.specs.Index.{HasRoomFor, HasRoomForSlot, IsIndexed, stack_under};
 
 use crate::roots;
 use blot_places::{Places, Slot, oldest_live, places_above};
@@ -79,8 +80,8 @@ pub(crate) fn naming_above(
     root: &ExecKey,
     number: u64,
 ) -> Option<u64>
-    requires { UpToFirst number slots.now holders.now root.now }
-    ensures { result ≡ option_map number_of (oldest_above number slots.now holders.now root.now) }
+    requires { UpToFirst number_of number slots.now (stack_under holders.now root.now) }
+    ensures { result ≡ option_map number_of (oldest_above number_of number slots.now (stack_under holders.now root.now)) }
 {
     let stack = places_above(slots, holders.under(root), number);
     oldest_live(slots, stack).map(|instruction| instruction.number)

@@ -6,7 +6,6 @@
 
 mod allocs;
 mod index;
-mod roles;
 mod roots;
 
 pub use allocs::Allocs;

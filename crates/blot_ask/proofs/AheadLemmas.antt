@@ -8,8 +8,8 @@ use Rattle.std.proofs.lemmas.List.{drop_all}
 use Rattle.std.proofs.lemmas.List.Folds.{list_any_at, list_any_none, list_any-append}
 use Rattle.std.proofs.lemmas.List.Sums.{fails_before_first, passes_at_first, split_at_first}
 use Rattle.std.proofs.lemmas.Grind.{common_steps}
-use Rattle.blot_ask.specs.Lines.{Refills, TakesInput, TakesLine, is_end, unread, with_end}
 use Rattle.blot_stream.specs.Texts.{lines_of}
+use Rattle.blot_ask.specs.Lines.{Refills, TakesInput, TakesLine, is_end, unread, with_end}
 
 pub passed : (text : List ℕ) → position_or_len is_end text < length text → true ≡ list_any is_end text
 passed text within = sym (list_any_at is_end text (position_or_len is_end text) 0 within (passes_at_first is_end text 0 within))

@@ -2,12 +2,12 @@
 use Rattle.std.specs.Prelude.{◌≡◌, ℕ, Bool, true, false, List, [], ◌∷◌, ◌++◌, map, codes, Option, Some, IfSome, if◌then◌else◌, ⊤, flat_map}
 use Rattle.std.specs.List.{list_all}
 use Rattle.std.specs.Io.KnownBytes.{Appends, Consumes, IsAtEnd, Keeps}
+use Rattle.blot_stream.specs.Texts.{lines_of}
 use Rattle.blot_ask.specs.declared.fault.AskFault.{AskFault}
 use Rattle.blot_ask.specs.declared.fault.AskFault.TheVariants.{Taken, Full, Strange}
 use Rattle.blot_ask.specs.Answers.{is_answer, is_complete, is_none}
 use Rattle.blot_ask.specs.Lines.{is_blank, text_of, with_end}
 use Rattle.blot_ask.specs.Typed.{typed}
-use Rattle.blot_stream.specs.Texts.{lines_of}
 
 -- the line that says a name; a server that lets it in answers by the same line
 abbrev pub naming : List ℕ → List ℕ

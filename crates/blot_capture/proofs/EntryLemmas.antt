@@ -3,6 +3,7 @@ use Rattle.std.proofs.Common.{◌≡◌, ℕ, Bool, true, false, List, [], ◌�
 use Rattle.std.specs.Option.{option_map_or}
 use Rattle.std.proofs.lemmas.List.Elements.{All-nil, All-cons, All-append}
 use Rattle.std.proofs.lemmas.Option.{same_Some}
+use Rattle.blot_tag.specs.Fields.{fields_of}
 use Rattle.blot_types.specs.declared.command.Command.{Command}
 use Rattle.blot_types.specs.Refusals.{withdrawn_by}
 use Rattle.blot_fields.specs.declared.{allocation.Allocation.Allocation, fault.FieldFault.FieldFault, message.Body.Body, message.Message.Message, report.Report.Report}
@@ -11,7 +12,6 @@ use Rattle.blot_fields.specs.declared.message.Body.TheVariants as bodies
 use Rattle.blot_fields.specs.declared.report.Report.TheVariants as reports
 use Rattle.blot_fields.specs.Commands.{command_of_allocation, command_of_body, command_of_report}
 use Rattle.blot_fields.specs.Sender.{sender_of}
-use Rattle.blot_tag.specs.Fields.{fields_of}
 use Rattle.blot_session.specs.declared.state.State.{State}
 use Rattle.blot_session.specs.Calls.{command_said}
 use Rattle.blot_session.specs.Runs.{Numbered, delivered_by, outcome, said_by}

@@ -6,15 +6,15 @@ use Rattle.std.specs.Option.{option_map_or, option_or}
 use Rattle.std.proofs.lemmas.Bool.{cases_Bool}
 use Rattle.std.proofs.lemmas.List.Folds.{find-append}
 use Rattle.blot_tag.specs.Fields.{fields_of}
-use Rattle.blot_fields.specs.First.{first_value, text_in}
-use Rattle.blot_fields.specs.Sender.{sender_of}
 use Rattle.blot_types.specs.Keys.{same_text}
 use Rattle.blot_types.specs.Text.{is_text}
 use Rattle.blot_types.proofs.GeneralLemmas.{or-none}
 use Rattle.blot_types.proofs.KeyLemmas.{same_text-true, same_text-refl}
+use Rattle.blot_fields.specs.First.{first_value, text_in}
+use Rattle.blot_fields.specs.Sender.{sender_of}
 use Rattle.blot_session.specs.declared.state.State.{State}
 use Rattle.blot_session.specs.Runs.{behind_calls}
-use Rattle.blot_slots.specs.Slots.{Slots, slot_of, with_slot, all_in, answer_of}
+use Rattle.blot_slots.specs.Slots.{Slots, slot_of, with_slot, all_in}
 use Rattle.blot_slots.proofs.SlotLemmas.{slot_of-with_slot, slot_of-all_in}
 use Rattle.blot_capture.specs.Capture.{Sessions, first_sessions, sessions_behind, commands_in, is_from, calls_of, taken_by}
 use Rattle.blot_capture.specs.Sessions.{session_among, session_of_slot, session_in, IsAt, IsPlaceFor, IsSenderAt}
@@ -109,12 +109,6 @@ pub sessions-first : (own : List ℕ) (peers : List (List ℕ)) → session_in [
 sessions-first own peers = everywhere (session_in [] (all_in own peers)) (first_sessions own peers) (λ peer.
     ap session_of_slot (slot_of-all_in own peer peers)
     ∙ elim (cases_Bool (list_any (λ listed. same_text listed peer) peers)) [ inl y ↦ rw y refl | inr n ↦ rw n refl ])
-
--- what a slot answers
-pub answered-ok : (slot : Option (Option State)) (session : State) → answer_of slot ≡ Ok session → slot ≡ Some (Some session)
-answered-ok (Some (Some found)) session is = cc
-answered-ok (Some None) session is = absurd cc
-answered-ok None session is = absurd cc
 
 -- a session that is checked out is the one that its peer had
 pub sessions-out : (out : List State) (slots next : Slots) (peer : List ℕ) (session : State) → session_among peer out ≡ None

@@ -5,9 +5,9 @@ use Rattle.std.specs.Option.{option_map_or}
 use Rattle.std.proofs.lemmas.Bool.{cases_Bool, false≢true}
 use Rattle.std.proofs.lemmas.List.{map-append}
 use Rattle.blot_tag.specs.Fields.{fields_of}
-use Rattle.blot_fields.specs.Sender.{sender_of}
 use Rattle.blot_types.specs.declared.command.Command.{Command}
 use Rattle.blot_types.specs.Keys.{same_text}
+use Rattle.blot_fields.specs.Sender.{sender_of}
 use Rattle.blot_session.specs.declared.state.State.{State}
 use Rattle.blot_session.specs.Runs.{Call, Numbered, outcome, behind_calls, delivered_by, taken_by, taken_behind, taken_of}
 use Rattle.blot_session.specs.States.{fresh}

@@ -8,22 +8,22 @@ use Rattle.blot_time.specs.declared.fault.TimeFault.{TimeFault}
 use Rattle.blot_types.specs.declared.{command.Command.Command, refused.Refused.Refused as Refusal}
 use Rattle.blot_types.specs.Legal.{refusal_of}
 use Rattle.blot_types.specs.RefusalNames.{refused_number}
-use Rattle.blot_desk.specs.declared.{event.Event.TheVariants.Submit, event.Reply.Reply as DeskReply}
-use Rattle.blot_desk.specs.Desk.{DeskBook, DeskState, step_of, submit_by}
+use Rattle.blot_fields.specs.declared.{fault.FieldFault.FieldFault, message.Message.Message}
 use Rattle.blot_session.specs.declared.{action.Action.Action, replies.NotTaken.NotTaken, replies.SeenReply.SeenReply, state.Awaited.Awaited, state.State.State, met.Met.Met}
 use Rattle.blot_session.specs.declared.action.Action.TheVariants.{Send, Deliver, Close}
 use Rattle.blot_session.specs.declared.replies.SeenReply.TheVariants.{Accepted, Refused}
 use Rattle.blot_session.specs.declared.state.Awaited.TheVariants as awaits
 use Rattle.blot_session.specs.Calls.{GivesCommand, Outcome, Awaits, command_said, delivery_of, is_spent, outcome_of, reply_row_by, on_frame, on_reply}
-use Rattle.blot_fields.specs.declared.{fault.FieldFault.FieldFault, message.Message.Message}
 use Rattle.blot_session.specs.Met.{met_of}
 use Rattle.blot_session.specs.InTurn.{is_report_said}
 use Rattle.blot_session.specs.Rows.{reply_row}
 use Rattle.blot_session.specs.Runs.{Numbered, outcome, said_by, delivered_by, taken_behind, taken_of}
 use Rattle.blot_session.specs.States.{awaited_of, phase_of}
-use Rattle.blot_gateway.specs.Serving.{seen_reply}
 use Rattle.blot_session.proofs.ActionLemmas.{delivered-none}
 use Rattle.blot_session.proofs.OneLemmas.{AtMostOne, one-frame}
+use Rattle.blot_desk.specs.declared.{event.Event.TheVariants.Submit, event.Reply.Reply as DeskReply}
+use Rattle.blot_desk.specs.Desk.{DeskBook, DeskState, step_of, submit_by}
+use Rattle.blot_gateway.specs.Serving.{seen_reply}
 use Rattle.blot_capture.specs.Capture.{frame_call, reply_calls, waiting_calls, behind_frame, behind_reply, calls_of, taken_by, moment_at, is_closed_phase}
 use Rattle.blot_capture.specs.declared.handled.Handled.{Handled}
 use Rattle.blot_capture.specs.Handling.{IsHandled, IsHandledBy, delivered_in, report_actions, is_fill_said}

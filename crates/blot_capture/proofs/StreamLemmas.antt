@@ -1,5 +1,6 @@
 -- The frames of a stream, taken one by one, and its pieces, one after the other.
 use Rattle.std.proofs.Common.{◌≡◌, ℕ, List, [], ◌∷◌, ◌++◌, Option, Some, None, refl, sym, ap, ◌∙◌, subst, append_assoc}
+use Rattle.std.specs.Prelude.{⊤}
 use Rattle.std.specs.Io.KnownBytes.{Consumes}
 use Rattle.blot_tag.specs.Reading.{Reading, TakesFirst, FindsNone}
 use Rattle.blot_tag.specs.Walking.{frames_of, joined_with}
@@ -8,7 +9,7 @@ use Rattle.blot_tag.proofs.FrameLemmas.{look_of-prefix}
 use Rattle.blot_desk.specs.Desk.{DeskState}
 use Rattle.blot_stream.specs.declared.{outcome.ReplayFault.ReplayFault, outcome.ReplayFault.TheVariants.Full}
 use Rattle.blot_capture.specs.Capture.{Sessions, sessions_behind, commands_in, commands_over}
-use Rattle.blot_capture.specs.Replay.{Taking, Came, CameOf, CameOn, Stopped, StoppedOf, StoppedOn, submitted}
+use Rattle.blot_capture.specs.Replay.{Taking, Came, CameOn, Stopped, StoppedOf, StoppedOn, submitted}
 use Rattle.blot_capture.proofs.DeskLemmas.{submitted-append, stopped-behind, stopped-before}
 
 -- ---- frames
@@ -92,6 +93,12 @@ stopped-here fault from now texts left other came =
     record { front = came.front; back = commands_over now.sessions left; joined = came.joined; taken = came.taken; full = λ is. absurd (other is) }
 
 -- ---- an input whose bytes may be known
+
+-- from here to there, as Came says, for an input's bytes, where they are known: some were read, and some of those are unread
+abbrev pub CameOf : Option (List ℕ) → Taking → Option (List ℕ) → List ℕ → Taking → Type 0
+CameOf None from rest unread now = ⊤
+CameOf (Some bytes) from None unread now = ⊥
+CameOf (Some bytes) from (Some rest) unread now = Came from (frames_of bytes) now (frames_of (unread ++ rest))
 
 -- nothing is read yet
 pub CameOf-first : (known : Option (List ℕ)) (from now : Taking) (unread : List ℕ) → unread ≡ [] → from ≡ now → CameOf known from known unread now

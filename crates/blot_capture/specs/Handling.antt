@@ -1,7 +1,7 @@
 -- What a capture's sessions say came of a frame.
 use Rattle.std.specs.Prelude.{◌≡◌, ℕ, Bool, false, List, [], ◌∷◌, map, Option, Some, None, Result, Ok, Err, option_map}
-use Rattle.blot_fields.specs.declared.{fault.FieldFault.FieldFault, message.Message.Message}
 use Rattle.blot_types.specs.declared.command.Command.{Command}
+use Rattle.blot_fields.specs.declared.{fault.FieldFault.FieldFault, message.Message.Message}
 use Rattle.blot_session.specs.declared.{action.Action.Action, action.Action.TheVariants.Deliver, met.Met.Met, state.State.State}
 use Rattle.blot_session.specs.Calls.{command_said, delivery_of}
 use Rattle.blot_session.specs.InTurn.{is_about_fill}

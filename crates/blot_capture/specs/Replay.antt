@@ -1,14 +1,14 @@
 -- What a desk comes to by a capture, and the report of its day.
-use Rattle.std.specs.Prelude.{◌≡◌, ℕ, ℤ, ◌<◌, ◌≤◌, ⊤, List, ◌++◌, length, map, fold, Option, Some, None, IfSome}
-use Rattle.blot_types.specs.declared.{command.Command.Command, command.Entry.Entry, TheConstants.EVENTS_MAX}
+use Rattle.std.specs.Prelude.{◌≡◌, ℕ, ℤ, ◌<◌, ◌≤◌, List, ◌++◌, length, map, fold, Option, Some, None, IfSome}
 use Rattle.blot_tag.specs.Walking.{frames_of}
+use Rattle.blot_types.specs.declared.{command.Command.Command, command.Entry.Entry, TheConstants.EVENTS_MAX}
 use Rattle.blot_desk.specs.declared.{event.Event.TheVariants.Submit, fault.DeskFault.DeskFault}
 use Rattle.blot_desk.specs.declared.fault.DeskFault.TheVariants as faults
 use Rattle.blot_desk.specs.Desk.{DeskState, empty_desk, recorded_of, run_of}
 use Rattle.blot_report.specs.Text.{report_of}
-use Rattle.blot_capture.specs.Capture.{Sessions, commands_over, commands_of, first_sessions}
 use Rattle.blot_stream.specs.declared.outcome.ReplayFault.{ReplayFault}
 use Rattle.blot_stream.specs.declared.outcome.ReplayFault.TheVariants.{Full, NoMemory}
+use Rattle.blot_capture.specs.Capture.{Sessions, commands_over, commands_of, first_sessions}
 
 -- what a desk holds when some commands were submitted, in their order
 abbrev pub submitted : DeskState → List Command → DeskState
@@ -68,13 +68,7 @@ abbrev pub StoppedOn : Taking → List ℕ → DeskState → ReplayFault → Typ
 StoppedOn from unread after fault =
     (more : List ℕ) → Stopped from.desk after (commands_over from.sessions (frames_of (unread ++ more))) fault
 
--- the same for an input's bytes, where they are known: some were read, and some of those are unread
-abbrev pub CameOf : Option (List ℕ) → Taking → Option (List ℕ) → List ℕ → Taking → Type 0
-CameOf None from rest unread now = ⊤
-CameOf (Some bytes) from None unread now = ⊥
-CameOf (Some bytes) from (Some rest) unread now = Came from (frames_of bytes) now (frames_of (unread ++ rest))
-
--- all its commands were submitted
+-- all commands of an input were submitted, where its bytes are known
 abbrev pub TakenOf : Option (List ℕ) → Taking → DeskState → Type 0
 TakenOf known from after = IfSome known (λ bytes. after ≡ submitted from.desk (commands_over from.sessions (frames_of bytes)))
 

@@ -10,13 +10,15 @@ use Rattle.blot_types.specs.declared.{keys.ExecKey.ExecKey, link.Link.Link, link
 use Rattle.blot_types.specs.declared.link.Role.TheVariants.{Begins, Corrects, Busts}
 use Rattle.blot_types.specs.Chains.{current_in, first_needing_link, first_referring, is_chained, own_root, refers_to, root_in, version_after_in, version_before_in, brings_version}
 use Rattle.blot_types.specs.Keys.{same_exec}
-use Rattle.blot_types.specs.Numbers.{lesser}
+use Rattle.blot_types.specs.Lesser.{lesser}
 use Rattle.blot_types.specs.Refusals.{first_of}
 use Rattle.blot_types.proofs.ChainLemmas.{accepted_key, clash}
 use Rattle.blot_types.proofs.KeyLemmas.{same_exec-refl, same_exec-sym, same_exec-true}
+use Rattle.blot_types.specs.StandingVersion.{chain_under}
+use Rattle.blot_types.proofs.GeneralLemmas.{and-false, found-All, and-either}
 use Rattle.blot_places.specs.declared.slots.Slot.{Slot}
 use Rattle.blot_places.specs.Shown.{item_at}
-use Rattle.blot_places.specs.Slots.{is_above, items, live, live_item, live_items, numbers_fall, places_by}
+use Rattle.blot_places.specs.Slots.{BelowFirst, UpToFirst, is_above, items, live, live_item, live_items, numbers_fall, oldest_above, places_above, places_by}
 use Rattle.blot_places.proofs.AroundLemmas.{find-above, newest-below, oldest-above, parted-above, parted-below}
 use Rattle.blot_places.proofs.FirstLemmas.{first-agree, first-either, first-more, first-through, first_by}
 use Rattle.blot_places.proofs.MarkLemmas.{at-all, falling-side}
@@ -24,12 +26,10 @@ use Rattle.blot_places.proofs.ShownLemmas.{at-here, at-on, at-through, falling-p
 use Rattle.blot_chain.specs.declared.{index.Index.Index, chain_link.ChainLink.ChainLink}
 use Rattle.blot_chain.specs.Cells.{busts_in, versions_in}
 use Rattle.blot_chain.specs.Holds.{HoldsChains}
-use Rattle.blot_chain.specs.Index.{BelowFirst, IsPlaced, UpToFirst, newest_below, number_if_referring, oldest_above, places_after, referring_at}
-use Rattle.blot_types.specs.StandingVersion.{chain_under}
-use Rattle.blot_types.proofs.GeneralLemmas.{and-false, found-All, and-either}
-use Rattle.blot_chain.specs.ChainLinks.{AreRooted, has_key, is_bust, is_bust_of, is_version_of, kept_root, link_number, links_in, refers}
+use Rattle.blot_chain.specs.Index.{IsPlaced, newest_below, number_if_referring, referring_at}
+use Rattle.blot_chain.specs.ChainLinks.{has_key, is_bust, is_bust_of, is_version_of, kept_root, link_number, links_in, refers}
 use Rattle.blot_chain.specs.Steps.{number_of}
-use Rattle.blot_chain.proofs.ChainLemmas.{chained-parts, find-current, kept_root-own, version-is_root}
+use Rattle.blot_chain.proofs.ChainLemmas.{AreRooted, chained-parts, find-current, kept_root-own, version-is_root}
 use Rattle.blot_chain.proofs.HoldsLemmas.{rooted-live, vacant}
 
 abbrev link_of : ChainLink → Link
@@ -60,13 +60,13 @@ module _ (index : Index) (slots : List (Slot ChainLink)) (root : ExecKey) (n : �
   busts_are : reverse busts ≡ places_by (is_bust_of root) (reverse slots)
   busts_are = stack_is _ _ (holds.indexed.busts root)
 
-  pub parted-versions : UpToFirst n slots (versions_under index root)
+  pub parted-versions : UpToFirst link_number n slots (versions_under index root)
   parted-versions = parted-above link_number n (is_version_of root) slots versions versions_are holds.fall
 
-  pub parted-busts : UpToFirst n slots (busts_under index root)
+  pub parted-busts : UpToFirst link_number n slots (busts_under index root)
   parted-busts = parted-above link_number n (is_bust_of root) slots busts busts_are holds.fall
 
-  pub parted-earlier : BelowFirst n slots (versions_under index root)
+  pub parted-earlier : BelowFirst link_number n slots (versions_under index root)
   parted-earlier = parted-below link_number n (is_version_of root) slots versions versions_are holds.fall
 
 -- ---- the last version below a number
@@ -129,7 +129,7 @@ after-rooted n root (item ∷ earlier) are =
 
 pub after-held :
     (index : Index) (slots : List (Slot ChainLink)) (root : ExecKey) (n : ℕ) → HoldsChains index (reverse slots)
-    → option_map link_number (oldest_above n slots (versions_under index root)) ≡ version_after_in (links_in (live (reverse slots))) n root
+    → option_map link_number (oldest_above link_number n slots (versions_under index root)) ≡ version_after_in (links_in (live (reverse slots))) n root
 after-held index slots root n holds =
     ap (option_map link_number) (oldest-above link_number n (is_version_of root) slots (versions_under index root) (versions_are index slots root n holds))
     ∙ after-rooted n root (live (reverse slots)) (rooted-live index (reverse slots) holds)
@@ -268,15 +268,15 @@ module _ (index : Index) (slots : List (Slot ChainLink)) (n : ℕ) (k : ChainLin
   falls : numbers_fall link_number all ≡ true
   falls = falling-side link_number true (reverse slots) holds.fall
 
-  on-versions : first_of (number_if_referring slots k.link.key) (places_after n slots (versions_under index k.root)) ≡ first_by link_number (among (is_version_of k.root)) all
+  on-versions : first_of (number_if_referring slots k.link.key) (places_above link_number n slots (versions_under index k.root)) ≡ first_by link_number (among (is_version_of k.root)) all
   on-versions =
-      referring-found slots k.link.key (places_after n slots (versions_under index k.root))
+      referring-found slots k.link.key (places_above link_number n slots (versions_under index k.root))
       ∙ ap (option_map link_number)
       (find-above link_number n (is_version_of k.root) slots (versions_under index k.root) (versions_are index slots k.root n holds) (refers k.link.key))
 
-  on-busts : first_of (number_if_referring slots k.link.key) (places_after n slots (busts_under index k.root)) ≡ first_by link_number (among (is_bust_of k.root)) all
+  on-busts : first_of (number_if_referring slots k.link.key) (places_above link_number n slots (busts_under index k.root)) ≡ first_by link_number (among (is_bust_of k.root)) all
   on-busts =
-      referring-found slots k.link.key (places_after n slots (busts_under index k.root))
+      referring-found slots k.link.key (places_above link_number n slots (busts_under index k.root))
       ∙ ap (option_map link_number)
       (find-above link_number n (is_bust_of k.root) slots (busts_under index k.root) (busts_are index slots k.root n holds) (refers k.link.key))
 

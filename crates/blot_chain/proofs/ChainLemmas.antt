@@ -1,5 +1,6 @@
 -- The stored roots are those of the definitions, and a root is the key of one Trade.
 use Rattle.std.proofs.Common.{◌≡◌, ℕ, true, ◌&&◌, List, [], ◌∷◌, Option, Some, None, refl, sym, ap, subst, ◌∙◌, inl, inr, find, filter, is_none, if◌then◌else◌, IfSome, option_map, option_and_then}
+use Rattle.std.specs.Prelude.{⊤}
 use Rattle.std.proofs.lemmas.Option.{same_Some}
 use Rattle.std.proofs.lemmas.Bool.{cases_Bool, and_parts}
 use Rattle.blot_types.specs.declared.{keys.ExecKey.ExecKey, link.Link.Link, link.Role.Role}
@@ -9,9 +10,14 @@ use Rattle.blot_types.specs.Keys.{same_exec}
 use Rattle.blot_types.specs.Laws.{IsOneTrade}
 use Rattle.blot_types.proofs.ChainLemmas.{accepted_key, none_is}
 use Rattle.blot_types.proofs.KeyLemmas.{same_exec-true, same_exec-refl}
-use Rattle.blot_chain.specs.declared.chain_link.ChainLink.{ChainLink}
 use Rattle.blot_types.specs.StandingVersion.{chain_under}
-use Rattle.blot_chain.specs.ChainLinks.{is_bust, has_key, is_version_of, is_bust_of, kept_root, links_in, AreRooted}
+use Rattle.blot_chain.specs.declared.chain_link.ChainLink.{ChainLink}
+use Rattle.blot_chain.specs.ChainLinks.{is_bust, has_key, is_version_of, is_bust_of, kept_root, links_in}
+
+-- beside each link stands the root of its chain
+abbrev pub AreRooted : List ChainLink → Type 0
+AreRooted [] = ⊤
+AreRooted (item ∷ earlier) = (chain_under (links_in earlier) item.link.key item.link.role ≡ Some item.root) × AreRooted earlier
 
 -- One link: what is said of the root beside it is what is said of its role.
 

@@ -2,26 +2,26 @@
 use Rattle.std.proofs.Common.{◌≡◌, ℕ, ◌<◌, true, List, [], ◌∷◌, ◌++◌, reverse, Option, Some, None, refl, sym, ap, subst, ◌∙◌, inl, inr, arith, IfSome, find, is_none, option_map, option_and_then, ltb-true}
 use Rattle.std.proofs.lemmas.Bool.{cases_Bool, and_from, and_parts}
 use Rattle.std.proofs.lemmas.List.{reverse-append}
-use Rattle.blot_places.specs.declared.slots.Slot.{Slot}
-use Rattle.blot_places.specs.Shown.{Shown}
-use Rattle.blot_places.specs.Slots.{is_above, items, lifted, live, newest_live, numbers_fall}
-use Rattle.blot_places.proofs.MarkLemmas.{above-both, above-side}
-use Rattle.blot_places.proofs.ShownLemmas.{above-through, falling-parts}
-use Rattle.blot_places.proofs.SlotLemmas.{lifted_here, lifted_on, live_here, live_on, newest_live-find}
 use Rattle.blot_types.specs.declared.{keys.ExecKey.ExecKey, link.Link.Link, link.Role.Role}
 use Rattle.blot_types.specs.Chains.{taker_in, root_in, current_in, bust_in, link_refusal, is_chained, is_above_links}
 use Rattle.blot_types.specs.Keys.{same_exec}
 use Rattle.blot_types.proofs.ChainLemmas.{accepted_key}
 use Rattle.blot_types.proofs.KeyLemmas.{same_exec-true}
 use Rattle.blot_types.proofs.SurvivorLemmas.{find-passes}
+use Rattle.blot_types.specs.StandingVersion.{chain_under}
+use Rattle.blot_places.specs.declared.slots.Slot.{Slot}
+use Rattle.blot_places.specs.Shown.{Shown}
+use Rattle.blot_places.specs.Slots.{is_above, items, lifted, live, newest_live, numbers_fall}
+use Rattle.blot_places.proofs.MarkLemmas.{above-both, above-side}
+use Rattle.blot_places.proofs.ShownLemmas.{above-through, falling-parts}
+use Rattle.blot_places.proofs.SlotLemmas.{lifted_here, lifted_on, live_here, live_on, newest_live-find}
 use Rattle.blot_chain.specs.declared.{index.Index.Index, chain_link.ChainLink.ChainLink}
 use Rattle.blot_chain.specs.Cells.{busts_in, takers_in, versions_in}
 use Rattle.blot_chain.specs.Holds.{HoldsChains, shown_of}
 use Rattle.blot_chain.specs.Index.{IsIndexed}
 use Rattle.blot_chain.specs.Steps.{AddsOne, IsNewest, number_of}
-use Rattle.blot_types.specs.StandingVersion.{chain_under}
-use Rattle.blot_chain.specs.ChainLinks.{has_key, is_version_of, is_bust_of, kept_root, link_number, links_in, AreRooted}
-use Rattle.blot_chain.proofs.ChainLemmas.{chained-parts, find-root, find-current, find-bust, find-taker}
+use Rattle.blot_chain.specs.ChainLinks.{has_key, is_version_of, is_bust_of, kept_root, link_number, links_in}
+use Rattle.blot_chain.proofs.ChainLemmas.{AreRooted, chained-parts, find-root, find-current, find-bust, find-taker}
 use Rattle.blot_chain.proofs.RootedLemmas.{chain-told, live-rooted}
 
 -- ---- the look-ups

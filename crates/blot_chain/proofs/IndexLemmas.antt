@@ -2,14 +2,14 @@
 use Rattle.std.proofs.Common.{◌≡◌, ℕ, Bool, true, false, ◌&&◌, List, Option, Some, None, reverse, refl, sym, ap, subst, ◌∙◌, All, ◌∷◌, length, if◌then◌else◌, IsSomeAnd}
 use Rattle.std.proofs.lemmas.List.{reverse-reverse}
 use Rattle.std.proofs.lemmas.List.Elements.{All-cons, All-tail, All-weaker}
-use Rattle.blot_places.specs.declared.slots.Slot.{Slot}
-use Rattle.blot_places.specs.Indexed.{NamesOneLess, NamesOneMore, NamesSame}
-use Rattle.blot_places.specs.Slots.{items, places_by}
 use Rattle.blot_types.specs.declared.{keys.ExecKey.ExecKey, link.Role.Role}
 use Rattle.blot_types.specs.declared.link.Role.TheVariants.{Begins, Corrects, Busts}
 use Rattle.blot_types.specs.Keys.{same_exec}
 use Rattle.blot_types.specs.Chains.{brings_version}
 use Rattle.blot_types.proofs.KeyLemmas.{same_exec-true}
+use Rattle.blot_places.specs.declared.slots.Slot.{Slot}
+use Rattle.blot_places.specs.Indexed.{NamesOneLess, NamesOneMore, NamesSame}
+use Rattle.blot_places.specs.Slots.{items, places_by}
 use Rattle.blot_chain.specs.declared.cell.Relation.TheVariants.{First, Taker}
 use Rattle.blot_chain.specs.declared.{index.Index.Index, chain_link.ChainLink.ChainLink}
 use Rattle.blot_chain.specs.Cells.{CellsByKey, KeepsPlaces, PutsAt, PutsUnder, SameUnder, TakesUnder, busts_in, has_bust, has_taker, has_version, key_at, one_less, one_more, relation_in_chain, takers_in, versions_in}

@@ -3,12 +3,6 @@ use Rattle.std.proofs.Common.{option_map, option_and_then, All, IsSome, find, no
 use Rattle.std.specs.List.{list_all}
 use Rattle.std.proofs.lemmas.Bool.{cases_Bool, and_from, and_parts}
 use Rattle.std.proofs.lemmas.List.Folds.{list_all-map}
-use Rattle.blot_places.specs.declared.slots.Slot.{Slot}
-use Rattle.blot_places.specs.Shown.{item_at, lifted_out as item_lifted_out, shown_of as items_shown}
-use Rattle.blot_places.specs.Slots.{is_above, items, lifted, live, mark, marked, numbers_fall}
-use Rattle.blot_places.proofs.MarkLemmas.{all-side, at-all, at-apart, falling-side, items-marked, mark-at, mark-item, mark-off, marked-below, marked-into, marked-out, places-marked, shown-lifted, shown-put_back}
-use Rattle.blot_places.proofs.ShownLemmas.{above-more, at-below, at-lifted, at-on, at-through, falling-parts, lifted-through, none-at, none-with_some, none-without, put_back-lifted, put_back-through, through}
-use Rattle.blot_places.proofs.SlotLemmas.{lifted_here, lifted_on, live_here, live_on}
 use Rattle.blot_types.specs.declared.{keys.ExecKey.ExecKey, link.Link.Link, link.Role.Role}
 use Rattle.blot_types.specs.declared.link.Role.TheVariants.{Begins, Corrects, Busts}
 use Rattle.blot_types.specs.Chains.{is_chained}
@@ -16,6 +10,12 @@ use Rattle.blot_types.specs.Keys.{same_exec}
 use Rattle.blot_types.proofs.ChainLemmas.{accepted_key, clash, differing}
 use Rattle.blot_types.proofs.KeyLemmas.{same_exec-sym}
 use Rattle.blot_types.proofs.GeneralLemmas.{and-not}
+use Rattle.blot_places.specs.declared.slots.Slot.{Slot}
+use Rattle.blot_places.specs.Shown.{item_at, lifted_out as item_lifted_out, shown_of as items_shown}
+use Rattle.blot_places.specs.Slots.{is_above, items, lifted, live, mark, marked, numbers_fall}
+use Rattle.blot_places.proofs.MarkLemmas.{all-side, at-all, at-apart, falling-side, items-marked, mark-at, mark-item, mark-off, marked-below, marked-into, marked-out, places-marked, shown-lifted, shown-put_back}
+use Rattle.blot_places.proofs.ShownLemmas.{above-more, at-below, at-lifted, at-on, at-through, falling-parts, lifted-through, none-at, none-with_some, none-without, put_back-lifted, put_back-through, through}
+use Rattle.blot_places.proofs.SlotLemmas.{lifted_here, lifted_on, live_here, live_on}
 use Rattle.blot_chain.specs.declared.{index.Index.Index, chain_link.ChainLink.ChainLink}
 use Rattle.blot_chain.specs.Holds.{HoldsChains, shown_of}
 use Rattle.blot_chain.specs.Index.{IsIndexed, IsPlaced}

@@ -1,18 +1,18 @@
 -- The roots of the live links are those that all slots tell.
 use Rattle.std.proofs.Common.{◌≡◌, true, List, [], ◌∷◌, Option, Some, None, refl, sym, ap, subst, ◌∙◌, inl, inr, find, option_and_then}
 use Rattle.std.proofs.lemmas.Bool.{cases_Bool}
-use Rattle.blot_places.specs.declared.slots.Slot.{Slot}
-use Rattle.blot_places.specs.Slots.{items, live}
-use Rattle.blot_places.proofs.SlotLemmas.{find_here, find_on, live_here, live_on}
 use Rattle.blot_types.specs.declared.{keys.ExecKey.ExecKey, link.Link.Link, link.Role.Role}
 use Rattle.blot_types.specs.declared.link.Role.TheVariants.{Begins, Corrects, Busts}
 use Rattle.blot_types.specs.Chains.{root_in, link_refusal, chain_refusal, is_chained}
 use Rattle.blot_types.proofs.ChainLemmas.{accepted_key, clash}
 use Rattle.blot_types.proofs.KeyLemmas.{same_exec-true}
-use Rattle.blot_chain.specs.declared.chain_link.ChainLink.{ChainLink}
 use Rattle.blot_types.specs.StandingVersion.{chain_under}
-use Rattle.blot_chain.specs.ChainLinks.{has_key, kept_root, links_in, AreRooted, slot_root, slot_chain, HaveRoots, NewestLive}
-use Rattle.blot_chain.proofs.ChainLemmas.{find-root, chained-parts}
+use Rattle.blot_places.specs.declared.slots.Slot.{Slot}
+use Rattle.blot_places.specs.Slots.{items, live}
+use Rattle.blot_places.proofs.SlotLemmas.{find_here, find_on, live_here, live_on}
+use Rattle.blot_chain.specs.declared.chain_link.ChainLink.{ChainLink}
+use Rattle.blot_chain.specs.ChainLinks.{has_key, kept_root, links_in, slot_root, slot_chain, HaveRoots, NewestLive}
+use Rattle.blot_chain.proofs.ChainLemmas.{AreRooted, find-root, chained-parts}
 
 -- the live slot of a key is the newest of that key
 pub find-newest : (slots : List (Slot ChainLink)) (key : ExecKey) (item : ChainLink) → NewestLive slots → find (has_key key) (live slots) ≡ Some item → find (has_key key) (items slots) ≡ Some item

@@ -4,14 +4,13 @@ use Rattle.std.specs.Bool.{then_some}
 use Rattle.std.specs.Map.{lookup}
 use Rattle.std.specs.Option.{option_eq, option_map_or}
 use Rattle.std.proofs.lemmas.Option.{same_Some}
+use Rattle.blot_types.specs.declared.{keys.ExecKey.ExecKey, link.Link.Link}
+use Rattle.blot_types.specs.Chains.{bust_in, current_in, root_in, standing_version_in}
+use Rattle.blot_types.specs.Keys.{same_exec}
+use Rattle.blot_types.specs.Survivors.{is_number, stands_under}
 use Rattle.blot_places.specs.declared.slots.Slot.{Slot}
 use Rattle.blot_places.specs.Shown.{Shown}
 use Rattle.blot_places.specs.Slots.{newest_live}
-use Rattle.blot_types.specs.declared.{keys.ExecKey.ExecKey, link.Link.Link}
-use Rattle.blot_types.specs.Chains.{bust_in, current_in, root_in}
-use Rattle.blot_types.specs.Keys.{same_exec}
-use Rattle.blot_types.specs.Survivors.{is_number, stands_under}
-use Rattle.blot_types.specs.StandingVersion.{standing_version_in}
 use Rattle.blot_chain.specs.declared.{cell.Cell.Cell, index.Index.Index, chain_link.ChainLink.ChainLink}
 use Rattle.blot_chain.specs.Holds.{HoldsChains, shown_of}
 use Rattle.blot_chain.specs.Index.{standing_at}
@@ -89,12 +88,6 @@ module _ (index : Index) (slots : List (Slot ChainLink)) (shown : Shown Link) (h
 pub rootless-stands : (links : List Link) (number : ℕ) (key : ExecKey) → root_in links key ≡ None → standing_root_in links number key ≡ None
 rootless-stands links number key none = rw none refl
 
-numbered :
-    (number : ℕ) (bust current : Option ℕ)
-    → (is_none bust && is_number number current) ≡ is_number number (if is_none bust then current else None)
-numbered number None current = refl
-numbered number (Some bust) current = refl
-
 is_numbered : (number : ℕ) (found : Option ℕ) → is_number number found ≡ option_eq nat_eq found (Some number)
 is_numbered number None = refl
 is_numbered number (Some found) = refl
@@ -109,7 +102,6 @@ pub rooted-stands :
     → then_some (option_eq nat_eq standing (Some number)) root ≡ standing_root_in links number key
 rooted-stands links number key root standing is told =
     let stands : option_eq nat_eq standing (Some number) ≡ stands_under links number (Some root) =
-    ap (λ found. option_eq nat_eq found (Some number)) told ∙ sym (is_numbered number (standing_version_in links root))
-    ∙ sym (numbered number (bust_in links root) (current_in links root)) in
+    ap (λ found. option_eq nat_eq found (Some number)) told ∙ sym (is_numbered number (standing_version_in links root)) in
     ap (λ stands. then_some stands root) stands ∙ told-some (stands_under links number (Some root)) root
     ∙ ap (λ found. if stands_under links number found then found else None) (sym is)

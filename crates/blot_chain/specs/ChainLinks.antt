@@ -1,12 +1,12 @@
 -- The links with the roots of their chains, newest first: after one stand the earlier ones. Each stands in a slot, live or lifted.
 use Rattle.std.specs.Prelude.{◌≡◌, ℕ, Bool, true, false, ◌&&◌, List, [], ◌∷◌, map, find, Option, Some, None, if◌then◌else◌, option_and_then, ⊤}
-use Rattle.blot_places.specs.declared.slots.Slot.{Slot}
-use Rattle.blot_places.specs.Slots.{items, live}
 use Rattle.blot_types.specs.declared.{keys.ExecKey.ExecKey, link.Link.Link, link.Role.Role}
 use Rattle.blot_types.specs.declared.link.Role.TheVariants.{Begins, Corrects, Busts}
 use Rattle.blot_types.specs.Chains.{refers_to, brings_version}
 use Rattle.blot_types.specs.Keys.{same_exec}
-use Rattle.blot_types.specs.StandingVersion.{chain_under}
+use Rattle.blot_types.specs.StandingVersion.{chain_root}
+use Rattle.blot_places.specs.declared.slots.Slot.{Slot}
+use Rattle.blot_places.specs.Slots.{items, live}
 use Rattle.blot_chain.specs.declared.chain_link.ChainLink.{ChainLink}
 
 -- whether a link of this role is a Bust
@@ -43,19 +43,12 @@ link_number item = item.link.number
 abbrev pub links_in : List ChainLink → List Link
 links_in rooted = map (λ item. item.link) rooted
 
--- beside each link stands the root of its chain
-abbrev pub AreRooted : List ChainLink → Type 0
-AreRooted [] = ⊤
-AreRooted (item ∷ earlier) = (chain_under (links_in earlier) item.link.key item.link.role ≡ Some item.root) × AreRooted earlier
-
 -- the root of a key, as the newest slot of that key tells it, live or lifted
 abbrev pub slot_root : List (Slot ChainLink) → ExecKey → Option ExecKey
 slot_root slots key = option_and_then kept_root (find (has_key key) (items slots))
 
 abbrev pub slot_chain : List (Slot ChainLink) → ExecKey → Role → Option ExecKey
-slot_chain earlier key Begins = Some key
-slot_chain earlier key (Corrects reference) = slot_root earlier reference
-slot_chain earlier key (Busts reference) = slot_root earlier reference
+slot_chain earlier key role = chain_root (slot_root earlier) key role
 
 -- each slot has the root that the earlier slots tell, live or lifted
 abbrev pub HaveRoots : List (Slot ChainLink) → Type 0

@@ -1,10 +1,10 @@
 -- What the chains keep.
 use Rattle.std.specs.Prelude.{◌≡◌, List, true}
+use Rattle.blot_types.specs.declared.link.Link.{Link}
+use Rattle.blot_types.specs.Chains.{is_chained}
 use Rattle.blot_places.specs.declared.slots.Slot.{Slot}
 use Rattle.blot_places.specs.Shown.{Shown}
 use Rattle.blot_places.specs.Slots.{items, lifted, live, numbers_fall}
-use Rattle.blot_types.specs.declared.link.Link.{Link}
-use Rattle.blot_types.specs.Chains.{is_chained}
 use Rattle.blot_chain.specs.declared.{index.Index.Index, chain_link.ChainLink.ChainLink}
 use Rattle.blot_chain.specs.Index.{IsIndexed}
 use Rattle.blot_chain.specs.ChainLinks.{HaveRoots, NewestLive, link_number, links_in}

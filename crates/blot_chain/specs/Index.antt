@@ -1,11 +1,10 @@
 -- Where the slots of a key, and of the chain of a root, are.
 use Rattle.std.specs.Prelude.{◌≡◌, ℕ, reverse, All, List, Option, Some, None, is_none, if◌then◌else◌, option_and_then, option_map}
-use Rattle.std.specs.List.Sorted.{IsPartitionedBy}
-use Rattle.blot_places.specs.declared.slots.Slot.{Slot}
-use Rattle.blot_places.specs.Slots.{is_below, is_up_to, items, live_item, newest_live, places_above, places_below, places_by}
 use Rattle.blot_types.specs.declared.keys.ExecKey.{ExecKey}
 use Rattle.blot_types.specs.Keys.{same_exec}
 use Rattle.blot_types.specs.Refusals.{first_of}
+use Rattle.blot_places.specs.declared.slots.Slot.{Slot}
+use Rattle.blot_places.specs.Slots.{items, live_item, newest_live, places_above, places_below, places_by}
 use Rattle.blot_chain.specs.declared.{cell.Cell.Cell, index.Index.Index, chain_link.ChainLink.ChainLink}
 use Rattle.blot_chain.specs.Cells.{CellsByKey, busts_in, key_at, takers_in, versions_in}
 use Rattle.blot_chain.specs.ChainLinks.{has_key, is_bust_of, is_version_of, link_number, refers}
@@ -23,26 +22,12 @@ pub record IsIndexed (index : Index) (slots : List (Slot ChainLink)) : Type 0 wh
 
 -- ---- what is found on a stack. The slots and the places stand oldest first
 
--- those of some places at which no link is numbered up to a number
-abbrev pub places_after : ℕ → List (Slot ChainLink) → List ℕ → List ℕ
-places_after number slots places = places_above link_number number slots places
-
--- on a stack, the places of the links below a number come first; so do those of the links up to it
-abbrev pub BelowFirst : ℕ → List (Slot ChainLink) → List ℕ → Type 0
-BelowFirst number slots stack = IsPartitionedBy (is_below link_number number slots) stack
-
-abbrev pub UpToFirst : ℕ → List (Slot ChainLink) → List ℕ → Type 0
-UpToFirst number slots stack = IsPartitionedBy (is_up_to link_number number slots) stack
-
--- the newest live link on a stack; the newest below a number; the oldest above it
+-- the newest live link on a stack, and the newest below a number
 abbrev pub newest_on : List (Slot ChainLink) → List ℕ → Option ChainLink
 newest_on slots stack = newest_live slots (reverse stack)
 
 abbrev pub newest_below : ℕ → List (Slot ChainLink) → List ℕ → Option ChainLink
 newest_below number slots stack = newest_live slots (reverse (places_below link_number number slots stack))
-
-abbrev pub oldest_above : ℕ → List (Slot ChainLink) → List ℕ → Option ChainLink
-oldest_above number slots stack = newest_live slots (places_after number slots stack)
 
 -- the number of the last version of a root's chain, where no Bust ended it, as the root's cell tells
 abbrev pub standing_at : List (Slot ChainLink) → Cell → Option ℕ
@@ -56,4 +41,4 @@ number_if_referring slots key place =
 
 -- the number of the oldest live link above a number, on a stack, that refers to a key
 abbrev pub referring_at : List (Slot ChainLink) → List ℕ → ℕ → ExecKey → Option ℕ
-referring_at slots stack number key = first_of (number_if_referring slots key) (places_after number slots stack)
+referring_at slots stack number key = first_of (number_if_referring slots key) (places_above link_number number slots stack)

@@ -1,10 +1,10 @@
 -- What a contract sees of the chains: one link more and one less, one lifted out and put back.
 use Rattle.std.specs.Prelude.{◌≡◌, ℕ, Bool, true, ◌&&◌, not, nat_lt, List, ◌∷◌, Option, Some}
 use Rattle.std.specs.List.{list_all}
-use Rattle.blot_places.specs.Shown.{Shown, item_at, lifted_out as item_lifted_out, put_back as item_put_back}
 use Rattle.blot_types.specs.declared.{keys.ExecKey.ExecKey, link.Link.Link, link.Role.Role, refused.Refused.Refused}
 use Rattle.blot_types.specs.Chains.{chain_refusal, is_above_links, root_in}
 use Rattle.blot_types.specs.Keys.{same_exec}
+use Rattle.blot_places.specs.Shown.{Shown, item_at, lifted_out as item_lifted_out, put_back as item_put_back}
 
 -- why a reference is refused: it has no root, or its chain is busted
 abbrev pub exec_refusal : List Link → ExecKey → Option Refused

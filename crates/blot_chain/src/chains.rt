@@ -1,9 +1,9 @@
 //! The links of executions: added, taken back, lifted out, asked.
 ghost use Rattle.std.specs.Prelude.{◌≡◌, [], Some, None, IfSome, IsSome, IsTrue, OnOk, OnErr};
 ghost use Rattle.blot_types.specs.declared.link.Role.TheVariants.{Begins, Corrects, Busts};
-ghost use Rattle.blot_types.specs.Chains.{root_in, current_in, bust_in, taker_in, link_refusal, is_above_links, is_chained, first_needing_link, version_after_in, version_before_in};
+ghost use Rattle.blot_types.specs.Chains.{root_in, current_in, bust_in, taker_in, link_refusal, is_above_links, is_chained, first_needing_link, version_after_in, version_before_in, standing_version_in};
 ghost use Rattle.blot_types.specs.Laws.{IsOneTrade};
-ghost use Rattle.blot_types.specs.StandingVersion.{chain_under, standing_version_in};
+ghost use Rattle.blot_types.specs.StandingVersion.{chain_under};
 ghost use Rattle.blot_chain.specs.Standing.{standing_root_in};
 ghost use Rattle.blot_chain.specs.Steps.{Adds, AddsOne, CanReturn, IsNewest, exec_refusal, lifted_out, link_at, put_back};
 

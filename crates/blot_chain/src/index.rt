@@ -1,10 +1,11 @@
 //! Where the slots of a key, and of the chain of a root, are.
 ghost use Rattle.std.specs.Prelude.{◌≡◌, [], Some, IfOk, IfSome, OnOk, OnErr, option_and_then, option_map};
 ghost use Rattle.blot_places.specs.Indexed.{NamesOneLess, NamesOneMore, NamesSame};
+ghost use Rattle.blot_places.specs.Slots.{BelowFirst, UpToFirst, oldest_above};
 ghost use Rattle.blot_types.specs.Refusals.{first_of};
 ghost use Rattle.blot_chain.specs.Cells.{key_at};
 ghost use Rattle.blot_chain.specs.ChainLinks.{kept_root, link_number};
-ghost use Rattle.blot_chain.specs.Index.{BelowFirst, IsIndexed, IsPlaced, UpToFirst, newest_below, newest_on, number_if_referring, oldest_above, referring_at, standing_at};
+ghost use Rattle.blot_chain.specs.Index.{IsIndexed, IsPlaced, newest_below, newest_on, number_if_referring, referring_at, standing_at};
 
 use crate::cell::{Cell, Relation};
 use crate::cells::Cells;
@@ -96,7 +97,7 @@ pub(crate) fn standing_at(slots: &[Slot<ChainLink>], cell: &Cell) -> Option<u64>
 
 /// The number of the newest live link below a number, on a stack.
 pub(crate) fn number_below(slots: &[Slot<ChainLink>], stack: &[usize], number: u64) -> Option<u64>
-    requires { BelowFirst number slots.now stack.now }
+    requires { BelowFirst link_number number slots.now stack.now }
     ensures { result ≡ option_map link_number (newest_below number slots.now stack.now) }
 {
     newest_live(slots, places_below(slots, stack, number)).map(|item| item.number())
@@ -104,8 +105,8 @@ pub(crate) fn number_below(slots: &[Slot<ChainLink>], stack: &[usize], number: u
 
 /// The number of the oldest live link above a number, on a stack.
 pub(crate) fn number_above(slots: &[Slot<ChainLink>], stack: &[usize], number: u64) -> Option<u64>
-    requires { UpToFirst number slots.now stack.now }
-    ensures { result ≡ option_map link_number (oldest_above number slots.now stack.now) }
+    requires { UpToFirst link_number number slots.now stack.now }
+    ensures { result ≡ option_map link_number (oldest_above link_number number slots.now stack.now) }
 {
     oldest_live(slots, places_above(slots, stack, number)).map(|item| item.number())
 }
@@ -117,7 +118,7 @@ pub(crate) fn referring_at(
     number: u64,
     key: &ExecKey,
 ) -> Option<u64>
-    requires { UpToFirst number slots.now stack.now }
+    requires { UpToFirst link_number number slots.now stack.now }
     ensures { result ≡ referring_at slots.now stack.now number key.now }
 {
     first_referring(slots, places_above(slots, stack, number), key)

@@ -12,11 +12,10 @@ use Rattle.blot_types.specs.Allocations.{instructions_in, instructions_of}
 use Rattle.blot_types.specs.Chains.{current_in, first_needing_link, is_chained, link_refusal, root_in, version_after_in}
 use Rattle.blot_types.specs.Keys.{is_among}
 use Rattle.blot_types.specs.Legal.{is_above_entries, is_book, legal_in, rises_in, least_needing}
-use Rattle.blot_types.specs.Numbers.{lesser}
-use Rattle.blot_types.specs.Refusals.{listed_by, version_in}
-use Rattle.blot_types.specs.Survivors.{links_in, links_of}
+use Rattle.blot_types.specs.Lesser.{lesser}
+use Rattle.blot_types.specs.Refusals.{listed_by}
+use Rattle.blot_types.specs.Survivors.{links_in, links_of, version_numbered}
 use Rattle.blot_types.specs.Withdrawal.{alike, needed_in}
-use Rattle.blot_types.specs.StandingVersion.{version_numbered}
 use Rattle.blot_types.proofs.BustLemmas.{reverse-middle}
 use Rattle.blot_types.proofs.ChainLemmas.{accepted_key, accepted_root, clash, none_is}
 use Rattle.blot_types.proofs.CorrectLemmas.{as_entry, front-legal}
@@ -109,15 +108,15 @@ module _ (list : List Entry) (number : ℕ) (correct : CorrectCommand) (later fr
   turned = ap reverse (sym whole) ∙ reverse-reverse list
 
   -- the version before it
-  found-before : (found : Option ℕ) → current_in (links_in front) r ≡ found → option_and_then (version_in front) found ≡ option_and_then (version_numbered list) found
+  found-before : (found : Option ℕ) → current_in (links_in front) r ≡ found → option_and_then (version_numbered front) found ≡ option_and_then (version_numbered list) found
   found-before None is = refl
   found-before (Some n) is =
-      sym (found-front k later front r n rise is) ∙ ap (λ entries. version_in entries n) (sym whole) ∙ same_version list n (ap rises_in whole ∙ rise)
+      sym (found-front k later front r n rise is) ∙ ap (λ entries. version_numbered entries n) (sym whole) ∙ same_version list n (ap rises_in whole ∙ rise)
 
   changed-is : is_changed number correct front r rooted ≡ changes_version list (links_in all) number r correct.fill
   changed-is =
-      ap (λ found. option_map_or (λ old. not (alike correct.fill old)) (option_map (λ (version : Version). version.fill) (option_and_then (version_in front) (option_and_then (current_in (links_in front)) found))) false) rooted
-      ∙ seen-fill correct.fill (option_and_then (version_in front) (current_in (links_in front) r))
+      ap (λ found. option_map_or (λ old. not (alike correct.fill old)) (option_map (λ (version : Version). version.fill) (option_and_then (version_numbered front) (option_and_then (current_in (links_in front)) found))) false) rooted
+      ∙ seen-fill correct.fill (option_and_then (version_numbered front) (current_in (links_in front) r))
       ∙ ap (λ found. option_map_or (λ (version : Version). not (alike correct.fill version.fill)) found false)
       (found-before (current_in (links_in front) r) refl ∙ ap (option_and_then (version_numbered list)) (sym (before-front k later front r rise)))
 

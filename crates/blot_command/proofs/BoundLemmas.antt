@@ -16,10 +16,10 @@ use Rattle.blot_types.proofs.PartLemmas.{signed-size}
 use Rattle.blot_types.proofs.SumLemmas.{total-cons, total-where}
 use Rattle.blot_types.proofs.GeneralLemmas.{length-filtered}
 use Rattle.blot_position.specs.Positions.{Cells}
+use Rattle.blot_position.proofs.CarryLemmas.{qty_at, value_at}
 use Rattle.blot_command.specs.Book.{Shown}
 use Rattle.blot_command.specs.Carried.{ShowsPositions}
 use Rattle.blot_command.proofs.ReadyLemmas.{few-survivors, light-list}
-use Rattle.blot_position.proofs.CarryLemmas.{qty_at, value_at}
 
 bounded : (amount : ℤ) → unsigned_abs amount ≤ BOOK_QTY * 10 ^ 16 → IsBounded amount
 bounded amount small = record { low = omega (arith, ints, small); high = omega (arith, ints, small) }

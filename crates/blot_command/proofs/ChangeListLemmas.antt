@@ -1,8 +1,8 @@
 -- Parts put and taken one after the other: some and then others, and what is left to make.
-use Rattle.std.proofs.Common.{◌≡◌, List, [], ◌∷◌, ◌++◌, Option, Some, refl, sym, ap, subst, ◌∙◌}
+use Rattle.std.proofs.Common.{◌≡◌, true, false, List, [], ◌∷◌, ◌++◌, Option, Some, refl, sym, ap, subst, ◌∙◌}
 use Rattle.blot_types.specs.declared.{allocation.Terms.Terms, command.Entry.Entry, keys.AllocKey.AllocKey, keys.ExecKey.ExecKey}
 use Rattle.blot_position.specs.Positions.{Cells}
-use Rattle.blot_command.specs.Booking.{Change, changed, changed_all, CanChangeAll, lines_put, lines_taken, chains_to_house, chains_from_house, allocated, allocated_by, released, released_by}
+use Rattle.blot_command.specs.Booking.{Change, changed, changed_all, CanChangeAll, lines_put, lines_taken, chains_moved, allocated, allocated_by, released, released_by}
 use Rattle.blot_command.specs.Shown.{terms_keyed, roots_keyed}
 
 -- ---- some changes, and then others
@@ -53,11 +53,11 @@ both-steps all one two cells between last is made more =
 
 pub allocated-some :
     (list : List Entry) (found : Option AllocKey) (key : AllocKey) (terms : Terms) (roots : List ExecKey) → found ≡ Some key
-    → Some terms ≡ terms_keyed list key → Some roots ≡ roots_keyed list key → allocated list found ≡ chains_to_house list roots ++ lines_put terms terms.lines
+    → Some terms ≡ terms_keyed list key → Some roots ≡ roots_keyed list key → allocated list found ≡ chains_moved true list roots ++ lines_put terms terms.lines
 allocated-some list found key terms roots is brought named = ap (allocated list) is ∙ sym (λ i. allocated_by list (brought i) (named i))
 
 pub released-some :
     (list : List Entry) (found : Option AllocKey) (key : AllocKey) (terms : Terms) (roots : List ExecKey) → found ≡ Some key
     → Some terms ≡ terms_keyed list key → Some roots ≡ roots_keyed list key
-    → released list found ≡ lines_taken terms terms.lines ++ chains_from_house list roots
+    → released list found ≡ lines_taken terms terms.lines ++ chains_moved false list roots
 released-some list found key terms roots is brought named = ap (released list) is ∙ sym (λ i. released_by list (brought i) (named i))

@@ -11,7 +11,7 @@ use Rattle.blot_types.specs.Chains.{current_in, first_needing_link, is_above_lin
 use Rattle.blot_types.specs.Instructions.{names}
 use Rattle.blot_types.specs.Keys.{is_among, same_exec}
 use Rattle.blot_types.specs.Legal.{is_above_entries, legal_in, rises_in}
-use Rattle.blot_types.specs.Numbers.{lesser}
+use Rattle.blot_types.specs.Lesser.{lesser}
 use Rattle.blot_types.specs.Refusals.{current_fill, exec_references, listed_by}
 use Rattle.blot_types.specs.Survivors.{is_number, link_of, links_in}
 use Rattle.blot_types.specs.Withdrawal.{alike, changes_fill, is_last_of, needed_in}

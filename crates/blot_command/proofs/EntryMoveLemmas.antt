@@ -29,9 +29,9 @@ use Rattle.blot_types.proofs.LiveLemmas.{has_alloc_key}
 use Rattle.blot_types.proofs.PartLemmas.{parts_under}
 use Rattle.blot_types.proofs.SurvivorLemmas.{without}
 use Rattle.blot_position.specs.Positions.{Cells, has_cell}
+use Rattle.blot_position.proofs.CarryLemmas.{Whole, SameWhole, IsCount, Carries-same, one_at}
 use Rattle.blot_command.specs.Booking.{changed_all, rebooked, allocated, released}
 use Rattle.blot_command.specs.Carried.{HasFillCells, IsReady}
-use Rattle.blot_position.proofs.CarryLemmas.{Whole, SameWhole, IsCount, Carries-same, one_at}
 use Rattle.blot_command.proofs.ApartLemmas.{InstructionApart}
 use Rattle.blot_command.proofs.EachLemmas.{all-among, found-among}
 use Rattle.blot_command.proofs.HouseLemmas.{beside, count-under}

@@ -7,7 +7,7 @@ use Rattle.blot_types.specs.declared.{allocation.Instruction.Instruction, comman
 use Rattle.blot_types.specs.declared.command.Command.TheVariants.{Trade, Correct, Bust, AllocNew, AllocReplace, AllocCancel, Withdraw}
 use Rattle.blot_types.specs.Allocations.{instruction_by, instructions_in}
 use Rattle.blot_types.specs.Legal.{is_above_entries, legal_in, refusal_in, rises_in}
-use Rattle.blot_types.specs.Numbers.{lesser}
+use Rattle.blot_types.specs.Lesser.{lesser}
 use Rattle.blot_types.specs.Survivors.{link_of, links_in}
 use Rattle.blot_types.specs.Withdrawal.{needed_in, needs}
 use Rattle.blot_types.proofs.ChainLemmas.{none_is}

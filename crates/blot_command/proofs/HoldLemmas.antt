@@ -3,10 +3,6 @@
 use Rattle.std.proofs.Common.{◌≡◌, ℕ, ◌<◌, true, false, ◌&&◌, List, [], ◌∷◌, ◌++◌, reverse, Option, Some, None, refl, sym, ap, subst, ◌∙◌, arith, inl, inr, nat_eq, nat_lt, option_and_then, eqb-true, eq-eqb, lt-ltb, ltb-false, ltb-true, ne_eqb}
 use Rattle.std.specs.List.{cons_option}
 use Rattle.std.proofs.lemmas.Bool.{cases_Bool, and_parts, and_from, eqb-false}
-use Rattle.blot_places.specs.declared.slots.Slot.{Slot}
-use Rattle.blot_places.specs.Shown.{Shown, item_at, with_item, with_some, without as without_item}
-use Rattle.blot_places.specs.Slots.{is_above, numbers_fall}
-use Rattle.blot_places.proofs.ShownLemmas.{above-more, at-below, at-here, at-none, at-on, falling-parts, with_item-front, with_item-here, with_item-on, without-here, without-none, without-on}
 use Rattle.blot_types.specs.declared.{allocation.Instruction.Instruction, command.Command.Command, command.Entry.Entry, link.Link.Link}
 use Rattle.blot_types.specs.declared.command.Command.TheVariants.{Trade, Correct, Bust, AllocNew, AllocReplace, AllocCancel, Withdraw}
 use Rattle.blot_types.specs.Allocations.{instruction_by, instructions_in, instructions_of}
@@ -15,8 +11,12 @@ use Rattle.blot_types.specs.Instructions.{is_above_instructions}
 use Rattle.blot_types.specs.Legal.{is_above_entries, is_book, rises_in, without}
 use Rattle.blot_types.specs.Survivors.{link_of, links_in, links_of}
 use Rattle.blot_types.proofs.EntryLemmas.{is_above_links-links, link-number}
-use Rattle.blot_alloc.specs.Allocs.{instruction_at, number_of as instruction_of_number}
+use Rattle.blot_places.specs.declared.slots.Slot.{Slot}
+use Rattle.blot_places.specs.Shown.{Shown, item_at, with_item, with_some, without as without_item}
+use Rattle.blot_places.specs.Slots.{is_above, numbers_fall}
+use Rattle.blot_places.proofs.ShownLemmas.{above-more, at-below, at-here, at-none, at-on, falling-parts, with_item-front, with_item-here, with_item-on, without-here, without-none, without-on}
 use Rattle.blot_chain.specs.Steps.{link_at, number_of as link_number}
+use Rattle.blot_alloc.specs.Allocs.{instruction_at, number_of as instruction_of_number}
 use Rattle.blot_command.specs.Book.{entry_number}
 use Rattle.blot_command.specs.Linking.{HoldsLive}
 use Rattle.blot_command.specs.Slots.{AreNumbered, NewestThere, entries_in, left_in, left_instructions}

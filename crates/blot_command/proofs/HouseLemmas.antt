@@ -1,11 +1,11 @@
 -- The parts of chains that are named go to the house account, and come back from it.
-use Rattle.std.proofs.Common.{◌≡◌, ℕ, ◌+◌, ◌*◌, ◌^◌, ◌≤◌, pos, ◌+ℤ◌, ◌≤ℤ◌, arith, Bool, true, false, List, [], ◌∷◌, Option, Some, None, refl, sym, ap, subst, ◌∙◌, inl, inr, ℤ, unsigned_abs, ◌||◌, not, filter, find, is_none, ◌==◌, All, IsTrue, if◌then◌else◌, flat_map, option_and_then, option_map}
+use Rattle.std.proofs.Common.{◌≡◌, ℕ, ◌+◌, ◌*◌, ◌^◌, ◌≤◌, pos, ◌+ℤ◌, ◌≤ℤ◌, arith, Bool, true, false, List, [], ◌∷◌, Option, Some, None, refl, sym, ap, subst, ◌∙◌, inl, inr, ℤ, unsigned_abs, ◌||◌, not, filter, find, ◌==◌, All, IsTrue, if◌then◌else◌, flat_map, option_and_then, option_map}
 use Rattle.std.specs.List.{cons_option}
 use Rattle.std.proofs.lemmas.Bool.{cases_Bool, and_parts, not-true}
 use Rattle.std.proofs.lemmas.Int.{ints}
 use Rattle.std.proofs.lemmas.List.Elements.{All-weaker}
 use Rattle.blot_types.specs.declared.{command.Entry.Entry, fill.Fill.Fill, keys.ExecKey.ExecKey, part.Part.Part, lines.Version.Version}
-use Rattle.blot_types.specs.Chains.{bust_in, current_in}
+use Rattle.blot_types.specs.Chains.{standing_version_in}
 use Rattle.blot_types.specs.Instructions.{are_apart}
 use Rattle.blot_types.specs.Keys.{is_among, same_exec}
 use Rattle.blot_types.specs.Laws.{survivors_of_chain, is_of_chain}
@@ -20,11 +20,11 @@ use Rattle.blot_types.proofs.PartLemmas.{part_under, parts_under, total-named, N
 use Rattle.blot_types.proofs.SumLemmas.{total-cons}
 use Rattle.blot_types.proofs.GeneralLemmas.{found-All}
 use Rattle.blot_position.specs.Positions.{Cells, has_cell}
-use Rattle.blot_command.specs.Booking.{Change, put_in, taken_out, changed, changed_all}
-use Rattle.blot_command.specs.Shown.{standing_fill}
 use Rattle.blot_position.specs.Carried.{Carries}
-use Rattle.blot_command.specs.Carried.{HasFillCells}
 use Rattle.blot_position.proofs.CarryLemmas.{Whole, more, SameWhole, one_at, IsCount, Carries-same, Carries-put, Carries-take, Light, Light-put, Light-take, Light-same, IsLightEnough, has-room, has-part}
+use Rattle.blot_command.specs.Booking.{Change, put_in, taken_out, changed, changed_all, moved_by, chains_moved}
+use Rattle.blot_command.specs.Shown.{standing_fill}
+use Rattle.blot_command.specs.Carried.{HasFillCells}
 use Rattle.blot_command.proofs.ReachLemmas.{Reaches, reach-append, reach-same, reach-nothing, less_enough, stays, one_low}
 
 -- ---- what is found among the versions
@@ -34,14 +34,9 @@ by_current : (list : List Entry) (P : Version → Type 0) (number : Option ℕ) 
 by_current list P None version all is = cc
 by_current list P (Some n) version all is = found-All P (λ v. v.number == n) (versions_of list) version all is
 
-by_bust : (list : List Entry) (P : Version → Type 0) (bust number : Option ℕ) (version : Version) → All P (versions_of list)
-    → (if is_none bust then option_and_then (λ n. find (λ v. v.number == n) (versions_of list)) number else None) ≡ Some version → P version
-by_bust list P None number version all is = by_current list P number version all is
-by_bust list P (Some b) number version all is = cc
-
 -- what holds of all versions of a list holds of the one that stands of a chain
 pub standing-All : (list : List Entry) (P : Version → Type 0) (root : ExecKey) (version : Version) → All P (versions_of list) → standing list root ≡ Some version → P version
-standing-All list P root version all is = by_bust list P (bust_in (links_of list) root) (current_in (links_of list) root) version all is
+standing-All list P root version all is = by_current list P (standing_version_in (links_of list) root) version all is
 
 -- ---- one chain
 
@@ -143,13 +138,6 @@ moves false list root before after was is others =
     let names : NamesMore root after before = record { was = is; is = was; others = λ other apart. sym (others other apart) } in
     let chain : (f : Part → ℤ) → MovesChain f list root after before = λ f. moves-chain f list root after before names in
     record { rest = λ f. (chain f).rest; low = rest_low list root after before names; was = λ f. (chain f).is; is = λ f. (chain f).was }
-
--- a fill goes to the house account, as `to_house`, or comes back, as `from_house`; so do the fills of the versions that stand of some chains
-abbrev pub moved_by : Bool → Fill → List Change
-moved_by now fill = taken_out (part_of_fill (not now) fill) ∷ put_in (part_of_fill now fill) ∷ []
-
-abbrev pub chains_moved : Bool → List Entry → List ExecKey → List Change
-chains_moved now list roots = flat_map (λ root. flat_map (moved_by now) (cons_option (standing_fill list root) [])) roots
 
 has-come : (now : Bool) (cells : Cells) (fill : Fill) → HasFillCells cells fill → has_cell cells (account_of now fill) fill.symbol ≡ true
 has-come true cells fill made = made.housed

@@ -12,10 +12,11 @@ use Rattle.blot_places.specs.Shown.{item_at, with_item, without as without_item}
 use Rattle.blot_command.specs.declared.inverse.Inverse.{Inverse}
 use Rattle.blot_command.specs.declared.inverse.Inverse.TheVariants.{Number, Taken}
 use Rattle.blot_command.specs.Book.{Shown, entry_number, has_number, numbers_of}
-use Rattle.blot_command.specs.Law.{has_entry, without-split}
+use Rattle.blot_command.specs.Law.{has_entry}
 use Rattle.blot_command.specs.Meanings.{entry_meaning, command_meaning, KeepsFor}
 use Rattle.blot_command.specs.Undoable.{KeepsEarlier}
 use Rattle.blot_command.specs.Withdrawing.{with_entry, shares_exec, StandsOnce, IsThere, Keeps}
+use Rattle.blot_command.proofs.SplitLemmas.{without-split}
 use Rattle.blot_command.proofs.WithinLemmas.{either, middle_cases, middle_own, middle_other, mapped, from_mapped, from_passed, found_number, with_item_cases, at-with_own, at-with_other, at-without_other, without_other}
 
 -- the entries in a book, listed and kept, and its numbers

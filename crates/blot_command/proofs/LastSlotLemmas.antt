@@ -2,11 +2,6 @@
 use Rattle.std.proofs.Common.{◌≡◌, ℕ, ◌+◌, ◌-◌, ◌<◌, true, false, List, [], ◌∷◌, ◌++◌, get_or, length, reverse, Option, Some, None, refl, sym, ap, subst, ◌∙◌, arith, inl, inr, not, IfSome, option_and_then, ltb-true}
 use Rattle.std.proofs.lemmas.Bool.{cases_Bool, and_parts, and_from}
 use Rattle.std.proofs.lemmas.List.{reverse-append}
-use Rattle.blot_places.specs.declared.slots.Slot.{Slot}
-use Rattle.blot_places.specs.Shown.{Shown}
-use Rattle.blot_places.specs.Slots.{items, is_above, lifted, live, numbers_fall}
-use Rattle.blot_places.proofs.MarkLemmas.{above-both, above-side, side_here, side_on}
-use Rattle.blot_places.proofs.ShownLemmas.{falling-parts}
 use Rattle.blot_types.specs.declared.{allocation.Instruction.Instruction, command.Entry.Entry, keys.ExecKey.ExecKey, link.Link.Link, refused.Refused.TheVariants.DuplicateExec}
 use Rattle.blot_types.specs.Allocations.{instructions_of}
 use Rattle.blot_types.specs.Chains.{is_above_links, taker_in}
@@ -17,6 +12,11 @@ use Rattle.blot_types.specs.Survivors.{links_in, links_of}
 use Rattle.blot_types.proofs.AcceptLemmas.{instructions_of-push, unmapped}
 use Rattle.blot_types.proofs.AcceptOutLemmas.{accepts}
 use Rattle.blot_types.proofs.EntryLemmas.{links_of-push, is_above_links-links}
+use Rattle.blot_places.specs.declared.slots.Slot.{Slot}
+use Rattle.blot_places.specs.Shown.{Shown}
+use Rattle.blot_places.specs.Slots.{items, is_above, lifted, live, numbers_fall}
+use Rattle.blot_places.proofs.MarkLemmas.{above-both, above-side, side_here, side_on}
+use Rattle.blot_places.proofs.ShownLemmas.{falling-parts}
 use Rattle.blot_command.specs.Book.{entry_number}
 use Rattle.blot_command.specs.Linking.{CanLink, HoldsLive, with_instruction, with_link, without_instruction, without_link}
 use Rattle.blot_command.specs.Slots.{AreNumbered, NewestThere, entries_in, left_in, left_instructions}

@@ -4,11 +4,6 @@ use Rattle.std.proofs.Common.{◌≡◌, ℕ, ◌<◌, true, false, cond, List, 
 use Rattle.std.specs.List.{cons_option}
 use Rattle.std.proofs.lemmas.Bool.{cases_Bool, and_parts, and_from}
 use Rattle.std.proofs.lemmas.List.Elements.{All-head, All-tail}
-use Rattle.blot_places.specs.declared.slots.Slot.{Slot}
-use Rattle.blot_places.specs.Shown.{item_at, with_item, with_some}
-use Rattle.blot_places.specs.Slots.{items, is_above, lifted, live, mark, marked, numbers_fall}
-use Rattle.blot_places.proofs.MarkLemmas.{above-side, items-marked, mark-same, marked-below, side_here, side_on}
-use Rattle.blot_places.proofs.ShownLemmas.{at-below, at-here, at-none, at-number, at-on, falling-parts, with_item-front}
 use Rattle.blot_types.specs.declared.allocation.AllocRole.TheVariants.{Allocates, Replaces}
 use Rattle.blot_types.specs.declared.{allocation.Instruction.Instruction, allocation.Terms.Terms, command.Command.Command, command.Entry.Entry, keys.ExecKey.ExecKey, link.Link.Link, link.Role.Role, refused.Refused.TheVariants.UnknownExec}
 use Rattle.blot_types.specs.declared.command.Command.TheVariants.{Trade, Correct, Bust, AllocNew, AllocReplace, AllocCancel, Withdraw}
@@ -23,6 +18,11 @@ use Rattle.blot_types.proofs.AcceptLemmas.{unmapped}
 use Rattle.blot_types.proofs.AcceptOutLemmas.{accepts, listed, unfound}
 use Rattle.blot_types.proofs.ChainLemmas.{none_is, rootless}
 use Rattle.blot_types.proofs.KeyLemmas.{same_exec-true}
+use Rattle.blot_places.specs.declared.slots.Slot.{Slot}
+use Rattle.blot_places.specs.Shown.{item_at, with_item, with_some}
+use Rattle.blot_places.specs.Slots.{items, is_above, lifted, live, mark, marked, numbers_fall}
+use Rattle.blot_places.proofs.MarkLemmas.{above-side, items-marked, mark-same, marked-below, side_here, side_on}
+use Rattle.blot_places.proofs.ShownLemmas.{at-below, at-here, at-none, at-number, at-on, falling-parts, with_item-front}
 use Rattle.blot_alloc.specs.Allocs.{instruction_at, number_of}
 use Rattle.blot_command.specs.Book.{entry_number}
 use Rattle.blot_command.specs.Slots.{NewestThere, left_instructions}

@@ -35,6 +35,7 @@ pub mod RefusalLemmas
 pub mod SearchLemmas
 pub mod ShowLemmas
 pub mod SlotLemmas
+pub mod SplitLemmas
 pub mod StandingLemmas
 pub mod StepLemmas
 pub mod TakeOutLemmas

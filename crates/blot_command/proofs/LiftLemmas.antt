@@ -3,7 +3,6 @@ use Rattle.std.proofs.Common.{◌≡◌, ℕ, true, List, [], ◌∷◌, ◌++�
 use Rattle.std.proofs.lemmas.Bool.{cases_Bool, and_parts}
 use Rattle.std.proofs.lemmas.List.{reverse-reverse, reverse-append}
 use Rattle.std.proofs.lemmas.List.Elements.{All-cons, All-head, All-tail, All-append, All-filter}
-use Rattle.blot_places.specs.Shown.{item_at, with_item}
 use Rattle.blot_types.specs.declared.{command.Entry.Entry, keys.ExecKey.ExecKey, lines.Version.Version, link.Link.Link}
 use Rattle.blot_types.specs.Legal.{is_legal, entry_refusal, is_book, without}
 use Rattle.blot_types.specs.Refusals.{withdrawn_by}
@@ -17,14 +16,16 @@ use Rattle.blot_types.proofs.LawLemmas.{book_parts}
 use Rattle.blot_types.proofs.LegalLemmas.{is_legal-front, is_legal-push}
 use Rattle.blot_types.proofs.SurvivorLemmas.{without as without_version}
 use Rattle.blot_types.proofs.GeneralLemmas.{all-front, all-back, found-All}
+use Rattle.blot_places.specs.Shown.{item_at, with_item}
 use Rattle.blot_order.specs.Fills.{Fills}
 use Rattle.blot_command.specs.Book.{Shown, entry_number, has_number}
-use Rattle.blot_command.specs.Law.{has_entry, without-split}
+use Rattle.blot_command.specs.Law.{has_entry}
 use Rattle.blot_command.specs.Shown.{Shows}
 use Rattle.blot_command.specs.Withdrawing.{lifted, returned, CanReturn}
 use Rattle.blot_command.proofs.ApartLemmas.{LinkApart, link-apart, InstructionApart, instruction-apart}
 use Rattle.blot_command.proofs.EachLemmas.{each-brings, all-brought}
 use Rattle.blot_command.proofs.ShowLemmas.{IsHeld, Trades, trades-back, IsTraded, traded}
+use Rattle.blot_command.proofs.SplitLemmas.{without-split}
 
 -- ---- around an entry
 

@@ -16,6 +16,8 @@ use Rattle.blot_types.proofs.BringLemmas.{lines_of}
 use Rattle.blot_types.proofs.ChangeLemmas.{amount, total-parts}
 use Rattle.blot_types.proofs.SumLemmas.{total-cons, total-map, total-agree}
 use Rattle.blot_types.proofs.SurvivorLemmas.{without, without-none}
+use Rattle.blot_types.proofs.ApartLemmas.{number_of}
+use Rattle.blot_types.proofs.GeneralLemmas.{found-All}
 use Rattle.blot_order.proofs.FillLemmas.{rise_from}
 use Rattle.blot_position.specs.Positions.{Cells}
 use Rattle.blot_command.specs.Book.{Shown, has_number}
@@ -23,8 +25,6 @@ use Rattle.blot_command.specs.Booking.{rebooked, allocated, released}
 use Rattle.blot_command.specs.Carried.{IsReady, ShowsPositions}
 use Rattle.blot_command.specs.Withdrawing.{lifted, returned, CanReturn}
 use Rattle.blot_command.proofs.AccountLemmas.{Reads, goes-as, comes-as, LeadsTo}
-use Rattle.blot_types.proofs.ApartLemmas.{number_of}
-use Rattle.blot_types.proofs.GeneralLemmas.{found-All}
 use Rattle.blot_command.proofs.ApartLemmas.{LinkApart}
 use Rattle.blot_command.proofs.EntryMoveLemmas.{own_key, Exchanges, rest_low, LinkChanges, InstructionChanges, AreApart, link-changes}
 use Rattle.blot_command.proofs.LiftLemmas.{IsWithout, taken-out, put-in, link-without, instruction-without, chainless, same-chain, EachShown, each-lifted, each-returned}

@@ -12,7 +12,7 @@ use Rattle.blot_types.specs.Chains.{first_needing_link, first_referring, is_chai
 use Rattle.blot_types.specs.Instructions.{first_naming, names}
 use Rattle.blot_types.specs.Keys.{is_among, same_exec}
 use Rattle.blot_types.specs.Legal.{is_above_entries, legal_in, refusal_in, rises_in}
-use Rattle.blot_types.specs.Numbers.{lesser}
+use Rattle.blot_types.specs.Lesser.{lesser}
 use Rattle.blot_types.specs.Refusals.{exec_references}
 use Rattle.blot_types.specs.Survivors.{link_of, links_in}
 use Rattle.blot_types.specs.Withdrawal.{needed_in}

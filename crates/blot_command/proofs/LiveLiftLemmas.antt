@@ -3,11 +3,6 @@ use Rattle.std.proofs.Common.{◌≡◌, ℕ, ◌<◌, Bool, true, false, ◌&&�
 use Rattle.std.specs.List.{list_all}
 use Rattle.std.specs.Option.{option_map_or}
 use Rattle.std.proofs.lemmas.Bool.{cases_Bool, and_parts, and_from}
-use Rattle.blot_places.specs.declared.slots.Slot.{Slot}
-use Rattle.blot_places.specs.Shown.{Shown, item_at, with_item}
-use Rattle.blot_places.specs.Slots.{items, is_above, lifted, live, marked, numbers_fall}
-use Rattle.blot_places.proofs.MarkLemmas.{above-side, falling-side, items-marked, reverse-marked, side_here, side_on}
-use Rattle.blot_places.proofs.ShownLemmas.{none-at, at-on, falling-parts, with_item-here, with_item-on}
 use Rattle.blot_types.specs.declared.{allocation.Instruction.Instruction, command.Command.Command, command.Entry.Entry, keys.ExecKey.ExecKey, link.Link.Link}
 use Rattle.blot_types.specs.declared.command.Command.TheVariants.{Trade, Correct, Bust, AllocNew, AllocReplace, AllocCancel, Withdraw}
 use Rattle.blot_types.specs.Chains.{taker_in, takes_up}
@@ -20,6 +15,11 @@ use Rattle.blot_types.proofs.KeyLemmas.{same_exec-sym}
 use Rattle.blot_types.proofs.LawLemmas.{book_parts}
 use Rattle.blot_types.proofs.WithdrawLemmas.{put-back}
 use Rattle.blot_types.proofs.GeneralLemmas.{and-false}
+use Rattle.blot_places.specs.declared.slots.Slot.{Slot}
+use Rattle.blot_places.specs.Shown.{Shown, item_at, with_item}
+use Rattle.blot_places.specs.Slots.{items, is_above, lifted, live, marked, numbers_fall}
+use Rattle.blot_places.proofs.MarkLemmas.{above-side, falling-side, items-marked, reverse-marked, side_here, side_on}
+use Rattle.blot_places.proofs.ShownLemmas.{none-at, at-on, falling-parts, with_item-here, with_item-on}
 use Rattle.blot_chain.specs.Steps.{link_at, number_of as link_number}
 use Rattle.blot_command.specs.Book.{Shown as SeenBook, entry_number, has_number}
 use Rattle.blot_command.specs.Linking.{CanLift, CanUnLift, HoldsLive, lifted_allocs, lifted_chains, returned_allocs, returned_chains}

@@ -17,10 +17,10 @@ use Rattle.blot_types.proofs.PartLemmas.{parts_under}
 use Rattle.blot_types.proofs.SumLemmas.{total-cons}
 use Rattle.blot_types.proofs.GeneralLemmas.{found-All}
 use Rattle.blot_position.specs.Positions.{Cells, has_cell}
-use Rattle.blot_command.specs.Booking.{Change, changed_all, moved_in, lines_put, lines_taken, chains_to_house, chains_from_house, allocated, allocated_by, released, released_by}
 use Rattle.blot_position.specs.Carried.{Carries}
-use Rattle.blot_command.specs.Carried.{HasTermsCells}
 use Rattle.blot_position.proofs.CarryLemmas.{SameWhole, IsCount, Carries-same, Light-same, IsLightEnough}
+use Rattle.blot_command.specs.Booking.{Change, changed_all, moved_in, lines_put, lines_taken, chains_moved, allocated, allocated_by, released, released_by}
+use Rattle.blot_command.specs.Carried.{HasTermsCells}
 use Rattle.blot_command.proofs.HouseLemmas.{beside, IsBooked, booked-stays, AlwaysLight, Light-weaker, relight, same-beside, reach-moved}
 use Rattle.blot_command.proofs.ReachLemmas.{Reaches, reach-append, reach-same, reach-nothing, reach-put, reach-take, sizes, stays, AreMade}
 use Rattle.blot_command.proofs.WeightLemmas.{AllBooked, AreBooked, moves_whole, Light-both, Light-moves, Light-under}
@@ -162,7 +162,7 @@ goes list cells None fewer more few many stocked brings little large carried =
 goes list cells (Some key) fewer more few many stocked brings little large carried =
     let terms = brings.allocation.terms in
     let roots = brings.instruction.roots in
-    let changes : released list (Some key) ≡ lines_taken terms terms.lines ++ chains_from_house list roots =
+    let changes : released list (Some key) ≡ lines_taken terms terms.lines ++ chains_moved false list roots =
     λ k. released_by list (option_map (λ (a : Allocation). a.terms) (brings.found k)) (option_map (λ i. i.roots) (brings.listed k)) in
     let own : AreBooked terms = found-All (λ a. AreBooked a.terms) (has_alloc_key key) (allocations_in list) brings.allocation stocked.lines brings.found in
     let same = lines-same list more few many terms brings.lines in
@@ -181,7 +181,7 @@ goes list cells (Some key) fewer more few many stocked brings little large carri
     (λ root. without-roots (is_among roots root) (fewer root) (free root) ∙ ap (λ b. if is_among roots root then false else b) (sym (brings.named root)))
     brings.apart first.carried light_few (lines_low few little.booked) (light_enough 2 (2 * 10 ^ 16) (omega arith) (omega arith)) in
     let whole =
-    reach-append (lines_taken terms terms.lines) (chains_from_house list roots) cells (BOOK_PARTS + length (moves_of terms)) (BOOK_QTY + sizes (moves_of terms))
+    reach-append (lines_taken terms terms.lines) (chains_moved false list roots) cells (BOOK_PARTS + length (moves_of terms)) (BOOK_QTY + sizes (moves_of terms))
     BOOK_PARTS BOOK_QTY (beside list more (moves_whole few)) (beside list fewer (moves_whole few)) first second in
     subst (λ all. ReachesBeside all list cells fewer few) (sym changes) whole
 
@@ -198,7 +198,7 @@ comes list cells None fewer more few many stocked brings little large carried =
 comes list cells (Some key) fewer more few many stocked brings little large carried =
     let terms = brings.allocation.terms in
     let roots = brings.instruction.roots in
-    let changes : allocated list (Some key) ≡ chains_to_house list roots ++ lines_put terms terms.lines =
+    let changes : allocated list (Some key) ≡ chains_moved true list roots ++ lines_put terms terms.lines =
     λ k. allocated_by list (option_map (λ (a : Allocation). a.terms) (brings.found k)) (option_map (λ i. i.roots) (brings.listed k)) in
     let own : AreBooked terms = found-All (λ a. AreBooked a.terms) (has_alloc_key key) (allocations_in list) brings.allocation stocked.lines brings.found in
     let cells_own : HasTermsCells cells terms = found-All (λ a. HasTermsCells cells a.terms) (has_alloc_key key) (allocations_in list) brings.allocation stocked.made brings.found in
@@ -207,8 +207,8 @@ comes list cells (Some key) fewer more few many stocked brings little large carr
     reach-moved true list roots cells BOOK_PARTS BOOK_QTY fewer more (moves_whole few) stocked.booked
     (λ root among. among-root fewer false roots root brings.free among) (λ root. brings.named root ∙ with-roots (is_among roots root) (fewer root))
     brings.apart carried light_few (lines_low few little.booked) (light_enough 2 (2 * 10 ^ 16) (omega arith) (omega arith)) in
-    let between = changed_all (chains_to_house list roots) cells in
-    let there = terms-stay (chains_to_house list roots) cells terms cells_own in
+    let between = changed_all (chains_moved true list roots) cells in
+    let there = terms-stay (chains_moved true list roots) cells terms cells_own in
     let put = moved terms terms.lines in
     let small = moved-All IsSmall terms terms.lines own.small in
     let made : AreMade put between = moved-All (λ part. has_cell between part.account part.symbol ≡ true) terms terms.lines (made-moves terms terms.lines between there.lines there.housed) in
@@ -218,10 +218,10 @@ comes list cells (Some key) fewer more few many stocked brings little large carr
     let same : SameWhole (λ f. total f put +ℤ beside list more (moves_whole few) f) (beside list more (moves_whole many)) =
     λ f. ap (λ sum. sum +ℤ beside list more (moves_whole few) f) (moved-total f terms terms.lines) ∙ sym (lines-same list more few many terms brings.lines f) in
     let whole =
-    reach-append (chains_to_house list roots) (lines_put terms terms.lines) cells BOOK_PARTS BOOK_QTY (BOOK_PARTS + length put) (BOOK_QTY + sizes put) (beside list more (moves_whole few))
+    reach-append (chains_moved true list roots) (lines_put terms terms.lines) cells BOOK_PARTS BOOK_QTY (BOOK_PARTS + length put) (BOOK_QTY + sizes put) (beside list more (moves_whole few))
     (λ f. total f put +ℤ beside list more (moves_whole few) f) first second in
     subst (λ all. ReachesBeside all list cells more many) (sym changes)
-    (relight (chains_to_house list roots ++ lines_put terms terms.lines) cells (BOOK_PARTS + length put) (BOOK_QTY + sizes put) BOOK_PARTS BOOK_QTY (beside list more (moves_whole many))
-    (reach-same (chains_to_house list roots ++ lines_put terms terms.lines) cells (BOOK_PARTS + length put) (BOOK_QTY + sizes put)
+    (relight (chains_moved true list roots ++ lines_put terms terms.lines) cells (BOOK_PARTS + length put) (BOOK_QTY + sizes put) BOOK_PARTS BOOK_QTY (beside list more (moves_whole many))
+    (reach-same (chains_moved true list roots ++ lines_put terms terms.lines) cells (BOOK_PARTS + length put) (BOOK_QTY + sizes put)
     (λ f. total f put +ℤ beside list more (moves_whole few) f) (beside list more (moves_whole many)) same whole)
     (always-light list many stocked.fits large more))

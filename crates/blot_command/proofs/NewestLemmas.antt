@@ -5,10 +5,10 @@ use Rattle.std.specs.Option.{option_or}
 use Rattle.std.proofs.lemmas.Bool.{cases_Bool}
 use Rattle.std.proofs.lemmas.List.{reverse-append}
 use Rattle.std.proofs.lemmas.List.Folds.{find-append}
-use Rattle.blot_places.specs.declared.slots.Slot.{Slot}
-use Rattle.blot_places.proofs.SlotLemmas.{find_here, find_on, live_here, live_on}
 use Rattle.blot_types.specs.declared.command.Entry.{Entry}
 use Rattle.blot_types.proofs.GeneralLemmas.{or-none}
+use Rattle.blot_places.specs.declared.slots.Slot.{Slot}
+use Rattle.blot_places.proofs.SlotLemmas.{find_here, find_on, live_here, live_on}
 use Rattle.blot_command.specs.Book.{entry_number}
 use Rattle.blot_command.specs.Slots.{entries_in}
 

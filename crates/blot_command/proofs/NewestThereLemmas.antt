@@ -3,11 +3,6 @@ use Rattle.std.proofs.Common.{◌≡◌, ℕ, true, false, ◌&&◌, List, [], �
 use Rattle.std.specs.List.{cons_option, list_all}
 use Rattle.std.specs.Option.{option_map_or}
 use Rattle.std.proofs.lemmas.Bool.{cases_Bool, and_parts}
-use Rattle.blot_places.specs.declared.slots.Slot.{Slot}
-use Rattle.blot_places.specs.Shown.{item_at, with_item, with_some}
-use Rattle.blot_places.specs.Slots.{items, is_above, lifted, live, mark, marked, numbers_fall}
-use Rattle.blot_places.proofs.MarkLemmas.{above-side, at-apart, falling-side, mark-item, mark-same, marked-below, marked-into, marked-out, side_here, side_on}
-use Rattle.blot_places.proofs.ShownLemmas.{at-number, none-with_some, none-without, at-on, falling-parts}
 use Rattle.blot_types.specs.declared.{command.Command.Command, command.Entry.Entry, keys.ExecKey.ExecKey, link.Link.Link}
 use Rattle.blot_types.specs.declared.command.Command.TheVariants.{Trade, Correct, Bust, AllocNew, AllocReplace, AllocCancel, Withdraw}
 use Rattle.blot_types.specs.Chains.{is_chained, link_refusal, taker_in, takes_up}
@@ -18,6 +13,11 @@ use Rattle.blot_types.proofs.AcceptLemmas.{unmapped}
 use Rattle.blot_types.proofs.ChainLemmas.{accepted_key, none_is}
 use Rattle.blot_types.proofs.KeyLemmas.{same_exec-sym}
 use Rattle.blot_types.proofs.GeneralLemmas.{and-not}
+use Rattle.blot_places.specs.declared.slots.Slot.{Slot}
+use Rattle.blot_places.specs.Shown.{item_at, with_item, with_some}
+use Rattle.blot_places.specs.Slots.{items, is_above, lifted, live, mark, marked, numbers_fall}
+use Rattle.blot_places.proofs.MarkLemmas.{above-side, at-apart, falling-side, mark-item, mark-same, marked-below, marked-into, marked-out, side_here, side_on}
+use Rattle.blot_places.proofs.ShownLemmas.{at-number, none-with_some, none-without, at-on, falling-parts}
 use Rattle.blot_chain.specs.Steps.{number_of as link_number}
 use Rattle.blot_command.specs.Book.{entry_number}
 use Rattle.blot_command.specs.Withdrawing.{shares_exec}

@@ -4,11 +4,6 @@ use Rattle.std.specs.List.{cons_option}
 use Rattle.std.specs.Option.{option_map_or}
 use Rattle.std.proofs.lemmas.Bool.{cases_Bool, and_parts, and_from}
 use Rattle.std.proofs.lemmas.List.{reverse-reverse}
-use Rattle.blot_places.specs.declared.slots.Slot.{Slot}
-use Rattle.blot_places.specs.Shown.{Shown, item_at, with_item, with_some}
-use Rattle.blot_places.specs.Slots.{items, live, mark, marked, numbers_fall}
-use Rattle.blot_places.proofs.MarkLemmas.{at-apart, falling-side, items-marked, mark-same, marked-into, reverse-marked, side_here, side_on}
-use Rattle.blot_places.proofs.ShownLemmas.{at-here, at-on, put_back-lifted, at-lifted}
 use Rattle.blot_types.specs.declared.{allocation.Instruction.Instruction, command.Entry.Entry, keys.ExecKey.ExecKey, link.Link.Link}
 use Rattle.blot_types.specs.Chains.{is_chained}
 use Rattle.blot_types.specs.Instructions.{is_instructed}
@@ -21,8 +16,13 @@ use Rattle.blot_types.proofs.ChainLemmas.{differing}
 use Rattle.blot_types.proofs.EntryLemmas.{chained-links, falls-links}
 use Rattle.blot_types.proofs.LawLemmas.{book_parts}
 use Rattle.blot_types.proofs.GeneralLemmas.{found-contains}
-use Rattle.blot_alloc.specs.Allocs.{instruction_at, lifted_out as lifted_instruction, number_of as instruction_of_number, put_back as put_back_instruction}
+use Rattle.blot_places.specs.declared.slots.Slot.{Slot}
+use Rattle.blot_places.specs.Shown.{Shown, item_at, with_item, with_some}
+use Rattle.blot_places.specs.Slots.{items, live, mark, marked, numbers_fall}
+use Rattle.blot_places.proofs.MarkLemmas.{at-apart, falling-side, items-marked, mark-same, marked-into, reverse-marked, side_here, side_on}
+use Rattle.blot_places.proofs.ShownLemmas.{at-here, at-on, put_back-lifted, at-lifted}
 use Rattle.blot_chain.specs.Steps.{is_untaken_above, lifted_out as lifted_link, number_of as link_number, put_back as put_back_link}
+use Rattle.blot_alloc.specs.Allocs.{instruction_at, lifted_out as lifted_instruction, number_of as instruction_of_number, put_back as put_back_instruction}
 use Rattle.blot_command.specs.Book.{entry_number, has_number}
 use Rattle.blot_command.specs.Linking.{CanUnLift, is_instruction, is_link, lifted_allocs, lifted_chains, returned_allocs, returned_chains}
 use Rattle.blot_command.specs.Withdrawing.{shares_exec}

@@ -8,10 +8,10 @@ use Rattle.blot_types.specs.Position.{is_at, IsSmall}
 use Rattle.blot_types.proofs.SumLemmas.{total-cons}
 use Rattle.blot_position.specs.Positions.{Cells, has_cell}
 use Rattle.blot_position.proofs.PositionLemmas.{has_cell-stays_with_part, has_cell-stays_without_part}
-use Rattle.blot_command.specs.Booking.{Change, put_in, taken_out, changed_by, changed, changed_all, CanChange, CanChangeAll}
 use Rattle.blot_position.specs.Carried.{Carries}
-use Rattle.blot_command.proofs.ChangeListLemmas.{changed_all-append, can-joined}
 use Rattle.blot_position.proofs.CarryLemmas.{Whole, more, SameWhole, one_at, IsCount, Carries-same, Carries-put, Carries-take, Light, Light-put, Light-take, Light-same, IsLightEnough, has-room, has-part}
+use Rattle.blot_command.specs.Booking.{Change, put_in, taken_out, changed_by, changed, changed_all, CanChange, CanChangeAll}
+use Rattle.blot_command.proofs.ChangeListLemmas.{changed_all-append, can-joined}
 
 -- ---- lists of changes
 

@@ -18,10 +18,10 @@ use Rattle.blot_types.proofs.ChangeLemmas.{is_named_root, allocations_in, total-
 use Rattle.blot_types.proofs.LegalLemmas.{length_numbered}
 use Rattle.blot_types.proofs.GeneralLemmas.{all-front, length-filtered, length-found}
 use Rattle.blot_position.specs.Positions.{Cells, has_cell}
-use Rattle.blot_command.specs.Booking.{Change, put_in, taken_out, changed_all, CanChangeAll, rebooked}
 use Rattle.blot_position.specs.Carried.{Carries}
-use Rattle.blot_command.specs.Carried.{Opens, HasFillCells, HasTermsCells, HasEntryCells, EntryFits, IsReady, ShowsPositions}
 use Rattle.blot_position.proofs.CarryLemmas.{Whole, SameWhole, IsCount, Carries-same, Carries-cells, Light, Light-same, IsLightEnough}
+use Rattle.blot_command.specs.Booking.{Change, put_in, taken_out, changed_all, CanChangeAll, rebooked}
+use Rattle.blot_command.specs.Carried.{Opens, HasFillCells, HasTermsCells, HasEntryCells, EntryFits, IsReady, ShowsPositions}
 use Rattle.blot_command.specs.Book.{Shown}
 use Rattle.blot_command.proofs.EachLemmas.{each-brings, all-brought}
 use Rattle.blot_command.proofs.HouseLemmas.{beside, relight}

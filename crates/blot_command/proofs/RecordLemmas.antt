@@ -10,18 +10,17 @@ use Rattle.std.proofs.lemmas.List.Folds.{find-append}
 use Rattle.blot_types.specs.declared.{command.Entry.Entry, lines.Version.Version, link.Link.Link}
 use Rattle.blot_types.specs.Chains.{replaced_by}
 use Rattle.blot_types.specs.Legal.{is_above_entries, rises_in, numbers_rise, is_book}
-use Rattle.blot_types.specs.Survivors.{link_of, links_in, links_of, version_of, versions_of, is_number, stands_in, survivors}
-use Rattle.blot_types.specs.StandingVersion.{version_numbered}
+use Rattle.blot_types.specs.Survivors.{link_of, links_in, links_of, version_of, versions_of, is_number, stands_in, survivors, version_numbered}
 use Rattle.blot_types.proofs.ChainLemmas.{clash}
 use Rattle.blot_types.proofs.EntryLemmas.{version-number}
 use Rattle.blot_types.proofs.SurvivorLemmas.{IsKnown, all_known, versions-cons, versions-known, without, without-none, survivors-push, replaced-by_entry, find-below, find-passes}
+use Rattle.blot_types.proofs.ApartLemmas.{number_of}
+use Rattle.blot_types.proofs.GeneralLemmas.{all-front}
 use Rattle.blot_order.proofs.FillLemmas.{rise_from, held_at-with_kept_same, held_at-with_kept_other}
 use Rattle.blot_order.specs.Fills.{Fills, put_at}
 use Rattle.blot_command.specs.Book.{Shown}
 use Rattle.blot_command.specs.Shown.{version_replaced, Shows, with_kept, CanPut}
 use Rattle.blot_command.specs.Withdrawing.{with_entry}
-use Rattle.blot_types.proofs.ApartLemmas.{number_of}
-use Rattle.blot_types.proofs.GeneralLemmas.{all-front}
 use Rattle.blot_command.proofs.EachLemmas.{all-brought}
 use Rattle.blot_command.proofs.LiveLemmas.{IsNextEntry, next-entry}
 use Rattle.blot_command.proofs.ShowLemmas.{Puts, IsUnused, IsAmong, IsHeld, puts_kept, Trades, trades-back, IsTraded, traded}

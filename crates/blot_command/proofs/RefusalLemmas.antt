@@ -13,18 +13,17 @@ use Rattle.blot_types.specs.Allocations.{instructions_of}
 use Rattle.blot_types.specs.Instructions.{alloc_taker_in}
 use Rattle.blot_types.proofs.AcceptLemmas.{or_parts}
 use Rattle.blot_types.specs.Order.{cum_of}
-use Rattle.blot_types.specs.Refusals.{version_in, current_fill, mismatch, same_chain}
-use Rattle.blot_types.specs.Survivors.{links_of, versions_of}
-use Rattle.blot_types.specs.StandingVersion.{version_numbered}
+use Rattle.blot_types.specs.Refusals.{current_fill, mismatch, same_chain}
+use Rattle.blot_types.specs.Survivors.{links_of, versions_of, version_numbered}
 use Rattle.blot_types.proofs.SumLemmas.{total-append}
-use Rattle.blot_types.proofs.SurvivorLemmas.{version_in-rising}
+use Rattle.blot_types.proofs.SurvivorLemmas.{version_numbered-rising}
 use Rattle.blot_command.specs.Refusing.{terms_refusal, reference_refusal}
 use Rattle.blot_command.specs.Shown.{fill_numbered}
 
-pub same_version : (entries : List Entry) (number : ℕ) → numbers_rise entries ≡ true → version_in (reverse entries) number ≡ version_numbered entries number
-same_version entries number rise = version_in-rising (reverse entries) number rise ∙ ap (λ l. version_numbered l number) (reverse-reverse entries)
+pub same_version : (entries : List Entry) (number : ℕ) → numbers_rise entries ≡ true → version_numbered (reverse entries) number ≡ version_numbered entries number
+same_version entries number rise = version_numbered-rising (reverse entries) number rise ∙ ap (λ l. version_numbered l number) (reverse-reverse entries)
 
-same_found : (entries : List Entry) (number : Option ℕ) → numbers_rise entries ≡ true → option_and_then (version_in (reverse entries)) number ≡ option_and_then (version_numbered entries) number
+same_found : (entries : List Entry) (number : Option ℕ) → numbers_rise entries ≡ true → option_and_then (version_numbered (reverse entries)) number ≡ option_and_then (version_numbered entries) number
 same_found entries None rise = refl
 same_found entries (Some n) rise = same_version entries n rise
 

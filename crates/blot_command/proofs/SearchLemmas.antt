@@ -8,8 +8,7 @@ use Rattle.std.proofs.lemmas.List.Elements.{filter_map-append}
 use Rattle.std.proofs.lemmas.List.Folds.{find-append}
 use Rattle.blot_types.specs.declared.{command.Entry.Entry, lines.Version.Version}
 use Rattle.blot_types.specs.Legal.{is_above_entries, rises_in, numbers_rise}
-use Rattle.blot_types.specs.Survivors.{version_of, versions_of}
-use Rattle.blot_types.specs.StandingVersion.{version_numbered}
+use Rattle.blot_types.specs.Survivors.{version_of, versions_of, version_numbered}
 use Rattle.blot_types.proofs.EntryLemmas.{version-number}
 use Rattle.blot_command.specs.Book.{has_number}
 use Rattle.blot_command.specs.Shown.{fill_numbered}

@@ -7,12 +7,12 @@ use Rattle.blot_types.specs.declared.{fill.Fill.Fill, lines.Version.Version, com
 use Rattle.blot_types.specs.Legal.{is_book}
 use Rattle.blot_types.specs.Survivors.{links_of, versions_of, is_number, stands_in, survivors}
 use Rattle.blot_types.proofs.SurvivorLemmas.{without, without-none}
+use Rattle.blot_types.proofs.ApartLemmas.{number_of}
+use Rattle.blot_types.proofs.GeneralLemmas.{found-All}
 use Rattle.blot_order.specs.Fills.{Fills, put_at, held_at}
 use Rattle.blot_order.proofs.FillLemmas.{put_at-empty, put_at-with_put, put_at-with_kept, held_at-with_put, held_at-with_kept, held_at-put, held_at-kept, kept_at-held}
 use Rattle.blot_command.specs.Book.{Shown}
 use Rattle.blot_command.specs.Shown.{Shows, HoldsFills, fill_numbered, with_put, with_kept, IsPut, IsKept}
-use Rattle.blot_types.proofs.ApartLemmas.{number_of}
-use Rattle.blot_types.proofs.GeneralLemmas.{found-All}
 
 cond-same : (test : Bool) → fill_numbered 0 [] ≡ (if test then None else None)
 cond-same true = refl

@@ -2,12 +2,12 @@
 use Rattle.std.proofs.Common.{◌≡◌, ◌≢◌, ℕ, zero, suc, ◌<◌, ◌≤◌, ◌==◌, Bool, true, false, cond, List, [], ◌∷◌, length, reverse, get_or, set, Option, Some, None, refl, sym, ap, subst, ◌∙◌, arith, ⊎_elim, inl, inr, find, not, nat_eq, IsSome, if◌then◌else◌, eq-eqb, ne_eqb}
 use Rattle.std.proofs.lemmas.Bool.{cases_Bool, cases_eq, cases_lt}
 use Rattle.std.proofs.lemmas.List.{get_or_default}
+use Rattle.blot_types.specs.declared.command.Entry.{Entry}
+use Rattle.blot_types.proofs.GeneralLemmas.{found-contains}
 use Rattle.blot_places.specs.declared.slots.Slot.{Slot}
 use Rattle.blot_places.specs.Slots.{marked}
 use Rattle.blot_places.proofs.MarkLemmas.{side_here, side_on}
 use Rattle.blot_places.proofs.SearchLemmas.{rises, marked-at}
-use Rattle.blot_types.specs.declared.command.Entry.{Entry}
-use Rattle.blot_types.proofs.GeneralLemmas.{found-contains}
 use Rattle.blot_command.specs.Book.{entry_number, has_number}
 use Rattle.blot_command.specs.Slots.{AreNumbered, IsLeft, entries_in, left_in}
 use Rattle.blot_command.proofs.WithinLemmas.{from_mapped, from_passed, turned_within}

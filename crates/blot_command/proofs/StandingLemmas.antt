@@ -1,8 +1,8 @@
 -- What the entries of a live list come to, as its chains and its allocations tell it.
 use Rattle.std.proofs.Common.{◌≡◌, List, [], ◌∷◌, ◌++◌, map, Result, Ok, Err, Vec, refl, sym, ap, ◌∙◌, IfOk, append-nil}
-use Rattle.blot_places.specs.declared.slots.Slot.{Slot}
 use Rattle.blot_types.specs.declared.{allocation.Instruction.Instruction, command.Entry.Entry, link.Link.Link}
 use Rattle.blot_types.specs.Legal.{HoldsList}
+use Rattle.blot_places.specs.declared.slots.Slot.{Slot}
 use Rattle.blot_command.specs.declared.standing.Standing.{Standing}
 use Rattle.blot_command.specs.Slots.{entries_in}
 use Rattle.blot_command.specs.Standings.{Told, standing_in, standings_of, told_in, told_of}

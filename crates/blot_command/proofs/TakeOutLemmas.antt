@@ -1,9 +1,5 @@
 -- What the live list keeps, once an entry is taken out of the middle.
 use Rattle.std.proofs.Common.{◌≡◌, true, false, List, ◌∷◌, ◌++◌, reverse, Option, Some, None, refl, sym, ap, subst, ◌∙◌, find, is_some, nat_eq, not, if◌then◌else◌, option_and_then}
-use Rattle.blot_places.specs.declared.slots.Slot.{Slot}
-use Rattle.blot_places.specs.Shown.{item_at, with_some, without as without_item}
-use Rattle.blot_places.specs.Slots.{live, marked, numbers_fall}
-use Rattle.blot_places.proofs.MarkLemmas.{at-apart, falling-side, reverse-marked}
 use Rattle.blot_types.specs.declared.{allocation.Instruction.Instruction, command.Command.Command, command.Entry.Entry, link.Link.Link}
 use Rattle.blot_types.specs.declared.command.Command.TheVariants.{Trade, Correct, Bust, AllocNew, AllocReplace, AllocCancel, Withdraw}
 use Rattle.blot_types.specs.Allocations.{instructions_in, instructions_of}
@@ -19,14 +15,19 @@ use Rattle.blot_types.proofs.ChainLemmas.{differing}
 use Rattle.blot_types.proofs.EntryLemmas.{chained-links}
 use Rattle.blot_types.proofs.LawLemmas.{book_parts}
 use Rattle.blot_types.proofs.StayLemmas.{filter-reverse}
-use Rattle.blot_alloc.specs.Allocs.{instruction_at, lifted_out as lifted_instruction, number_of as instruction_of_number}
+use Rattle.blot_places.specs.declared.slots.Slot.{Slot}
+use Rattle.blot_places.specs.Shown.{item_at, with_some, without as without_item}
+use Rattle.blot_places.specs.Slots.{live, marked, numbers_fall}
+use Rattle.blot_places.proofs.MarkLemmas.{at-apart, falling-side, reverse-marked}
 use Rattle.blot_chain.specs.Steps.{link_at, lifted_out as lifted_link, number_of as link_number}
+use Rattle.blot_alloc.specs.Allocs.{instruction_at, lifted_out as lifted_instruction, number_of as instruction_of_number}
 use Rattle.blot_command.specs.Book.{entry_number, has_number}
 use Rattle.blot_command.specs.Linking.{CanLift, is_instruction, is_link, lifted_allocs, lifted_chains}
-use Rattle.blot_command.specs.Law.{has_entry, without-split, withdrawn-none}
+use Rattle.blot_command.specs.Law.{has_entry}
 use Rattle.blot_command.specs.Slots.{AreNumbered, NewestThere, entries_in, left_in, left_instructions}
 use Rattle.blot_command.proofs.LeftLemmas.{left-apart, left-taken}
 use Rattle.blot_command.proofs.LiveLemmas.{instruction-number}
+use Rattle.blot_command.proofs.SplitLemmas.{without-split, withdrawn-none}
 use Rattle.blot_command.proofs.TurnLemmas.{at-turned, kept-taken, list-taken, live-turned}
 use Rattle.blot_command.proofs.HoldLemmas.{allocs_of, at-links, at-middle-own, chains_of, falls-instructions, links-with, links-without, no-instruction, without-middle}
 

@@ -3,16 +3,16 @@ use Rattle.std.proofs.Common.{◌≡◌, ℕ, ◌<◌, ◌&&◌, true, false, Li
 use Rattle.std.proofs.lemmas.Bool.{cases_Bool, and_parts, eqb-false}
 use Rattle.std.proofs.lemmas.List.{map-append, reverse-append, reverse-reverse}
 use Rattle.std.proofs.lemmas.List.Elements.{filter-append}
-use Rattle.blot_places.specs.declared.slots.Slot.{Slot}
-use Rattle.blot_places.specs.Shown.{item_at, with_item, with_some, without as without_item}
-use Rattle.blot_places.specs.Slots.{items, is_above, live, lifted, marked, numbers_fall}
-use Rattle.blot_places.proofs.MarkLemmas.{at-apart, falling-side, marked-into, marked-out, reverse-marked}
-use Rattle.blot_places.proofs.ShownLemmas.{at-here, at-on, falling-parts}
 use Rattle.blot_types.specs.declared.command.Entry.{Entry}
 use Rattle.blot_types.specs.Legal.{is_above_entries, numbers_rise, rises_in, without}
 use Rattle.blot_types.specs.Withdrawal.{put_back, put_back_in}
 use Rattle.blot_types.proofs.StayLemmas.{filter-reverse}
 use Rattle.blot_types.proofs.GeneralLemmas.{found-contains}
+use Rattle.blot_places.specs.declared.slots.Slot.{Slot}
+use Rattle.blot_places.specs.Shown.{item_at, with_item, with_some, without as without_item}
+use Rattle.blot_places.specs.Slots.{items, is_above, live, lifted, marked, numbers_fall}
+use Rattle.blot_places.proofs.MarkLemmas.{at-apart, falling-side, marked-into, marked-out, reverse-marked}
+use Rattle.blot_places.proofs.ShownLemmas.{at-here, at-on, falling-parts}
 use Rattle.blot_command.specs.Book.{entry_number, has_number}
 use Rattle.blot_command.specs.Slots.{AreNumbered, entries_in, left_in}
 use Rattle.blot_command.proofs.WithinLemmas.{cons_cases, none_within, within_turned}

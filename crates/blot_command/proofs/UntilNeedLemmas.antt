@@ -11,8 +11,8 @@ use Rattle.blot_types.specs.Chains.{current_in, is_above_links, is_root, own_roo
 use Rattle.blot_types.specs.Instructions.{first_instruction, names}
 use Rattle.blot_types.specs.Keys.{is_among}
 use Rattle.blot_types.specs.Legal.{is_above_entries, rises_in}
-use Rattle.blot_types.specs.Refusals.{listed_by, version_in}
-use Rattle.blot_types.specs.Survivors.{is_number, link_of, links_in, version_of}
+use Rattle.blot_types.specs.Refusals.{listed_by}
+use Rattle.blot_types.specs.Survivors.{is_number, link_of, links_in, version_of, version_numbered}
 use Rattle.blot_types.specs.Withdrawal.{below}
 use Rattle.blot_types.proofs.ChainLemmas.{current-below, differing}
 use Rattle.blot_types.proofs.CorrectLemmas.{below-front, front-above, version-pass}
@@ -190,14 +190,14 @@ before-front k later front root rise =
 
 -- and is found by its number among all
 found-more : (entry : Entry) (earlier front : List Entry) (root : ExecKey) (n : ℕ) → is_above_entries entry.number front ≡ true → current_in (links_in front) root ≡ Some n
-    → version_in (entry ∷ earlier) n ≡ version_in earlier n
+    → version_numbered (entry ∷ earlier) n ≡ version_numbered earlier n
 found-more entry earlier front root n above is =
     let other : (n == entry.number) ≡ false = ap (is_number entry.number) (sym is) ∙ current-below (links_in front) entry.number root (is_above_links-links entry.number front above) in
     version-pass entry (version_of entry) (filter_map version_of earlier) n refl (ne_eqb _ _ (λ same. absurd (differing (eq-eqb n entry.number (sym same)) other)))
 
 pub found-front :
     (k : Entry) (later front : List Entry) (root : ExecKey) (n : ℕ) → rises_in (later ++ k ∷ front) ≡ true → current_in (links_in front) root ≡ Some n
-    → version_in (later ++ k ∷ front) n ≡ version_in front n
+    → version_numbered (later ++ k ∷ front) n ≡ version_numbered front n
 found-front k [] front root n rise is =
     let rises : (is_above_entries k.number front ≡ true) × (rises_in front ≡ true) = and_parts _ _ rise in
     found-more k front front root n rises.0 is

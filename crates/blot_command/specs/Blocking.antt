@@ -6,10 +6,10 @@ use Rattle.blot_types.specs.declared.command.Command.TheVariants.{Trade, Correct
 use Rattle.blot_types.specs.Chains.{first_needing_link, root_in, version_after_in, version_before_in}
 use Rattle.blot_types.specs.Instructions.{first_instruction, first_naming, first_needing_instruction, names}
 use Rattle.blot_types.specs.Keys.{is_among}
-use Rattle.blot_types.specs.Numbers.{lesser}
+use Rattle.blot_types.specs.Lesser.{lesser}
 use Rattle.blot_types.specs.Refusals.{listed_by}
+use Rattle.blot_types.specs.Survivors.{version_numbered}
 use Rattle.blot_types.specs.Withdrawal.{alike}
-use Rattle.blot_types.specs.StandingVersion.{version_numbered}
 use Rattle.blot_command.specs.Book.{has_number}
 
 -- whether the entry of a number lists an execution

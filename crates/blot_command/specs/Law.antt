@@ -1,25 +1,19 @@
 -- Every command obeys the law: what stands before what stands after it is the book itself.
-use Rattle.std.specs.Prelude.{◌≡◌, ℕ, ◌==◌, ◌<◌, ◌≤◌, ◌⊎◌, Bool, true, false, not, List, [], ◌∷◌, ◌++◌, reverse, Option, Some, None, find, is_none, refl, if◌then◌else◌, option_map, option_and_then}
+use Rattle.std.specs.Prelude.{◌≡◌, ℕ, ◌<◌, ◌≤◌, ◌⊎◌, Bool, true, false, List, [], ◌∷◌, ◌++◌, Option, Some, None, find, is_none, refl, if◌then◌else◌, option_map, option_and_then}
 use Rattle.std.proofs.Common.{ap, sym, ◌∙◌, arith, inl, inr}
-use Rattle.std.proofs.lemmas.Bool.{cases_Bool, and_parts, ne_eqb, eq-eqb, eqb-true}
-use Rattle.std.proofs.lemmas.List.{append-nil, reverse-append, reverse-reverse}
+use Rattle.std.proofs.lemmas.Bool.{cases_Bool, ne_eqb, eq-eqb, eqb-true}
+use Rattle.std.proofs.lemmas.List.{append-nil}
 use Rattle.std.proofs.lemmas.List.Elements.{All-head, All-tail, filter-append}
 use Rattle.std.proofs.lemmas.List.Folds.{find-append}
 use Rattle.blot_types.specs.declared.{command.Command.Command, command.Entry.Entry, TheConstants.EVENTS_MAX, refused.Refused.Refused}
 use Rattle.blot_types.specs.declared.command.Command.TheVariants.{Trade, Correct, Bust as BustCommand, AllocNew, AllocReplace, AllocCancel, Withdraw}
 use Rattle.blot_types.specs.declared.refused.Refused.TheVariants.{Needed, NotLive}
-use Rattle.blot_types.specs.Legal.{is_book, legal_in, least_needing, numbers_rise, refusal_in, rises_in, without, withdrawal_refusal}
+use Rattle.blot_types.specs.Legal.{is_book, least_needing, without, withdrawal_refusal}
 use Rattle.blot_types.specs.Refusals.{is_live, withdrawn_by}
 use Rattle.blot_types.specs.Withdrawal.{put_back}
-use Rattle.blot_types.proofs.AcceptLemmas.{unmapped}
-use Rattle.blot_types.proofs.AcceptOutLemmas.{accepts}
 use Rattle.blot_types.proofs.BringLemmas.{present}
-use Rattle.blot_types.proofs.BustLemmas.{reverse-middle}
-use Rattle.blot_types.proofs.ChainLemmas.{none_is}
 use Rattle.blot_types.proofs.LawLemmas.{book_parts}
 use Rattle.blot_types.proofs.LegalLemmas.{is_book-push}
-use Rattle.blot_types.proofs.NeedLemmas.{without-out}
-use Rattle.blot_types.proofs.StayLemmas.{filter-reverse}
 use Rattle.blot_types.proofs.WithdrawLemmas.{withdrawn, put-back}
 use Rattle.blot_command.specs.Book.{has_number, numbers_of, entered, after, inverse_of, before, command_at, command_of}
 use Rattle.blot_command.specs.Meanings.{meaning_by, entry_meaning, command_meaning}
@@ -93,27 +87,6 @@ has_entry (first ∷ list) number entry found =
           let has = has_entry list number entry (rw other at found) in
           record { front = first ∷ has.front; back = has.back; is = ap (λ l. first ∷ l) has.is; own = has.own }
     ]
-
--- the list without it
-pub without-split : (list front back : List Entry) (entry : Entry) → list ≡ front ++ entry ∷ back → numbers_rise list ≡ true → without entry.number list ≡ front ++ back
-without-split list front back entry is rise =
-    let whole : reverse list ≡ reverse back ++ entry ∷ reverse front = ap reverse is ∙ reverse-middle front back entry in
-    let turned : reverse (without entry.number list) ≡ reverse back ++ reverse front =
-    sym (filter-reverse (λ (e : Entry). not (e.number == entry.number)) list) ∙ ap (without entry.number) whole
-    ∙ without-out entry (reverse back) (reverse front) (ap rises_in (sym whole) ∙ rise) in
-    sym (reverse-reverse (without entry.number list)) ∙ ap reverse (turned ∙ sym (reverse-append front back)) ∙ reverse-reverse (front ++ back)
-
--- no entry of a book takes another out
-legal-none : (later earlier : List Entry) (entry : Entry) → legal_in (later ++ entry ∷ earlier) ≡ true → withdrawn_by entry.command ≡ None
-legal-none [] earlier entry legal =
-    let parts : (is_none (refusal_in earlier entry.command) ≡ true) × (legal_in earlier ≡ true) = and_parts _ _ legal in
-    unmapped NotLive (withdrawn_by entry.command) (accepts earlier entry.command (none_is _ parts.0)).enters
-legal-none (first ∷ later) earlier entry legal = legal-none later earlier entry (and_parts _ _ legal).1
-
-pub withdrawn-none : (list : List Entry) (entry : Entry) → find (has_number entry.number) list ≡ Some entry → is_book list ≡ true → withdrawn_by entry.command ≡ None
-withdrawn-none list entry found book =
-    let has = has_entry list entry.number entry found in
-    legal-none (reverse has.back) (reverse has.front) entry (ap legal_in (sym (ap reverse has.is ∙ reverse-middle has.front has.back entry)) ∙ (book_parts list book).1)
 
 -- what a Withdraw that a book accepts takes out: an entry that is there; the list without it is a book, and put back it stands where
 -- it stood

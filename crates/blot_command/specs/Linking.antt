@@ -1,8 +1,6 @@
 -- An entry as the chains and the allocations see it.
 use Rattle.std.specs.Prelude.{◌≡◌, Bool, true, false, List, [], ◌∷◌, reverse, None, IfSome, IsSome, if◌then◌else◌}
 use Rattle.std.specs.List.{cons_option}
-use Rattle.blot_places.specs.declared.slots.Slot.{Slot}
-use Rattle.blot_places.specs.Shown.{Shown}
 use Rattle.blot_types.specs.declared.{allocation.Instruction.Instruction, command.Command.Command, command.Entry.Entry, link.Link.Link}
 use Rattle.blot_types.specs.declared.command.Command.TheVariants.{Trade, Correct, Bust, AllocNew, AllocReplace, AllocCancel}
 use Rattle.blot_types.specs.Allocations.{instruction_by}
@@ -10,8 +8,10 @@ use Rattle.blot_types.specs.Chains.{link_refusal, is_above_links, is_chained}
 use Rattle.blot_types.specs.Instructions.{may_follow, is_above_instructions, is_instructed}
 use Rattle.blot_types.specs.Legal.{HoldsList}
 use Rattle.blot_types.specs.Survivors.{link_of, links_in}
-use Rattle.blot_alloc.specs.Allocs.{instruction_at, lifted_out as lifted_instruction, put_back as put_back_instruction}
+use Rattle.blot_places.specs.declared.slots.Slot.{Slot}
+use Rattle.blot_places.specs.Shown.{Shown}
 use Rattle.blot_chain.specs.Steps.{CanReturn as CanReturnLink, link_at, lifted_out as lifted_link, put_back as put_back_link}
+use Rattle.blot_alloc.specs.Allocs.{instruction_at, lifted_out as lifted_instruction, put_back as put_back_instruction}
 use Rattle.blot_command.specs.Slots.{AreNumbered, NewestThere, entries_in, left_in, left_instructions}
 
 -- the links, and the instructions, with one more entry, newest first; at most one of the two changes

@@ -2,18 +2,18 @@
 use Rattle.std.specs.Prelude.{◌≡◌, ℕ, ◌≤◌, ◌==◌, List, Option, Some, None, true, find, All, if◌then◌else◌, filter_map, option_map, option_and_then}
 use Rattle.blot_types.specs.declared.{allocation.Terms.Terms, command.Command.Command, command.Entry.Entry, fill.Fill.Fill, keys.AllocKey.AllocKey, keys.ExecKey.ExecKey, link.Link.Link, lines.Version.Version, TheConstants.EVENTS_MAX}
 use Rattle.blot_types.specs.Allocations.{allocation_of, instructions_of}
-use Rattle.blot_types.specs.Chains.{current_in, replaced_by, root_in}
+use Rattle.blot_types.specs.Chains.{replaced_by, current_of_key}
 use Rattle.blot_types.specs.Instructions.{is_keyed}
 use Rattle.blot_types.specs.Keys.{same_alloc}
 use Rattle.blot_types.specs.Legal.{is_book}
-use Rattle.blot_types.specs.StandingVersion.{chain_of, standing, version_numbered}
-use Rattle.blot_types.specs.Survivors.{link_of, links_of, versions_of, survivors}
-use Rattle.blot_command.specs.Book.{Shown, has_number}
+use Rattle.blot_types.specs.StandingVersion.{chain_of, standing}
+use Rattle.blot_types.specs.Survivors.{link_of, links_of, versions_of, survivors, version_numbered}
 use Rattle.blot_order.specs.Fills.{Fills, put_at, kept_at, held_at, with_put as with_put_at, with_kept as with_kept_at}
+use Rattle.blot_command.specs.Book.{Shown, has_number}
 
 -- the last version of the chain of a key
 abbrev pub current_version : List Entry → ExecKey → Option Version
-current_version list key = option_and_then (version_numbered list) (option_and_then (current_in (links_of list)) (root_in (links_of list) key))
+current_version list key = option_and_then (version_numbered list) (current_of_key (links_of list) key)
 
 -- the version whose place a link takes after a list, or which it busts
 abbrev pub version_replaced_by : List Entry → Option Link → Option Version

@@ -1,14 +1,14 @@
 -- The slots of the live list, in rising order of number: each has an entry, which is there, or was taken out.
 use Rattle.std.specs.Prelude.{◌≡◌, true, List, [], ◌∷◌, reverse, Some, ⊤, IfSome, None, if◌then◌else◌}
 use Rattle.std.specs.List.{cons_option}
-use Rattle.blot_places.specs.declared.slots.Slot.{Slot}
-use Rattle.blot_places.specs.Shown.{item_at}
-use Rattle.blot_places.specs.Slots.{items, live, lifted, numbers_fall}
 use Rattle.blot_types.specs.declared.{allocation.Instruction.Instruction, command.Entry.Entry}
 use Rattle.blot_types.specs.Allocations.{instruction_by}
 use Rattle.blot_types.specs.Chains.{taker_in}
 use Rattle.blot_types.specs.Refusals.{exec_key}
 use Rattle.blot_types.specs.Survivors.{links_in}
+use Rattle.blot_places.specs.declared.slots.Slot.{Slot}
+use Rattle.blot_places.specs.Shown.{item_at}
+use Rattle.blot_places.specs.Slots.{items, live, lifted, numbers_fall}
 use Rattle.blot_command.specs.Book.{entry_number}
 
 -- the entries that are there, and those that were taken out, newest first

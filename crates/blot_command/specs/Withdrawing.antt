@@ -2,12 +2,12 @@
 use Rattle.std.specs.Prelude.{◌≡◌, ℕ, ◌+◌, ◌<◌, ◌≤◌, ◌⊎◌, Bool, true, false, ◌&&◌, not, nat_lt, List, [], ◌∷◌, ◌++◌, Some, All, Contains}
 use Rattle.std.specs.List.{list_all}
 use Rattle.std.specs.Option.{option_map_or}
-use Rattle.blot_places.specs.Shown.{item_at, with_item, without as without_item}
 use Rattle.blot_types.specs.declared.{command.Command.Command, command.Entry.Entry, keys.ExecKey.ExecKey}
 use Rattle.blot_types.specs.Keys.{same_exec}
 use Rattle.blot_types.specs.Legal.{is_above_entries, is_book, without}
 use Rattle.blot_types.specs.Refusals.{exec_key}
 use Rattle.blot_types.specs.Withdrawal.{put_back}
+use Rattle.blot_places.specs.Shown.{item_at, with_item, without as without_item}
 use Rattle.blot_command.specs.Book.{Shown, entry_number, numbers_of}
 
 -- the list with one more entry at its end

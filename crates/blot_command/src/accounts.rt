@@ -9,7 +9,7 @@ ghost use Rattle.blot_command.specs.Book.{has_number};
 ghost use Rattle.blot_command.specs.Kinds.{trade_of};
 ghost use Rattle.blot_command.specs.Shown.{version_replaced};
 ghost use Rattle.blot_command.specs.Withdrawing.{with_entry, HasLast, lifted, returned, CanReturn};
-ghost use Rattle.blot_command.specs.Booking.{changed_all, CanChangeAll, chains_to_house, chains_from_house, allocated, released};
+ghost use Rattle.blot_command.specs.Booking.{changed_all, CanChangeAll, chains_moved, allocated, released};
 
 use crate::BoxedEntry;
 use crate::booking::{open_cells, put_lines, put_part, rebook, take_lines, take_part};
@@ -226,7 +226,7 @@ fn allocate(positions: &mut Positions, live: &LiveList, key: &Option<AllocKey>)
 {
     let Some(key) = key else { return };
     if let (Some(terms), Some(roots)) = (live.terms_of(key), live.roots_of(key)) {
-        put_to_house(positions, live, roots);
+        move_chains(positions, live, roots, true);
         put_lines(positions, terms);
     }
 }
@@ -239,32 +239,19 @@ fn release(positions: &mut Positions, live: &LiveList, key: &Option<AllocKey>)
     let Some(key) = key else { return };
     if let (Some(terms), Some(roots)) = (live.terms_of(key), live.roots_of(key)) {
         take_lines(positions, terms);
-        take_from_house(positions, live, roots);
+        move_chains(positions, live, roots, false);
     }
 }
 
-// Moves the versions that stand of some chains from their own accounts to the house account.
-fn put_to_house(positions: &mut Positions, live: &LiveList, roots: &[ExecKey])
-    requires { CanChangeAll (chains_to_house live.now.list roots.now) positions.old }
-    ensures { positions.new ≡ changed_all (chains_to_house live.now.list roots.now) positions.old }
+// Moves the versions that stand of some chains from their own accounts to the house account, where they are named now, or else back.
+fn move_chains(positions: &mut Positions, live: &LiveList, roots: &[ExecKey], named: bool)
+    requires { CanChangeAll (chains_moved named live.now.list roots.now) positions.old }
+    ensures { positions.new ≡ changed_all (chains_moved named live.now.list roots.now) positions.old }
 {
     for root in roots {
         if let Some(fill) = live.standing_fill(root) {
-            take_part(positions, &Part::of_fill(false, fill));
-            put_part(positions, &Part::of_fill(true, fill));
-        }
-    }
-}
-
-// Moves them back.
-fn take_from_house(positions: &mut Positions, live: &LiveList, roots: &[ExecKey])
-    requires { CanChangeAll (chains_from_house live.now.list roots.now) positions.old }
-    ensures { positions.new ≡ changed_all (chains_from_house live.now.list roots.now) positions.old }
-{
-    for root in roots {
-        if let Some(fill) = live.standing_fill(root) {
-            take_part(positions, &Part::of_fill(true, fill));
-            put_part(positions, &Part::of_fill(false, fill));
+            take_part(positions, &Part::of_fill(!named, fill));
+            put_part(positions, &Part::of_fill(named, fill));
         }
     }
 }

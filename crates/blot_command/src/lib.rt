@@ -36,7 +36,7 @@ pub use boxed_command::BoxedCommand;
 pub use boxed_entry::BoxedEntry;
 pub use fault::ApplyFault;
 pub use inverse::Inverse;
-pub use questions::{AllocationAnswer, ExecutionAnswer, copy_entry};
+pub use questions::{AllocationAnswer, ExecutionAnswer};
 pub use reported::{Reported, Told};
 pub use rows::Rows;
 pub use snapshot::Snapshot;

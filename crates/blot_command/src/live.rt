@@ -16,7 +16,7 @@ ghost use Rattle.blot_command.specs.Withdrawing.{with_entry, HasLast, lifted, re
 
 use crate::blocked::blocked;
 use crate::linking::{lift_entry, link_entry, un_lift_entry, unlink_entry};
-use crate::questions::{allocation, chain_by, copy_entry, execution};
+use crate::questions::{allocation, chain_by, execution};
 use crate::refusal::{current_version, refusal};
 use crate::slots::{
     EntrySlot, entry_numbered, fill_numbered, newest_number, put_in, take_out, version_numbered,
@@ -85,7 +85,7 @@ impl LiveList {
         let mut copies = Vec::with_capacity(alloc, self.slots.len())?;
         for slot in &self.slots {
             if let Some(entry) = slot.entry() {
-                let copy = copy_entry(alloc, entry)?;
+                let copy = entry.try_copy(alloc)?;
                 copies.push(copy)?;
             }
         }

@@ -79,7 +79,7 @@ pub(crate) fn allocation(
     let Some(entry) = entry_numbered(slots, number) else {
         return Ok(None);
     };
-    let entry = copy_entry(alloc, entry)?;
+    let entry = entry.try_copy(alloc)?;
     let ended = allocs.ended_by(key);
     Ok(Some(AllocationAnswer { entry, ended }))
 }
@@ -135,7 +135,7 @@ fn put_entry(
         return Ok(());
     };
     if let Some(entry) = entry_numbered(slots, number) {
-        let copy = copy_entry(alloc, entry)?;
+        let copy = entry.try_copy(alloc)?;
         entries.push(copy)?;
     }
     Ok(())
@@ -152,15 +152,4 @@ pub(crate) fn chain_by(chains: &Chains, link: &Option<Link>) -> Option<ExecKey>
             Role::Corrects(reference) | Role::Busts(reference) => chains.root_of(&reference),
         },
     }
-}
-
-/// An equal entry. An error is out of memory.
-pub fn copy_entry(alloc: Global, entry: &Entry) -> Result<Entry, NoMemory>
-    ensures { IfOk result (λ copy. copy ≡ entry.now) }
-{
-    let command = entry.command.try_copy(alloc)?;
-    Ok(Entry {
-        number: entry.number,
-        command,
-    })
 }

@@ -1,9 +1,9 @@
 //! Why the live list refuses a command: one function a rule, in the order of the rules.
-ghost use Rattle.std.specs.Prelude.{◌≡◌, [], reverse, find, is_none, option_and_then, option_copied, option_map};
+ghost use Rattle.std.specs.Prelude.{◌≡◌, [], reverse, find, is_none, option_copied, option_map};
 ghost use Rattle.std.specs.List.{list_any};
 ghost use Rattle.blot_types.specs.declared.link.Role.TheVariants.{Begins, Corrects, Busts};
 ghost use Rattle.blot_types.specs.declared.refused.Refused.TheVariants.{DuplicateAlloc};
-ghost use Rattle.blot_types.specs.Chains.{current_in, root_in, is_root, link_refusal};
+ghost use Rattle.blot_types.specs.Chains.{current_of_key, root_in, is_root, link_refusal};
 ghost use Rattle.blot_types.specs.Instructions.{alloc_taker_in};
 ghost use Rattle.blot_types.specs.Legal.{entry_refusal};
 ghost use Rattle.blot_types.specs.Refusals.{first_of, bust_of_key, same_chain, repeated_in, other_holder, current_fill};
@@ -268,7 +268,7 @@ pub(crate) fn current_version(
 
 // The number of the last version of the chain of a key.
 fn current_number(chains: &Chains, key: &ExecKey) -> Option<u64>
-    ensures { result ≡ option_and_then (current_in chains.now.list) (root_in chains.now.list key.now) }
+    ensures { result ≡ current_of_key chains.now.list key.now }
 {
     let root = chains.root_of(key)?;
     chains.current(&root)

@@ -2,8 +2,7 @@
 ghost use Rattle.std.specs.Prelude.{◌≡◌, ◌≤◌, find, length, reverse, IsTrue, IsSome, Some, None, true, false, if◌then◌else◌, option_copied, option_map};
 ghost use Rattle.std.specs.List.{last_or};
 ghost use Rattle.blot_places.specs.Slots.{AreBelow, NoneBelow, marked};
-ghost use Rattle.blot_types.specs.Survivors.{versions_of};
-ghost use Rattle.blot_types.specs.StandingVersion.{version_numbered};
+ghost use Rattle.blot_types.specs.Survivors.{versions_of, version_numbered};
 ghost use Rattle.blot_command.specs.Book.{has_number, entry_number};
 ghost use Rattle.blot_command.specs.Shown.{fill_numbered};
 ghost use Rattle.blot_command.specs.Slots.{AreNumbered, IsLeft, entries_in};

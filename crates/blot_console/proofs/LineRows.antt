@@ -6,17 +6,17 @@ use Rattle.std.specs.List.{join_with_byte}
 use Rattle.blot_decimal.specs.Meaning.{size_of, qty_of, price_of}
 use Rattle.blot_decimal.specs.Printed.{fraction_digits, printed}
 use Rattle.blot_decimal.specs.Text.{are_parts}
+use Rattle.blot_time.specs.Calendar.{day_number}
+use Rattle.blot_time.specs.Day.{day_of, civil_day}
+use Rattle.blot_types.specs.declared.{allocation.Line.Line, fill.Sign.TheVariants.Buy, keys.ExecKey.ExecKey, keys.OrderKey.OrderKey}
+use Rattle.blot_types.specs.declared.command.Command.TheVariants.{AllocNew, Withdraw}
+use Rattle.blot_types.specs.declared.refused.Refused.TheVariants.{NotLive, NothingToUndo, Moved, UnknownExec, Quantity}
 use Rattle.blot_desk.specs.declared.event.Event.TheVariants.{Submit, Undo, Redo, AskOrder, AskPosition}
 use Rattle.blot_desk.specs.declared.event.Reply.TheVariants as replies
 use Rattle.blot_desk.specs.declared.question.CommandKey.TheVariants as keys
 use Rattle.blot_desk.specs.declared.question.Found.TheVariants as found
 use Rattle.blot_desk.specs.declared.question.Question.TheVariants.{Entry, Execution}
 use Rattle.blot_desk.specs.declared.question.StepRow.TheVariants as rows
-use Rattle.blot_time.specs.Calendar.{day_number}
-use Rattle.blot_time.specs.Day.{day_of, civil_day}
-use Rattle.blot_types.specs.declared.{allocation.Line.Line, fill.Sign.TheVariants.Buy, keys.ExecKey.ExecKey, keys.OrderKey.OrderKey}
-use Rattle.blot_types.specs.declared.command.Command.TheVariants.{AllocNew, Withdraw}
-use Rattle.blot_types.specs.declared.refused.Refused.TheVariants.{NotLive, NothingToUndo, Moved, UnknownExec, Quantity}
 use Rattle.blot_console.specs.declared.answer.Answer.TheVariants as answers
 use Rattle.blot_console.specs.declared.{open_day.DayAsk.DayAsk, ask.Ask.Ask, fault.LineFault.LineFault}
 use Rattle.blot_console.specs.declared.open_day.DayAsk.TheVariants.{Close, Sessions}

@@ -1,14 +1,14 @@
 -- Lines that end with their maker.
 use Rattle.std.proofs.Common.{◌≡◌, ℕ, suc, ◌+◌, ◌-◌, ◌<◌, List, [], ◌∷◌, ◌++◌, drop, get_or, length, take, Option, Some, None, refl, sym, ap, ◌∙◌, arith, slice_get, flat_map, append-nil, append_assoc, length-append, length-take}
 use Rattle.std.proofs.lemmas.List.{take_more}
-use Rattle.blot_report.specs.Text.{end_text}
 use Rattle.blot_types.specs.declared.command.Command.{Command}
 use Rattle.blot_types.specs.declared.command.Command.TheVariants as commands
 use Rattle.blot_desk.specs.declared.{question.Found.Found, question.RefusalRow.RefusalRow, question.StepRow.StepRow}
 use Rattle.blot_desk.specs.declared.question.Found.TheVariants as found
 use Rattle.blot_desk.specs.declared.question.StepRow.TheVariants as steps
+use Rattle.blot_report.specs.Text.{end_text}
 use Rattle.blot_console.specs.Entries.{command_text}
-use Rattle.blot_console.specs.Replies.{told}
+use Rattle.blot_console.specs.Replies.{word_text}
 use Rattle.blot_console.specs.Founds.{found_by_text, found_text, line_by, lines_by, refusal_text, step_text}
 
 -- ---- lines without makers
@@ -63,9 +63,9 @@ last_by : (text line : List ℕ) (maker : Option (List ℕ)) → 0 < length line
 last_by text line None some = refl
 last_by text line (Some maker) some =
     let cut = take (length line - 1) line in
-    ap (λ front. (front ++ told maker) ++ 10 ∷ []) (cut_behind text line some)
-    ∙ ap (λ front. front ++ 10 ∷ []) (append_assoc text cut (told maker))
-    ∙ append_assoc text (cut ++ told maker) (10 ∷ [])
+    ap (λ front. (front ++ word_text maker) ++ 10 ∷ []) (cut_behind text line some)
+    ∙ ap (λ front. front ++ 10 ∷ []) (append_assoc text cut (word_text maker))
+    ∙ append_assoc text (cut ++ word_text maker) (10 ∷ [])
 
 some_command : (number : ℕ) (command : Command) → 0 < length (command_text number command)
 some_command number (commands.Trade trade) = omega arith

@@ -14,7 +14,7 @@ use Rattle.blot_console.specs.Allocate.{are_pairs, counted_by, execs_counted, ex
 use Rattle.blot_console.specs.Forms.{number_form, count_form, rows_form, text_form, sign_form, day_form, price_form, qty_form}
 use Rattle.blot_console.specs.Lines.{undo_line, redo_line, withdraw_line, mine_line, order_line, position_line, report_line}
 use Rattle.blot_console.specs.QuestionLines.{allocation_line, entry_line, execution_line, needs_line, optional_text, orders_line, positions_line, refusals_line, second_text, steps_line}
-use Rattle.blot_console.specs.Parsing.{kind_of, question_kind_of, line_by, words_line, ask_of, told, parsed}
+use Rattle.blot_console.specs.Parsing.{kind_of, question_kind_of, line_by, words_line, ask_of, ask_or_fault, parsed}
 use Rattle.blot_console.specs.Rows.{counted, at, value_at}
 use Rattle.blot_console.specs.Tables.{Row, unless_read, needs, exec_rows, pair_rows, pairs_sum, block_row, rows_behind, allocate_rows, optional_rows, rows_of, IsFirstBad, IsBadAt}
 use Rattle.blot_console.specs.Words.{words_of, word_at}
@@ -364,7 +364,7 @@ parsed_first line place is = by_asked (ask_of line) refl is
         let bad = bad_words (words_of line) other (by_length (nat_le (length line) LINE_MAX) other is) in
         record { kind = bad.0; named = bad.1; first = bad.2 }
 
-    by_asked : (asked : Result Ask Wrong) → ask_of line ≡ asked → told asked ≡ bad_value place → IsBadAt line place
+    by_asked : (asked : Result Ask Wrong) → ask_of line ≡ asked → ask_or_fault asked ≡ bad_value place → IsBadAt line place
     by_asked (Ok ask) asked is = absurd cc
     by_asked (Err UnknownWord) asked is = absurd cc
     by_asked (Err WrongCount) asked is = absurd cc

@@ -2,8 +2,8 @@
 use Rattle.std.specs.Prelude.{ℕ, ℤ, pos, ◌+◌, ◌-◌, ◌*◌, ◌%◌, ◌==◌, ◌&&◌, nat_lt, nat_le, Bool, List, [], ◌∷◌, length, take, drop, Option, Some, None, Result, Ok, Err, if◌then◌else◌}
 use Rattle.blot_decimal.specs.Meaning.{qty_units}
 use Rattle.blot_time.specs.Results.{◌>>=◌}
-use Rattle.blot_desk.specs.declared.event.Event.TheVariants.{Submit}
 use Rattle.blot_types.specs.declared.{TheConstants.ITEMS_MAX, allocation.Line.Line, command.Command.TheVariants.AllocNew, keys.ExecKey.ExecKey}
+use Rattle.blot_desk.specs.declared.event.Event.TheVariants.{Submit}
 use Rattle.blot_console.specs.declared.{ask.Ask.Ask, ask.Ask.TheVariants.Step, allocate.TheConstants.EXECS_PLACE, fault.Wrong.Wrong, fault.Wrong.TheVariants.WrongCount}
 use Rattle.blot_console.specs.Forms.{count_form, text_form, sign_form, day_form, price_form, qty_form}
 use Rattle.blot_console.specs.Rows.{at, value_at}

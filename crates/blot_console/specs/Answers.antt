@@ -1,7 +1,7 @@
 -- The text of an answer. Words are divided by tabs, and each line ends with LF. Source: this project's rule.
 use Rattle.std.specs.Prelude.{ℕ, List, [], ◌∷◌, ◌++◌, codes, Option, Some, None}
-use Rattle.blot_report.specs.Text.{order_text, position_text, report_text}
 use Rattle.blot_types.specs.declared.{keys.OrderKey.OrderKey, lines.OrderLine.OrderLine, lines.PositionLine.PositionLine}
+use Rattle.blot_report.specs.Text.{order_text, position_text, report_text}
 use Rattle.blot_console.specs.declared.{answer.Answer.Answer, fault.LineFault.LineFault}
 use Rattle.blot_console.specs.declared.answer.Answer.TheVariants as answers
 use Rattle.blot_console.specs.declared.fault.LineFault.TheVariants.{UnknownWord, WrongCount, BadValue, TooLong, NoMemory}

@@ -1,7 +1,7 @@
 -- Asks, and those that take memory.
 use Rattle.std.specs.Prelude.{◌≡◌, Result, Ok, Err, IsOkAnd}
-use Rattle.blot_desk.specs.declared.{event.Event.Event, event.Event.TheVariants.Submit}
 use Rattle.blot_types.specs.declared.{command.Command.Command, command.Command.TheVariants.AllocNew}
+use Rattle.blot_desk.specs.declared.{event.Event.Event, event.Event.TheVariants.Submit}
 use Rattle.blot_console.specs.declared.{ask.Ask.Ask, ask.Ask.TheVariants.Step, fault.Refusal.Refusal, fault.Wrong.Wrong}
 use Rattle.blot_console.specs.declared.fault.Refusal.TheVariants as refusals
 

@@ -9,7 +9,7 @@ use Rattle.blot_desk.specs.declared.question.Found.TheVariants as found
 use Rattle.blot_desk.specs.declared.question.StepRow.TheVariants as steps
 use Rattle.blot_report.specs.declared.{lines.OrderRow.OrderRow, lines.PositionRow.PositionRow}
 use Rattle.blot_report.specs.Text.{end_text, order_lines_text, position_lines_text}
-use Rattle.blot_console.specs.Replies.{told, number_text, exec_text, values_text, refused_text, word_line, number_line}
+use Rattle.blot_console.specs.Replies.{word_text, number_text, exec_text, values_text, refused_text, word_line, number_line}
 use Rattle.blot_console.specs.Entries.{alloc_text, entry_text, withdraw_text}
 
 -- a line of a word and a number, if there is one; and how many lines that is
@@ -65,18 +65,18 @@ steps_text rows = flat_map step_text rows ++ end_text (length rows)
 
 -- a command by its kind, the first word of its entry's line, and its own key
 abbrev pub key_text : CommandKey → List ℕ
-key_text (Trade key) = told (codes "trade") ++ exec_text key
-key_text (Correct key) = told (codes "correct") ++ exec_text key
-key_text (Bust key) = told (codes "bust") ++ exec_text key
-key_text (AllocNew key) = told (codes "allocnew") ++ alloc_text key
-key_text (AllocReplace key) = told (codes "allocreplace") ++ alloc_text key
-key_text (AllocCancel key) = told (codes "alloccancel") ++ alloc_text key
-key_text (Withdraw number) = told (codes "withdraw") ++ number_text number
+key_text (Trade key) = word_text (codes "trade") ++ exec_text key
+key_text (Correct key) = word_text (codes "correct") ++ exec_text key
+key_text (Bust key) = word_text (codes "bust") ++ exec_text key
+key_text (AllocNew key) = word_text (codes "allocnew") ++ alloc_text key
+key_text (AllocReplace key) = word_text (codes "allocreplace") ++ alloc_text key
+key_text (AllocCancel key) = word_text (codes "alloccancel") ++ alloc_text key
+key_text (Withdraw number) = word_text (codes "withdraw") ++ number_text number
 
 -- a refused command: its place, its key, and the refusal
 abbrev pub refusal_text : RefusalRow → List ℕ
 refusal_text row =
-    codes "refusal" ++ number_text row.place ++ key_text row.command ++ number_text (refused_number row.reason) ++ told (refused_name row.reason)
+    codes "refusal" ++ number_text row.place ++ key_text row.command ++ number_text (refused_number row.reason) ++ word_text (refused_name row.reason)
     ++ values_text row.reason ++ 10 ∷ []
 
 abbrev pub refusals_text : List RefusalRow → List ℕ
@@ -97,7 +97,7 @@ found_text (found.Refusals rows) = refusals_text rows
 -- a line with one word more at its end, its maker; a line without a maker would be told as it is
 abbrev pub line_by : List ℕ → Option (List ℕ) → List ℕ
 line_by line None = line
-line_by line (Some maker) = take (length line - 1) line ++ told maker ++ 10 ∷ []
+line_by line (Some maker) = take (length line - 1) line ++ word_text maker ++ 10 ∷ []
 
 -- the lines of some rows, each with the maker beside it
 abbrev pub lines_by : {Row : Type 0} → (Row → List ℕ) → List Row → List (List ℕ) → List ℕ

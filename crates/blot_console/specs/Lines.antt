@@ -2,8 +2,8 @@
 -- Source: this project's rule.
 use Rattle.std.specs.Prelude.{ℕ, List, Result, Ok}
 use Rattle.blot_time.specs.Results.{◌>>=◌}
-use Rattle.blot_desk.specs.declared.event.Event.TheVariants.{Submit, Undo, Redo, AskOrder, AskPosition}
 use Rattle.blot_types.specs.declared.command.Command.TheVariants.{Withdraw}
+use Rattle.blot_desk.specs.declared.event.Event.TheVariants.{Submit, Undo, Redo, AskOrder, AskPosition}
 use Rattle.blot_console.specs.declared.{ask.Ask.Ask, fault.Wrong.Wrong}
 use Rattle.blot_console.specs.declared.ask.Ask.TheVariants.{Step, Report, Mine}
 use Rattle.blot_console.specs.Forms.{number_form, text_form, day_form}

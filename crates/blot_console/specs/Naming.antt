@@ -6,7 +6,7 @@ use Rattle.blot_console.specs.declared.fault.LineFault.TheVariants.{BadValue, To
 use Rattle.blot_console.specs.declared.naming.Naming.TheVariants.{Bad, Full, Named, Taken}
 use Rattle.blot_console.specs.Answers.{bad_text}
 use Rattle.blot_console.specs.Forms.{text_form}
-use Rattle.blot_console.specs.Replies.{told, word_line}
+use Rattle.blot_console.specs.Replies.{word_text, word_line}
 use Rattle.blot_console.specs.Words.{words_of, word_at}
 
 -- the word at place 1 is the name, where it has the form of one
@@ -26,7 +26,7 @@ name_parsed line = if nat_le (length line) LINE_MAX then name_in (words_of line)
 
 -- the answer to such a line
 abbrev pub naming_text : Naming → List ℕ
-naming_text (Named name) = codes "operator" ++ told name ++ 10 ∷ []
+naming_text (Named name) = codes "operator" ++ word_text name ++ 10 ∷ []
 naming_text Taken = word_line (codes "taken")
 naming_text Full = word_line (codes "full")
 naming_text (Bad fault) = bad_text fault

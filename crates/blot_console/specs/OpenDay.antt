@@ -1,10 +1,10 @@
 -- The two lines that an open day has and no other, and what is told of sessions. Source: this project's rule.
 use Rattle.std.specs.Prelude.{ℕ, ◌==◌, nat_le, Bool, true, false, List, [], ◌∷◌, ◌++◌, length, codes, Option, Some, None, option_map, Result, Ok, Err, if◌then◌else◌, flat_map}
-use Rattle.blot_report.specs.Text.{end_text}
 use Rattle.blot_types.specs.Keys.{same_text}
+use Rattle.blot_report.specs.Text.{end_text}
 use Rattle.blot_console.specs.declared.{fault.LineFault.LineFault, fault.LineFault.TheVariants.WrongCount, open_day.DayAsk.DayAsk, open_day.SessionLine.SessionLine, parsing.TheConstants.LINE_MAX}
 use Rattle.blot_console.specs.declared.open_day.DayAsk.TheVariants.{Close, Sessions}
-use Rattle.blot_console.specs.Replies.{told, number_text}
+use Rattle.blot_console.specs.Replies.{word_text, number_text}
 use Rattle.blot_console.specs.Words.{words_of, word_at}
 
 -- what a first word asks that only an open day knows
@@ -33,7 +33,7 @@ on_text false = codes "off"
 
 -- a session: its peer, whether it is on, and the number that is expected
 abbrev pub session_text : SessionLine → List ℕ
-session_text line = codes "session" ++ told line.peer ++ told (on_text line.is_on) ++ number_text line.expected ++ 10 ∷ []
+session_text line = codes "session" ++ word_text line.peer ++ word_text (on_text line.is_on) ++ number_text line.expected ++ 10 ∷ []
 
 -- lines of sessions, and how many they are
 abbrev pub sessions_answer : List SessionLine → List ℕ

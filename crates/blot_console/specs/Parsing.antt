@@ -68,13 +68,13 @@ unfoldable pub ask_of : List ℕ → Result Ask Wrong
 ask_of line = if nat_le (length line) LINE_MAX then words_line (words_of line) else Err TooLong
 
 -- an ask, or a fault as it is told
-abbrev pub told : Result Ask Wrong → Result Ask LineFault
-told (Ok ask) = Ok ask
-told (Err wrong) = Err (fault_of wrong)
+abbrev pub ask_or_fault : Result Ask Wrong → Result Ask LineFault
+ask_or_fault (Ok ask) = Ok ask
+ask_or_fault (Err wrong) = Err (fault_of wrong)
 
 -- what a line asks, or its first fault
 unfoldable pub parsed : List ℕ → Result Ask LineFault
-parsed line = told (ask_of line)
+parsed line = ask_or_fault (ask_of line)
 
 -- whether a fault is that there was no memory
 abbrev pub is_no_memory : LineFault → Bool

@@ -1,27 +1,27 @@
 -- How replies and refusals are told. Words are divided by tabs, and each line ends with LF. Source: this project's rule.
 use Rattle.std.specs.Prelude.{ℕ, ℤ, List, [], ◌∷◌, ◌++◌, codes, decimal}
 use Rattle.blot_decimal.specs.Printed.{printed}
-use Rattle.blot_desk.specs.declared.event.Reply.{Reply}
-use Rattle.blot_desk.specs.declared.event.Reply.TheVariants as replies
 use Rattle.blot_types.specs.declared.{keys.ExecKey.ExecKey, refused.Refused.Refused}
 use Rattle.blot_types.specs.declared.refused.Refused.TheVariants.{DuplicateExec, DuplicateAlloc, UnknownAlloc, DeadAlloc, UnknownExec, BustedExec, RepeatedExec, ExecTaken, Instrument, Quantity, NotLive, Needed, NothingToUndo, Moved, NothingToRedo}
 use Rattle.blot_types.specs.RefusalNames.{refused_number, refused_name}
+use Rattle.blot_desk.specs.declared.event.Reply.{Reply}
+use Rattle.blot_desk.specs.declared.event.Reply.TheVariants as replies
 
 -- a word after a tab
-abbrev pub told : List ℕ → List ℕ
-told word = 9 ∷ word
+abbrev pub word_text : List ℕ → List ℕ
+word_text word = 9 ∷ word
 
 -- a number after a tab
 abbrev pub number_text : ℕ → List ℕ
-number_text number = told (decimal number)
+number_text number = word_text (decimal number)
 
 -- an execution after a tab: its peer and its ExecID
 abbrev pub exec_text : ExecKey → List ℕ
-exec_text key = told key.peer ++ told key.id
+exec_text key = word_text key.peer ++ word_text key.id
 
 -- two quantities, each after a tab
 abbrev pub quantities_text : ℤ → ℤ → List ℕ
-quantities_text wanted found = told (printed 6 wanted) ++ told (printed 6 found)
+quantities_text wanted found = word_text (printed 6 wanted) ++ word_text (printed 6 found)
 
 -- what a refusal tells after its name
 abbrev pub values_text : Refused → List ℕ
@@ -44,7 +44,7 @@ values_text NothingToRedo = []
 -- a refusal: its number, its name and its values
 abbrev pub refused_text : Refused → List ℕ
 refused_text refused =
-    codes "refused" ++ number_text (refused_number refused) ++ told (refused_name refused) ++ values_text refused ++ 10 ∷ []
+    codes "refused" ++ number_text (refused_number refused) ++ word_text (refused_name refused) ++ values_text refused ++ 10 ∷ []
 
 -- a line of one word
 abbrev pub word_line : List ℕ → List ℕ

@@ -1,14 +1,14 @@
 //! The line that tells an entry.
 ghost use Rattle.std.specs.Prelude.{◌≡◌, ◌++◌, OnOk, flat_map};
 ghost use Rattle.blot_types.specs.declared.command.Command.TheVariants as commands;
-ghost use Rattle.blot_report.specs.Text.{sign_text};
-ghost use Rattle.blot_console.specs.Replies.{told};
+ghost use Rattle.blot_console.specs.Replies.{word_text};
 ghost use Rattle.blot_console.specs.Entries.{account_word, alloc_text, amounts_text, command_text, entry_text, fill_text, line_text, lists_text, terms_text, withdraw_text};
 
 use crate::telling::{put_exec, put_number, put_word};
+use blot_report::sign_word;
 use blot_types::{
     AllocCancel, AllocKey, AllocNew, AllocReplace, Bust, Command, Correct, Entry, ExecKey, Fill,
-    Line, Sign, Terms, Text64, Trade,
+    Line, Terms, Text64, Trade,
 };
 use std::alloc::{AllocError as NoMemory, Global};
 
@@ -194,7 +194,7 @@ fn put_lists(alloc: Global, text: &mut Vec<u8>, terms: &Terms) -> Result<(), NoM
 
 // Puts the ExecIDs of executions after a text.
 fn put_exec_ids(text: &mut Vec<u8>, execs: &[ExecKey]) -> Result<(), NoMemory>
-    ensures { OnOk result (text.new.items ≡ text.old.items ++ flat_map (λ key. told key.id) execs.now) }
+    ensures { OnOk result (text.new.items ≡ text.old.items ++ flat_map (λ key. word_text key.id) execs.now) }
 {
     for key in execs {
         put_word(text, key.id.bytes())?;
@@ -238,15 +238,5 @@ fn account_word(account: &Option<Text64>) -> &[u8]
     match account {
         None => b"*",
         Some(account) => account.bytes(),
-    }
-}
-
-// The letter of a sign.
-fn sign_word(sign: Sign) -> &'static [u8]
-    ensures { result.now ≡ sign_text sign }
-{
-    match sign {
-        Sign::Buy => b"B",
-        Sign::Sell => b"S",
     }
 }

@@ -1,7 +1,7 @@
 //! How what was found to a question is told.
 ghost use Rattle.std.specs.Prelude.{◌≡◌, ◌++◌, IfOk, OnOk, length, slice_get, flat_map};
 ghost use Rattle.blot_report.specs.Text.{end_text};
-ghost use Rattle.blot_console.specs.Replies.{exec_text, told};
+ghost use Rattle.blot_console.specs.Replies.{exec_text, word_text};
 ghost use Rattle.blot_console.specs.Entries.{alloc_text, entry_text};
 ghost use Rattle.blot_console.specs.Founds.{allocation_text, execution_lines, execution_text, found_by_text, found_text, key_text, line_by, lines_by, needs_text, optional_line, optional_lines, refusal_text, state_line, step_text};
 
@@ -238,7 +238,7 @@ fn put_key(alloc: Global, text: &mut Vec<u8>, key: &CommandKey) -> Result<(), No
 
 // A kind and the key of an execution.
 fn put_exec_key(text: &mut Vec<u8>, kind: &[u8], key: &ExecKey) -> Result<(), NoMemory>
-    ensures { OnOk result (text.new.items ≡ text.old.items ++ told kind.now ++ exec_text key.now) }
+    ensures { OnOk result (text.new.items ≡ text.old.items ++ word_text kind.now ++ exec_text key.now) }
 {
     put_word(text, kind)?;
     put_exec(text, key)
@@ -246,7 +246,7 @@ fn put_exec_key(text: &mut Vec<u8>, kind: &[u8], key: &ExecKey) -> Result<(), No
 
 // A kind and the key of an allocation.
 fn put_alloc_key(text: &mut Vec<u8>, kind: &[u8], key: &AllocKey) -> Result<(), NoMemory>
-    ensures { OnOk result (text.new.items ≡ text.old.items ++ told kind.now ++ alloc_text key.now) }
+    ensures { OnOk result (text.new.items ≡ text.old.items ++ word_text kind.now ++ alloc_text key.now) }
 {
     put_word(text, kind)?;
     put_alloc(text, key)

@@ -1,6 +1,6 @@
 //! How replies and refusals are told.
 ghost use Rattle.std.specs.Prelude.{◌≡◌, ◌++◌, IfOk, OnOk};
-ghost use Rattle.blot_console.specs.Replies.{told, number_text, exec_text, quantities_text, values_text, refused_text, word_line, number_line, reply_text, IsTold};
+ghost use Rattle.blot_console.specs.Replies.{word_text, number_text, exec_text, quantities_text, values_text, refused_text, word_line, number_line, reply_text, IsTold};
 
 use blot_decimal::QtySum;
 use blot_desk::Reply;
@@ -91,7 +91,7 @@ pub fn put_number(alloc: Global, text: &mut Vec<u8>, number: u64) -> Result<(), 
 
 /// Adds a tab and a word at the end of a text. An error is out of memory, and what the text has then isn't said.
 pub fn put_word(text: &mut Vec<u8>, word: &[u8]) -> Result<(), NoMemory>
-    ensures { OnOk result (text.new.items ≡ text.old.items ++ told word.now) }
+    ensures { OnOk result (text.new.items ≡ text.old.items ++ word_text word.now) }
 {
     text.push(b'\t')?;
     text.extend_from_slice(word)?;

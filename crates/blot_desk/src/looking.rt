@@ -7,7 +7,7 @@ ghost use Rattle.blot_desk.specs.Questions.{key_of, newest_refusals, newest_step
 
 use crate::question::{CommandKey, RefusalRow, StepRow};
 use crate::{Event, Recorded, Reply};
-use blot_command::{BoxedCommand, Inverse, Tables, copy_entry};
+use blot_command::{BoxedCommand, Inverse, Tables};
 use blot_types::{Command, Entry};
 use blot_undo::{Done, Steps};
 use std::alloc::{AllocError as NoMemory, Global};
@@ -38,7 +38,7 @@ fn step_row(alloc: Global, tables: &Tables, step: &Done<Inverse>) -> Result<Step
     match &step.inverse {
         Inverse::Taken(entry) => Ok(StepRow::Withdraw(step.number, entry.as_entry().number)),
         Inverse::Number(number) => match tables.entry(*number) {
-            Some(entry) => Ok(StepRow::Entry(copy_entry(alloc, entry)?)),
+            Some(entry) => Ok(StepRow::Entry(entry.try_copy(alloc)?)),
             None => Ok(StepRow::Withdrawn(*number)),
         },
     }
@@ -50,7 +50,7 @@ pub(crate) fn entry(alloc: Global, tables: &Tables, number: u64) -> Result<Optio
 {
     match tables.entry(number) {
         None => Ok(None),
-        Some(entry) => Ok(Some(copy_entry(alloc, entry)?)),
+        Some(entry) => Ok(Some(entry.try_copy(alloc)?)),
     }
 }
 

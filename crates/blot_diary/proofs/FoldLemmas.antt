@@ -2,8 +2,8 @@
 use Rattle.std.proofs.Common.{◌≡◌, ℕ, List, [], ◌∷◌, ◌++◌, Option, Some, None, refl, ap, ◌∙◌, fold, filter_map, append-nil}
 use Rattle.std.specs.List.{cons_option}
 use Rattle.std.proofs.lemmas.List.Sums.{fold-append}
-use Rattle.blot_types.proofs.GeneralLemmas.{cons-append}
 use Rattle.blot_tag.specs.Fields.{fields_of}
+use Rattle.blot_types.proofs.GeneralLemmas.{cons-append}
 use Rattle.blot_diary.specs.declared.{kept.Kept.Kept, kept.Noted.Noted, numbers.SequenceNumbers.SequenceNumbers}
 use Rattle.blot_diary.specs.Events.{BringsLast, events_in, noted_of, with_last}
 use Rattle.blot_diary.specs.Keeping.{kept_in, kept_of}

@@ -10,8 +10,11 @@ use Rattle.blot_tag.specs.Writing.{MayFollow, Written, frame_fields, frame_of}
 use Rattle.blot_tag.proofs.FrameLemmas.{length-frame-le, length-frame}
 use Rattle.blot_types.specs.Text.{is_text}
 use Rattle.blot_fields.specs.Kinds as fields
-use Rattle.blot_console.specs.Parsing as console
+use Rattle.blot_session.specs.Outbound.{IsShort}
+use Rattle.blot_session.proofs.HeaderLemmas.{IsReadable}
+use Rattle.blot_session.proofs.ShortLemmas.{is_number-decimal, number_of-decimal, short_day, short_decimal, short_moment, short_text}
 use Rattle.blot_desk.specs.declared.event.Event.{Event}
+use Rattle.blot_console.specs.Parsing as console
 use Rattle.blot_diary.specs.declared.kept.Content.TheVariants as contents
 use Rattle.blot_diary.specs.declared.numbers.SequenceNumbers.{SequenceNumbers}
 use Rattle.blot_diary.specs.Keeping.{IsInRange, content_under, kept_of, kept_said}
@@ -19,9 +22,6 @@ use Rattle.blot_diary.specs.Kinds.{kind_of}
 use Rattle.blot_diary.specs.Own.{asked_by, beginning_by, event_of_line, next_form, numbers_by}
 use Rattle.blot_diary.specs.Records.{asked_message, beginning_message, keeps, numbers_message, wrapped_message}
 use Rattle.blot_diary.specs.Writing.{fits, written}
-use Rattle.blot_session.specs.Outbound.{IsShort}
-use Rattle.blot_session.proofs.HeaderLemmas.{IsReadable}
-use Rattle.blot_session.proofs.ShortLemmas.{is_number-decimal, number_of-decimal, short_day, short_decimal, short_moment, short_text}
 use Rattle.blot_diary.proofs.HeaderLemmas.{IsHeaded, decoded-plain}
 use Rattle.blot_diary.proofs.ShortLemmas.{fits-short}
 

@@ -2,9 +2,9 @@
 -- sends to it the next one.
 use Rattle.std.specs.Prelude.{ℕ, ◌+◌, Bool, ◌&&◌, not, List, fold, if◌then◌else◌}
 use Rattle.std.specs.Option.{option_map_or}
-use Rattle.blot_types.specs.Keys.{same_text}
 use Rattle.blot_tag.specs.Fields.{fields_of}
 use Rattle.blot_tag.specs.Walking.{frames_of}
+use Rattle.blot_types.specs.Keys.{same_text}
 use Rattle.blot_diary.specs.declared.{kept.Content.Content, kept.Kept.Kept, numbers.SequenceNumbers.SequenceNumbers}
 use Rattle.blot_diary.specs.declared.kept.Content.TheVariants as contents
 use Rattle.blot_diary.specs.Keeping.{kept_in, kept_of}

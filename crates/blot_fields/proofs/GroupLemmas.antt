@@ -3,10 +3,10 @@ use Rattle.std.proofs.Common.{◌≡◌, ℕ, ℤ, Bool, true, false, List, [], 
 use Rattle.std.specs.Option.{option_or}
 use Rattle.std.specs.Result.{result_err}
 use Rattle.std.specs.List.{list_any}
-use Rattle.blot_types.proofs.GeneralLemmas.{or-none}
 use Rattle.blot_tag.specs.Bytes.{is_number, number_of}
 use Rattle.blot_tag.specs.Fields.{TagValue}
 use Rattle.blot_tag.specs.Results.{◌>>=◌}
+use Rattle.blot_types.proofs.GeneralLemmas.{or-none}
 use Rattle.blot_fields.specs.declared.{allocation.AllocationLine.AllocationLine, fault.Flaw.Flaw, fault.Wrong.Wrong}
 use Rattle.blot_fields.specs.declared.fault.Flaw.TheVariants.{RequiredTagMissing, ValueIncorrect, IncorrectDataFormat, IncorrectGroupCount}
 use Rattle.blot_fields.specs.Forms.{text_form, any_form, number_form, count_form, qty_form, price_form}

@@ -11,7 +11,7 @@ use Rattle.blot_session.specs.Runs.{Call, AreMet, outcome, actions_of, behind_ca
 use Rattle.blot_gateway.specs.declared.{ended.Ended.Ended, parties.Parties.Parties}
 use Rattle.blot_gateway.specs.declared.ended.Ended.TheVariants as ended
 use Rattle.blot_gateway.specs.Wires.{Read, Did, Notice, StepByStep, command_in, commands_of, read_in}
-use Rattle.blot_gateway.specs.Serving.{Due, Turn, Happens, InTurn, Runs, Ends, GoesOn, HasLast, Stops, EndsWith, Cause, Wrote, call_in, did_in, due_in, reads_behind, written_in, texts_of, close_in, closed_by, moment_by, moments_of, is_served, has_memory, told_by, told_in, told_of}
+use Rattle.blot_gateway.specs.Serving.{Due, Turn, Happens, InTurn, Runs, Ends, GoesOn, HasLast, Stops, EndsWith, Cause, Wrote, call_in, did_in, due_in, reads_behind, written_in, texts_of, close_in, closed_by, moment_by, moments_of, is_served, has_memory, noticed_by, noticed_in, noticed_of}
 use Rattle.blot_gateway.proofs.SendingLemmas.{steps-on}
 
 pub appended : {A : Type 0} {a b c d : List A} → a ≡ b → c ≡ d → a ++ c ≡ b ++ d
@@ -39,10 +39,10 @@ delivered-on (call ∷ first) second state =
     let here = delivered_by state.expected (outcome state call).actions in
     ap (λ rest. here ++ rest) (delivered-on first second (outcome state call).state) ∙ sym (append_assoc here _ _)
 
-told-on : (first second : List Call) (state : State) → told_of state (first ++ second) ≡ told_of state first ++ told_of (behind_calls state first) second
+told-on : (first second : List Call) (state : State) → noticed_of state (first ++ second) ≡ noticed_of state first ++ noticed_of (behind_calls state first) second
 told-on [] second state = refl
 told-on (call ∷ first) second state =
-    let here = told_in state call in
+    let here = noticed_in state call in
     ap (λ rest. here ++ rest) (told-on first second (outcome state call).state) ∙ sym (append_assoc here _ _)
 
 pub met-on : (first second : List Call) (state : State) → AreMet state first → AreMet (behind_calls state first) second → AreMet state (first ++ second)
@@ -137,7 +137,7 @@ happens-on does ticks takes a b c calls calls_b dids dids_b notices notices_b on
       clock = subst (λ moments. StepByStep ticks a.clock moments c.clock) (sym (flat_map-append moment_by calls calls_b))
           (steps-on ticks (moments_of calls) (moments_of calls_b) a.clock b.clock c.clock one.clock two.clock);
       sink = steps-on takes notices notices_b a.sink b.sink c.sink one.sink two.sink;
-      told = map-append told_by notices notices_b ∙ appended one.told (two.told ∙ ap (λ (state : State). told_of state calls_b) one.session) ∙ sym (told-on calls calls_b a.session);
+      told = map-append noticed_by notices notices_b ∙ appended one.told (two.told ∙ ap (λ (state : State). noticed_of state calls_b) one.session) ∙ sym (told-on calls calls_b a.session);
       wire = steps-on does dids dids_b a.wire b.wire c.wire one.wire two.wire;
     }
 

@@ -6,7 +6,7 @@ mod RunLemmas
 mod GreetingLemmas
 mod LentLemmas
 mod MemoryLemmas
-mod NumbersLemmas
+mod KeptNumbersLemmas
 mod SendingLemmas
 pub mod ServingLemmas
 mod StepLemmas

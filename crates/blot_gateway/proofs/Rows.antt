@@ -7,8 +7,8 @@ use Rattle.blot_session.specs.Rows.{beat_row, heartbeat_row, quiet_row, stop_row
 use Rattle.blot_session.specs.Runs.Call.{Stop, Tick}
 use Rattle.blot_session.specs.States.{opened, resumed}
 use Rattle.blot_gateway.specs.declared.wire.Heard.{Heard}
-use Rattle.blot_gateway.specs.Numbers.{KeptNumber, kept_numbers_of, expected_by, kept_by, next_by, sent_numbers}
-use Rattle.blot_gateway.specs.Numbers.KeptNumber.{Taken, Numbers, Sent}
+use Rattle.blot_gateway.specs.KeptNumbers.{KeptNumber, kept_numbers_of, expected_by, kept_by, next_by, sent_numbers}
+use Rattle.blot_gateway.specs.KeptNumbers.KeptNumber.{Taken, Numbers, Sent}
 
 -- BRKA's Trade 2 is taken, and a TestRequest 3 is answered under 5
 abbrev kept : List KeptNumber

@@ -16,7 +16,7 @@ use Rattle.blot_gateway.specs.Wires.{Read, Did, Answered, Notice, StepByStep, co
 use Rattle.blot_gateway.specs.Wires.Notice.{Handed}
 use Rattle.blot_gateway.specs.Wires.Did.{Gave}
 use Rattle.blot_gateway.specs.Wires.Read.{AtEnd, Failed}
-use Rattle.blot_gateway.specs.Serving.{Due, EndsWith, parties, Happens, InTurn, Runs, Ends, GoesOn, HasLast, Stops, Cause, IsFront, Wrote, close_in, due_by, moment_by, is_served, has_memory, seen_reply, told_by, told_in, texts_of, written_in}
+use Rattle.blot_gateway.specs.Serving.{Due, EndsWith, parties, Happens, InTurn, Runs, Ends, GoesOn, HasLast, Stops, Cause, IsFront, Wrote, close_in, due_by, moment_by, is_served, has_memory, seen_reply, noticed_by, noticed_in, texts_of, written_in}
 use Rattle.blot_gateway.specs.Serving.Due.{Fed, Came, Passed}
 use Rattle.blot_gateway.specs.Serving.Turn.{Reads, Calls}
 use Rattle.blot_gateway.specs.Sending.{Called, StopsAt, Halted, Comes, Submitted, SubmittedLast}
@@ -29,7 +29,7 @@ use Rattle.blot_gateway.proofs.CallLemmas.{goes-on, goes-nowhere, happens-on, in
 pub record IsCall (call : ℤ → Bool → Call) (state : State) (due : List Due) (handed : List Command) (notices : ℤ → Bool → List Notice) : Type 0 where
   pub moment : (now : ℤ) (memory : Bool) → moment_by (call now memory) ≡ now ∷ []
   pub due_is : (now : ℤ) (memory : Bool) → due_by (call now memory) ≡ due
-  pub told : (now : ℤ) (memory : Bool) → map told_by (notices now memory) ≡ told_in state (call now memory)
+  pub told : (now : ℤ) (memory : Bool) → map noticed_by (notices now memory) ≡ noticed_in state (call now memory)
   pub handed_is : (now : ℤ) (memory : Bool) → commands_of (notices now memory) ≡ handed
   pub served : (now : ℤ) (memory : Bool) → is_served (call now memory) ≡ true
   pub memory_is : (now : ℤ) (memory : Bool) → has_memory (call now memory) ≡ memory
@@ -69,7 +69,7 @@ happens-one does ticks takes call now memory a b due handed notices dids is led 
       met = (is.meets now memory, tt);
       clock = subst (λ moments. StepByStep ticks a.clock moments b.clock) (sym (append-nil (moment_by (call now memory)) ∙ is.moment now memory)) (steps-one ticks now a.clock b.clock ticked);
       sink = taken;
-      told = is.told now memory ∙ sym (append-nil (told_in a.session (call now memory)));
+      told = is.told now memory ∙ sym (append-nil (noticed_in a.session (call now memory)));
       wire = steps;
     }
 

@@ -7,6 +7,7 @@ use Rattle.blot_session.specs.Calls.{Outcome, Awaits}
 use Rattle.blot_session.specs.Runs.{Call, DeliversJust, outcome, bytes_of}
 use Rattle.blot_session.specs.Runs.Call.{Frame}
 use Rattle.blot_session.specs.States.{IsIdle}
+use Rattle.blot_session.proofs.ActionLemmas.{delivered-idle}
 use Rattle.blot_gateway.specs.declared.{ended.Ended.Ended, ended.Stop.Stop, parties.Parties.Parties}
 use Rattle.blot_gateway.specs.declared.ended.Stop.TheVariants as stops
 use Rattle.blot_gateway.specs.Endings.{ended_by}
@@ -14,17 +15,8 @@ use Rattle.blot_gateway.specs.Hearing.{word_in}
 use Rattle.blot_gateway.specs.Wires.{Did, Notice, StepByStep}
 use Rattle.blot_gateway.specs.Serving.{close_in}
 use Rattle.blot_gateway.specs.Sending.{Writes, Halts, Called, Comes, ComesLast, StopsAt, Halted}
-use Rattle.blot_session.proofs.ActionLemmas.{delivered-idle}
 
 -- ---- results
-
-pub on-ok : {T E P Q : Type 0} (result : Result T E) → OnOk result P → (P → Q) → OnOk result Q
-on-ok (Ok x) p more = more p
-on-ok (Err e) p more = tt
-
-pub if-err : {T E : Type 0} (P Q : E → Type 0) (result : Result T E) → IfErr result P → ((e : E) → P e → Q e) → IfErr result Q
-if-err P Q (Ok x) p more = tt
-if-err P Q (Err e) p more = more e p
 
 -- a result that says how another ended
 pub ok-through : {T U E F P Q : Type 0} (result : Result T E) (served : Result U F) → OnOk result (IsOk served) → OnOk served P → (P → Q) → OnOk result Q

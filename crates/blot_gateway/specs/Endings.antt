@@ -1,9 +1,9 @@
 -- The numbers of endings, and the stops that are endings.
 use Rattle.std.specs.Prelude.{ℕ, List, codes}
+use Rattle.blot_session.specs.CloseNames.{close_name}
 use Rattle.blot_gateway.specs.declared.{ended.Ended.Ended, ended.Stop.Stop}
 use Rattle.blot_gateway.specs.declared.ended.Ended.TheVariants as ended
 use Rattle.blot_gateway.specs.declared.ended.Stop.TheVariants as stops
-use Rattle.blot_session.specs.CloseNames.{close_name}
 
 -- the number of an ending
 abbrev pub ended_number : Ended → ℕ

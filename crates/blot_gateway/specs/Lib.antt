@@ -4,7 +4,7 @@ pub mod Endings
 pub mod Greeting
 pub mod Hearing
 pub mod Memory
-pub mod Numbers
+pub mod KeptNumbers
 pub mod Progress
 pub mod Sending
 pub mod Serving

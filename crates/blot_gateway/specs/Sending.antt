@@ -1,10 +1,10 @@
 -- What is written to a wire, and how one call of a session ends.
 use Rattle.std.specs.Prelude.{◌≡◌, ℕ, ℤ, Bool, true, false, List, [], Option, Some, None, Result, flat_map}
 use Rattle.blot_types.specs.declared.command.Command.{Command}
-use Rattle.blot_desk.specs.declared.{event.Reply.Reply as DeskReply, fault.DeskFault.DeskFault}
 use Rattle.blot_session.specs.declared.{action.Action.Action, state.State.State}
 use Rattle.blot_session.specs.Runs.{Call, DeliversJust, outcome, bytes_of}
 use Rattle.blot_session.specs.Runs.Call.{Frame, Reply}
+use Rattle.blot_desk.specs.declared.{event.Reply.Reply as DeskReply, fault.DeskFault.DeskFault}
 use Rattle.blot_gateway.specs.declared.{ended.Stop.Stop, parties.Parties.Parties}
 use Rattle.blot_gateway.specs.declared.ended.Stop.TheVariants as stops
 use Rattle.blot_gateway.specs.Hearing.{word_in}

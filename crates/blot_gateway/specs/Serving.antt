@@ -4,14 +4,14 @@ use Rattle.std.specs.List.{list_all}
 use Rattle.std.proofs.Common.{inl, inr}
 use Rattle.blot_tag.specs.Walking.{frames_of, rest_of}
 use Rattle.blot_types.specs.RefusalNames.{refused_number}
-use Rattle.blot_desk.specs.declared.event.Reply.{Reply as DeskReply}
-use Rattle.blot_desk.specs.declared.event.Reply.TheVariants as replies
-use Rattle.blot_desk.specs.declared.fault.DeskFault.{DeskFault}
 use Rattle.blot_session.specs.declared.{action.Action.Action, action.Action.TheVariants.Close, action.CloseReason.CloseReason, replies.NotTaken.NotTaken, replies.SeenReply.SeenReply, state.State.State}
 use Rattle.blot_session.specs.declared.replies.SeenReply.TheVariants as seen
 use Rattle.blot_session.specs.Runs.{Call, AreMet, actions_of, behind_calls, delivered_of, outcome, sent_of}
 use Rattle.blot_session.specs.Runs.Call.{Frame, Reply, Tick}
 use Rattle.blot_session.specs.States.{closed}
+use Rattle.blot_desk.specs.declared.event.Reply.{Reply as DeskReply}
+use Rattle.blot_desk.specs.declared.event.Reply.TheVariants as replies
+use Rattle.blot_desk.specs.declared.fault.DeskFault.{DeskFault}
 use Rattle.blot_gateway.specs.declared.{ended.Ended.Ended, parties.Parties.Parties, wire.Heard.Heard}
 use Rattle.blot_gateway.specs.declared.ended.Ended.TheVariants as ended
 use Rattle.blot_gateway.specs.Hearing.{word_in}
@@ -69,19 +69,19 @@ seen_reply (Ok (replies.Refused refused)) = Ok (seen.Refused (refused_number ref
 seen_reply answer = Err (record {})
 
 -- what passes between a session and its sink: the session is told how a command was answered, or the sink what a frame came to
-abbrev pub told_by : Notice → Result SeenReply NotTaken ⊎ (List ℕ × Heard)
-told_by (Handed answered) = inl (seen_reply answered.answer)
-told_by (HeardOf text heard) = inr (text, heard)
+abbrev pub noticed_by : Notice → Result SeenReply NotTaken ⊎ (List ℕ × Heard)
+noticed_by (Handed answered) = inl (seen_reply answered.answer)
+noticed_by (HeardOf text heard) = inr (text, heard)
 
 -- in a call of the session
-abbrev pub told_in : State → Call → List (Result SeenReply NotTaken ⊎ (List ℕ × Heard))
-told_in state (Reply reply now memory) = inl reply ∷ []
-told_in state call = map told_by (word_in state call)
+abbrev pub noticed_in : State → Call → List (Result SeenReply NotTaken ⊎ (List ℕ × Heard))
+noticed_in state (Reply reply now memory) = inl reply ∷ []
+noticed_in state call = map noticed_by (word_in state call)
 
 -- over some calls
-abbrev pub told_of : State → List Call → List (Result SeenReply NotTaken ⊎ (List ℕ × Heard))
-told_of state [] = []
-told_of state (call ∷ calls) = told_in state call ++ told_of (outcome state call).state calls
+abbrev pub noticed_of : State → List Call → List (Result SeenReply NotTaken ⊎ (List ℕ × Heard))
+noticed_of state [] = []
+noticed_of state (call ∷ calls) = noticed_in state call ++ noticed_of (outcome state call).state calls
 
 -- a frame, a reply or a moment, and no other call
 abbrev pub is_served : Call → Bool
@@ -247,7 +247,7 @@ pub record Happens {W C S : Type 0} (does : W → Did → W → Type 0) (ticks :
   pub met : AreMet before.session calls
   pub clock : StepByStep ticks before.clock (moments_of calls) after.clock
   pub sink : StepByStep takes before.sink notices after.sink
-  pub told : map told_by notices ≡ told_of before.session calls
+  pub told : map noticed_by notices ≡ noticed_of before.session calls
   pub wire : StepByStep does before.wire dids after.wire
 
 -- calls that go on, in turn; the sink is handed what the session delivers, in order, each once; and all is written that is sent

@@ -2,7 +2,7 @@
 ghost use Rattle.std.specs.Prelude.{◌≡◌, ◌≤◌, List};
 ghost use Rattle.blot_session.specs.Runs.{Call, behind_calls};
 ghost use Rattle.blot_session.specs.States.{IsIdle};
-ghost use Rattle.blot_gateway.specs.Numbers.{KeepsAllNumbers};
+ghost use Rattle.blot_gateway.specs.KeptNumbers.{KeepsAllNumbers};
 ghost use Rattle.blot_gateway.specs.Serving.{IsCounted};
 ghost use Rattle.blot_gateway.specs.Stopping.{SaysGoodbye, ServedUntil, ToldStop, goodbye};
 

@@ -44,7 +44,7 @@ impl<W, S> Model for StoredWire<W, S> {
     ghost view = { λ stored. record { wire = stored.wire; store = stored.store; left = stored.left; faults = stored.faults } };
 }
 
-impl<W, S: Drop> StoredWire<W, S> {
+impl<W, S> StoredWire<W, S> {
     /// A wire over a store.
     pub fn new(wire: W, store: S) -> StoredWire<W, S>
         ensures { result ≡ record { wire = wire; store = store; left = 0; faults = 0 } }
@@ -55,14 +55,6 @@ impl<W, S: Drop> StoredWire<W, S> {
             left: 0,
             faults: 0,
         }
-    }
-
-    /// The wire.
-    pub fn into_wire(self) -> W
-        ensures { result ≡ self.wire }
-    {
-        let StoredWire { wire, .. } = self;
-        wire
     }
 }
 

@@ -7,9 +7,10 @@ use Rattle.blot_session.specs.declared.{state.State.State, state.LinkState.LinkS
 use Rattle.blot_session.specs.declared.state.LinkState.TheVariants as links
 use Rattle.blot_session.specs.declared.state.Phase.TheVariants as phases
 use Rattle.blot_session.specs.States.{phase_by, waiting_again}
-use Rattle.blot_slots.specs.Slots.{IsWaiting, Slots, answer_of, checked_out, slot_of, with_slot}
+use Rattle.blot_slots.specs.Slots.{IsWaiting, Slots, checked_out, slot_of, with_slot}
 use Rattle.blot_slots.specs.declared.slot_fault.SlotFault.{SlotFault}
 use Rattle.blot_slots.specs.declared.slot_fault.SlotFault.TheVariants as faults
+use Rattle.blot_slots.proofs.SlotLemmas.{answer_of-ok}
 use Rattle.blot_lanes.specs.declared.peers.Peer.{Peer}
 use Rattle.blot_lanes.specs.Seating.{Seating, changed_in, handed_out, seat_in, seat_of, without_seat}
 use Rattle.blot_lanes.specs.Seats.{Seated}
@@ -57,17 +58,12 @@ link-waits links.Waiting is = refl
 link-waits (links.On live) is = absurd cc
 link-waits links.Closed is = absurd cc
 
-found-in : (slot : Option (Option State)) (session : State) → answer_of slot ≡ Ok session → slot ≡ Some (Some session)
-found-in None session is = absurd cc
-found-in (Some None) session is = absurd cc
-found-in (Some (Some state)) session is = ap (λ state. Some (Some state)) cc
-
 pub put-back : (old between new : Slots) (peer : List ℕ) (session : State) → IsWaiting peer session → checked_out old peer ≡ Ok session → between ≡ with_slot peer None old
     → slot_of between peer ≡ Some None → (slot_of between session.peer ≡ Some None → new ≡ with_slot session.peer (Some (waiting_again session)) between)
     → new ≡ old
 put-back old between new peer session waits was out gone back =
     put-again old between new peer session session refl waits.of_peer (ap (λ link. record session { link = link }) (link-waits session.link waits.phase)) out gone back
-    ∙ ap (λ slots. record old { slots = slots }) (set_value_same (same_text peer) old.slots (Some session) (found-in (slot_of old peer) session was))
+    ∙ ap (λ slots. record old { slots = slots }) (set_value_same (same_text peer) old.slots (Some session) (answer_of-ok (slot_of old peer) session (sym was)))
 
 -- of a seat that is out nothing is taken
 unseated-in : {L : Type 0} (found : Option (Peer L)) (peers : List (List ℕ × Peer L)) (peer : List ℕ) → lookup (same_text peer) peers ≡ found → seat_in found ≡ None

@@ -1,9 +1,9 @@
 -- The listed peers as a day begins with them.
 use Rattle.std.specs.Prelude.{ℕ, List, map, Option, Some}
-use Rattle.blot_desk.specs.declared.receipt.Receipt.{Receipt}
 use Rattle.blot_session.specs.declared.state.State.{State}
 use Rattle.blot_session.specs.States.{resumed}
 use Rattle.blot_slots.specs.Slots.{Slots}
+use Rattle.blot_desk.specs.declared.receipt.Receipt.{Receipt}
 
 -- a peer, the receipts of its seat, and the two numbers of its session
 pub record Listed : Type 0 where

@@ -1,12 +1,12 @@
 //! What is found among the instructions on allocations. They are read newest first.
 ghost use Rattle.std.specs.Prelude.{◌≡◌, IfOk, IsTrue};
 ghost use Rattle.blot_types.specs.Allocations.{named_roots};
-ghost use Rattle.blot_types.specs.Instructions.{is_keyed, alloc_taker_in, brings_allocation, is_allocation_in, ends, ended_in, is_live_in, names, holds_in, is_reference, holds_beside, other_holder_in};
+ghost use Rattle.blot_types.specs.Instructions.{is_keyed, alloc_taker_in, is_allocation_in, ends, ended_in, is_live_in, names, holds_in, holds_beside, other_holder_in};
 ghost use Rattle.blot_types.specs.Laws.{IsNamedOnce};
 ghost use Rattle.blot_types.specs.Legal.{is_book};
 
 use crate::instructions::instructions;
-use blot_types::{AllocKey, AllocRole, Entry, ExecKey, Instruction};
+use blot_types::{AllocKey, AllocRole, Entry, ExecKey, Instruction, is_reference};
 use std::alloc::{AllocError as NoMemory, Global};
 
 /// The roots of the chains that the live allocations of a list name, those of the newest allocation first.
@@ -40,7 +40,7 @@ pub(crate) fn is_allocation(instructions: &[Instruction], key: &AllocKey) -> boo
     ensures { result ≡ is_allocation_in instructions.now key.now }
 {
     instructions.iter().any(|instruction| instruction.key == *key
-        && brings_allocation(&instruction.role))
+        && instruction.role.brings_allocation())
 }
 
 /// The number of the instruction that ended the allocation of a key.
@@ -67,16 +67,6 @@ pub(crate) fn other_holder_of(
         .map(|instruction| instruction.number)
 }
 
-// Whether an instruction of this role brings an allocation.
-fn brings_allocation(role: &AllocRole) -> bool
-    ensures { result ≡ brings_allocation role.now }
-{
-    match role {
-        AllocRole::Allocates | AllocRole::Replaces(_) => true,
-        AllocRole::Cancels(_) => false,
-    }
-}
-
 // Whether an instruction of this role ends the allocation of this key.
 fn ends(key: &AllocKey, role: &AllocRole) -> bool
     ensures { result ≡ ends key.now role.now }
@@ -91,7 +81,7 @@ fn ends(key: &AllocKey, role: &AllocRole) -> bool
 fn is_live(instructions: &[Instruction], instruction: &Instruction) -> bool
     ensures { result ≡ is_live_in instructions.now instruction.now }
 {
-    brings_allocation(&instruction.role) && ended_by(instructions, &instruction.key).is_none()
+    instruction.role.brings_allocation() && ended_by(instructions, &instruction.key).is_none()
 }
 
 // Whether an instruction lists an execution of the chain of this root.
@@ -117,14 +107,4 @@ fn holds_beside(
     is_live(instructions, instruction)
         && names(root, instruction)
         && !is_reference(reference, &instruction.key)
-}
-
-// Whether a key is the one referred to.
-fn is_reference(reference: Option<AllocKey>, key: &AllocKey) -> bool
-    ensures { result ≡ is_reference reference key.now }
-{
-    match reference {
-        None => false,
-        Some(reference) => reference == *key,
-    }
 }

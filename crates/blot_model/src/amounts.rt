@@ -2,7 +2,8 @@
 ghost use Rattle.std.specs.Prelude.{◌≡◌, ◌^◌, ◌≤ℤ◌, pos, [], reverse, filter_map};
 ghost use Rattle.std.specs.List.{cons_option};
 ghost use Rattle.blot_types.specs.Order.{cum_of};
-ghost use Rattle.blot_types.specs.Refusals.{version_in, current_fill};
+ghost use Rattle.blot_types.specs.Refusals.{current_fill};
+ghost use Rattle.blot_types.specs.Survivors.{version_numbered};
 
 use crate::chains::{current, root_of};
 use blot_types::{Entry, ExecKey, Fill, Version};
@@ -13,12 +14,12 @@ pub(crate) fn current_fill(list: &[Entry], key: &ExecKey) -> Option<Fill>
 {
     let root = root_of(list, key)?;
     let number = current(list, &root)?;
-    version_in(list, number).map(|version| version.fill)
+    version_numbered(list, number).map(|version| version.fill)
 }
 
 // The version of a number: the newest, where there are several.
-fn version_in(list: &[Entry], number: u64) -> Option<Version>
-    ensures { result ≡ version_in (reverse list.now) number }
+fn version_numbered(list: &[Entry], number: u64) -> Option<Version>
+    ensures { result ≡ version_numbered (reverse list.now) number }
 {
     list.iter()
         .rev()

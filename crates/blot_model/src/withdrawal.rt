@@ -62,20 +62,9 @@ fn without_up_to(
     let mut rest = Vec::new(alloc);
     for entry in list {
         if entry.number <= number && entry.number != withdrawn {
-            let copy = copy_of(alloc, entry)?;
+            let copy = entry.try_copy(alloc)?;
             rest.push(copy)?;
         }
     }
     Ok(rest)
-}
-
-// An equal entry.
-fn copy_of(alloc: Global, entry: &Entry) -> Result<Entry, NoMemory>
-    ensures { IfOk result (λ copy. copy ≡ entry.now) }
-{
-    let command = entry.command.try_copy(alloc)?;
-    Ok(Entry {
-        number: entry.number,
-        command,
-    })
 }

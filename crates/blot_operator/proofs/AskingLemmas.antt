@@ -12,7 +12,7 @@ use Rattle.blot_desk.specs.declared.event.Event.TheVariants.{Submit}
 use Rattle.blot_console.specs.declared.{ask.Ask.TheVariants.Step, parsing.TheConstants.LINE_MAX}
 use Rattle.blot_console.specs.Forms.{number_form}
 use Rattle.blot_console.specs.Lines.{withdraw_line}
-use Rattle.blot_console.specs.Parsing.{ask_of, kind_of, parsed, told, words_line}
+use Rattle.blot_console.specs.Parsing.{ask_of, kind_of, parsed, ask_or_fault, words_line}
 use Rattle.blot_console.specs.Rows.{counted, value_at}
 use Rattle.blot_console.specs.Words.{is_tab, words_of}
 use Rattle.blot_operator.specs.Asking.{withdrawal_text}
@@ -56,4 +56,4 @@ unfolding parsed ask_of
 withdrawal_asks number low =
     let small : number < 2 ^ 64 = omega arith in
     let short = le-leb (length (withdrawal_text number)) LINE_MAX (omega (arith, length-decimal-le 9 number (lit< tt) low small)) in
-    ap told (cond-true _ (words_line (words_of (withdrawal_text number))) _ short ∙ ap words_line (two_words number small) ∙ words_ask number low)
+    ap ask_or_fault (cond-true _ (words_line (words_of (withdrawal_text number))) _ short ∙ ap words_line (two_words number small) ∙ words_ask number low)

@@ -12,7 +12,8 @@ use Rattle.blot_desk.specs.declared.event.Event.TheVariants.{Submit, Undo, Redo,
 use Rattle.blot_desk.specs.Desk.{DeskBook, IsReply, run_of, step_of, submit_by, undo_by, redo_by}
 use Rattle.blot_console.specs.declared.{parsing.TheConstants.LINE_MAX, answer.Answer.Answer, fault.LineFault.LineFault, open_day.DayAsk.DayAsk}
 use Rattle.blot_console.specs.Answers.{CanBeTold, answer_text}
-use Rattle.blot_console.specs.Parsing.{parsed, ask_of, told}
+use Rattle.blot_console.specs.Parsing.{ask_or_fault, parsed, ask_of}
+use Rattle.blot_stream.specs.Texts.{lines_of}
 use Rattle.blot_operator.specs.declared.answering.Asked.TheVariants as asks
 use Rattle.blot_operator.specs.Dialogue.{Ways, AnswersAsk, AnswersBy, AnswersLine, TellsLine, TellsFront, StopsAtLine, AnswersLines, TellsLines, StopsAmong, HasTold, Closes, ComesOn}
 use Rattle.blot_operator.specs.Lines.{split_of, kept}
@@ -20,7 +21,6 @@ use Rattle.blot_operator.specs.OpenDay.{closes_by, day_ask_by, heard_by}
 use Rattle.blot_operator.specs.Operating.{asked_by, with_key}
 use Rattle.blot_operator.proofs.LineLemmas.{last_line, onto, lines_of-append, lines_of-ended, lines_of-last, split_of-end, split_of-more, kept-nil, kept-none, kept-byte, lines_of-begun}
 use Rattle.blot_operator.proofs.OpenDayLemmas.{heard-all, heard-last, heard-close, still-open, closed-in, day_ask-kept, closes-kept}
-use Rattle.blot_stream.specs.Texts.{lines_of}
 
 -- ---- one line
 
@@ -67,7 +67,7 @@ ask_of-kept line = elim (cases_Bool (nat_le (length line) LINE_MAX)) [
 
 parsed-kept : (line : List ℕ) → parsed (kept line) ≡ parsed line
 unfolding parsed
-parsed-kept line = ap told (ask_of-kept line)
+parsed-kept line = ap ask_or_fault (ask_of-kept line)
 
 by-kept : {S : Type 0} (ways : Ways S) (before : S) (asked : Option (Result DayAsk LineFault)) (line : List ℕ) (answer : Answer) (after : S)
     → AnswersBy ways before asked (kept line) answer after → AnswersBy ways before asked line answer after

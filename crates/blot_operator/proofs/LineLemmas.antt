@@ -5,8 +5,8 @@ use Rattle.std.proofs.lemmas.List.{take-append-le, nil_from_length}
 use Rattle.std.proofs.lemmas.List.Sums.{fold-append}
 use Rattle.std.specs.List.{onto_first}
 use Rattle.blot_console.specs.declared.parsing.TheConstants.{LINE_MAX}
-use Rattle.blot_operator.specs.Lines.{Split, split_on, split_of, kept}
 use Rattle.blot_stream.specs.Texts.{lines_of}
+use Rattle.blot_operator.specs.Lines.{Split, split_on, split_of, kept}
 
 -- texts and their lines
 none_of_nothing : lines_of [] ≡ []

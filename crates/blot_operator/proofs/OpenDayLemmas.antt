@@ -3,16 +3,17 @@ use Rattle.std.proofs.Common.{◌≡◌, ℕ, ◌+◌, Bool, true, false, List, 
 use Rattle.std.specs.List.{list_any}
 use Rattle.std.proofs.lemmas.Bool.{cases_Bool, lt-leb, or_from, or_left, or_parts, or_right}
 use Rattle.std.proofs.lemmas.List.Folds.{list_any-append}
+use Rattle.blot_types.specs.declared.command.Command.TheVariants.{Withdraw}
 use Rattle.blot_desk.specs.declared.{event.Event.Event, event.Event.TheVariants.Submit, event.Reply.Reply, question.Found.Found}
 use Rattle.blot_desk.specs.declared.event.Reply.TheVariants as replies
 use Rattle.blot_desk.specs.declared.fault.DeskFault.TheVariants.{Full, NoMemory, Broken, Unsettled}
-use Rattle.blot_types.specs.declared.command.Command.TheVariants.{Withdraw}
 use Rattle.blot_console.specs.declared.{answer.Answer.Answer, ask.Ask.Ask, fault.LineFault.LineFault, fault.LineFault.TheVariants.TooLong, open_day.DayAsk.DayAsk, parsing.TheConstants.LINE_MAX}
 use Rattle.blot_console.specs.declared.answer.Answer.TheVariants as answers
 use Rattle.blot_console.specs.declared.ask.Ask.TheVariants as asks
 use Rattle.blot_console.specs.declared.open_day.DayAsk.TheVariants as day
 use Rattle.blot_console.specs.OpenDay.{day_ask_of, day_parsed, day_words}
 use Rattle.blot_console.specs.Parsing.{parsed}
+use Rattle.blot_stream.specs.Texts.{lines_of}
 use Rattle.blot_operator.specs.declared.{answering.Asked.Asked, operated.Declined.Declined}
 use Rattle.blot_operator.specs.declared.answering.Asked.TheVariants as asked
 use Rattle.blot_operator.specs.declared.operated.Declined.TheVariants.{Desk, Unkept}
@@ -20,7 +21,6 @@ use Rattle.blot_operator.specs.Dialogue.{Ways, answer_by, found_answer, AnswersA
 use Rattle.blot_operator.specs.Lines.{kept}
 use Rattle.blot_operator.specs.OpenDay.{is_close, closes, heard, day_ask_by, closes_by, heard_by, is_closed, EndsOf}
 use Rattle.blot_operator.specs.Operating.{asked_by, with_key}
-use Rattle.blot_stream.specs.Texts.{lines_of}
 
 -- lines, and those that are heard
 hears_up_to_close : heard (codes "redo" ∷ codes "close" ∷ codes "mine" ∷ codes "close" ∷ []) ≡ codes "redo" ∷ codes "close" ∷ []

@@ -14,9 +14,9 @@ use Rattle.blot_console.specs.declared.answer.Answer.TheVariants as answers
 use Rattle.blot_console.specs.declared.ask.Ask.TheVariants as asks
 use Rattle.blot_console.specs.Answers.{answer_text}
 use Rattle.blot_console.specs.Parsing.{parsed}
+use Rattle.blot_stream.specs.Texts.{lines_of}
 use Rattle.blot_operator.specs.declared.answering.Asked.{Asked}
 use Rattle.blot_operator.specs.declared.answering.Asked.TheVariants as asked
-use Rattle.blot_stream.specs.Texts.{lines_of}
 
 -- what a desk holds, and what its operator was told
 pub record Conversation : Type 0 where

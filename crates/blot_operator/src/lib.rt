@@ -11,6 +11,7 @@ mod operator_seat;
 
 pub use blot_console::{Rows, SessionLine};
 pub use durable::write_durable;
+pub use lines::keep_byte;
 pub use operated::OpenDay;
 pub use operating::{desk_lines, open_lines, seat_lines};
 pub use operator_seat::OperatorSeat;

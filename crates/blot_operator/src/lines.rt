@@ -56,6 +56,16 @@ pub(crate) fn answer_last<D: Operated, W: Write>(
     Ok(())
 }
 
+/// Adds a byte at the end of a line, unless the line is longer than `LINE_MAX` without it. An error is out of memory.
+pub fn keep_byte(line: &mut Vec<u8>, byte: u8) -> Result<(), NoMemory>
+    ensures { OnOk result (line.new.items ≡ (if nat_le (length line.old.items) LINE_MAX then line.old.items ++ byte ∷ [] else line.old.items)) }
+{
+    if line.len() <= LINE_MAX {
+        line.push(byte)?;
+    }
+    Ok(())
+}
+
 // Takes a byte after the line that has begun: LF ends it, and it is answered. True where it closes the day.
 fn take_byte<D: Operated, W: Write>(
     alloc: Global,
@@ -79,14 +89,4 @@ fn take_byte<D: Operated, W: Write>(
     let closed = answer_line(alloc, desk, state, output, line)?;
     line.clear();
     Ok(closed)
-}
-
-// Adds a byte at the end of a line, unless the line is too long without it.
-fn keep_byte(line: &mut Vec<u8>, byte: u8) -> Result<(), NoMemory>
-    ensures { OnOk result (line.new.items ≡ (if nat_le (length line.old.items) LINE_MAX then line.old.items ++ byte ∷ [] else line.old.items)) }
-{
-    if line.len() <= LINE_MAX {
-        line.push(byte)?;
-    }
-    Ok(())
 }

@@ -1,6 +1,7 @@
 -- Slots, newest first: after a slot stand the earlier ones. A slot is live, or lifted out of what the list shows.
 use Rattle.std.specs.Prelude.{ℕ, ◌<◌, ◌≤◌, Bool, true, false, ◌&&◌, not, nat_eq, nat_le, nat_lt, List, [], ◌∷◌, map, find, length, slice_get, slice_index_or, Option, Some, None, if◌then◌else◌, filter, filter_map, option_and_then, option_map}
 use Rattle.std.specs.List.{list_all}
+use Rattle.std.specs.List.Sorted.{IsPartitionedBy}
 use Rattle.std.specs.Option.{option_map_or}
 use Rattle.blot_places.specs.declared.slots.Slot.{Slot}
 
@@ -66,6 +67,17 @@ module _ {T : Type 0} (number_of : T → ℕ) where
 
   abbrev pub places_below : ℕ → List (Slot T) → List ℕ → List ℕ
   places_below number slots places = filter (is_below number slots) places
+
+  -- on a stack, the places of the items up to a number come first; so do those of the items below it
+  abbrev pub UpToFirst : ℕ → List (Slot T) → List ℕ → Type 0
+  UpToFirst number slots stack = IsPartitionedBy (is_up_to number slots) stack
+
+  abbrev pub BelowFirst : ℕ → List (Slot T) → List ℕ → Type 0
+  BelowFirst number slots stack = IsPartitionedBy (is_below number slots) stack
+
+  -- the oldest live item above a number, on a stack
+  abbrev pub oldest_above : ℕ → List (Slot T) → List ℕ → Option T
+  oldest_above number slots stack = newest_live slots (places_above number slots stack)
 
   -- the slots before a place have numbers below this one, and no slot from it on has
   abbrev pub AreBelow : ℕ → ℕ → List (Slot T) → Type 0

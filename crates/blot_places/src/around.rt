@@ -1,7 +1,6 @@
 //! The places of a stack on either side of a number.
 ghost use Rattle.std.specs.Prelude.{◌≡◌};
-ghost use Rattle.std.specs.List.Sorted.{IsPartitionedBy};
-ghost use Rattle.blot_places.specs.Slots.{is_below, is_up_to, places_above, places_below};
+ghost use Rattle.blot_places.specs.Slots.{BelowFirst, UpToFirst, is_below, is_up_to, places_above, places_below};
 
 use crate::Slot;
 use blot_types::Numbered;
@@ -12,7 +11,7 @@ pub fn places_above<'a, T: Numbered>(
     stack: &'a [usize],
     number: u64,
 ) -> &'a [usize]
-    requires { IsPartitionedBy (is_up_to T.number_of number slots.now) stack.now }
+    requires { UpToFirst T.number_of number slots.now stack.now }
     ensures { result.now ≡ places_above T.number_of number slots.now stack.now }
 {
     let count = stack.partition_point(|place| is_up_to(slots, *place, number));
@@ -25,7 +24,7 @@ pub fn places_below<'a, T: Numbered>(
     stack: &'a [usize],
     number: u64,
 ) -> &'a [usize]
-    requires { IsPartitionedBy (is_below T.number_of number slots.now) stack.now }
+    requires { BelowFirst T.number_of number slots.now stack.now }
     ensures { result.now ≡ places_below T.number_of number slots.now stack.now }
 {
     let count = stack.partition_point(|place| is_below(slots, *place, number));

@@ -7,6 +7,7 @@ use Rattle.blot_types.specs.Keys.{same_text}
 use Rattle.blot_types.proofs.KeyLemmas.{same_text-true, same_text-refl}
 use Rattle.blot_fields.specs.declared.TheConstants.{SEQUENCE_MAX}
 use Rattle.blot_desk.specs.declared.{event.Event.TheVariants.Submit, receipt.Receipt.Receipt}
+use Rattle.blot_gateway.specs.AtOnce.{are_submits, is_submit}
 use Rattle.blot_diary.specs.declared.{kept.Content.Content, kept.Kept.Kept, kept.Noted.Noted, kept.Beginning.Beginning as Begun}
 use Rattle.blot_diary.specs.declared.kept.Content.TheVariants.{Command, Beginning, Asked, Numbers, Wrapped, Unclear, Message}
 use Rattle.blot_diary.specs.declared.kept.Party.TheVariants.{Operator, Peer}
@@ -15,7 +16,6 @@ use Rattle.blot_diary.specs.Events.{noted_by, noted_of}
 use Rattle.blot_diary.specs.Keeping.{IsInRange, IsKept, kept_in}
 use Rattle.blot_diary.specs.Numbering.{expected_by, first_numbers, next_by, numbers_after, numbers_in, numbers_of, sent_after}
 use Rattle.blot_recovery.specs.declared.{parties.KeptOperator.KeptOperator, parties.KeptPeer.KeptPeer}
-use Rattle.blot_gateway.specs.AtOnce.{are_submits, is_submit}
 use Rattle.blot_recovery.specs.Parties.{IsKeptOperator, IsKeptPeer, IsUnheard, brought_by, events_told, is_operator, is_peer, operator_record_after, operator_record_by, operator_records_of, peer_record_after, peer_record_by, peer_records_of}
 use Rattle.blot_recovery.specs.Taking.{IsAskedBy, KeepsLast, event_noted, stands_by, stands_for, with_event}
 use Rattle.blot_recovery.proofs.FrameLemmas.{brought-nil, brought-others, brought-theirs, frames_of-nil, numbers_of-last, operator_records_of-last, peer_records_of-last}

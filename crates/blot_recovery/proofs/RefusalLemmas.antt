@@ -3,9 +3,9 @@ use Rattle.std.proofs.Common.{◌≡◌, ◌⊎◌, inl, inr, ℕ, zero, suc, �
 use Rattle.std.specs.List.{list_any}
 use Rattle.std.proofs.lemmas.Bool.{and_parts, false≢true, or_parts}
 use Rattle.std.proofs.lemmas.List.{length-map}
+use Rattle.blot_tag.specs.Fields.{fields_of}
 use Rattle.blot_types.specs.Keys.{same_text}
 use Rattle.blot_types.proofs.KeyLemmas.{same_text-true}
-use Rattle.blot_tag.specs.Fields.{fields_of}
 use Rattle.blot_diary.specs.declared.{kept.Beginning.Beginning, kept.Content.Content, kept.Kept.Kept}
 use Rattle.blot_diary.specs.declared.kept.Content.TheVariants as contents
 use Rattle.blot_diary.specs.Beginnings.{beginning_of}

@@ -8,20 +8,20 @@ use Rattle.std.proofs.lemmas.List.{get_or-map, length-map}
 use Rattle.std.proofs.lemmas.List.Elements.{All-push}
 use Rattle.std.proofs.lemmas.Map.Made.{AllPairs-from_IsDistinct}
 use Rattle.std.proofs.lemmas.Option.{get_or_from_slice_get}
-use Rattle.blot_types.specs.Keys.{same_text}
-use Rattle.blot_types.proofs.KeyLemmas.{same_text-true, same_text-refl}
 use Rattle.blot_tag.specs.Fields.{fields_of}
 use Rattle.blot_tag.specs.Joined.{FrameComesFirst, HasLastFrame}
 use Rattle.blot_tag.specs.Walking.{Walk, frames_of}
+use Rattle.blot_types.specs.Keys.{same_text}
+use Rattle.blot_types.proofs.KeyLemmas.{same_text-true, same_text-refl}
 use Rattle.blot_desk.specs.Desk.{DeskState, IsRun, empty_desk, events_of}
-use Rattle.blot_diary.specs.declared.{kept.Beginning.Beginning, kept.Content.Content, kept.Kept.Kept}
 use Rattle.blot_desk.specs.declared.event.Event.{Event}
+use Rattle.blot_diary.specs.declared.{kept.Beginning.Beginning, kept.Content.Content, kept.Kept.Kept}
 use Rattle.blot_diary.specs.declared.kept.Content.TheVariants as contents
-use Rattle.blot_recovery.specs.declared.{operators.TheConstants.OPERATOR_SEATS, operators.KeptOperators.KeptOperators, parties.KeptPeer.KeptPeer, taking.Taking.Taking}
 use Rattle.blot_diary.specs.Beginnings.{beginning_of, begun_by}
 use Rattle.blot_diary.specs.Diary.{desk_events}
 use Rattle.blot_diary.specs.Events.{noted_by, noted_of}
 use Rattle.blot_diary.specs.Keeping.{kept_of}
+use Rattle.blot_recovery.specs.declared.{operators.TheConstants.OPERATOR_SEATS, operators.KeptOperators.KeptOperators, parties.KeptPeer.KeptPeer, taking.Taking.Taking}
 use Rattle.blot_recovery.specs.Faults.{BeginsOtherwise, IsWanted}
 use Rattle.blot_recovery.specs.Parties.{AreKeptOperators, AreSeated, GivesSeat, HasSeat, IsKeptPeer, brought_by, is_operator, operator_names}
 use Rattle.blot_recovery.specs.Taking.{AreApart, AreInPlace, AsksSame, HasTaken, IsAskedBy, IsInPlace, IsOfParty, KeepsLast, TakesUp, TakesUpAll, begun_on, names_of, stands_for, with_event}

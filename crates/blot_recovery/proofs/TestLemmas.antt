@@ -34,10 +34,6 @@ pub if-told : {T E : Type 0} (P : E → Type 0) (fault : E) (result : Result T E
 if-told P fault (Ok value) told holds = tt
 if-told P fault (Err is) told holds = subst P (sym told) holds
 
-pub both-ok : {T E P Q R : Type 0} (result : Result T E) → OnOk result P → OnOk result Q → (P → Q → R) → OnOk result R
-both-ok (Ok value) first second so = so first second
-both-ok (Err fault) first second so = tt
-
 pub three-ok : {T E P Q R S : Type 0} (result : Result T E) → OnOk result P → OnOk result Q → OnOk result R → (P → Q → R → S) → OnOk result S
 three-ok (Ok value) first second third so = so first second third
 three-ok (Err fault) first second third so = tt

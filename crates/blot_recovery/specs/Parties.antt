@@ -1,9 +1,9 @@
 -- What each party of a journal brought, and where its records of its own kinds stand.
 use Rattle.std.specs.Prelude.{◌≡◌, ◌⊎◌, ℕ, ◌+◌, ◌<◌, ◌≤◌, Bool, true, false, List, [], Option, None, Some, fold, get_or, length, map, filter, if◌then◌else◌, All, slice_get}
 use Rattle.std.specs.List.{list_any}
+use Rattle.blot_tag.specs.Walking.{frames_of}
 use Rattle.blot_types.specs.Keys.{same_text}
 use Rattle.blot_fields.specs.declared.TheConstants.{SEQUENCE_MAX}
-use Rattle.blot_tag.specs.Walking.{frames_of}
 use Rattle.blot_desk.specs.declared.{event.Event.Event, receipt.Receipt.Receipt}
 use Rattle.blot_gateway.specs.AtOnce.{are_submits}
 use Rattle.blot_diary.specs.declared.{kept.Content.Content, kept.Kept.Kept, kept.Party.Party}

@@ -1,8 +1,8 @@
 -- The frames that a journal received.
 use Rattle.std.specs.Prelude.{◌≡◌, ◌⊎◌, ℕ, ℤ, true, false, List, [], Option, Some, None, unwrap_or, if◌then◌else◌, flat_map}
-use Rattle.blot_types.specs.Keys.{same_text}
 use Rattle.blot_tag.specs.Fields.{Item, fields_of}
 use Rattle.blot_tag.specs.Walking.{frames_of}
+use Rattle.blot_types.specs.Keys.{same_text}
 use Rattle.blot_fields.specs.First.{first_value}
 use Rattle.blot_diary.specs.declared.{kept.Content.Content, kept.Kept.Kept}
 use Rattle.blot_diary.specs.declared.kept.Content.TheVariants as contents

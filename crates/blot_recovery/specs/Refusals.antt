@@ -1,9 +1,9 @@
 -- Which frames of a text aren't taken up.
 use Rattle.std.specs.Prelude.{◌≡◌, ◌⊎◌, ℕ, ℤ, false, List, [], length, Option, None, Some, IsSome, if◌then◌else◌, All}
 use Rattle.std.specs.List.{list_any}
+use Rattle.blot_tag.specs.Fields.{fields_of}
 use Rattle.blot_types.specs.Keys.{same_text}
 use Rattle.blot_types.specs.declared.TheConstants.{EVENTS_MAX}
-use Rattle.blot_tag.specs.Fields.{fields_of}
 use Rattle.blot_desk.specs.Desk.{DeskState}
 use Rattle.blot_diary.specs.declared.{kept.Beginning.Beginning, kept.Kept.Kept, kept.Noted.Noted}
 use Rattle.blot_diary.specs.Beginnings.{beginning_of, begun_by}

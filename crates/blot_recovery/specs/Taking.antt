@@ -1,9 +1,9 @@
 -- The frames of a journal, taken up one by one.
 use Rattle.std.specs.Prelude.{◌≡◌, ℕ, ℤ, ◌⊎◌, ◌<◌, Bool, true, false, ◌&&◌, ◌||◌, List, [], ◌∷◌, ◌++◌, drop, length, map, slice_get, Option, Some, None, option_map, IfSome, All}
 use Rattle.std.specs.List.{IsDistinct, cons_option, list_any}
-use Rattle.blot_types.specs.Keys.{same_text}
 use Rattle.blot_tag.specs.Fields.{fields_of}
 use Rattle.blot_tag.specs.Walking.{frames_of}
+use Rattle.blot_types.specs.Keys.{same_text}
 use Rattle.blot_desk.specs.declared.event.Event.{Event}
 use Rattle.blot_desk.specs.Desk.{DeskState, IsRun, events_of}
 use Rattle.blot_diary.specs.declared.{kept.Beginning.Beginning, kept.Content.Content, kept.Kept.Kept, kept.Noted.Noted}

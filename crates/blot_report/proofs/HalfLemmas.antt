@@ -18,11 +18,11 @@ use Rattle.blot_position.specs.declared.sums.Sums.{Sums}
 use Rattle.blot_position.specs.Positions.{Cells, has_cell, same_key, sums_at, with_part, AreKeysOf}
 use Rattle.blot_position.specs.Sums.{line_by, no_parts, HasRoom}
 use Rattle.blot_position.proofs.PositionLemmas.{has_cell-with_part, same_position-refl, same_position-sym, same_position-true, sums_at-with_part}
-use Rattle.blot_report.specs.Day.{day_parts_of}
-use Rattle.blot_report.specs.Lines.{position_key}
 use Rattle.blot_command.specs.Standings.{standing_of}
 use Rattle.blot_command.proofs.PositionLineLemmas.{line-of, ones}
 use Rattle.blot_command.proofs.AllocNeedLemmas.{or-turned}
+use Rattle.blot_report.specs.Day.{day_parts_of}
+use Rattle.blot_report.specs.Lines.{position_key}
 use Rattle.blot_report.specs.Standings.{between, moves_among, part_on, parts_among, parts_between, terms_among, terms_on}
 use Rattle.blot_report.specs.Sums.{with_sums, AddsSums, LeavesHalf, MadeOf, ShowsParts}
 use Rattle.blot_report.proofs.ListLemmas.{any-mapped}

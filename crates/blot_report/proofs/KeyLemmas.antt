@@ -16,13 +16,13 @@ use Rattle.blot_types.specs.Keys.{same_order, same_text, position_cmp}
 use Rattle.blot_types.specs.Order.{line_by, fills_of}
 use Rattle.blot_types.proofs.KeyLemmas.{position_cmp-exact, position_cmp-total}
 use Rattle.blot_types.proofs.GeneralLemmas.{some-mapped}
+use Rattle.blot_position.specs.Positions.{Cells, same_key, has_cell, with_part, AreKeysOf}
+use Rattle.blot_position.proofs.PositionLemmas.{has_cell-empty, has_cell-with_part}
 use Rattle.blot_report.specs.Lines.{order_cmp, orders_among, position_key, positions_among}
 use Rattle.blot_report.specs.Orders.{AreLinesOf}
-use Rattle.blot_position.specs.Positions.{Cells, same_key, has_cell, with_part, AreKeysOf}
 use Rattle.blot_report.specs.Sums.{HasCells}
 use Rattle.blot_report.proofs.ListLemmas.{any-mapped}
 use Rattle.blot_report.proofs.SortedLemmas.{sorted-once}
-use Rattle.blot_position.proofs.PositionLemmas.{has_cell-empty, has_cell-with_part}
 
 -- ---- the orders of keys
 

@@ -8,12 +8,12 @@ use Rattle.blot_types.specs.Allocations.{Allocation}
 use Rattle.blot_types.specs.Legal.{is_book}
 use Rattle.blot_types.specs.Position.{part_of_line, from_house, moves_of_line, moves_of, IsSmall, TermsFit}
 use Rattle.blot_types.proofs.GeneralLemmas.{length-found}
-use Rattle.blot_report.specs.Day.{survivor_parts_on, allocations_on, day_parts_of}
 use Rattle.blot_command.specs.Standings.{standing_of}
+use Rattle.blot_command.proofs.ReadyLemmas.{length-book}
+use Rattle.blot_report.specs.Day.{survivor_parts_on, allocations_on, day_parts_of}
 use Rattle.blot_report.specs.Standings.{between, moves_among, part_on, parts_among, terms_among, terms_on}
 use Rattle.blot_report.proofs.StandingLemmas.{parts-told, terms-told}
 use Rattle.blot_report.proofs.ListLemmas.{behind, between-few, between-none, flat-more, flat_found-more, more, All-between, all-mapped}
-use Rattle.blot_command.proofs.ReadyLemmas.{length-book}
 use Rattle.blot_report.proofs.WeightLemmas.{Books, IsLight, books-on, light-front, light-with}
 
 -- ---- the moves of lines

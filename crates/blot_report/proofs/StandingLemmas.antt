@@ -14,7 +14,7 @@ use Rattle.blot_command.specs.declared.standing.Standing.{Standing}
 use Rattle.blot_command.specs.declared.standing.Standing.TheVariants.{Stands, Live, Neither}
 use Rattle.blot_command.specs.Standings.{Told, allocation_standing, is_named_in, standing_by, standing_in, standing_of, standings_of, told_in, told_of}
 use Rattle.blot_report.specs.Day.{is_on, is_allocated_on, survivor_parts_on, allocations_on, fills_on}
-use Rattle.blot_report.specs.Standings.{AreTold, day_terms, entries_in, fill_by, fills_among, part_by, parts_among, terms_among, terms_by}
+use Rattle.blot_report.specs.Standings.{AreTold, day_terms, entries_in, fill_by, fill_on, part_by, parts_among, terms_among, terms_by}
 
 -- ---- the survivors of a day
 
@@ -84,7 +84,7 @@ parts-found links instructions day (entry ∷ list) =
     ∙ part-kept links instructions day (version_of entry) (allocation_of entry.command) (filter_map version_of list)
 
 -- the fills of a day, and what they add
-pub fills-told : (list : List Entry) (day : Option ℤ) → fills_among list day list ≡ fills_on list day
+pub fills-told : (list : List Entry) (day : Option ℤ) → filter_map (λ entry. fill_on day (standing_of list entry) entry) list ≡ fills_on list day
 fills-told list day = fills-found (links_of list) (instructions_of list) day list
 
 pub parts-told : (list : List Entry) (day : Option ℤ) → parts_among list day list ≡ survivor_parts_on list day

@@ -57,9 +57,6 @@ terms_on day standing entry = terms_by day standing (allocation_of entry.command
 
 -- ---- of some entries of a list, in their order
 
-abbrev pub fills_among : List Entry → Option ℤ → List Entry → List Fill
-fills_among list day entries = filter_map (λ entry. fill_on day (standing_of list entry) entry) entries
-
 abbrev pub parts_among : List Entry → Option ℤ → List Entry → List Part
 parts_among list day entries = filter_map (λ entry. part_on day (standing_of list entry) entry) entries
 

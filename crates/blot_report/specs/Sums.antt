@@ -2,12 +2,12 @@
 use Rattle.std.specs.Prelude.{◌≡◌, ℕ, ◌<◌, ◌^◌, ◌==◌, ◌||◌, List, map, filter, not, Option, unsigned_abs, if◌then◌else◌, filter_map, option_map}
 use Rattle.std.specs.List.{list_any}
 use Rattle.blot_types.specs.declared.{part.Part.Part, keys.PositionKey.PositionKey}
+use Rattle.blot_types.specs.Position.{is_at, position_by}
+use Rattle.blot_types.specs.Order.{total}
 use Rattle.blot_position.specs.Positions.{Cells, has_cell, same_key, sums_at}
 use Rattle.blot_position.specs.Carried.{Carries}
 use Rattle.blot_position.specs.declared.{sums.Sums.Sums, TheConstants.PARTS_MAX}
 use Rattle.blot_position.specs.Sums.{line_by, with_one}
-use Rattle.blot_types.specs.Position.{is_at, position_by}
-use Rattle.blot_types.specs.Order.{total}
 use Rattle.blot_report.specs.declared.lines.PositionRow.{PositionRow}
 use Rattle.blot_report.specs.Lines.{position_key, positions_among}
 

@@ -16,5 +16,5 @@ mod whole;
 pub use day::day_lines;
 pub use lines::{DayLines, OrderRow, PositionRow};
 pub use parallel::day_lines_parallel;
-pub use text::{put_order_line, put_position_line, report_text};
+pub use text::{put_order_line, put_position_line, report_text, sign_word};
 pub use whole::{order_lines, position_lines};

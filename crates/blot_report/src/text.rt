@@ -46,6 +46,16 @@ pub fn put_position_line(
     put_position(&mut String::new(alloc), text, account, symbol, line)
 }
 
+/// The letter of a sign: `B` for a buy, `S` for a sell.
+pub fn sign_word(sign: Sign) -> &'static [u8]
+    ensures { result.now ≡ sign_text sign }
+{
+    match sign {
+        Sign::Buy => b"B",
+        Sign::Sell => b"S",
+    }
+}
+
 // Puts the lines of orders after a text. The numbers of each line are written into one string, which is emptied first.
 fn put_order_lines(
     numbers: &mut String,
@@ -84,11 +94,11 @@ fn put_order(
 ) -> Result<(), NoMemory>
     ensures { OnOk result (text.new.items ≡ text.old.items ++ order_text order.now line.now) }
 {
-    put_word(text, b"order")?;
-    put_word(text, order.peer.bytes())?;
-    put_word(text, order.id.bytes())?;
-    put_word(text, line.symbol.bytes())?;
-    put_word(text, sign_word(line.sign))?;
+    put_word_and_tab(text, b"order")?;
+    put_word_and_tab(text, order.peer.bytes())?;
+    put_word_and_tab(text, order.id.bytes())?;
+    put_word_and_tab(text, line.symbol.bytes())?;
+    put_word_and_tab(text, sign_word(line.sign))?;
     put_order_amounts(numbers, text, line)
 }
 
@@ -102,9 +112,9 @@ fn put_position(
 ) -> Result<(), NoMemory>
     ensures { OnOk result (text.new.items ≡ text.old.items ++ position_text account.now symbol.now line.now) }
 {
-    put_word(text, b"position")?;
-    put_word(text, account.bytes())?;
-    put_word(text, symbol.bytes())?;
+    put_word_and_tab(text, b"position")?;
+    put_word_and_tab(text, account.bytes())?;
+    put_word_and_tab(text, symbol.bytes())?;
     put_position_amounts(numbers, text, line)
 }
 
@@ -112,7 +122,7 @@ fn put_position(
 fn put_first_line(text: &mut Vec<u8>, day: Day) -> Result<(), NoMemory>
     ensures { OnOk result (text.new.items ≡ text.old.items ++ first_text day) }
 {
-    put_word(text, b"report")?;
+    put_word_and_tab(text, b"report")?;
     text.extend_from_slice(&day.write())?;
     text.push(b'\n')?;
     Ok(())
@@ -123,25 +133,15 @@ fn put_end_line(numbers: &mut String, text: &mut Vec<u8>, lines: &DayLines) -> R
     ensures { OnOk result (text.new.items ≡ text.old.items ++ last_text lines.now) }
 {
     let count = lines.orders.as_slice().len() + lines.positions.as_slice().len();
-    put_word(text, b"end")?;
+    put_word_and_tab(text, b"end")?;
     numbers.clear();
     write!(numbers, "{count}\n")?;
     text.extend_from_slice(numbers.as_bytes())?;
     Ok(())
 }
 
-// The letter of a sign.
-fn sign_word(sign: Sign) -> &'static [u8]
-    ensures { result.now ≡ sign_text sign }
-{
-    match sign {
-        Sign::Buy => b"B",
-        Sign::Sell => b"S",
-    }
-}
-
 // Puts a word and a tab after a text.
-fn put_word(text: &mut Vec<u8>, bytes: &[u8]) -> Result<(), NoMemory>
+fn put_word_and_tab(text: &mut Vec<u8>, bytes: &[u8]) -> Result<(), NoMemory>
     ensures { OnOk result (text.new.items ≡ text.old.items ++ word bytes.now) }
 {
     text.extend_from_slice(bytes)?;

@@ -2,8 +2,8 @@
 use Rattle.std.proofs.Common.{◌≡◌, ℕ, Bool, true, false, List, [], ◌∷◌, ◌++◌, Option, Some, None, Result, Ok, Err, refl, sym, ap, subst, ◌∙◌, inl, inr, ℤ, is_some, IfOk, OnErr}
 use Rattle.std.specs.List.{list_any}
 use Rattle.std.proofs.lemmas.Bool.{cond_both, false≢true}
-use Rattle.blot_fields.specs.declared.{fault.FieldFault.FieldFault, message.Message.Message}
 use Rattle.blot_types.specs.declared.command.Command.{Command}
+use Rattle.blot_fields.specs.declared.{fault.FieldFault.FieldFault, message.Message.Message}
 use Rattle.blot_session.specs.declared.{action.Action.Action, action.Action.TheVariants.Send, outbound.Outbound.Outbound, replies.NotTaken.NotTaken, replies.SeenReply.SeenReply, row.End.End, row.Row.Row, state.State.State}
 use Rattle.blot_session.specs.declared.row.End.TheVariants.{Stays, Delivers, Closes}
 use Rattle.blot_session.specs.Calls.{Outcome, Awaits, GivesCommand, DeliversLast, DeliversAlone, behind, sent, ending, carried_out, is_deliver, is_spent, outcome_of, behind_all, command_said, on_frame, on_tick, on_stop, row_of_reply, on_reply}

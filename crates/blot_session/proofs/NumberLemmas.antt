@@ -3,12 +3,12 @@ use Rattle.std.proofs.Common.{◌≡◌, ℕ, ◌<◌, ◌==◌, Bool, true, fal
 use Rattle.std.specs.Option.{option_map_or}
 use Rattle.std.proofs.lemmas.Bool.{and_parts, cond_both, eqb-false}
 use Rattle.std.proofs.lemmas.Option.{same_Some}
+use Rattle.blot_types.specs.Keys.{same_text}
 use Rattle.blot_fields.specs.declared.{admin.Admin.Admin, fault.FieldFault.FieldFault, head.Head.Head, message.Body.Body, message.Message.Message, report.Report.Report}
 use Rattle.blot_fields.specs.declared.admin.Admin.TheVariants as admin
 use Rattle.blot_fields.specs.declared.message.Body.TheVariants as bodies
 use Rattle.blot_fields.specs.declared.report.Report.TheVariants as reports
 use Rattle.blot_fields.specs.Numbers.{head_in}
-use Rattle.blot_types.specs.Keys.{same_text}
 use Rattle.blot_session.specs.declared.{met.Met.Met, row.Row.Row, state.LinkState.LinkState, state.State.State}
 use Rattle.blot_session.specs.declared.met.Met.TheVariants as met
 use Rattle.blot_session.specs.declared.state.LinkState.TheVariants as links

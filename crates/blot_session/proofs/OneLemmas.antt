@@ -1,8 +1,8 @@
 -- A frame delivers one command at most, that of its message.
 use Rattle.std.proofs.Common.{◌≡◌, ℕ, List, [], ◌∷◌, ◌++◌, Option, Some, None, Result, refl, sym, subst, ℤ}
 use Rattle.std.proofs.lemmas.Bool.{cond_both}
-use Rattle.blot_fields.specs.declared.{fault.FieldFault.FieldFault, message.Message.Message}
 use Rattle.blot_types.specs.declared.command.Command.{Command}
+use Rattle.blot_fields.specs.declared.{fault.FieldFault.FieldFault, message.Message.Message}
 use Rattle.blot_session.specs.declared.{action.Action.Action, outbound.Outbound.Outbound, row.End.End, row.Row.Row, state.State.State}
 use Rattle.blot_session.specs.declared.row.End.TheVariants.{Stays, Delivers, Closes}
 use Rattle.blot_session.specs.Calls.{Outcome, behind, sent, ending, carried_out, is_spent, command_said, on_frame}

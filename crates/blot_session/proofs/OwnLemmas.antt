@@ -2,11 +2,11 @@
 use Rattle.std.proofs.Common.{◌≡◌, ℕ, List, [], ◌∷◌, map, Option, Some, None, option_to_list, Result, Ok, Err, sym, ap, subst, ◌∙◌, ℤ, IfSome}
 use Rattle.std.specs.Cmp.Lexicographic.{bytes_decides}
 use Rattle.std.proofs.lemmas.Bool.{and_parts, cond_both}
+use Rattle.blot_types.specs.declared.command.Command.{Command}
 use Rattle.blot_fields.specs.Bringing.{brought_by}
 use Rattle.blot_fields.specs.Commands.{command_of}
 use Rattle.blot_fields.specs.declared.{fault.FieldFault.FieldFault, head.Head.Head, message.Body.Body, message.Message.Message}
 use Rattle.blot_fields.specs.declared.message.Body.TheVariants as bodies
-use Rattle.blot_types.specs.declared.command.Command.{Command}
 use Rattle.blot_session.specs.declared.{action.Action.Action, row.End.TheVariants.Delivers, row.Row.Row, state.LinkState.LinkState, state.State.State}
 use Rattle.blot_session.specs.declared.state.LinkState.TheVariants as links
 use Rattle.blot_session.specs.Calls.{Outcome, command_said, on_frame}

@@ -1,10 +1,10 @@
 -- Worked rows that compute, among them those that no test can reach: the numbers to send are used up.
 use Rattle.std.proofs.Common.{◌≡◌, ℕ, true, false, [], ◌∷◌, Some, None, Result, Ok, Err, refl, codes, pos}
-use Rattle.blot_session.specs.declared.action.Action.TheVariants.{Close}
 use Rattle.blot_fields.specs.declared.{admin.Admin.Admin, fault.FieldFault.FieldFault, head.Head.Head, message.Message.Message}
 use Rattle.blot_fields.specs.declared.admin.Admin.TheVariants as admin
 use Rattle.blot_fields.specs.declared.fault.FieldReason.TheVariants as faults
 use Rattle.blot_fields.specs.declared.message.Body.TheVariants as bodies
+use Rattle.blot_session.specs.declared.action.Action.TheVariants.{Close}
 use Rattle.blot_session.specs.declared.action.CloseReason.TheVariants as reasons
 use Rattle.blot_session.specs.declared.met.Met.TheVariants as met
 use Rattle.blot_session.specs.declared.outbound.Outbound.TheVariants.{Heartbeat, TestRequest, ResendRequest, Reject, GapFill, Logout}

@@ -1,10 +1,10 @@
 -- Over any calls without a reset the numbers of what is taken rise, and each number that isn't taken was passed by a message.
 use Rattle.std.proofs.Common.{◌≡◌, ◌⊎◌, ℕ, ◌+◌, ◌≤◌, ◌<◌, Bool, true, false, ◌&&◌, List, [], ◌∷◌, ◌++◌, Option, Some, None, Result, Ok, Err, refl, sym, ap, subst, ◌∙◌, arith, inl, inr, nat_lt, ℤ, is_some, ltb-true, ltb-false}
 use Rattle.std.proofs.lemmas.Bool.{cond_both, cond-false, cases_Bool, false≢true}
+use Rattle.blot_types.specs.declared.command.Command.{Command}
 use Rattle.blot_fields.specs.declared.admin.Admin.TheVariants as admin
 use Rattle.blot_fields.specs.declared.{fault.FieldFault.FieldFault, message.Body.Body, message.Message.Message}
 use Rattle.blot_fields.specs.declared.message.Body.TheVariants as bodies
-use Rattle.blot_types.specs.declared.command.Command.{Command}
 use Rattle.blot_session.specs.declared.{outbound.Outbound.Outbound, replies.NotTaken.NotTaken, replies.SeenReply.SeenReply, row.End.End, row.End.TheVariants.Delivers, row.Row.Row, row.Sends.Sends, state.State.State, carrying.TheConstants.LAST_NUMBER}
 use Rattle.blot_session.specs.declared.row.Sends.TheVariants.{Nothing, One, Two}
 use Rattle.blot_session.specs.Calls.{Outcome, behind, behind_all, carried_out, is_spent, spent, outcome_of, command_said, on_frame, row_of_reply}

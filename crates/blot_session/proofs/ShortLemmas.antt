@@ -6,13 +6,13 @@ use Rattle.std.proofs.lemmas.Bool.{cases_Bool, cond-false, and_from, and_parts}
 use Rattle.std.proofs.lemmas.Fmt.{digits_decimal, digits_value-decimal, length-decimal-le, decimal_nonempty}
 use Rattle.std.proofs.lemmas.List.Folds.{list_any_none}
 use Rattle.std.proofs.lemmas.List.Sums.{AllPass-from_list_all}
+use Rattle.blot_time.specs.Clock.{clock_text}
+use Rattle.blot_time.specs.Day.{day_text}
+use Rattle.blot_time.specs.Moment.{moment_text}
 use Rattle.blot_tag.specs.Bytes.{is_number, is_soh, number_of}
 use Rattle.blot_tag.specs.FieldText.{field_text}
 use Rattle.blot_tag.specs.Fields.{TagValue}
 use Rattle.blot_tag.specs.Writing.{is_data_tag, refusal_of}
-use Rattle.blot_time.specs.Clock.{clock_text}
-use Rattle.blot_time.specs.Day.{day_text}
-use Rattle.blot_time.specs.Moment.{moment_text}
 use Rattle.blot_tag.proofs.FieldTextLemmas.{numeral}
 use Rattle.blot_types.specs.Text.{is_text, printable}
 use Rattle.blot_session.specs.Outbound.{IsShort}

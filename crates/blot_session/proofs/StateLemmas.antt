@@ -1,11 +1,11 @@
 -- A session's numbers stay in their ranges over a call.
 use Rattle.std.proofs.Common.{◌≡◌, ℕ, ◌+◌, ◌≤◌, ◌==◌, Bool, true, false, ◌&&◌, List, ◌++◌, Option, Some, None, Result, Ok, Err, refl, sym, ap, subst, ◌∙◌, arith, inl, inr, if◌then◌else◌, nat_lt, ℤ, is_some, IfSome, IfOk, unwrap_or, option_map, ltb-false}
 use Rattle.std.proofs.lemmas.Bool.{cond_both, false≢true}
+use Rattle.blot_types.specs.declared.command.Command.{Command}
 use Rattle.blot_fields.specs.declared.{TheConstants.SEQUENCE_MAX, fault.FieldFault.FieldFault, head.Head.Head, message.Body.Body, message.Message.Message}
 use Rattle.blot_fields.specs.declared.admin.Admin.TheVariants as admin
 use Rattle.blot_fields.specs.declared.message.Body.TheVariants as bodies
 use Rattle.blot_fields.specs.Numbers.{head_in, BodyNamesNumber, IsNumbered}
-use Rattle.blot_types.specs.declared.command.Command.{Command}
 use Rattle.blot_session.specs.declared.{action.Action.Action, outbound.Outbound.Outbound, replies.NotTaken.NotTaken, replies.SeenReply.SeenReply, row.End.End, row.Row.Row, row.Sends.Sends, state.Awaited.Awaited, state.Live.Live, state.State.State, carrying.TheConstants.LAST_NUMBER, state.LinkState.LinkState}
 use Rattle.blot_session.specs.declared.outbound.Outbound.TheVariants.{Logon, Heartbeat, TestRequest, ResendRequest, Reject, GapFill, Logout, Unsupported, AllocationAck}
 use Rattle.blot_session.specs.declared.row.Sends.TheVariants.{Nothing, One, Two}

@@ -1,9 +1,9 @@
 -- What each call of a session gives: the session after it, and what is to be done.
 use Rattle.std.specs.Prelude.{◌≡◌, ℕ, Bool, true, false, nat_lt, ◌&&◌, ℤ, List, [], ◌∷◌, ◌++◌, Option, Some, None, Result, Ok, Err, Vec, is_some, if◌then◌else◌}
 use Rattle.std.specs.List.{list_any}
+use Rattle.blot_types.specs.declared.command.Command.{Command}
 use Rattle.blot_fields.specs.Commands.{command_of}
 use Rattle.blot_fields.specs.declared.{fault.FieldFault.FieldFault, message.Message.Message}
-use Rattle.blot_types.specs.declared.command.Command.{Command}
 use Rattle.blot_session.specs.declared.{action.Action.Action, carrying.TheConstants.LAST_NUMBER, outbound.Outbound.Outbound, replies.NotTaken.NotTaken, replies.SeenReply.SeenReply, row.End.End, row.Row.Row, state.Awaited.Awaited, state.State.State}
 use Rattle.blot_session.specs.declared.action.Action.TheVariants.{Send, Deliver, Close}
 use Rattle.blot_session.specs.declared.action.CloseReason.TheVariants as reasons

@@ -1,9 +1,9 @@
 -- The messages that a session sends (FIX 4.4 volume 2, "Administrative messages" and "Business Message Reject"; volume 5,
 -- "Allocation Instruction Ack").
 use Rattle.std.specs.Prelude.{◌≡◌, ◌<◌, ◌≤◌, ℕ, ◌+◌, ◌==◌, nat_lt, ◌&&◌, All, Bool, true, false, not, ℤ, List, [], ◌∷◌, ◌++◌, length, codes, Option, Some, None, if◌then◌else◌, decimal}
+use Rattle.blot_time.specs.Moment.{moment_text}
 use Rattle.blot_tag.specs.Fields.{TagValue, field_of}
 use Rattle.blot_tag.specs.Writing.{Written, frame_of, has_soh, is_data_tag, is_own_tag}
-use Rattle.blot_time.specs.Moment.{moment_text}
 use Rattle.blot_types.specs.RefusalNames.{reject_code}
 use Rattle.blot_session.specs.declared.{outbound.Outbound.Outbound, replies.SeenReply.SeenReply, state.State.State}
 use Rattle.blot_session.specs.declared.outbound.Outbound.TheVariants.{Logon, Heartbeat, TestRequest, ResendRequest, Reject, GapFill, Logout, Unsupported, AllocationAck}

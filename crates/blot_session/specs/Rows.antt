@@ -1,6 +1,7 @@
 -- The table of a session: what it does about a frame, a moment that passes, the end of the day and a reply, a word for each row or
 -- choice between rows (FIX 4.4 volume 2, "Session protocol"; docs/SESSION.md has the rows that are this project's rule).
 use Rattle.std.specs.Prelude.{ℕ, ◌+◌, ◌*◌, ◌/◌, Bool, true, false, ◌&&◌, ◌==◌, nat_lt, nat_le, int_le, ℤ, pos, ◌+ℤ◌, List, codes, Option, Some, None, Result, Ok, Err, if◌then◌else◌}
+use Rattle.blot_types.specs.Keys.{same_text}
 use Rattle.blot_fields.specs.declared.{admin.Admin.Admin, allocation.Allocation.Allocation, fault.FieldFault.FieldFault, head.Head.Head, message.Body.Body, message.Message.Message, report.Report.Report}
 use Rattle.blot_fields.specs.declared.admin.Admin.TheVariants as admin
 use Rattle.blot_fields.specs.declared.allocation.Allocation.TheVariants as allocations
@@ -8,7 +9,6 @@ use Rattle.blot_fields.specs.declared.message.Body.TheVariants as bodies
 use Rattle.blot_fields.specs.declared.report.Report.TheVariants as reports
 use Rattle.blot_fields.specs.FaultText.{reason_number}
 use Rattle.blot_fields.specs.Numbers.{head_in}
-use Rattle.blot_types.specs.Keys.{same_text}
 use Rattle.blot_session.specs.declared.action.CloseReason.TheVariants as reasons
 use Rattle.blot_session.specs.declared.outbound.Outbound.TheVariants.{Logon, Heartbeat, TestRequest, ResendRequest, Reject, GapFill, Logout, Unsupported, AllocationAck}
 use Rattle.blot_session.specs.declared.{replies.NotTaken.NotTaken, replies.SeenReply.SeenReply, row.Row.Row, state.Awaited.Awaited, state.Live.Live, state.LinkState.LinkState, state.State.State}

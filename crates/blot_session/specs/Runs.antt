@@ -1,13 +1,13 @@
 -- Lists of calls of a session, and what is delivered, taken and sent over them.
 use Rattle.std.specs.Prelude.{◌≡◌, ℕ, ◌+◌, ◌<◌, ◌≤◌, Bool, true, false, ℤ, List, [], ◌∷◌, ◌++◌, map, Option, Some, None, IfSome, option_to_list, Result, Ok, Err, ◌⊎◌, flat_map, option_map}
 use Rattle.blot_tag.specs.Fields.{fields_of}
+use Rattle.blot_types.specs.declared.command.Command.{Command}
 use Rattle.blot_fields.specs.Bringing.{brought}
 use Rattle.blot_fields.specs.Decoding.{decoded}
 use Rattle.blot_fields.specs.declared.admin.Admin.TheVariants as admin
 use Rattle.blot_fields.specs.declared.{fault.FieldFault.FieldFault, message.Body.Body, message.Message.Message}
 use Rattle.blot_fields.specs.declared.message.Body.TheVariants as bodies
 use Rattle.blot_fields.specs.Numbers.{head_in}
-use Rattle.blot_types.specs.declared.command.Command.{Command}
 use Rattle.blot_session.specs.declared.{action.Action.Action, replies.NotTaken.NotTaken, replies.SeenReply.SeenReply, state.State.State}
 use Rattle.blot_session.specs.declared.action.Action.TheVariants.{Send, Deliver}
 use Rattle.blot_session.specs.Calls.{Outcome, on_frame, on_tick, on_stop, on_reply, row_of_reply}

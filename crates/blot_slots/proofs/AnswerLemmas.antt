@@ -8,15 +8,11 @@ use Rattle.blot_session.specs.declared.{state.LinkState.LinkState, state.State.S
 use Rattle.blot_session.specs.declared.state.LinkState.TheVariants as links
 use Rattle.blot_session.specs.declared.state.Phase.TheVariants as phases
 use Rattle.blot_session.specs.States.{awaited_by, phase_by, IsIdle}
+use Rattle.blot_slots.proofs.SlotLemmas.{answer_of-ok}
 use Rattle.blot_slots.proofs.WaitingLemmas.{waiting-slot_of, waiting_with_slot}
 use Rattle.blot_slots.specs.declared.slot_fault.SlotFault.{SlotFault}
 use Rattle.blot_slots.specs.declared.slot_fault.SlotFault.TheVariants as faults
 use Rattle.blot_slots.specs.Slots.{answer_of, AreWaiting, IsWaiting}
-
-answer_of-ok : (slot : Option (Option State)) (session : State) → Ok session ≡ answer_of slot → slot ≡ Some (Some session)
-answer_of-ok None session is = absurd cc
-answer_of-ok (Some None) session is = absurd cc
-answer_of-ok (Some (Some held)) session is = ap (λ held. Some (Some held)) cc
 
 -- UnknownPeer where there is no slot
 pub unknown_answer : (slot : Option (Option State)) (answer : Result State SlotFault) → answer ≡ answer_of slot → (answer ≡ Err faults.UnknownPeer) ↔ (slot ≡ None)

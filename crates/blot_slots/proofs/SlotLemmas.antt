@@ -1,5 +1,5 @@
--- What a slot is, after a change of one slot and at the start.
-use Rattle.std.proofs.Common.{◌≡◌, ℕ, true, false, List, [], ◌∷◌, Option, None, Some, is_some, if◌then◌else◌, inl, inr, refl, ◌∙◌}
+-- What a slot is, after a change of one slot, at the start, and where it answers with a session.
+use Rattle.std.proofs.Common.{◌≡◌, ℕ, true, false, List, [], ◌∷◌, Option, None, Some, Ok, is_some, if◌then◌else◌, inl, inr, refl, ap, ◌∙◌}
 use Rattle.std.specs.Cmp.Lexicographic.{bytes_decides, nat_list_eq_equiv}
 use Rattle.std.specs.List.{list_any}
 use Rattle.std.proofs.lemmas.Bool.{cases_Bool}
@@ -7,7 +7,7 @@ use Rattle.std.proofs.lemmas.Map.{lookup-set_value}
 use Rattle.blot_types.specs.Keys.{same_text}
 use Rattle.blot_session.specs.declared.state.State.{State}
 use Rattle.blot_session.specs.States.{fresh}
-use Rattle.blot_slots.specs.Slots.{Slots, all_in, slot_of, with_slot}
+use Rattle.blot_slots.specs.Slots.{Slots, all_in, answer_of, slot_of, with_slot}
 
 -- a change of a listed peer's slot leaves the others
 pub slot_of-with_slot :
@@ -30,3 +30,9 @@ slot_of-all_in own peer (listed ∷ peers) =
           let also : same_text listed peer ≡ false = nat_list_eq_equiv.symm listed peer ∙ other in
           rw (other, also) (slot_of-all_in own peer peers)
     ]
+
+-- a slot that answers with a session holds it
+pub answer_of-ok : (slot : Option (Option State)) (session : State) → Ok session ≡ answer_of slot → slot ≡ Some (Some session)
+answer_of-ok None session is = absurd cc
+answer_of-ok (Some None) session is = absurd cc
+answer_of-ok (Some (Some held)) session is = ap (λ held. Some (Some held)) cc

@@ -1,13 +1,5 @@
 -- What holds of a result.
-use Rattle.std.proofs.Common.{◌≡◌, ap, Result, Option, Ok, Err, Some, None, IsOk, OnOk, OnErr, IfOk, IfErr, IfSome}
-
-pub on-ok : {T E P Q : Type 0} (result : Result T E) → OnOk result P → (P → Q) → OnOk result Q
-on-ok (Ok x) p more = more p
-on-ok (Err e) p more = tt
-
-pub both-ok : {T E P Q R : Type 0} (result : Result T E) → OnOk result P → OnOk result Q → (P → Q → R) → OnOk result R
-both-ok (Ok x) p q more = more p q
-both-ok (Err e) p q more = tt
+use Rattle.std.proofs.Common.{◌≡◌, ap, Result, Option, Ok, Err, Some, None, IsOk, OnOk, OnErr, IfOk, IfSome}
 
 pub if-both-ok : {T E P : Type 0} (Q R : T → Type 0) (result : Result T E) → OnOk result P → IfOk result Q → ((x : T) → P → Q x → R x) → IfOk result R
 if-both-ok Q R (Ok x) p q more = more x p q
@@ -16,10 +8,6 @@ if-both-ok Q R (Err e) p q more = tt
 pub ok-says : {T E P : Type 0} (result : Result T E) → IsOk result → OnOk result P → P
 ok-says (Ok x) is p = p
 ok-says (Err e) is p = absurd cc
-
-pub if-err : {T E : Type 0} (P Q : E → Type 0) (result : Result T E) → IfErr result P → ((e : E) → P e → Q e) → IfErr result Q
-if-err P Q (Ok x) p more = tt
-if-err P Q (Err e) p more = more e p
 
 pub on-err : {T E P Q : Type 0} (result : Result T E) → OnErr result P → (P → Q) → OnErr result Q
 on-err (Ok x) p more = tt

@@ -40,7 +40,8 @@ impl From<NoMemory> for ReplayFault {
     }
 }
 
-/// What a day that is served met. At Connection, and where the operator's lines stopped, the report is still written.
+/// What a day that is served met. At Connection, and where the operator's lines stopped, the report is still written, unless the
+/// journal can't be.
 #[derive(Clone, Copy, Debug, PartialEq, Eq, Error)]
 pub enum ServeFault {
     /// No connection can be accepted, so no further round began.

@@ -6,8 +6,8 @@ use Rattle.std.proofs.lemmas.Bool.{cases_Bool}
 use Rattle.std.proofs.lemmas.List.Elements.{All-cons, All-head, All-nil, All-tail}
 use Rattle.indexmap.specs.IndexMap.{insert_entry}
 use Rattle.blot_types.specs.Keys.{same_text}
-use Rattle.blot_operator.specs.Seats.{Named}
 use Rattle.blot_desk.specs.declared.receipt.Receipt.{Receipt}
+use Rattle.blot_operator.specs.Seats.{Named}
 use Rattle.blot_terminals.specs.Staff.{AreOwnSeats, Grows, IsOwnSeat, Leaves}
 
 -- the seat that is found under a name is that operator's

@@ -5,9 +5,9 @@ ghost use Rattle.blot_console.specs.Naming.{name_parsed, naming_text};
 ghost use Rattle.blot_terminals.specs.Naming.{IsNaming, TellsName};
 
 use crate::{NameFault, Operators};
-use blot_console::{LINE_MAX, Naming, naming_text, parse_name};
+use blot_console::{Naming, naming_text, parse_name};
 use blot_gateway::READS_MAX;
-use blot_operator::OperatorSeat;
+use blot_operator::{OperatorSeat, keep_byte};
 use blot_stream::{ReplayFault, read_piece, write_text};
 use blot_types::Text64;
 use std::alloc::{AllocError as NoMemory, Global};
@@ -118,12 +118,4 @@ fn read_line<I: Read>(input: &mut I, line: &mut Vec<u8>) -> Result<bool, ReplayF
         }
     }
     Err(ReplayFault::TooLong)
-}
-
-// Adds a byte at the end of a line, unless the line is too long without it.
-fn keep_byte(line: &mut Vec<u8>, byte: u8) -> Result<(), NoMemory> {
-    if line.len() <= LINE_MAX {
-        line.push(byte)?;
-    }
-    Ok(())
 }

@@ -1,6 +1,7 @@
 -- The trail of a stream, told as its frames are taken one by one, and its pieces one after the other.
 use Rattle.std.proofs.Common.{◌≡◌, ℕ, ◌+◌, ◌-◌, ◌^◌, ◌<◌, ◌≤◌, List, [], ◌∷◌, ◌++◌, length, fold, min, Option, Some, None, refl, sym, ap, subst, ◌∙◌, arith, Bool, true, false, is_some, Result, Ok, Err, IfOk, IfSome, codes, append-nil, append_assoc, length-append, length-drop}
 use Rattle.std.proofs.lemmas.Bool.{false≢true}
+use Rattle.std.specs.Prelude.{⊤}
 use Rattle.std.specs.Io.KnownBytes.{Consumes}
 use Rattle.std.proofs.lemmas.List.Sums.{sum_by-cons}
 use Rattle.blot_tag.specs.Places.{Placed, placed_of, after_bytes, passed_by, passed_last}
@@ -10,13 +11,13 @@ use Rattle.blot_tag.proofs.FrameLemmas.{look_of-prefix}
 use Rattle.blot_tag.proofs.WalkLemmas.{look_of-nil, walk_of-prefix}
 use Rattle.blot_tag.proofs.PlaceLemmas.{are_placed, passed-within, passed_by-after, placed-none, placed-taken, walk-none, walk-taken}
 use Rattle.blot_stream.specs.declared.outcome.ReplayFault.TheVariants.{NoMemory}
+use Rattle.blot_stream.proofs.ResultLemmas.{if-some}
 use Rattle.blot_capture.specs.Replay.{Came, CameOn, StoppedOn, Taking}
 use Rattle.blot_capture.specs.Trace.{Turn, taking_after, trace_over, turn_of}
 use Rattle.blot_capture.proofs.StreamLemmas.{came-first, stopped-here, taken-frame, taken-none}
-use Rattle.blot_stream.proofs.ResultLemmas.{if-some}
 use Rattle.blot_trail.specs.declared.word.Word.{Word}
 use Rattle.blot_trail.specs.Audit.{end_of, lines_of, tail_of, trail_over, words_of}
-use Rattle.blot_trail.specs.Making.{FindsNoFrame, IsInStep, TrailLine, Making, Notes, TakesNoted, Telling, TellsNext, SameTrailOf, SameTrailOn, behind_bytes, behind_line, behind_turn, finished, line_of, none_yet, offset_of, size_of, told_by, trail_from, untold}
+use Rattle.blot_trail.specs.Making.{FindsNoFrame, IsInStep, TrailLine, Making, Notes, TakesNoted, Telling, TellsNext, SameTrail, SameTrailOn, behind_bytes, behind_line, behind_turn, finished, line_of, none_yet, offset_of, size_of, behind_both, trail_from, untold}
 use Rattle.blot_trail.specs.TrailText.{bytes_text, last_text, message_text, word_of}
 
 -- ---- bytes that are passed over
@@ -216,7 +217,7 @@ room-within old new from now found trail step within notes =
 -- the whole trail stays the same
 noted-same : (old new : Reading) (from now : Taking) (found : Option TrailLine) (trail : Making) → IsInStep old trail → offset_of trail + length old.unread < 2 ^ 63
     → Notes found old from new now → (more : List ℕ)
-    → trail_from trail from (old.unread ++ more) ≡ trail_from (told_by (untold new.skipped trail) found trail) now (new.unread ++ more)
+    → trail_from trail from (old.unread ++ more) ≡ trail_from (behind_both (untold new.skipped trail) found trail) now (new.unread ++ more)
 noted-same old new from now None trail step within notes more =
     let counts = counts-none old new (offset_of trail) notes.none step.low within in
     let passed : notes.none.passed ≡ untold new.skipped trail = omega (arith, counts.skipped, step.skipped) in
@@ -249,24 +250,24 @@ noted-drained old new from now None notes none = walk_of-prefix new.unread (look
 noted-drained old new from now (Some line) notes none = absurd (false≢true (sym none))
 
 -- after what was noted a trail is in step again
-noted-step : (old new : Reading) (found : Option TrailLine) (trail : Making) (passed : ℕ) → Counts old new passed (size_of found) → IsInStep old trail → IsInStep new (told_by passed found trail)
+noted-step : (old new : Reading) (found : Option TrailLine) (trail : Making) (passed : ℕ) → Counts old new passed (size_of found) → IsInStep old trail → IsInStep new (behind_both passed found trail)
 noted-step old new None trail passed counts step = record { skipped = omega (arith, counts.skipped, step.skipped); low = omega (arith, counts.skipped, step.low) }
 noted-step old new (Some line) trail passed counts step = record { skipped = omega (arith, counts.skipped, step.skipped); low = omega (arith, counts.skipped, step.low) }
 
 noted-read : (old new : Reading) (found : Option TrailLine) (trail : Making) (passed : ℕ) → Counts old new passed (size_of found)
-    → offset_of (told_by passed found trail) + length new.unread ≡ offset_of trail + length old.unread
+    → offset_of (behind_both passed found trail) + length new.unread ≡ offset_of trail + length old.unread
 noted-read old new None trail passed counts = omega (arith, counts.unread)
 noted-read old new (Some line) trail passed counts = omega (arith, counts.unread)
 
 pub tells-next : (told : Bool) (old new : Reading) (from now : Taking) (found : Option TrailLine) (trail after : Making) (skipped : ℕ) → IsInStep old trail → offset_of trail + length old.unread < 2 ^ 63
-    → Notes found old from new now → skipped ≡ new.skipped → told ≡ is_some found → after ≡ told_by (untold skipped trail) found trail
+    → Notes found old from new now → skipped ≡ new.skipped → told ≡ is_some found → after ≡ behind_both (untold skipped trail) found trail
     → TellsNext told old (record { trail = trail; taking = from }) new (record { trail = after; taking = now })
 tells-next told old new from now found trail after skipped step within notes all is gives =
     let counts = noted-counts old new from now found trail step within notes in
     let here : new.skipped - old.skipped ≡ untold new.skipped trail = omega (arith, step.skipped) in
     let known = subst (λ passed. Counts old new passed (size_of found)) here counts in
-    let trail_is : told_by (untold new.skipped trail) found trail ≡ after =
-    ap (λ skipped. told_by (untold skipped trail) found trail) (sym all) ∙ sym gives in
+    let trail_is : behind_both (untold new.skipped trail) found trail ≡ after =
+    ap (λ skipped. behind_both (untold skipped trail) found trail) (sym all) ∙ sym gives in
     subst (λ after. TellsNext told old (record { trail = trail; taking = from }) new (record { trail = after; taking = now })) trail_is (record {
       step = noted-step old new found trail (untold new.skipped trail) known step;
       read = noted-read old new found trail (untold new.skipped trail) known;
@@ -277,6 +278,12 @@ tells-next told old new from now found trail after skipped step within notes all
     })
 
 -- ---- an input whose bytes may be known
+
+-- the whole trail is the same for an input's bytes, where they are known: some were read, and some of those are unread
+abbrev pub SameTrailOf : Option (List ℕ) → Telling → Option (List ℕ) → List ℕ → Telling → Type 0
+SameTrailOf None from rest unread now = ⊤
+SameTrailOf (Some bytes) from None unread now = ⊥
+SameTrailOf (Some bytes) from (Some rest) unread now = SameTrail from bytes now (unread ++ rest)
 
 -- nothing is read yet
 pub SameTrailOf-first : (known : Option (List ℕ)) (from now : Telling) (unread : List ℕ) → unread ≡ [] → from ≡ now → SameTrailOf known from known unread now

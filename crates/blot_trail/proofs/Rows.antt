@@ -3,8 +3,8 @@ use Rattle.std.proofs.Common.{◌≡◌, [], ◌∷◌, ◌++◌, None, refl, co
 use Rattle.blot_session.specs.declared.action.Action.TheVariants.{Close, Send}
 use Rattle.blot_session.specs.declared.action.CloseReason.TheVariants.{TooLow}
 use Rattle.blot_session.specs.declared.met.Met.TheVariants as met
-use Rattle.blot_console.specs.Replies.{number_line, number_text}
 use Rattle.blot_desk.specs.declared.event.Reply.TheVariants.{Accepted}
+use Rattle.blot_console.specs.Replies.{number_line, number_text}
 use Rattle.blot_capture.specs.declared.became.Became.TheVariants as became
 use Rattle.blot_capture.specs.Trace.{Turn}
 use Rattle.blot_trail.specs.declared.word.Word.TheVariants as words

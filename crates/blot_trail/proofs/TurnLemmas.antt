@@ -1,15 +1,15 @@
 -- What is told of a message.
 use Rattle.std.proofs.Common.{◌≡◌, ℕ, List, [], ◌∷◌, ◌++◌, length, Option, Some, None, sym, ap, subst, ◌∙◌, flat_map}
 use Rattle.blot_tag.specs.Fields.{fields_of}
-use Rattle.blot_fields.specs.Numbers.{head_in}
-use Rattle.blot_fields.specs.Sender.{sender_of}
 use Rattle.blot_types.specs.declared.{command.Command.Command, refused.Refused.Refused as Refusal}
 use Rattle.blot_types.specs.Legal.{refusal_of}
+use Rattle.blot_fields.specs.Numbers.{head_in}
+use Rattle.blot_fields.specs.Sender.{sender_of}
 use Rattle.blot_session.specs.declared.{action.Action.Action, met.Met.Met, state.State.State}
 use Rattle.blot_session.specs.Met.{met_of}
 use Rattle.blot_session.specs.Runs.{said_by}
 use Rattle.blot_desk.specs.Desk.{DeskBook, DeskState, submit_by}
-use Rattle.blot_console.specs.Replies.{IsTold, told}
+use Rattle.blot_console.specs.Replies.{IsTold, word_text}
 use Rattle.blot_capture.specs.declared.{became.Became.Became, handled.Handled.Handled}
 use Rattle.blot_capture.specs.declared.handled.Handled.TheVariants as handled
 use Rattle.blot_capture.specs.Capture.{Sessions, moment_at, taken_by}
@@ -28,7 +28,7 @@ sent-wanted actions (handled.Replied reply wanted) wants = ap (flat_map action_t
 -- the end of a line and those after it, by the lines of what is sent
 abbrev tail-by : List ℕ → Became → List ℕ → List ℕ
 tail-by text became sent =
-    told (word_or_dash (sender_of (fields_of text))) ++ head_text (head_in (said_by text)) (fields_of text) ++ 9 ∷ became_text became ++ sent
+    word_text (word_or_dash (sender_of (fields_of text))) ++ head_text (head_in (said_by text)) (fields_of text) ++ 9 ∷ became_text became ++ sent
 
 pub told-turn : (text : List ℕ) (met : Option Met) (handled : Handled) (line : TrailLine) (became : Became) (actions : List Action)
     → IsTurnOf text met handled line → IsHandled became actions met handled

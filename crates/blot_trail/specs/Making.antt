@@ -1,5 +1,5 @@
 -- How a trail is made: message by message, with what a line needs of those before it.
-use Rattle.std.specs.Prelude.{◌≡◌, ℕ, ◌+◌, ◌-◌, ◌<◌, ◌≤◌, Bool, true, false, ⊤, ◌∷◌, ◌++◌, List, [], codes, fold, length, Option, Some, None}
+use Rattle.std.specs.Prelude.{◌≡◌, ℕ, ◌+◌, ◌-◌, ◌<◌, ◌≤◌, Bool, true, false, ◌∷◌, ◌++◌, List, [], codes, fold, length, Option, Some, None}
 use Rattle.blot_tag.specs.Places.{placed_of, passed_last}
 use Rattle.blot_tag.specs.Reading.{Reading, FindsNone, TakesFirst}
 use Rattle.blot_tag.specs.Walking.{rest_of, stops_at, walk_of}
@@ -107,9 +107,9 @@ Notes None old from new now = FindsNoFrame old from new now
 Notes (Some line) old from new now = TakesNoted old from line new now
 
 -- so many bytes are told, and then a message, where there is one
-abbrev pub told_by : ℕ → Option TrailLine → Making → Making
-told_by passed None trail = behind_bytes passed trail
-told_by passed (Some line) trail = behind_line line (behind_bytes passed trail)
+abbrev pub behind_both : ℕ → Option TrailLine → Making → Making
+behind_both passed None trail = behind_bytes passed trail
+behind_both passed (Some line) trail = behind_line line (behind_bytes passed trail)
 
 abbrev pub size_of : Option TrailLine → ℕ
 size_of None = 0
@@ -136,12 +136,6 @@ SameTrail from bytes now left = trail_from from.trail from.taking bytes ≡ trai
 -- the same for the unread bytes of a reader, whatever comes after them
 abbrev pub SameTrailOn : Telling → List ℕ → Telling → List ℕ → Type 0
 SameTrailOn from unread now left = (more : List ℕ) → SameTrail from (unread ++ more) now (left ++ more)
-
--- the same for an input's bytes, where they are known: some were read, and some of those are unread
-abbrev pub SameTrailOf : Option (List ℕ) → Telling → Option (List ℕ) → List ℕ → Telling → Type 0
-SameTrailOf None from rest unread now = ⊤
-SameTrailOf (Some bytes) from None unread now = ⊥
-SameTrailOf (Some bytes) from (Some rest) unread now = SameTrail from bytes now (unread ++ rest)
 
 -- a reader's next frame is taken and told, or there is none
 pub record TellsNext (told : Bool) (old : Reading) (from : Telling) (new : Reading) (now : Telling) : Type 0 where

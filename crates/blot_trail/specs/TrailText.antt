@@ -10,8 +10,8 @@ use Rattle.blot_session.specs.declared.{action.Action.Action, action.Action.TheV
 use Rattle.blot_session.specs.declared.met.Met.TheVariants as met
 use Rattle.blot_session.specs.Runs.{said_by}
 use Rattle.blot_session.specs.CloseNames.{close_name, close_number}
-use Rattle.blot_console.specs.Replies.{IsTold, number_line, number_text, reply_text, told, word_line}
 use Rattle.blot_desk.specs.declared.{event.Reply.Reply, event.Reply.TheVariants.Accepted}
+use Rattle.blot_console.specs.Replies.{IsTold, number_line, number_text, reply_text, word_text, word_line}
 use Rattle.blot_capture.specs.declared.became.Became.{Became}
 use Rattle.blot_capture.specs.declared.became.Became.TheVariants as became
 use Rattle.blot_trail.specs.declared.word.Word.{Word}
@@ -38,13 +38,13 @@ id_by (Some tag) items = first_text tag items
 -- MsgSeqNum, MsgType and that, of a message whose header can be read
 abbrev pub head_text : Option Head → List Item → List ℕ
 head_text None items = codes "\t-\t-\t-"
-head_text (Some head) items = number_text head.number ++ told head.kind ++ told (word_or_dash (id_by (id_tag_of head.kind) items))
+head_text (Some head) items = number_text head.number ++ word_text head.kind ++ word_text (word_or_dash (id_by (id_tag_of head.kind) items))
 
 -- ---- what became of it, to the end of its line
 
 -- (a delivered command is told by the reply to it)
 abbrev pub met_text : Met → List ℕ
-met_text (met.Closed reason) = codes "closed" ++ number_text (close_number reason) ++ told (close_name reason) ++ 10 ∷ []
+met_text (met.Closed reason) = codes "closed" ++ number_text (close_number reason) ++ word_text (close_name reason) ++ 10 ∷ []
 met_text met.Delivered = word_line (codes "taken")
 met_text (met.Rejected tag reason) = codes "rejected" ++ number_text tag ++ number_text reason ++ 10 ∷ []
 met_text met.Unsupported = word_line (codes "unsupported")
@@ -65,7 +65,7 @@ shown_byte byte = if byte == 1 then 124 else byte
 
 -- a message that would be sent
 abbrev pub sent_text : List ℕ → List ℕ
-sent_text text = codes "sent" ++ told (map shown_byte text) ++ 10 ∷ []
+sent_text text = codes "sent" ++ word_text (map shown_byte text) ++ 10 ∷ []
 
 -- what an action would send; one that sends nothing has no line
 abbrev pub action_text : Action → List ℕ
@@ -75,7 +75,7 @@ action_text action = []
 -- what is told of a message after its place and where it begins: its words, to the end of its line, and the lines of what is sent
 abbrev pub tail_text : List ℕ → Became → List Action → List ℕ
 tail_text frame became actions =
-    told (word_or_dash (sender_of (fields_of frame)))
+    word_text (word_or_dash (sender_of (fields_of frame)))
     ++ head_text (head_in (said_by frame)) (fields_of frame)
     ++ 9 ∷ became_text became
     ++ flat_map action_text actions
@@ -140,7 +140,7 @@ times word all = length (filter (λ other. word_place other == word_place word) 
 
 -- a sum
 unfoldable pub sum_text : List ℕ → ℕ → List ℕ
-sum_text name count = codes "sum" ++ told name ++ number_text count ++ 10 ∷ []
+sum_text name count = codes "sum" ++ word_text name ++ number_text count ++ 10 ∷ []
 
 unfoldable pub word_sum : List Word → Word → List ℕ
 word_sum all word = sum_text (word_name word) (times word all)

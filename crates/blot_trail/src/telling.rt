@@ -3,7 +3,7 @@ ghost use Rattle.std.specs.Prelude.{◌≡◌, ◌≢◌, ◌+◌, ◌<◌, ◌�
 ghost use Rattle.blot_tag.specs.Walking.{stops_at, walk_of};
 ghost use Rattle.blot_capture.specs.Replay.{CameOn, StoppedOn};
 ghost use Rattle.blot_capture.specs.Sessions.{taking_of};
-ghost use Rattle.blot_trail.specs.Making.{IsInStep, Notes, TellsNext, SameTrailOn, offset_of, size_of, telling_of, told_by, untold};
+ghost use Rattle.blot_trail.specs.Making.{IsInStep, Notes, TellsNext, SameTrailOn, offset_of, size_of, telling_of, behind_both, untold};
 
 use crate::noting::take_noted;
 use crate::trail::{Noted, Trail};
@@ -99,7 +99,7 @@ fn tell(
 ) -> Result<bool, ReplayFault>
     requires more { trail.old.skipped + trail.old.passed ≤ skipped }
     requires within { offset_of trail.old + untold skipped trail.old + size_of noted < 2 ^ 63 }
-    ensures trail { OnOk result (trail.new ≡ told_by (untold skipped trail.old) noted trail.old) }
+    ensures trail { OnOk result (trail.new ≡ behind_both (untold skipped trail.old) noted trail.old) }
     ensures some { IfOk result (λ told. told ≡ is_some noted) }
     ensures memory { IfErr result (λ fault. fault ≡ ReplayFault.NoMemory) }
 {

@@ -4,7 +4,7 @@ ghost use Rattle.blot_tag.specs.Fields.{fields_of};
 ghost use Rattle.blot_tag.specs.Views.{text_of};
 ghost use Rattle.blot_fields.specs.Numbers.{head_in};
 ghost use Rattle.blot_fields.specs.Sender.{sender_of};
-ghost use Rattle.blot_console.specs.Replies.{told};
+ghost use Rattle.blot_console.specs.Replies.{word_text};
 ghost use Rattle.blot_trail.specs.TrailText.{IsToldOf, became_text, bytes_text, head_text, id_by, id_tag_of, met_text, sent_text, shown_byte, sum_text, word_or_dash};
 
 use blot_capture::Became;
@@ -65,7 +65,7 @@ pub(crate) fn put_sent(text: &mut Vec<u8>, message: &[u8]) -> Result<(), NoMemor
 
 /// Adds the sender of a frame at the end of a text.
 pub(crate) fn put_sender(text: &mut Vec<u8>, frame: &Frame) -> Result<(), NoMemory>
-    ensures { OnOk result (text.new.items ≡ text.old.items ++ told (word_or_dash (sender_of (fields_of (text_of frame.now))))) }
+    ensures { OnOk result (text.new.items ≡ text.old.items ++ word_text (word_or_dash (sender_of (fields_of (text_of frame.now))))) }
 {
     put_word_or_dash(text, sender_of(frame))
 }
@@ -139,7 +139,7 @@ fn put_met(alloc: Global, text: &mut Vec<u8>, met: Met) -> Result<(), NoMemory>
 
 // Adds a tab and a word at the end of a text, `-` where there is none.
 fn put_word_or_dash(text: &mut Vec<u8>, word: Option<Text64>) -> Result<(), NoMemory>
-    ensures { OnOk result (text.new.items ≡ text.old.items ++ told (word_or_dash word)) }
+    ensures { OnOk result (text.new.items ≡ text.old.items ++ word_text (word_or_dash word)) }
 {
     match word {
         Some(word) => put_word(text, word.bytes()),

@@ -12,8 +12,8 @@ use Rattle.blot_types.specs.Instructions.{is_keyed, alloc_taker_in, brings_alloc
 use Rattle.blot_types.specs.Legal.{is_legal, refusal_of}
 use Rattle.blot_types.specs.Order.{order_of}
 use Rattle.blot_types.specs.Position.{house, signed, account_of, part_of_fill, part_of_line, from_house, moves_of_line, moves_of, is_named, part_of, parts_of, is_at, position_by, position_of, signed_part}
-use Rattle.blot_types.specs.Refusals.{exec_key, alloc_key, alloc_reference, terms_of, listed_by, exec_references, withdrawn_by, is_live, first_of, bust_of_key, same_chain, repeated_in, other_holder, version_in, current_fill, same_sign, differs, booked, mismatch, never_entry, duplicate_exec, duplicate_alloc, unknown_alloc, dead_alloc, unknown_exec, busted_exec, repeated_exec, exec_taken, instrument, quantity}
-use Rattle.blot_types.specs.Survivors.{links_of, survivors}
+use Rattle.blot_types.specs.Refusals.{exec_key, alloc_key, alloc_reference, terms_of, listed_by, exec_references, withdrawn_by, is_live, first_of, bust_of_key, same_chain, repeated_in, other_holder, current_fill, same_sign, differs, booked, mismatch, never_entry, duplicate_exec, duplicate_alloc, unknown_alloc, dead_alloc, unknown_exec, busted_exec, repeated_exec, exec_taken, instrument, quantity}
+use Rattle.blot_types.specs.Survivors.{links_of, survivors, version_numbered}
 
 abbrev exec : ℕ → ExecKey
 exec n = record { peer = 66 ∷ []; id = 69 ∷ n ∷ [] }
@@ -363,7 +363,7 @@ first_repeated = refl
 holder_of_chain : map (other_holder (links_of allocated_day) live_one None) (exec 2 ∷ exec 9 ∷ []) ≡ Some 2 ∷ None ∷ []
 holder_of_chain = refl
 
-by_number : option_map (λ version. version.key) (version_in corrected_day 2) ≡ Some (exec 3)
+by_number : option_map (λ version. version.key) (version_numbered corrected_day 2) ≡ Some (exec 3)
 by_number = refl
 
 last_fill : current_fill (reverse corrected_day) (exec 1) ≡ Some (filled Buy XYZ 80 (hundredths 1000))

@@ -10,14 +10,14 @@ use Rattle.std.proofs.lemmas.Option.{IfSome_then}
 use Rattle.blot_types.specs.declared.{command.Entry.Entry, keys.ExecKey.ExecKey, lines.Version.Version, link.Link.Link, link.Role.Role, TheConstants.EVENTS_MAX}
 use Rattle.blot_types.specs.declared.link.Role.TheVariants.{Begins, Corrects, Busts}
 use Rattle.blot_types.specs.Allocations.{allocation_of, instructions_in, instructions_of, live_allocations}
-use Rattle.blot_types.specs.Chains.{takes_up, taker_in, own_root, root_in, is_root, busts, bust_in, current_in, link_refusal, reference_refusal, is_chained, falls, brings_version}
+use Rattle.blot_types.specs.Chains.{takes_up, taker_in, own_root, root_in, is_root, busts, bust_in, current_in, link_refusal, reference_refusal, is_chained, falls, brings_version, standing_version_in}
 use Rattle.blot_types.specs.Instructions.{ended_in, named_in}
 use Rattle.blot_types.specs.Keys.{same_exec, is_among}
 use Rattle.blot_types.specs.Laws.{is_of_chain, survivors_beside}
 use Rattle.blot_types.specs.Legal.{is_above_entries, rises_in, numbers_rise, legal_in, is_legal, is_book}
 use Rattle.blot_types.specs.Position.{is_named}
-use Rattle.blot_types.specs.StandingVersion.{standing, chain_under, chain_of, stood, standing_version_in, version_numbered}
-use Rattle.blot_types.specs.Survivors.{is_number, link_of, links_in, links_of, root_of, stands_under, stands_in, version_of, versions_of, survivors}
+use Rattle.blot_types.specs.StandingVersion.{standing, chain_under, chain_of, stood}
+use Rattle.blot_types.specs.Survivors.{is_number, link_of, links_in, links_of, root_of, stands_under, stands_in, version_of, versions_of, survivors, version_numbered}
 use Rattle.blot_types.proofs.BustLemmas.{reverse-middle}
 use Rattle.blot_types.proofs.ChainLemmas.{clash, none_is, accepted_key, accepted_root, current-apart}
 use Rattle.blot_types.proofs.ChainOutLemmas.{untaken, key-out, rooted-other, root-out, current-beside, root-older}
@@ -26,7 +26,7 @@ use Rattle.blot_types.proofs.CorrectLemmas.{front-legal}
 use Rattle.blot_types.proofs.EntryLemmas.{falls-links, refusal-link, version-of_bust}
 use Rattle.blot_types.proofs.KeyLemmas.{same_exec-true, same_exec-refl, same_exec-sym}
 use Rattle.blot_types.proofs.LinkOutLemmas.{GoneLink, links-whole, links-rest, chained-whole, chained-rest, instructions-gone}
-use Rattle.blot_types.proofs.StandLemmas.{taken_other}
+use Rattle.blot_types.proofs.StandLemmas.{stands-both, taken_other}
 use Rattle.blot_types.proofs.SurvivorLemmas.{filter-agree, filter-and, without, IsKnown, versions-known, of_its_link, IsCurrent, current-found, find-passes, current-stands}
 use Rattle.blot_types.proofs.UnbustLemmas.{bust-beside}
 use Rattle.blot_types.proofs.GeneralLemmas.{and-false}
@@ -72,7 +72,7 @@ pub record IsStanding (list : List Entry) (root : ExecKey) (version : Version) :
 
 standing-at :
     (list : List Entry) (root : ExecKey) (bust current : Option ℕ) → IsBook list → bust_in (links_of list) root ≡ bust → current_in (links_of list) root ≡ current
-    → IfSome (if is_none bust then option_and_then (version_numbered list) current else None) (IsStanding list root)
+    → IfSome (option_and_then (version_numbered list) (if is_none bust then current else None)) (IsStanding list root)
 standing-at list root (Some number) current book busted is = tt
 standing-at list root None None book free is = tt
 standing-at list root None (Some number) book free is =
@@ -98,11 +98,10 @@ standing-own :
     → is_number number (standing_version_in links root) ≡ is_root root found
 standing-own links root number None fall stands = cc
 standing-own links root number (Some other) fall stands =
-    let parts : (is_none (bust_in links other) ≡ true) × (is_number number (current_in links other) ≡ true) = and_parts _ _ stands in
+    let parts : (is_none (bust_in links other) ≡ true) × (is_number number (current_in links other) ≡ true) = and_parts _ _ (sym (stands-both links number other) ∙ stands) in
     elim (cases_Bool (same_exec other root)) [
       | inl same ↦
-          let own : is_number number (standing_version_in links other) ≡ true = rw parts.0 parts.1 in
-          ap (λ key. is_number number (standing_version_in links key)) (sym (same_exec-true other root same)) ∙ own ∙ sym same
+          ap (λ key. is_number number (standing_version_in links key)) (sym (same_exec-true other root same)) ∙ stands ∙ sym same
       | inr apart ↦
           let none : is_number number (current_in links root) ≡ false = current-apart links other root number fall apart parts.1 in
           elim (cases_Bool (is_none (bust_in links root))) [
@@ -155,7 +154,7 @@ beside-rooted later front k root number (Some other) it =
           let apart : same_exec root other ≡ false = same_exec-sym root other ∙ passed in
           let bust = bust-beside later front k other it.whole it.out (other-bust front k.key root other k.role it.chain apart) in
           let current = current-beside later front k other it.whole it.out (other-version front k.key root other k.role it.chain apart) in
-          λ i. (is_none (sym bust i) && is_number number (sym current i)) && not (same_exec other root)
+          λ i. is_number number (if is_none (sym bust i) then sym current i else None) && not (same_exec other root)
     ]
 
 -- a version whose key is taken up without it

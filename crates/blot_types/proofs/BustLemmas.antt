@@ -6,8 +6,8 @@ use Rattle.std.proofs.lemmas.List.Elements.{All-weaker, filter_map-append}
 use Rattle.blot_types.specs.declared.{command.Bust.Bust, command.Command.Command, command.Entry.Entry, keys.ExecKey.ExecKey, link.Link.Link, link.Role.TheVariants.Busts}
 use Rattle.blot_types.specs.Chains.{root_in, current_in}
 use Rattle.blot_types.specs.Legal.{rises_in, refusal_in, legal_in, is_book, least_needing}
-use Rattle.blot_types.specs.Refusals.{listed_by, exec_references, version_in, current_fill, unknown_exec}
-use Rattle.blot_types.specs.Survivors.{links_in, version_of}
+use Rattle.blot_types.specs.Refusals.{listed_by, exec_references, current_fill, unknown_exec}
+use Rattle.blot_types.specs.Survivors.{links_in, version_of, version_numbered}
 use Rattle.blot_types.proofs.LawLemmas.{book_parts, bust_under}
 use Rattle.blot_types.specs.Withdrawal.{needed_in, IsBustUnneeded}
 use Rattle.blot_types.proofs.AcceptOutLemmas.{accepts, accepted, accepts-out, rootless-other, shaped, listed}
@@ -23,8 +23,8 @@ then-agree f g None same = refl
 then-agree f g (Some a) same = same a
 
 -- it brings no version
-version_in-gone : (later front : List Entry) (number : ℕ) (bust : Bust) (n : ℕ) → version_in (later ++ front) n ≡ version_in (later ++ bust_under number bust ∷ front) n
-version_in-gone later front number bust n =
+version_numbered-gone : (later front : List Entry) (number : ℕ) (bust : Bust) (n : ℕ) → version_numbered (later ++ front) n ≡ version_numbered (later ++ bust_under number bust ∷ front) n
+version_numbered-gone later front number bust n =
     ap (λ versions. find (λ v. v.number == n) versions)
     (filter_map-append version_of later front ∙ sym (filter_map-append version_of later (bust_under number bust ∷ front)))
 
@@ -35,10 +35,10 @@ fill-gone later front number bust key gone other =
     let entries = later ++ k ∷ front in
     let others = later ++ front in
     let root = root_in (links_in entries) key in
-    ap (λ found. option_map (λ version. version.fill) (option_and_then (version_in others) (option_and_then (current_in (links_in others)) found))) (root-gone later front k (as_link number bust) gone key other)
-    ∙ ap (λ found. option_map (λ version. version.fill) (option_and_then (version_in others) found))
+    ap (λ found. option_map (λ version. version.fill) (option_and_then (version_numbered others) (option_and_then (current_in (links_in others)) found))) (root-gone later front k (as_link number bust) gone key other)
+    ∙ ap (λ found. option_map (λ version. version.fill) (option_and_then (version_numbered others) found))
     (then-agree (current_in (links_in others)) (current_in (links_in entries)) root (λ r. current-gone later front k (as_link number bust) gone r refl))
-    ∙ ap (option_map (λ version. version.fill)) (then-agree (version_in others) (version_in entries) (option_and_then (current_in (links_in entries)) root) (version_in-gone later front number bust))
+    ∙ ap (option_map (λ version. version.fill)) (then-agree (version_numbered others) (version_numbered entries) (option_and_then (current_in (links_in entries)) root) (version_numbered-gone later front number bust))
 
 -- a Bust's own key has no root, so nothing refers to it
 pub rootless-bust : (later front : List Entry) (number : ℕ) (bust : Bust) → GoneLink later front (bust_under number bust) (as_link number bust) → root_in (links_in (later ++ bust_under number bust ∷ front)) bust.key ≡ None

@@ -15,13 +15,13 @@ use Rattle.blot_types.specs.Instructions.{are_apart}
 use Rattle.blot_types.specs.Keys.{same_exec, same_text, is_among}
 use Rattle.blot_types.specs.Legal.{is_above_entries, rises_in, refusal_in, legal_in}
 use Rattle.blot_types.specs.Order.{cum_of}
-use Rattle.blot_types.specs.Refusals.{exec_references, listed_by, terms_of, version_in, current_fill, same_sign, differs, booked, mismatch}
-use Rattle.blot_types.specs.Survivors.{is_number, links_in, version_of}
+use Rattle.blot_types.specs.Refusals.{exec_references, listed_by, terms_of, current_fill, same_sign, differs, booked, mismatch}
+use Rattle.blot_types.specs.Survivors.{is_number, links_in, version_of, version_numbered}
 use Rattle.blot_types.proofs.AcceptLemmas.{unmapped, unrepeated_roots}
 use Rattle.blot_types.proofs.ChainLemmas.{clash, differing, none_is, current-below, accepted_key, accepted_root}
 use Rattle.blot_types.proofs.EntryLemmas.{version-number, is_above_links-links, refusal-link}
 use Rattle.blot_types.proofs.KeyLemmas.{same_exec-refl, same_exec-sym}
-use Rattle.blot_types.proofs.SurvivorLemmas.{current-found, version_in-rising, is_root-some}
+use Rattle.blot_types.proofs.SurvivorLemmas.{current-found, version_numbered-rising, is_root-some}
 use Rattle.blot_types.specs.Withdrawal.{below, alike, changes_fill, is_last_of, needs_version, needs}
 use Rattle.blot_types.proofs.AcceptOutLemmas.{accepts, accepted, accepts-out, shape, shaped, amount, amount-shaped, cum-cons, cum-shaped, listed, unfound}
 use Rattle.blot_types.proofs.NeedLemmas.{IsStep}
@@ -103,7 +103,7 @@ version-pass entry (Some v) versions n is other =
     let passed : (v.number == n) ≡ false = ap (λ m. m == n) (version-number entry v is) ∙ other in
     rw passed refl
 
-version-own : (k : Entry) (v : Version) (later front : List Entry) → version_of k ≡ Some v → rises_in (later ++ k ∷ front) ≡ true → version_in (later ++ k ∷ front) k.number ≡ Some v
+version-own : (k : Entry) (v : Version) (later front : List Entry) → version_of k ≡ Some v → rises_in (later ++ k ∷ front) ≡ true → version_numbered (later ++ k ∷ front) k.number ≡ Some v
 version-own k v [] front is rise =
     let same : (v.number == k.number) ≡ true = eq-eqb _ _ (version-number k v is) in
     ap (λ found. find (λ w. w.number == k.number) (cons_option found (filter_map version_of front))) is ∙ rw same refl
@@ -113,7 +113,7 @@ version-own k v (entry ∷ later) front is rise =
     version-pass entry (version_of entry) (filter_map version_of (later ++ k ∷ front)) k.number refl (ne_eqb _ _ (λ same. absurd (omega (arith, same, less)))) ∙ version-own k v later front is parts.1
 
 -- the last version of a chain of the entries before k is found there
-version-front : (k : Entry) (later front : List Entry) (r : ExecKey) (n : ℕ) → rises_in (later ++ k ∷ front) ≡ true → current_in (links_in front) r ≡ Some n → version_in (later ++ front) n ≡ version_in front n
+version-front : (k : Entry) (later front : List Entry) (r : ExecKey) (n : ℕ) → rises_in (later ++ k ∷ front) ≡ true → current_in (links_in front) r ≡ Some n → version_numbered (later ++ front) n ≡ version_numbered front n
 version-front k [] front r n rise is = refl
 version-front k (entry ∷ later) front r n rise is =
     let parts : (is_above_entries entry.number (later ++ k ∷ front) ≡ true) × (rises_in (later ++ k ∷ front) ≡ true) = and_parts _ _ rise in
@@ -141,11 +141,11 @@ rooted-current (link ∷ earlier) key r is none =
 
 -- the fill of the last version of a chain
 has-fill : (entries : List Entry) (r : ExecKey) (found : Option ℕ) → legal_in entries ≡ true → rises_in entries ≡ true → current_in (links_in entries) r ≡ found → (current_in (links_in entries) r ≡ None → ⊥)
-    → (old : Fill) × (option_map (λ (v : Version). v.fill) (option_and_then (version_in entries) found) ≡ Some old)
+    → (old : Fill) × (option_map (λ (v : Version). v.fill) (option_and_then (version_numbered entries) found) ≡ Some old)
 has-fill entries r None legal rise is some = absurd (some is)
 has-fill entries r (Some n) legal rise is some =
     let version = current-found entries r n legal rise is in
-    (version.0.fill, ap (option_map (λ (v : Version). v.fill)) (version_in-rising entries n rise ∙ version.1.found))
+    (version.0.fill, ap (option_map (λ (v : Version). v.fill)) (version_numbered-rising entries n rise ∙ version.1.found))
 
 -- ---- the fills of a chain of which k is the last version, with it and without it
 
@@ -155,7 +155,7 @@ number-is n (Some m) is = ap Some (eqb-true m n is)
 
 -- the version before k is found as it was
 behind : (k : Entry) (later front : List Entry) (r : ExecKey) (found : Option ℕ) → rises_in (later ++ k ∷ front) ≡ true → current_in (links_in front) r ≡ found
-    → option_and_then (version_in (later ++ front)) found ≡ option_and_then (version_in front) found
+    → option_and_then (version_numbered (later ++ front)) found ≡ option_and_then (version_numbered front) found
 behind k later front r None rise is = refl
 behind k later front r (Some n) rise is = version-front k later front r n rise is
 
@@ -181,14 +181,14 @@ last-fills later front number correct key (Some r) gone rise other rooted last =
     let there : root_in (links_in others) key ≡ Some r = root-gone later front k l gone key other ∙ rooted in
     record {
       with_it =
-          ap (λ found. option_map (λ (v : Version). v.fill) (option_and_then (version_in entries) (option_and_then (current_in (links_in entries)) found))) rooted
-          ∙ ap (λ n. option_map (λ (v : Version). v.fill) (option_and_then (version_in entries) n)) current
+          ap (λ found. option_map (λ (v : Version). v.fill) (option_and_then (version_numbered entries) (option_and_then (current_in (links_in entries)) found))) rooted
+          ∙ ap (λ n. option_map (λ (v : Version). v.fill) (option_and_then (version_numbered entries) n)) current
           ∙ ap (option_map (λ (v : Version). v.fill)) (version-own k (as_version number correct) later front refl rise);
       without_it =
-          ap (λ found. option_map (λ (v : Version). v.fill) (option_and_then (version_in others) (option_and_then (current_in (links_in others)) found))) there
-          ∙ ap (λ n. option_map (λ (v : Version). v.fill) (option_and_then (version_in others) n)) before
+          ap (λ found. option_map (λ (v : Version). v.fill) (option_and_then (version_numbered others) (option_and_then (current_in (links_in others)) found))) there
+          ∙ ap (λ n. option_map (λ (v : Version). v.fill) (option_and_then (version_numbered others) n)) before
           ∙ ap (option_map (λ (v : Version). v.fill)) (behind k later front r (current_in (links_in front) r) rise refl)
-          ∙ sym (ap (λ found. option_map (λ (v : Version). v.fill) (option_and_then (version_in front) (option_and_then (current_in (links_in front)) found))) referred);
+          ∙ sym (ap (λ found. option_map (λ (v : Version). v.fill) (option_and_then (version_numbered front) (option_and_then (current_in (links_in front)) found))) referred);
       chain = rooted ∙ sym referred;
     }
 
@@ -201,7 +201,7 @@ old-fill front number correct is legal rise =
     let r = chain.0 in
     let fill = has-fill front r (current_in (links_in front) r) legal rise refl (rooted-current (links_in front) correct.reference r chain.1.root_is) in (
       fill.0,
-      ap (λ found. option_map (λ (v : Version). v.fill) (option_and_then (version_in front) (option_and_then (current_in (links_in front)) found))) chain.1.root_is ∙ fill.1,
+      ap (λ found. option_map (λ (v : Version). v.fill) (option_and_then (version_numbered front) (option_and_then (current_in (links_in front)) found))) chain.1.root_is ∙ fill.1,
     )
 
 -- ---- fills that are alike

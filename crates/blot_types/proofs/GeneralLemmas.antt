@@ -1,5 +1,5 @@
 -- What std's lemmas don't say of truth values, options, results and lists.
-use Rattle.std.proofs.Common.{◌≡◌, ◌≤◌, ◌+◌, Bool, true, false, not, ◌&&◌, ◌||◌, cond, ℕ, List, [], ◌∷◌, ◌++◌, length, reverse, Option, Some, None, refl, sym, ap, subst, ◌∙◌, arith, inl, inr, filter, filter_map, find, All, Contains, option_map, is_some, if◌then◌else◌, Result, Ok, Err, OnErr, ◌<◌, get_or, take}
+use Rattle.std.proofs.Common.{◌≡◌, ◌≤◌, ◌+◌, Bool, true, false, not, ◌&&◌, ◌||◌, cond, ℕ, List, [], ◌∷◌, ◌++◌, length, reverse, Option, Some, None, refl, sym, ap, subst, ◌∙◌, arith, inl, inr, filter, filter_map, find, All, Contains, option_map, is_some, if◌then◌else◌, Result, Ok, Err, IfErr, OnErr, OnOk, ◌<◌, get_or, take}
 pub use mathlib.Core.Bool.{and-false, and-true, not-not, or-false}
 use Rattle.std.specs.List.{cons_option, list_any}
 use Rattle.std.specs.Option.{option_or}
@@ -48,6 +48,19 @@ cons-append (Some x) xs ys = refl
 pub on_err : {T E P : Type 0} (result : Result T E) → P → OnErr result P
 on_err (Ok value) is = tt
 on_err (Err error) is = is
+
+-- what follows of a value or an error. The fact stands before what follows from it, which then knows its type; in std's laws it stands behind
+pub on-ok : {T E P Q : Type 0} (result : Result T E) → OnOk result P → (P → Q) → OnOk result Q
+on-ok (Ok x) p more = more p
+on-ok (Err e) p more = tt
+
+pub both-ok : {T E P Q R : Type 0} (result : Result T E) → OnOk result P → OnOk result Q → (P → Q → R) → OnOk result R
+both-ok (Ok x) p q more = more p q
+both-ok (Err e) p q more = tt
+
+pub if-err : {T E : Type 0} (P Q : E → Type 0) (result : Result T E) → IfErr result P → ((e : E) → P e → Q e) → IfErr result Q
+if-err P Q (Ok x) p more = tt
+if-err P Q (Err e) p more = more e p
 
 -- ---- what holds of all
 

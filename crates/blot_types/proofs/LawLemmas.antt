@@ -17,6 +17,7 @@ use Rattle.blot_types.proofs.KeyLemmas.{same_exec-true, same_exec-refl, same_exe
 use Rattle.blot_types.proofs.ChainLemmas.{none_is, rootless, accepted_key, differing}
 use Rattle.blot_types.proofs.LegalLemmas.{is_legal-front, is_legal-push}
 use Rattle.blot_types.proofs.EntryLemmas.{version-number, refusal-link}
+use Rattle.blot_types.proofs.StandLemmas.{stands-both}
 use Rattle.blot_types.proofs.SurvivorLemmas.{IsKnown, IsCurrent, all_known, versions-cons, filter-agree, filter-and, find-below, find-passes, current-found}
 use Rattle.blot_types.proofs.GeneralLemmas.{and-false, all-of}
 
@@ -68,7 +69,7 @@ pub stands-number :
 stands-number links root n number None current both = cc
 stands-number links root n number (Some other) current both =
     let parts : (stands_under links n (Some other) ≡ true) × (same_exec other root ≡ true) = and_parts _ _ both in
-    let stood : (is_none (bust_in links other) ≡ true) × (is_number n (current_in links other) ≡ true) = and_parts _ _ parts.0 in
+    let stood : (is_none (bust_in links other) ≡ true) × (is_number n (current_in links other) ≡ true) = and_parts _ _ (sym (stands-both links n other) ∙ parts.0) in
     let one : other ≡ root = same_exec-true other root parts.1 in
     let here : is_number n (Some number) ≡ true = rw (one, current) at stood.1 in
     sym (eqb-true number n here)

@@ -15,10 +15,11 @@ use Rattle.blot_types.specs.Legal.{is_book}
 use Rattle.blot_types.specs.Order.{total}
 use Rattle.blot_types.specs.Position.{signed, part_of_fill}
 use Rattle.blot_types.specs.StandingVersion.{standing}
-use Rattle.blot_types.specs.Survivors.{links_of, versions_of, stands_under, stands_in, survivors}
+use Rattle.blot_types.specs.Survivors.{is_number, links_of, versions_of, stands_under, stands_in, survivors}
 use Rattle.blot_types.proofs.KeyLemmas.{same_exec-true, same_exec-refl}
 use Rattle.blot_types.proofs.LawLemmas.{filter-none, alone, stands-number, busted_none, stands_of, book_parts}
 use Rattle.blot_types.proofs.SumLemmas.{total-map, total-filter, total-agree, total-same}
+use Rattle.blot_types.proofs.StandLemmas.{stands-both}
 use Rattle.blot_types.proofs.SurvivorLemmas.{IsCurrent, filter-and, find-passes, current-found}
 use Rattle.blot_types.proofs.GeneralLemmas.{and-false, all-of}
 
@@ -43,7 +44,9 @@ no_last links root n (Some other) none =
     elim (cases_Bool (same_exec other root)) [
       | inl same ↦
           let one : other ≡ root = same_exec-true other root same in
-          rw (one, none) (rw (and-false (is_none (bust_in links root))) refl)
+          let fallen : stands_under links n (Some root) ≡ false =
+          stands-both links n root ∙ ap (λ last. is_none (bust_in links root) && is_number n last) none ∙ and-false (is_none (bust_in links root)) in
+          ap (λ key. stands_under links n (Some key) && is_root root (Some key)) one ∙ ap (λ stands. stands && is_root root (Some root)) fallen
       | inr apart ↦ rw apart (and-false (stands_under links n (Some other)))
     ]
 
@@ -82,7 +85,7 @@ chain_by_current list root (Some number) book live is = chain_one list root numb
 chain_by_bust :
     (list : List Entry) (root : ExecKey) (bust : Option ℕ) → IsTrue (is_book list) → bust_in (links_of list) root ≡ bust
     → survivors_of_chain list root
-    ≡ cons_option (if is_none bust then option_and_then (λ number. find (λ v. v.number == number) (versions_of list)) (current_in (links_of list) root) else None) []
+    ≡ cons_option (option_and_then (λ number. find (λ v. v.number == number) (versions_of list)) (if is_none bust then current_in (links_of list) root else None)) []
 chain_by_bust list root None book is = chain_by_current list root (current_in (links_of list) root) book is refl
 chain_by_bust list root (Some number) book is = busted_none list root number is
 

@@ -5,7 +5,7 @@ use Rattle.blot_types.specs.declared.{command.Command.Command, command.Entry.Ent
 use Rattle.blot_types.specs.declared.command.Command.TheVariants.{Trade, Correct, Bust}
 use Rattle.blot_types.specs.declared.link.Role.TheVariants.{Begins, Corrects, Busts}
 use Rattle.blot_types.specs.declared.refused.Refused.TheVariants.{DuplicateExec, UnknownExec, BustedExec}
-use Rattle.blot_types.specs.Chains.{takes_up, taker_in, own_root, root_in, is_root, busts, bust_in, current_in}
+use Rattle.blot_types.specs.Chains.{takes_up, taker_in, own_root, root_in, is_root, busts, bust_in, current_in, standing_version_in, current_of_key}
 use Rattle.blot_types.specs.Keys.{same_text, same_exec, is_among, same_order, same_alloc}
 use Rattle.blot_types.specs.Laws.{survivors_of_chain, survivors_beside}
 use Rattle.blot_types.specs.Legal.{is_legal, refusal_of}
@@ -202,6 +202,12 @@ bust_number = refl
 
 last_version : map (current_in (links_of corrected)) (exec 1 ∷ exec 2 ∷ []) ≡ Some 3 ∷ Some 2 ∷ []
 last_version = refl
+
+last_unbusted : map (standing_version_in (links_of busted)) (exec 1 ∷ exec 2 ∷ []) ≡ None ∷ Some 2 ∷ []
+last_unbusted = refl
+
+last_of_key : map (current_of_key (links_of corrected)) (exec 3 ∷ exec 2 ∷ exec 9 ∷ []) ≡ Some 3 ∷ Some 2 ∷ None ∷ []
+last_of_key = refl
 
 -- ---- their versions, and those that stand
 

@@ -1,5 +1,5 @@
 -- Which versions stand after one more link.
-use Rattle.std.proofs.Common.{◌≡◌, ℕ, ◌<◌, Bool, true, false, ◌&&◌, List, ◌∷◌, Option, Some, None, refl, sym, ap, ◌∙◌, arith, inl, inr, is_none, is_some, not, ne_eqb, eq-eqb}
+use Rattle.std.proofs.Common.{◌≡◌, ℕ, ◌<◌, Bool, true, false, ◌&&◌, List, ◌∷◌, Option, Some, None, refl, sym, ap, ◌∙◌, arith, inl, inr, is_none, is_some, not, if◌then◌else◌, ne_eqb, eq-eqb}
 use Rattle.std.proofs.lemmas.Bool.{cases_Bool}
 use Rattle.blot_types.specs.declared.{keys.ExecKey.ExecKey, lines.Version.Version, link.Link.Link, link.Role.Role}
 use Rattle.blot_types.specs.declared.link.Role.TheVariants.{Begins, Corrects, Busts}
@@ -22,18 +22,30 @@ and-apart true true c apart = rw (apart refl) refl
 and-apart true false c apart = refl
 and-apart false b c apart = refl
 
+-- the version of a number stands under a root where no Bust ended the root's chain, and it is the chain's last version
+abbrev stands_both : List Link → ℕ → ExecKey → Bool
+stands_both links number root = is_none (bust_in links root) && is_number number (current_in links root)
+
+last-both : (free : Bool) (number : ℕ) (last : Option ℕ) → is_number number (if free then last else None) ≡ (free && is_number number last)
+last-both true number last = refl
+last-both false number last = refl
+
+pub stands-both :
+    (links : List Link) (number : ℕ) (root : ExecKey) → stands_under links number (Some root) ≡ (is_none (bust_in links root) && is_number number (current_in links root))
+stands-both links number root = last-both (is_none (bust_in links root)) number (current_in links root)
+
 -- the version of a number, after a link that begins another chain
 step-begins :
     (links : List Link) (n number : ℕ) (key root : ExecKey) → same_exec key root ≡ false
-    → stands_under (record { number = n; key = key; role = Begins } ∷ links) number (Some root)
-    ≡ (stands_under links number (Some root) && not (is_number number (replaced_in links Begins)))
-step-begins links n number key root apart = rw apart (sym (and-true (stands_under links number (Some root))))
+    → stands_both (record { number = n; key = key; role = Begins } ∷ links) number root
+    ≡ (stands_both links number root && not (is_number number (replaced_in links Begins)))
+step-begins links n number key root apart = rw apart (sym (and-true (stands_both links number root)))
 
 -- after a link that refers to the chain of `found`
 step-corrects :
     (links : List Link) (n number : ℕ) (key reference root found : ExecKey) → falls links ≡ true → (n ≡ number → ⊥) → root_in links reference ≡ Some found
-    → stands_under (record { number = n; key = key; role = Corrects reference } ∷ links) number (Some root)
-    ≡ (stands_under links number (Some root) && not (is_number number (replaced_in links (Corrects reference))))
+    → stands_both (record { number = n; key = key; role = Corrects reference } ∷ links) number root
+    ≡ (stands_both links number root && not (is_number number (replaced_in links (Corrects reference))))
 step-corrects links n number key reference root found fall later is =
     elim (cases_Bool (same_exec found root)) [
       | inl same ↦
@@ -48,8 +60,8 @@ step-corrects links n number key reference root found fall later is =
 
 step-busts :
     (links : List Link) (n number : ℕ) (key reference root found : ExecKey) → falls links ≡ true → root_in links reference ≡ Some found
-    → stands_under (record { number = n; key = key; role = Busts reference } ∷ links) number (Some root)
-    ≡ (stands_under links number (Some root) && not (is_number number (replaced_in links (Busts reference))))
+    → stands_both (record { number = n; key = key; role = Busts reference } ∷ links) number root
+    ≡ (stands_both links number root && not (is_number number (replaced_in links (Busts reference))))
 step-busts links n number key reference root found fall is =
     elim (cases_Bool (same_exec found root)) [
       | inl same ↦
@@ -66,8 +78,8 @@ step-busts links n number key reference root found fall is =
 stands-step :
     (links : List Link) (n number : ℕ) (key root : ExecKey) (role : Role) → falls links ≡ true → (n ≡ number → ⊥)
     → reference_refusal links role ≡ None → same_exec key root ≡ false
-    → stands_under (record { number = n; key = key; role = role } ∷ links) number (Some root)
-    ≡ (stands_under links number (Some root) && not (is_number number (replaced_in links role)))
+    → stands_both (record { number = n; key = key; role = role } ∷ links) number root
+    ≡ (stands_both links number root && not (is_number number (replaced_in links role)))
 stands-step links n number key root Begins fall later accepted apart = step-begins links n number key root apart
 stands-step links n number key root (Corrects reference) fall later accepted apart =
     let chain = accepted_root links reference (root_in links reference) accepted in
@@ -83,7 +95,9 @@ stands-by_root :
     → stands_under (link ∷ links) number found ≡ (stands_under links number found && not (is_number number (replaced_in links link.role)))
 stands-by_root links link number None fall later accepted apart = refl
 stands-by_root links link number (Some root) fall later accepted apart =
-    stands-step links link.number number link.key root link.role fall later accepted (same_exec-sym link.key root ∙ apart)
+    stands-both (link ∷ links) number root
+    ∙ stands-step links link.number number link.key root link.role fall later accepted (same_exec-sym link.key root ∙ apart)
+    ∙ ap (λ stands. stands && not (is_number number (replaced_in links link.role))) (sym (stands-both links number root))
 
 -- a key that is taken up isn't one that isn't
 pub taken_other : (links : List Link) (key other : ExecKey) → taker_in links key ≡ None → is_some (taker_in links other) ≡ true → same_exec key other ≡ false

@@ -10,8 +10,7 @@ use Rattle.blot_types.specs.declared.{command.Entry.Entry, keys.ExecKey.ExecKey,
 use Rattle.blot_types.specs.declared.link.Role.TheVariants.{Begins, Corrects, Busts}
 use Rattle.blot_types.specs.Chains.{takes_up, taker_in, own_root, root_in, is_root, bust_in, current_in, link_refusal, reference_refusal, replaced_in, replaced_by, falls, brings_version}
 use Rattle.blot_types.specs.Legal.{is_above_entries, rises_in, numbers_rise, legal_in, is_legal, refusal_in, entry_refusal}
-use Rattle.blot_types.specs.Refusals.{version_in}
-use Rattle.blot_types.specs.Survivors.{link_of, links_in, links_of, version_of, versions_of, is_number, stands_in, survivors}
+use Rattle.blot_types.specs.Survivors.{link_of, links_in, links_of, version_of, versions_of, is_number, stands_in, survivors, version_numbered}
 use Rattle.blot_types.proofs.KeyLemmas.{same_exec-true, same_exec-refl}
 use Rattle.blot_types.proofs.ChainLemmas.{rootless, accepted_root, accepted_key, clash, none_is}
 use Rattle.blot_types.proofs.EntryLemmas.{links_of-push, link-number, version-number, version-of_link, version-of_bust, version-unlinked, IsVersionOf, refusal-link, falls-links}
@@ -374,7 +373,7 @@ length-survivors list = omega (arith, length-filtered (stands_in (links_of list)
 
 version-step :
     (entry : Entry) (earlier : List Entry) (number : ℕ) (brought : Option Version) → version_of entry ≡ brought → is_above_entries entry.number earlier ≡ true
-    → version_in earlier number ≡ find (λ v. v.number == number) (versions_of (reverse earlier))
+    → version_numbered earlier number ≡ find (λ v. v.number == number) (versions_of (reverse earlier))
     → find (λ v. v.number == number) (cons_option brought (filter_map version_of earlier))
     ≡ option_or (find (λ v. v.number == number) (versions_of (reverse earlier))) (find (λ v. v.number == number) (cons_option brought []))
 version-step entry earlier number None is above before = before ∙ sym (or-none (find (λ v. v.number == number) (versions_of (reverse earlier))))
@@ -390,9 +389,9 @@ version-step entry earlier number (Some version) is above before =
     ]
 
 -- among entries whose numbers rise it is the version that is found in list order
-pub version_in-rising :
-    (entries : List Entry) (number : ℕ) → rises_in entries ≡ true → version_in entries number ≡ find (λ v. v.number == number) (versions_of (reverse entries))
-version_in-rising [] number rise = refl
-version_in-rising (entry ∷ earlier) number rise =
+pub version_numbered-rising :
+    (entries : List Entry) (number : ℕ) → rises_in entries ≡ true → version_numbered entries number ≡ find (λ v. v.number == number) (versions_of (reverse entries))
+version_numbered-rising [] number rise = refl
+version_numbered-rising (entry ∷ earlier) number rise =
     let parts : (is_above_entries entry.number earlier ≡ true) × (rises_in earlier ≡ true) = and_parts _ _ rise in
-    version-step entry earlier number (version_of entry) refl parts.0 (version_in-rising earlier number parts.1) ∙ sym (found-split entry earlier number)
+    version-step entry earlier number (version_of entry) refl parts.0 (version_numbered-rising earlier number parts.1) ∙ sym (found-split entry earlier number)

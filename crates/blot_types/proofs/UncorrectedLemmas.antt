@@ -14,6 +14,7 @@ use Rattle.blot_types.proofs.KeyLemmas.{same_exec-true, same_exec-refl}
 use Rattle.blot_types.proofs.ChainLemmas.{none_is, root-fresh, accepted_key, clash, differing}
 use Rattle.blot_types.proofs.LawLemmas.{links_of-around, book_parts}
 use Rattle.blot_types.proofs.EntryLemmas.{IsVersionOf, version-unlinked, chained-links, falls-links}
+use Rattle.blot_types.proofs.StandLemmas.{stands-both}
 use Rattle.blot_types.proofs.SurvivorLemmas.{of_its_link}
 use Rattle.blot_types.proofs.GeneralLemmas.{and-false}
 
@@ -149,7 +150,7 @@ stands_by_link list front back entry link version root book is linked own rooted
     let at : root_in (links_of back ++ link ∷ links_of front) link.key ≡ Some root = ap (λ links. root_in links link.key) (sym seen) ∙ ap (root_in (links_of list)) (sym own.key) ∙ rooted in
     let last : is_number link.number (current_in (links_of list) root) ≡ not (list_any (corrects_chain (links_of list) root) (links_of back)) =
     subst (λ links. is_number link.number (current_in links root) ≡ not (list_any (corrects_chain links root) (links_of back))) (sym seen) (last-uncorrected (links_of back) (links_of front) link root chained fall at) in
-    ap (stands_under (links_of list) version.number) rooted
+    ap (stands_under (links_of list) version.number) rooted ∙ stands-both (links_of list) version.number root
     ∙ ap (λ n. is_none (bust_in (links_of list) root) && is_number n (current_in (links_of list) root)) own.number
     ∙ ap (λ test. is_none (bust_in (links_of list) root) && test) last
     ∙ ap (λ test. test && not (list_any (corrects_chain (links_of list) root) (links_of back))) (unbusted (bust_in (links_of list) root) ∙ ap not (busted-among (links_of list) root))

@@ -8,8 +8,8 @@ use Rattle.blot_types.specs.declared.{command.Command.Command, command.Command.T
 use Rattle.blot_types.specs.Chains.{root_in, is_root, current_in, falls}
 use Rattle.blot_types.specs.Keys.{same_exec, is_among}
 use Rattle.blot_types.specs.Legal.{rises_in, refusal_in}
-use Rattle.blot_types.specs.Refusals.{exec_references, listed_by, version_in, current_fill}
-use Rattle.blot_types.specs.Survivors.{is_number, links_in, version_of}
+use Rattle.blot_types.specs.Refusals.{exec_references, listed_by, current_fill}
+use Rattle.blot_types.specs.Survivors.{is_number, links_in, version_of, version_numbered}
 use Rattle.blot_types.proofs.ChainLemmas.{differing, root-fresh}
 use Rattle.blot_types.proofs.EntryLemmas.{version-number, link-number, falls-links}
 use Rattle.blot_types.proofs.KeyLemmas.{same_exec-sym}
@@ -36,7 +36,7 @@ unnamed (Some a) some = refl
 
 -- ---- fills
 
-version-skip : (later front : List Entry) (k : Entry) (v : Version) (n : ℕ) → version_of k ≡ Some v → (k.number == n) ≡ false → version_in (later ++ front) n ≡ version_in (later ++ k ∷ front) n
+version-skip : (later front : List Entry) (k : Entry) (v : Version) (n : ℕ) → version_of k ≡ Some v → (k.number == n) ≡ false → version_numbered (later ++ front) n ≡ version_numbered (later ++ k ∷ front) n
 version-skip later front k v n is other =
     let passed : (v.number == n) ≡ false = ap (λ m. m == n) (version-number k v is) ∙ other in
     ap (find (λ w. w.number == n)) (filter_map-append version_of later front)
@@ -52,14 +52,14 @@ other-way m n other =
     ]
 
 numbered-stays : (later front : List Entry) (k : Entry) (v : Version) (found : Option ℕ) → version_of k ≡ Some v → is_number k.number found ≡ false
-    → option_and_then (version_in (later ++ front)) found ≡ option_and_then (version_in (later ++ k ∷ front)) found
+    → option_and_then (version_numbered (later ++ front)) found ≡ option_and_then (version_numbered (later ++ k ∷ front)) found
 numbered-stays later front k v None is other = refl
 numbered-stays later front k v (Some n) is other = version-skip later front k v n is (other-way n k.number other)
 
 rooted-stays : (later front : List Entry) (k : Entry) (l : Link) (v : Version) (found : Option ExecKey) → GoneLink later front k l → version_of k ≡ Some v
     → is_number k.number (option_and_then (current_in (links_in (later ++ k ∷ front))) found) ≡ false
-    → option_and_then (version_in (later ++ front)) (option_and_then (current_in (links_in (later ++ front))) found)
-    ≡ option_and_then (version_in (later ++ k ∷ front)) (option_and_then (current_in (links_in (later ++ k ∷ front))) found)
+    → option_and_then (version_numbered (later ++ front)) (option_and_then (current_in (links_in (later ++ front))) found)
+    ≡ option_and_then (version_numbered (later ++ k ∷ front)) (option_and_then (current_in (links_in (later ++ k ∷ front))) found)
 rooted-stays later front k l v None gone is other = refl
 rooted-stays later front k l v (Some r) gone is other =
     let whole = links-whole later front k l gone.link in
@@ -67,7 +67,7 @@ rooted-stays later front k l v (Some r) gone is other =
     let behind : is_number l.number (current_in (links_in later ++ l ∷ links_in front) r) ≡ false = ap (λ n. is_number n (current_in (links_in later ++ l ∷ links_in front) r)) number ∙ ap (λ ls. is_number k.number (current_in ls r)) (sym whole) ∙ other in
     let same : current_in (links_in (later ++ front)) r ≡ current_in (links_in (later ++ k ∷ front)) r =
     ap (λ ls. current_in ls r) (links-rest later front) ∙ current-behind (links_in later) (links_in front) l r (chained-whole later front k l gone) (chained-rest later front k l gone) behind ∙ ap (λ ls. current_in ls r) (sym whole) in
-    ap (option_and_then (version_in (later ++ front))) same ∙ numbered-stays later front k v (current_in (links_in (later ++ k ∷ front)) r) is other
+    ap (option_and_then (version_numbered (later ++ front))) same ∙ numbered-stays later front k v (current_in (links_in (later ++ k ∷ front)) r) is other
 
 -- a chain of which k isn't the last version has the fill that it had
 pub fill-behind : (later front : List Entry) (k : Entry) (l : Link) (v : Version) (key : ExecKey) → GoneLink later front k l → version_of k ≡ Some v → IsOther l key → is_last_of (later ++ k ∷ front) k.number key ≡ false
@@ -75,7 +75,7 @@ pub fill-behind : (later front : List Entry) (k : Entry) (l : Link) (v : Version
 fill-behind later front k l v key gone is other behind =
     let entries = later ++ k ∷ front in
     let others = later ++ front in
-    ap (λ found. option_map (λ version. version.fill) (option_and_then (version_in others) (option_and_then (current_in (links_in others)) found))) (root-gone later front k l gone key other)
+    ap (λ found. option_map (λ version. version.fill) (option_and_then (version_numbered others) (option_and_then (current_in (links_in others)) found))) (root-gone later front k l gone key other)
     ∙ ap (option_map (λ version. version.fill)) (rooted-stays later front k l v (root_in (links_in entries) key) gone is behind)
 
 -- what a chain has of which k is the last version

@@ -65,6 +65,14 @@ current_in [] root = None
 current_in (link ∷ earlier) root =
     if is_root root (own_root (root_in earlier) link.key link.role) then Some link.number else current_in earlier root
 
+-- the number of the last version of a root's chain, where no Bust ended it
+abbrev pub standing_version_in : List Link → ExecKey → Option ℕ
+standing_version_in links root = if is_none (bust_in links root) then current_in links root else None
+
+-- the number of the last version of the chain of a key
+abbrev pub current_of_key : List Link → ExecKey → Option ℕ
+current_of_key links key = option_and_then (current_in links) (root_in links key)
+
 -- why a reference is refused: it has no root, or its chain is busted
 abbrev pub chain_refusal : List Link → ExecKey → Option ExecKey → Option Refused
 chain_refusal links reference None = Some (UnknownExec reference)
@@ -87,8 +95,8 @@ is_chained (link ∷ earlier) = is_none (link_refusal earlier link.key link.role
 -- the number of the version that a link takes the place of, or busts
 abbrev pub replaced_in : List Link → Role → Option ℕ
 replaced_in links Begins = None
-replaced_in links (Corrects reference) = option_and_then (current_in links) (root_in links reference)
-replaced_in links (Busts reference) = option_and_then (current_in links) (root_in links reference)
+replaced_in links (Corrects reference) = current_of_key links reference
+replaced_in links (Busts reference) = current_of_key links reference
 
 -- the number of the version that an entry's link, if it is one, takes the place of, or busts
 abbrev pub replaced_by : List Link → Option Link → Option ℕ

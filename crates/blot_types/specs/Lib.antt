@@ -6,7 +6,7 @@ pub mod ItemsBuilder
 pub mod Keys
 pub mod Laws
 pub mod Legal
-pub mod Numbers
+pub mod Lesser
 pub mod Order
 pub mod Position
 pub mod RefusalNames

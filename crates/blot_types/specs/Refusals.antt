@@ -3,16 +3,16 @@ use Rattle.std.specs.Prelude.{ℕ, ◌==◌, Bool, true, false, ◌&&◌, not, �
 use Rattle.std.specs.List.{list_any}
 use Rattle.std.specs.Option.{option_map_or, option_or}
 use Rattle.std.specs.Ordering.{int_eq}
-use Rattle.blot_types.specs.declared.{allocation.Instruction.Instruction, allocation.Line.Line, allocation.Terms.Terms, command.Command.Command, command.Entry.Entry, fill.Fill.Fill, fill.Sign.Sign, keys.AllocKey.AllocKey, keys.ExecKey.ExecKey, lines.Version.Version, link.Link.Link, refused.Refused.Refused}
+use Rattle.blot_types.specs.declared.{allocation.Instruction.Instruction, allocation.Line.Line, allocation.Terms.Terms, command.Command.Command, command.Entry.Entry, fill.Fill.Fill, fill.Sign.Sign, keys.AllocKey.AllocKey, keys.ExecKey.ExecKey, link.Link.Link, refused.Refused.Refused}
 use Rattle.blot_types.specs.declared.command.Command.TheVariants.{Trade, Correct, Bust, AllocNew, AllocReplace, AllocCancel, Withdraw}
 use Rattle.blot_types.specs.declared.fill.Sign.TheVariants.{Buy, Sell}
 use Rattle.blot_types.specs.declared.refused.Refused.TheVariants.{DuplicateExec, DuplicateAlloc, UnknownAlloc, DeadAlloc, UnknownExec, BustedExec, RepeatedExec, ExecTaken, Instrument, Quantity, NotLive}
 use Rattle.blot_types.specs.Allocations.{allocation_of, instructions_in}
-use Rattle.blot_types.specs.Chains.{taker_in, root_in, is_root, bust_in, current_in}
+use Rattle.blot_types.specs.Chains.{taker_in, root_in, is_root, bust_in, current_of_key}
 use Rattle.blot_types.specs.Instructions.{alloc_taker_in, is_allocation_in, ended_in, other_holder_in}
 use Rattle.blot_types.specs.Keys.{same_text}
 use Rattle.blot_types.specs.Order.{total, cum_of}
-use Rattle.blot_types.specs.Survivors.{links_in, versions_of}
+use Rattle.blot_types.specs.Survivors.{links_in, version_numbered}
 
 -- ---- what a command says, by its kind
 
@@ -84,15 +84,11 @@ repeated_in links before (key ∷ later) =
 abbrev pub other_holder : List Link → List Instruction → Option AllocKey → ExecKey → Option ℕ
 other_holder links instructions reference key = option_and_then (other_holder_in instructions reference) (root_in links key)
 
--- the version of a number
-abbrev pub version_in : List Entry → ℕ → Option Version
-version_in entries number = find (λ version. version.number == number) (versions_of entries)
-
 -- the fill of the last version of the chain of a key
 abbrev pub current_fill : List Entry → ExecKey → Option Fill
 current_fill entries key =
     option_map (λ version. version.fill)
-    (option_and_then (version_in entries) (option_and_then (current_in (links_in entries)) (root_in (links_in entries) key)))
+    (option_and_then (version_numbered entries) (current_of_key (links_in entries) key))
 
 -- whether two signs are one
 abbrev pub same_sign : Sign → Sign → Bool

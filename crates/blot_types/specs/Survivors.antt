@@ -1,11 +1,11 @@
 -- The executions of a list of entries that stand. A list of entries is in rising order of number; its links
 -- are newest first, as `Chains` reads them.
-use Rattle.std.specs.Prelude.{ℕ, ◌==◌, Bool, false, ◌&&◌, List, filter, reverse, Option, Some, None, is_none, filter_map}
+use Rattle.std.specs.Prelude.{ℕ, ◌==◌, Bool, false, List, filter, reverse, Option, Some, None, find, filter_map, option_and_then}
 use Rattle.std.specs.Option.{option_map_or}
 use Rattle.blot_types.specs.declared.{command.Command.Command, command.Entry.Entry, keys.ExecKey.ExecKey, lines.Version.Version, link.Link.Link}
 use Rattle.blot_types.specs.declared.command.Command.TheVariants.{Trade, Correct, Bust}
 use Rattle.blot_types.specs.declared.link.Role.TheVariants.{Begins, Corrects, Busts}
-use Rattle.blot_types.specs.Chains.{root_in, busted_roots_in, bust_in, current_in}
+use Rattle.blot_types.specs.Chains.{root_in, busted_roots_in, standing_version_in}
 
 -- an entry as the chains see it: that of an execution is a link, and no other
 abbrev pub link_by : ℕ → Command → Option Link
@@ -45,14 +45,17 @@ version_of entry = version_by entry.number entry.command
 abbrev pub versions_of : List Entry → List Version
 versions_of list = filter_map version_of list
 
+-- the version of a number
+abbrev pub version_numbered : List Entry → ℕ → Option Version
+version_numbered list number = find (λ version. version.number == number) (versions_of list)
+
 -- whether there is a number, and it is this one
 abbrev pub is_number : ℕ → Option ℕ → Bool
 is_number number found = option_map_or (λ other. other == number) found false
 
--- whether the version of a number stands, where this is its root: no Bust ended its chain, and it is the
--- chain's last version
+-- whether the version of a number stands, where this is its root: it is its chain's last version, and no Bust ended the chain
 abbrev pub stands_under : List Link → ℕ → Option ExecKey → Bool
-stands_under links number found = option_map_or (λ root. is_none (bust_in links root) && is_number number (current_in links root)) found false
+stands_under links number found = is_number number (option_and_then (standing_version_in links) found)
 
 abbrev pub stands_in : List Link → Version → Bool
 stands_in links version = stands_under links version.number (root_in links version.key)

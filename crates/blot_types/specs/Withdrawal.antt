@@ -5,7 +5,7 @@ use Rattle.std.specs.Option.{option_map_or, option_or}
 use Rattle.blot_types.specs.declared.{command.Bust.Bust, command.Command.Command, command.Entry.Entry, fill.Fill.Fill, keys.AllocKey.AllocKey, keys.ExecKey.ExecKey}
 use Rattle.blot_types.specs.declared.command.Command.TheVariants.{Correct, Bust as BustCommand}
 use Rattle.blot_types.specs.Allocations.{allocation_of, instructions_in}
-use Rattle.blot_types.specs.Chains.{root_in, current_in}
+use Rattle.blot_types.specs.Chains.{root_in, current_of_key}
 use Rattle.blot_types.specs.Instructions.{is_allocation_of, names, is_reference}
 use Rattle.blot_types.specs.Keys.{same_text, is_among}
 use Rattle.blot_types.specs.Legal.{is_book, without, least_needing}
@@ -45,7 +45,7 @@ changes_fill before k = option_map_or (λ version. option_map_or (λ old. not (a
 
 -- whether the version of a number is the last one of the chain of a key
 abbrev pub is_last_of : List Entry → ℕ → ExecKey → Bool
-is_last_of before number key = is_number number (option_and_then (current_in (links_in before)) (root_in (links_in before) key))
+is_last_of before number key = is_number number (current_of_key (links_in before) key)
 
 -- m lists an execution of k's chain, k is the chain's last version, and it changed the fill
 abbrev pub needs_version : List Entry → Entry → Command → Bool

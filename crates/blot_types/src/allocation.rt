@@ -1,6 +1,7 @@
 //! What an allocation books, and where.
 ghost use Rattle.std.specs.Prelude.{◌≡◌, pos};
 ghost use Rattle.blot_types.specs.declared.refused.Refused.TheVariants.{Quantity};
+ghost use Rattle.blot_types.specs.Instructions.{brings_allocation, is_reference, reference_of};
 ghost use Rattle.blot_types.specs.Refusals.{booked, differs, mismatch};
 
 use crate::fill::is_same_sign;
@@ -88,6 +89,38 @@ pub enum AllocRole {
     Replaces(AllocKey),
     /// Ends this allocation.
     Cancels(AllocKey),
+}
+
+impl AllocRole {
+    /// Whether an instruction of this role brings an allocation.
+    pub fn brings_allocation(&self) -> bool
+        ensures { result ≡ brings_allocation self.now }
+    {
+        match self {
+            AllocRole::Allocates | AllocRole::Replaces(_) => true,
+            AllocRole::Cancels(_) => false,
+        }
+    }
+
+    /// The allocation that an instruction of this role refers to.
+    pub fn reference(&self) -> Option<AllocKey>
+        ensures { result ≡ reference_of self.now }
+    {
+        match self {
+            AllocRole::Allocates => None,
+            AllocRole::Replaces(reference) | AllocRole::Cancels(reference) => Some(*reference),
+        }
+    }
+}
+
+/// Whether a key is the one referred to.
+pub fn is_reference(reference: Option<AllocKey>, key: &AllocKey) -> bool
+    ensures { result ≡ is_reference reference key.now }
+{
+    match reference {
+        None => false,
+        Some(reference) => reference == *key,
+    }
 }
 
 /// An entry as the allocations see it.

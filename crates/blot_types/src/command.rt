@@ -241,6 +241,17 @@ pub struct Entry {
 impl Entry {
     ghost use Rattle.blot_types.specs.Survivors.{link_of, version_of};
 
+    /// An equal entry. An error is out of memory.
+    pub fn try_copy(&self, alloc: Global) -> Result<Entry, NoMemory>
+        ensures { IfOk result (λ copy. copy ≡ self.now) }
+    {
+        let command = self.command.try_copy(alloc)?;
+        Ok(Entry {
+            number: self.number,
+            command,
+        })
+    }
+
     /// The entry as the chains see it, if it is one of an execution.
     pub fn link(&self) -> Option<Link>
         ensures { result ≡ link_of self.now }

@@ -16,7 +16,7 @@ mod part;
 mod refused;
 mod text;
 
-pub use allocation::{AllocRole, Instruction, Line, Terms};
+pub use allocation::{AllocRole, Instruction, Line, Terms, is_reference};
 pub use command::{AllocCancel, AllocNew, AllocReplace, Bust, Command, Correct, Entry, Trade};
 pub use fill::{Fill, Sign};
 pub use items::Items;

@@ -1,6 +1,6 @@
 //! What has a number.
 ghost use Rattle.std.specs.Prelude.{◌≡◌};
-ghost use Rattle.blot_types.specs.Numbers.{lesser};
+ghost use Rattle.blot_types.specs.Lesser.{lesser};
 
 use crate::Instruction;
 

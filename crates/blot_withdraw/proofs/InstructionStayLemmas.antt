@@ -14,10 +14,10 @@ use Rattle.blot_types.specs.Refusals.{alloc_key, alloc_reference, listed_by}
 use Rattle.blot_types.specs.Survivors.{links_in}
 use Rattle.blot_types.proofs.AcceptLemmas.{unmapped}
 use Rattle.blot_types.proofs.KeyLemmas.{same_alloc-true}
-use Rattle.blot_withdraw.proofs.SpareLemmas.{Spares, spares-newest, roots-spared}
 use Rattle.blot_types.proofs.StayLemmas.{mapped-none, unfound-among, find-stays, any-stays}
 use Rattle.blot_types.proofs.LinkOutLemmas.{same-instruction}
 use Rattle.blot_types.proofs.AllocOutLemmas.{ends-refers}
+use Rattle.blot_withdraw.proofs.SpareLemmas.{Spares, spares-newest, roots-spared}
 use Rattle.blot_withdraw.proofs.Split.{Split, IsFree}
 
 abbrev pub instruction_stays : Split → Instruction → Bool

@@ -8,8 +8,8 @@ use Rattle.blot_types.specs.declared.link.Role.TheVariants.{Corrects, Busts}
 use Rattle.blot_types.specs.Legal.{is_above_entries, rises_in, legal_in, is_book}
 use Rattle.blot_types.specs.Survivors.{links_in}
 use Rattle.blot_types.proofs.EntryLemmas.{chained-links}
-use Rattle.blot_withdraw.proofs.ChainStayLemmas.{refers-stays}
 use Rattle.blot_types.proofs.StayLemmas.{all-stays, filter-reverse}
+use Rattle.blot_withdraw.proofs.ChainStayLemmas.{refers-stays}
 use Rattle.blot_withdraw.proofs.RuleLemmas.{KeyStays, NeedsNone, answers, accepted-spared}
 use Rattle.blot_withdraw.proofs.SpareLemmas.{Spares, spares-newest}
 use Rattle.blot_withdraw.proofs.Split.{Split}

@@ -1,5 +1,5 @@
 -- Where only whole busted chains go that nobody needs, the lines of orders and positions are as before.
-use Rattle.std.proofs.Common.{◌≡◌, ℕ, true, false, ◌&&◌, List, [], ◌∷◌, ◌++◌, map, reverse, Option, Some, None, refl, sym, ap, ◌∙◌, inl, inr, not, filter, is_none, All, filter_map, flat_map}
+use Rattle.std.proofs.Common.{◌≡◌, ℕ, true, false, ◌&&◌, List, [], ◌∷◌, ◌++◌, map, reverse, Option, Some, None, refl, sym, ap, ◌∙◌, inl, inr, not, filter, is_none, if◌then◌else◌, All, filter_map, flat_map}
 use Rattle.std.specs.Option.{option_map_or}
 use Rattle.std.proofs.lemmas.Bool.{cases_Bool, and_parts, not-true}
 use Rattle.std.proofs.lemmas.List.Elements.{All-head, All-tail, All-weaker, filter_agree, filter_passes}
@@ -14,10 +14,10 @@ use Rattle.blot_types.specs.Position.{moves_of, is_at, part_of, part_of_fill, pa
 use Rattle.blot_types.specs.Refusals.{alloc_key}
 use Rattle.blot_types.specs.Survivors.{links_in, links_of, root_of, versions_of, is_number, stands_under, stands_in, survivors}
 use Rattle.blot_types.proofs.SurvivorLemmas.{filter-and}
-use Rattle.blot_withdraw.proofs.ChainStayLemmas.{GoWhole}
-use Rattle.blot_withdraw.proofs.InstructionStayLemmas.{instruction_stays, instructions-split}
 use Rattle.blot_types.proofs.StayLemmas.{filter_map-filter, filter-reverse}
 use Rattle.blot_types.proofs.GeneralLemmas.{filter-all}
+use Rattle.blot_withdraw.proofs.ChainStayLemmas.{GoWhole}
+use Rattle.blot_withdraw.proofs.InstructionStayLemmas.{instruction_stays, instructions-split}
 use Rattle.blot_withdraw.proofs.RuleLemmas.{KeyStays, RootStays, root-known}
 use Rattle.blot_withdraw.proofs.SpareLemmas.{Spares, roots-spared, bust-spared, current-spared}
 use Rattle.blot_withdraw.proofs.Split.{Split, version_stays, versions-split}
@@ -40,8 +40,8 @@ same-stands :
     → stands_under (links_in (filter split.stays (reverse list))) number found ≡ stands_under (links_of list) number found
 same-stands split list number None it stays = refl
 same-stands split list number (Some root) it stays =
-    ap (λ bust. is_none bust && is_number number (current_in (links_in (filter split.stays (reverse list))) root)) (bust-spared split (reverse list) root it.spares it.whole stays)
-    ∙ ap (λ current. is_none (bust_in (links_of list) root) && is_number number current) (current-spared split (reverse list) root it.spares stays)
+    ap (λ bust. is_number number (if is_none bust then current_in (links_in (filter split.stays (reverse list))) root else None)) (bust-spared split (reverse list) root it.spares it.whole stays)
+    ∙ ap (λ current. is_number number (if is_none (bust_in (links_of list) root) then current else None)) (current-spared split (reverse list) root it.spares stays)
 
 -- nothing of a chain that goes stands
 gone-fallen :

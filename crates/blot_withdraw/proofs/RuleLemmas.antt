@@ -7,14 +7,14 @@ use Rattle.blot_types.specs.Allocations.{instructions_in}
 use Rattle.blot_types.specs.Chains.{takes_up, taker_in, root_in, bust_in, current_in}
 use Rattle.blot_types.specs.Instructions.{alloc_taker_in, is_allocation_in, ended_in, other_holder_in}
 use Rattle.blot_types.specs.Legal.{refusal_in}
-use Rattle.blot_types.specs.Refusals.{alloc_reference, listed_by, exec_references, bust_of_key, other_holder, version_in, current_fill}
-use Rattle.blot_types.specs.Survivors.{links_in, version_of}
+use Rattle.blot_types.specs.Refusals.{alloc_reference, listed_by, exec_references, bust_of_key, other_holder, current_fill}
+use Rattle.blot_types.specs.Survivors.{links_in, version_of, version_numbered}
 use Rattle.blot_types.proofs.AcceptLemmas.{unmapped}
 use Rattle.blot_types.proofs.AcceptOutLemmas.{accepts, accepted as accepted_by, accepts-out, listed, shaped}
-use Rattle.blot_types.proofs.SurvivorLemmas.{current-found, version_in-rising}
-use Rattle.blot_withdraw.proofs.InstructionStayLemmas.{instruction_stays, instructions-split, tied, taker-stays, allocation-stays, unended-stays, holder-stays}
+use Rattle.blot_types.proofs.SurvivorLemmas.{current-found, version_numbered-rising}
 use Rattle.blot_types.proofs.StayLemmas.{mapped-none, then-none, unfound-among}
 use Rattle.blot_types.proofs.GeneralLemmas.{found-stays}
+use Rattle.blot_withdraw.proofs.InstructionStayLemmas.{instruction_stays, instructions-split, tied, taker-stays, allocation-stays, unended-stays, holder-stays}
 use Rattle.blot_withdraw.proofs.SpareLemmas.{Spares, roots-spared, unbusted-spared, current-spared}
 use Rattle.blot_withdraw.proofs.Split.{Split, links-split, version_stays, versions-split}
 
@@ -35,34 +35,34 @@ root-known split entries key (Some root) spares is stays = ap split.goes (sym (s
 
 version-spared :
     (split : Split) (entries : List Entry) (root : ExecKey) (number : ℕ) → Spares split entries → current_in (links_in entries) root ≡ Some number → split.goes (Some root) ≡ false
-    → version_in (filter split.stays entries) number ≡ version_in entries number
+    → version_numbered (filter split.stays entries) number ≡ version_numbered entries number
 version-spared split entries root number spares current stays =
     let last = current-found entries root number spares.legal spares.rises current in
     let rooted : root_in (links_in entries) last.0.key ≡ Some root = ap (λ l. root_in (links_in l) last.0.key) (sym (reverse-reverse entries)) ∙ last.1.root_is in
     let kept : version_stays split last.0 ≡ true = ap (λ found. not (split.goes found)) (spares.knows.known last.0.key root rooted) ∙ ap not stays in
-    let found : version_in entries number ≡ Some last.0 = version_in-rising entries number spares.rises ∙ last.1.found in
+    let found : version_numbered entries number ≡ Some last.0 = version_numbered-rising entries number spares.rises ∙ last.1.found in
     ap (find (λ v. v.number == number)) (versions-split split entries)
     ∙ found-stays (λ v. v.number == number) (version_stays split) (filter_map version_of entries) last.0 found kept ∙ sym found
 
 numbered-spared :
     (split : Split) (entries : List Entry) (root : ExecKey) (found : Option ℕ) → Spares split entries → current_in (links_in entries) root ≡ found → split.goes (Some root) ≡ false
-    → option_and_then (version_in (filter split.stays entries)) found ≡ option_and_then (version_in entries) found
+    → option_and_then (version_numbered (filter split.stays entries)) found ≡ option_and_then (version_numbered entries) found
 numbered-spared split entries root None spares is stays = refl
 numbered-spared split entries root (Some number) spares is stays = version-spared split entries root number spares is stays
 
 rooted-spared :
     (split : Split) (entries : List Entry) (found : Option ExecKey) → Spares split entries → RootStays split found
-    → option_and_then (version_in (filter split.stays entries)) (option_and_then (current_in (links_in (filter split.stays entries))) found)
-    ≡ option_and_then (version_in entries) (option_and_then (current_in (links_in entries)) found)
+    → option_and_then (version_numbered (filter split.stays entries)) (option_and_then (current_in (links_in (filter split.stays entries))) found)
+    ≡ option_and_then (version_numbered entries) (option_and_then (current_in (links_in entries)) found)
 rooted-spared split entries None spares stays = refl
 rooted-spared split entries (Some root) spares stays =
-    ap (option_and_then (version_in (filter split.stays entries))) (current-spared split entries root spares stays)
+    ap (option_and_then (version_numbered (filter split.stays entries))) (current-spared split entries root spares stays)
     ∙ numbered-spared split entries root (current_in (links_in entries) root) spares refl stays
 
 pub fill-spared : (split : Split) (entries : List Entry) (key : ExecKey) → Spares split entries → KeyStays split key → current_fill (filter split.stays entries) key ≡ current_fill entries key
 fill-spared split entries key spares stays =
     let others = filter split.stays entries in
-    ap (λ found. option_map (λ version. version.fill) (option_and_then (version_in others) (option_and_then (current_in (links_in others)) found))) (roots-spared split entries spares key stays)
+    ap (λ found. option_map (λ version. version.fill) (option_and_then (version_numbered others) (option_and_then (current_in (links_in others)) found))) (roots-spared split entries spares key stays)
     ∙ ap (option_map (λ version. version.fill)) (rooted-spared split entries (root_in (links_in entries) key) spares (root-known split entries key (root_in (links_in entries) key) spares refl stays))
 
 -- ---- what the entries that stay answer

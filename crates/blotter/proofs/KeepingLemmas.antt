@@ -2,11 +2,11 @@
 use Rattle.std.proofs.Common.{◌≡◌, ◌<◌, ℕ, List, [], ◌∷◌, length, ap, subst, sym, ◌∙◌, arith, ℤ, Option, Some, IfOk, IsOk, OnOk, Result, codes, All, slice_get}
 use Rattle.std.proofs.lemmas.Result.{IfOk-weaker}
 use Rattle.blot_desk.specs.declared.{event.Event.Event, receipt.Receipt.Receipt}
+use Rattle.blot_stream.proofs.ResultLemmas.{ok-says}
 use Rattle.blot_operator.specs.Seats.{Named}
 use Rattle.blot_recovery.specs.declared.{operators.KeptOperators.KeptOperators, parties.KeptOperator.KeptOperator, parties.KeptPeer.KeptPeer}
 use Rattle.blot_recovery.specs.Opening.{OpensWith}
 use Rattle.blot_recovery.specs.Parties.{AreKeptOperators, IsFirst, IsKeptOperator, IsKeptPeer, brought_by, is_operator, operator_names}
-use Rattle.blot_stream.proofs.ResultLemmas.{ok-says}
 use Rattle.blotter.specs.Keeping.{IsListed, KeptDayServed, ServesFirst, ServesKept}
 use Rattle.blotter.specs.Serving.{KeptReported, ServedBy}
 

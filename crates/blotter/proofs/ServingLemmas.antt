@@ -2,16 +2,17 @@
 use Rattle.std.proofs.Common.{◌≡◌, ℕ, List, [], ◌∷◌, ◌++◌, length, replicate, refl, sym, ap, subst, ◌∙◌, arith, zero, suc, ℤ, codes, true, false, ◌&&◌, Option, IsOk, OnOk, OnErr, Result, Ok, Err, is_err, All}
 use Rattle.std.specs.Io.KnownBytes.{IsAtEnd}
 use Rattle.std.specs.List.{list_all}
+use Rattle.blot_types.proofs.GeneralLemmas.{on-ok}
 use Rattle.blot_desk.specs.declared.{event.Event.Event, event.Recorded.Recorded, receipt.Receipt.Receipt}
 use Rattle.blot_desk.specs.Keeping.{kept_events}
 use Rattle.blot_gateway.specs.AtOnce.{AddsSubmits, EachAdds, are_submits}
 use Rattle.blot_gateway.proofs.AtOnceLemmas.{adds-none, adds-on, each-adds}
-use Rattle.blot_stream.proofs.ResultLemmas.{ok-says, on-ok}
+use Rattle.blot_stream.proofs.ResultLemmas.{ok-says}
+use Rattle.blot_sockets.specs.Sockets.{ClockTicks, SocketDoes}
 use Rattle.blot_operator.specs.Dialogue.{HeardOf, TellsOf, open_ways, seat_ways}
 use Rattle.blot_operator.specs.Seats.{Named}
 use Rattle.blotter.proofs.RoundLemmas.{as-many}
 use Rattle.blotter.specs.Rounds.{RoundsLead, ServesRound}
-use Rattle.blot_sockets.specs.Sockets.{ClockTicks, SocketDoes}
 use Rattle.blotter.specs.Serving.{DayServed, KeptReported, OpenDayServed, Reported, ReportedOf, ServedBy}
 
 -- ---- what rounds add

@@ -3,8 +3,8 @@ use Rattle.std.specs.Prelude.{◌≡◌, ℕ, ℤ, true, List, Option, Some, cod
 use Rattle.blot_desk.specs.declared.{event.Event.Event, receipt.Receipt.Receipt}
 use Rattle.blot_gateway.specs.AtOnce.{are_submits}
 use Rattle.blot_operator.specs.Seats.{Named}
-use Rattle.blot_diary.specs.Keeping.{IsInRange}
 use Rattle.blot_lanes.specs.Listing.{Listed}
+use Rattle.blot_diary.specs.Keeping.{IsInRange}
 use Rattle.blot_recovery.specs.declared.{parties.KeptOperator.KeptOperator, parties.KeptPeer.KeptPeer}
 use Rattle.blot_recovery.specs.Opening.{IsOpenFault, OpensWith}
 use Rattle.blot_recovery.specs.Parties.{brought_by, events_told, is_operator}

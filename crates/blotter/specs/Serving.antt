@@ -7,14 +7,14 @@ use Rattle.blot_desk.specs.declared.fault.DeskFault.TheVariants as desk
 use Rattle.blot_desk.specs.Desk.{events_of, run_of}
 use Rattle.blot_desk.specs.Keeping.{kept_events}
 use Rattle.blot_desk.specs.Receipts.{IsSettled}
-use Rattle.blot_gateway.specs.AtOnce.{are_submits}
-use Rattle.blot_lanes.specs.Listing.{Listed}
-use Rattle.blot_operator.specs.Dialogue.{HeardOf, TellsOf, open_ways, seat_ways}
-use Rattle.blot_operator.specs.Seats.{Named}
 use Rattle.blot_report.specs.Text.{report_of}
-use Rattle.blotter.specs.Rounds.{RoundsLead}
+use Rattle.blot_gateway.specs.AtOnce.{are_submits}
 use Rattle.blot_stream.specs.declared.outcome.ServeFault.{ServeFault}
 use Rattle.blot_stream.specs.declared.outcome.ServeFault.TheVariants as fault
+use Rattle.blot_operator.specs.Dialogue.{HeardOf, TellsOf, open_ways, seat_ways}
+use Rattle.blot_operator.specs.Seats.{Named}
+use Rattle.blot_lanes.specs.Listing.{Listed}
+use Rattle.blotter.specs.Rounds.{RoundsLead}
 
 -- the report of a day is written, of this history, in which each receipt of these seats stands once, and in which each reply is that of the run of
 -- its events

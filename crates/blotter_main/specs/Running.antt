@@ -6,15 +6,15 @@ use Rattle.blot_desk.specs.declared.{event.Event.Event, receipt.Receipt.Receipt}
 use Rattle.blot_desk.specs.Desk.{DeskState, IsRun}
 use Rattle.blot_stream.specs.Texts.{AppendsOf, lines_of}
 use Rattle.blot_capture.specs.Replay.{replay_of}
-use Rattle.blot_operator.specs.Operating.{answers_of}
 use Rattle.blot_trail.specs.Audit.{trail_of}
+use Rattle.blot_operator.specs.Operating.{answers_of}
 use Rattle.blot_operator.specs.OpenDay.{EndsOf}
 use Rattle.blotter.specs.Keeping.{KeptDayServed, ServesStaffed}
 use Rattle.blotter.specs.Serving.{DayServed, OpenDayServed, StaffedDayServed}
-use Rattle.blot_ask.specs.Asking.{Turn, is_turn, shown_last, shown_of}
 use Rattle.blot_arguments.specs.declared.words.Words.{Words}
 use Rattle.blot_arguments.specs.Words.{journal_named, operators_named}
 use Rattle.blot_arguments.specs.declared.words.Words.TheVariants.{Replay, Desk, Audit, Open, Serve, Ask}
+use Rattle.blot_ask.specs.Asking.{Turn, is_turn, shown_last, shown_of}
 
 -- a day is served that is kept in a journal, from some text that this had when it was opened, on; or that was new
 abbrev pub ServesJournal : List ℕ → Option (List ℕ) → ℤ → Option (List ℕ) → Option (List ℕ) → Type 0

@@ -1,7 +1,7 @@
 use Rattle.std.proofs.Common.{◌≡◌, take, All}
-use Rattle.blot_places.specs.Places.{HasRoom, places_in}
 use Rattle.blot_types.specs.declared.keys.ExecKey.{ExecKey}
 use Rattle.blot_types.specs.Keys.{same_exec}
+use Rattle.blot_places.specs.Places.{HasRoom, places_in}
 use Rattle.blot_alloc.proofs.roots.make_room.Given as goal
 
 abbrev pub invariant-loop-root : goal.invariant-loop-root

@@ -1,6 +1,6 @@
 use Rattle.std.proofs.Common.{◌+◌, drop}
-use Rattle.blot_places.specs.Places.{places_in}
 use Rattle.blot_types.specs.Keys.{same_exec}
+use Rattle.blot_places.specs.Places.{places_in}
 use Rattle.blot_alloc.proofs.RootLemmas.{drop_step, step-change}
 use Rattle.blot_alloc.proofs.roots.pop.Goals as goal
 

@@ -1,7 +1,7 @@
 use Rattle.std.proofs.Common.{◌≡◌, ◌∷◌, true, drop, All}
-use Rattle.blot_places.specs.Places.{HasRoom, places_in}
 use Rattle.blot_types.specs.Instructions.{are_apart}
 use Rattle.blot_types.specs.Keys.{same_exec}
+use Rattle.blot_places.specs.Places.{HasRoom, places_in}
 use Rattle.blot_alloc.proofs.RootLemmas.{ChangeEach}
 use Rattle.blot_alloc.proofs.roots.push.Given as goal
 

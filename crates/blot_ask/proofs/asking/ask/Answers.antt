@@ -1,8 +1,8 @@
 use Rattle.std.proofs.Common.{Err, ap, codes}
-use Rattle.blot_stream.proofs.ResultLemmas.{on-err, on-ok}
+use Rattle.blot_types.proofs.GeneralLemmas.{on_err, on-ok}
+use Rattle.blot_stream.proofs.ResultLemmas.{on-err}
 use Rattle.blot_ask.proofs.AskingLemmas.{asked_to_the_end, lines_in_part, name_in_part, passed, sent_in_all, turned_away}
 use Rattle.blot_ask.proofs.asking.ask.Goals as goal
-use Rattle.blot_types.proofs.GeneralLemmas.{on_err}
 
 pub returns-in_err-enter-clause-taken : goal.returns-in_err-enter-clause-taken
 returns-in_err-enter-clause-taken g c = λ same.

@@ -1,9 +1,9 @@
 use Rattle.std.proofs.Common.{subst}
 use Rattle.std.specs.Io.KnownBytes.{Appends}
+use Rattle.blot_types.proofs.GeneralLemmas.{on_err}
 use Rattle.blot_ask.specs.Lines.{with_end}
 use Rattle.blot_ask.proofs.AskingLemmas.{front_all}
 use Rattle.blot_ask.proofs.asking.enter.Goals as goal
-use Rattle.blot_types.proofs.GeneralLemmas.{on_err}
 
 pub returns-in_err-take_answer-clause-fault : goal.returns-in_err-take_answer-clause-fault
 returns-in_err-take_answer-clause-fault g c =

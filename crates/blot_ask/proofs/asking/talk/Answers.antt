@@ -1,7 +1,7 @@
+use Rattle.blot_types.proofs.GeneralLemmas.{on_err}
 use Rattle.blot_ask.proofs.AheadLemmas.{rest_over}
 use Rattle.blot_ask.proofs.AskingLemmas.{nothing_said, nothing_sent, one_turn_more, talked, turns_sent}
 use Rattle.blot_ask.proofs.asking.talk.Goals as goal
-use Rattle.blot_types.proofs.GeneralLemmas.{on_err}
 
 pub loop-init : goal.loop-init
 loop-init g c =

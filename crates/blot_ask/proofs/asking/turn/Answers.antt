@@ -1,9 +1,9 @@
 use Rattle.std.proofs.Common.{◌∙◌, ap, sym}
+use Rattle.blot_types.proofs.GeneralLemmas.{on_err}
 use Rattle.blot_ask.specs.Lines.{is_blank, unread}
 use Rattle.blot_ask.specs.Typed.{typed}
 use Rattle.blot_ask.proofs.AskingLemmas.{asked_in_part, asked_of, front_all, nothing_sent, passed_over}
 use Rattle.blot_ask.proofs.asking.turn.Goals as goal
-use Rattle.blot_types.proofs.GeneralLemmas.{on_err}
 
 pub returns-then-is_blank-clause-talks : goal.returns-then-is_blank-clause-talks
 returns-then-is_blank-clause-talks g c =

@@ -1,7 +1,7 @@
 use Rattle.std.proofs.Common.{◌≡◌, length, take, drop, arith, refl, ap, ◌∙◌}
 use Rattle.blot_tag.specs.Walking.{frames_of}
-use Rattle.blot_capture.specs.Sessions.{taking_of}
 use Rattle.blot_stream.proofs.PieceLemmas.{front_of_buffer}
+use Rattle.blot_capture.specs.Sessions.{taking_of}
 use Rattle.blot_capture.proofs.StreamLemmas.{CameOf-first, CameOf-piece, CameOf-stopped, frames_of-nil}
 use Rattle.blot_capture.proofs.capturing.take_all.Goals as goal
 

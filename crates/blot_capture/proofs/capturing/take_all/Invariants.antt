@@ -1,7 +1,7 @@
 use Rattle.std.proofs.Common.{◌≡◌, ◌<◌, [], vec_len}
 use Rattle.blot_tag.specs.Walking.{frames_of}
-use Rattle.blot_capture.specs.Replay.{CameOf}
 use Rattle.blot_capture.specs.Sessions.{taking_of}
+use Rattle.blot_capture.proofs.StreamLemmas.{CameOf}
 use Rattle.blot_capture.proofs.capturing.take_all.Given as goal
 
 abbrev pub invariant-loop : goal.invariant-loop

@@ -1,7 +1,7 @@
 use Rattle.std.proofs.Common.{◌++◌, ap, subst}
+use Rattle.blot_types.proofs.GeneralLemmas.{if-err}
 use Rattle.blot_capture.specs.Replay.{StoppedOn}
 use Rattle.blot_capture.specs.Sessions.{taking_of}
-use Rattle.blot_stream.proofs.ResultLemmas.{if-err}
 use Rattle.blot_capture.proofs.intake.take_piece.Goals as goal
 
 pub returns-in-Ok-clause-err : goal.returns-in-Ok-clause-err

@@ -1,12 +1,12 @@
 use Rattle.std.proofs.Common.{◌≡◌, ◌<◌, ◌≤◌, ℕ, List, length, ap, arith, subst, ◌∙◌}
 use Rattle.blot_types.specs.declared.TheConstants.{EVENTS_MAX}
 use Rattle.blot_desk.specs.Desk.{run_of}
-use Rattle.blot_stream.specs.declared.outcome.ReplayFault.TheVariants.{Full}
-use Rattle.blot_capture.specs.Capture.{commands_of}
 use Rattle.blot_report.specs.Text.{report_of}
+use Rattle.blot_stream.specs.declared.outcome.ReplayFault.TheVariants.{Full}
+use Rattle.blot_stream.proofs.ResultLemmas.{if-some, same-fault}
+use Rattle.blot_capture.specs.Capture.{commands_of}
 use Rattle.blot_capture.specs.Replay.{Stopped, submitted, list_of}
 use Rattle.blot_capture.proofs.DeskLemmas.{submitted-events, submitted-count, stopped-over}
-use Rattle.blot_stream.proofs.ResultLemmas.{if-some, same-fault}
 use Rattle.blot_capture.proofs.replaying.captured_report.Goals as goal
 
 pub returns-in-Err-clause-full : goal.returns-in-Err-clause-full

@@ -1,14 +1,15 @@
-use Rattle.blot_command.specs.Booking.{allocated, chains_to_house, lines_put}
+use Rattle.std.proofs.Common.{true}
+use Rattle.blot_command.specs.Booking.{allocated, chains_moved, lines_put}
 use Rattle.blot_command.proofs.ChangeListLemmas.{allocated-some, first-step, second-step, both-steps}
 use Rattle.blot_command.proofs.accounts.allocate.Goals as goal
 
-pub put_to_house-requires : goal.put_to_house-requires
-put_to_house-requires c =
+pub move_chains-requires : goal.move_chains-requires
+move_chains-requires c =
     let live = c.args.live.now.list in
     let terms = c.in-Some-Some.terms.now in
     let roots = c.in-Some-Some.roots.now in
     let is = allocated-some live c.args.key.now c.in-Some.key terms roots c.in-Some.is c.in-Some-Some.ensures c.in-Some-Some.ensures' in
-    first-step (allocated live c.args.key.now) (chains_to_house live roots) (lines_put terms terms.lines) c.args.positions.now is c.requires
+    first-step (allocated live c.args.key.now) (chains_moved true live roots) (lines_put terms terms.lines) c.args.positions.now is c.requires
 
 pub put_lines-requires : goal.put_lines-requires
 put_lines-requires c =
@@ -16,8 +17,8 @@ put_lines-requires c =
     let terms = c.in-Some-Some.terms.now in
     let roots = c.in-Some-Some.roots.now in
     let is = allocated-some live c.args.key.now c.in-Some.key terms roots c.in-Some.is c.in-Some-Some.ensures c.in-Some-Some.ensures' in
-    second-step (allocated live c.args.key.now) (chains_to_house live roots) (lines_put terms terms.lines) c.args.positions.now c.put_to_house.new.positions is c.requires
-    c.put_to_house.ensures
+    second-step (allocated live c.args.key.now) (chains_moved true live roots) (lines_put terms terms.lines) c.args.positions.now c.move_chains.new.positions is c.requires
+    c.move_chains.ensures
 
 pub returns-in-Some-Some : goal.returns-in-Some-Some
 returns-in-Some-Some c =
@@ -25,5 +26,5 @@ returns-in-Some-Some c =
     let terms = c.in-Some-Some.terms.now in
     let roots = c.in-Some-Some.roots.now in
     let is = allocated-some live c.args.key.now c.in-Some.key terms roots c.in-Some.is c.in-Some-Some.ensures c.in-Some-Some.ensures' in
-    both-steps (allocated live c.args.key.now) (chains_to_house live roots) (lines_put terms terms.lines) c.args.positions.now c.put_to_house.new.positions c.put_lines.new.positions is
-    c.put_to_house.ensures c.put_lines.ensures
+    both-steps (allocated live c.args.key.now) (chains_moved true live roots) (lines_put terms terms.lines) c.args.positions.now c.move_chains.new.positions c.put_lines.new.positions is
+    c.move_chains.ensures c.put_lines.ensures

@@ -1,6 +1,6 @@
 use Rattle.std.proofs.Common.{◌≤◌, ◌^◌, arith, rules}
-use Rattle.blot_command.proofs.OpenLemmas.{house-made, line-fits, line-made, line-opens, opens-house, other-made, terms-fit, terms-made}
 use Rattle.blot_types.specs.Position.{house}
+use Rattle.blot_command.proofs.OpenLemmas.{house-made, line-fits, line-made, line-opens, opens-house, other-made, terms-fit, terms-made}
 use Rattle.blot_command.proofs.booking.open_terms.Goals as goal
 
 pub loop-line-init : goal.loop-line-init

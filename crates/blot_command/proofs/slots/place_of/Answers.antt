@@ -1,8 +1,8 @@
 use Rattle.std.proofs.Common.{rules, arith, ltb, ltb-true, ltb-false}
 use Rattle.std.proofs.lemmas.List.Sorted.{IsPartitionPoint-from_clause, IsPartitionedBy-ltb}
+use Rattle.blot_types.specs.declared.command.Entry.{Entry}
 use Rattle.blot_places.specs.declared.slots.Slot.{Slot}
 use Rattle.blot_places.proofs.SearchLemmas.{rising}
-use Rattle.blot_types.specs.declared.command.Entry.{Entry}
 use Rattle.blot_command.specs.Book.{entry_number}
 use Rattle.blot_command.proofs.slots.place_of.Goals as goal
 

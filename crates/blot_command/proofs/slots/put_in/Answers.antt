@@ -1,7 +1,7 @@
 use Rattle.std.proofs.Common.{◌≡◌, ◌<◌, length, get_or, true, set, sym, ap, ◌∙◌}
+use Rattle.blot_types.specs.declared.command.Entry.{Entry}
 use Rattle.blot_places.specs.declared.slots.Slot.{Slot}
 use Rattle.blot_places.specs.Slots.{marked}
-use Rattle.blot_types.specs.declared.command.Entry.{Entry}
 use Rattle.blot_command.specs.Book.{entry_number}
 use Rattle.blot_command.proofs.SlotLemmas.{left-at, marked-there}
 use Rattle.blot_command.proofs.slots.put_in.Goals as goal

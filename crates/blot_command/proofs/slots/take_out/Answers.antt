@@ -1,6 +1,6 @@
 use Rattle.std.proofs.Common.{Some, false, set, sym, ap, ◌∙◌}
-use Rattle.blot_places.specs.declared.slots.Slot.{Slot}
 use Rattle.blot_types.specs.declared.command.Entry.{Entry}
+use Rattle.blot_places.specs.declared.slots.Slot.{Slot}
 use Rattle.blot_command.proofs.SlotLemmas.{IsThereAt, there-at, marked-there}
 use Rattle.blot_command.proofs.slots.take_out.Goals as goal
 use Rattle.blot_command.proofs.slots.take_out.Goals.{After-place_of-place}

@@ -1,6 +1,7 @@
+use Rattle.blot_types.proofs.GeneralLemmas.{if-err}
 use Rattle.blot_session.specs.Runs.Call.{Stop as StopCall}
 use Rattle.blot_gateway.specs.Sending.{Halts, Halted}
-use Rattle.blot_gateway.proofs.StepLemmas.{if-err, halted, idle-delivers}
+use Rattle.blot_gateway.proofs.StepLemmas.{halted, idle-delivers}
 use Rattle.blot_gateway.proofs.calling.pass_stop.Goals as goal
 
 pub returns-in-Ok-clause-err : goal.returns-in-Ok-clause-err

@@ -1,7 +1,7 @@
 use Rattle.std.proofs.Common.{arith}
+use Rattle.blot_types.proofs.GeneralLemmas.{on_err}
 use Rattle.blot_gateway.proofs.SendingLemmas.{writes-action, front-action}
 use Rattle.blot_gateway.proofs.writing.send_all.Goals as goal
-use Rattle.blot_types.proofs.GeneralLemmas.{on_err}
 
 pub returns-in_err-send-clause-err : goal.returns-in_err-send-clause-err
 returns-in_err-send-clause-err g c =

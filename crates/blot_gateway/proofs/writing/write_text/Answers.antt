@@ -1,8 +1,8 @@
 use Rattle.std.proofs.Common.{◌≤◌, length, arith, subst, length-drop}
 use Rattle.std.proofs.lemmas.List.{take_rest}
+use Rattle.blot_types.proofs.GeneralLemmas.{on_err}
 use Rattle.blot_gateway.proofs.SendingLemmas.{writes-piece, front-piece}
 use Rattle.blot_gateway.proofs.writing.write_text.Goals as goal
-use Rattle.blot_types.proofs.GeneralLemmas.{on_err}
 
 pub returns-in_err-written-clause-err : goal.returns-in_err-written-clause-err
 returns-in_err-written-clause-err g c =

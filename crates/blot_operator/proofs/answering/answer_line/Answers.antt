@@ -1,10 +1,10 @@
 use Rattle.std.proofs.Common.{◌∙◌, [], inr, refl, subst}
 use Rattle.std.specs.Io.KnownBytes.{Appends}
 use Rattle.std.proofs.KnownBytes.{Appends-nil}
+use Rattle.blot_types.proofs.GeneralLemmas.{on_err}
 use Rattle.blot_console.specs.Answers.{answer_text}
 use Rattle.blot_operator.proofs.OpenDayLemmas.{closed-is}
 use Rattle.blot_operator.proofs.answering.answer_line.Goals as goal
-use Rattle.blot_types.proofs.GeneralLemmas.{on_err}
 
 pub returns-clause-ok : goal.returns-clause-ok
 returns-clause-ok g c =

@@ -1,8 +1,8 @@
 use Rattle.std.proofs.Common.{sym}
+use Rattle.blot_types.proofs.GeneralLemmas.{on_err}
 use Rattle.blot_operator.proofs.LineLemmas.{nothing, something}
 use Rattle.blot_operator.proofs.DialogueLemmas.{HasTold-last, HasTold-done, StopsAmong-last}
 use Rattle.blot_operator.proofs.lines.answer_last.Goals as goal
-use Rattle.blot_types.proofs.GeneralLemmas.{on_err}
 
 pub returns-then-is_empty-clause-ok : goal.returns-then-is_empty-clause-ok
 returns-then-is_empty-clause-ok g c = λ start bytes before has.

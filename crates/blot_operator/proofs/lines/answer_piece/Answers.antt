@@ -1,9 +1,9 @@
 use Rattle.std.proofs.Common.{◌≡◌, ℕ, ◌+◌, ◌<◌, List, [], ◌∷◌, ◌++◌, length, take, drop, get_or, sym, ap, ◌∙◌, subst, append_assoc, arith, append-nil, take_all, take-append-drop}
 use Rattle.std.proofs.lemmas.List.{take_more}
-use Rattle.blot_operator.specs.Dialogue.{Closes, HasTold, StopsAmong}
-use Rattle.blot_operator.proofs.lines.answer_piece.Goals as goal
 use Rattle.blot_types.proofs.GeneralLemmas.{on_err}
 use Rattle.blot_stream.specs.Texts.{lines_of}
+use Rattle.blot_operator.specs.Dialogue.{Closes, HasTold, StopsAmong}
+use Rattle.blot_operator.proofs.lines.answer_piece.Goals as goal
 
 -- one more byte of a piece that stands after a front
 one_more : (front piece : List ℕ) (index : ℕ) → index < length piece

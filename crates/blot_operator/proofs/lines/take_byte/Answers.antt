@@ -1,9 +1,9 @@
 use Rattle.std.proofs.Common.{[], ◌∷◌, ◌++◌, ◌∙◌, ap, append_assoc, sym, subst}
+use Rattle.blot_types.proofs.GeneralLemmas.{on_err}
+use Rattle.blot_stream.specs.Texts.{lines_of}
 use Rattle.blot_operator.specs.Dialogue.{ComesOn, StopsAmong, StopsAtLine}
 use Rattle.blot_operator.proofs.DialogueLemmas.{HasTold-more, comes-end, StopsAmong-between, StopsAmong-end}
 use Rattle.blot_operator.proofs.lines.take_byte.Goals as goal
-use Rattle.blot_types.proofs.GeneralLemmas.{on_err}
-use Rattle.blot_stream.specs.Texts.{lines_of}
 
 pub returns-in_err-keep_byte-clause-err : goal.returns-in_err-keep_byte-clause-err
 returns-in_err-keep_byte-clause-err g c =

@@ -1,13 +1,13 @@
 use Rattle.std.proofs.Common.{◌≡◌, ℕ, ◌≤◌, List, [], ◌++◌, length, take, Option, arith, ap, subst, sym, ◌∙◌}
 use Rattle.std.specs.Io.KnownBytes.{Consumes}
 use Rattle.std.proofs.KnownBytes.{Consumes-nil, Consumes-trans}
+use Rattle.blot_types.proofs.GeneralLemmas.{on_err}
+use Rattle.blot_stream.proofs.PieceLemmas.{front_of_buffer, IfSome-front}
+use Rattle.blot_stream.specs.Texts.{lines_of}
 use Rattle.blot_operator.specs.Dialogue.{StopsAmong}
 use Rattle.blot_operator.proofs.DialogueLemmas.{HasTold-init, StopsAmong-between}
 use Rattle.blot_operator.proofs.OpenDayLemmas.{ends-closed, open-if-closed}
-use Rattle.blot_stream.proofs.PieceLemmas.{front_of_buffer, IfSome-front}
-use Rattle.blot_stream.specs.Texts.{lines_of}
 use Rattle.blot_operator.proofs.operating.answer_lines.Goals as goal
-use Rattle.blot_types.proofs.GeneralLemmas.{on_err}
 
 -- the piece that was read comes after the bytes before it
 comes-on : (first old new : Option (List ℕ)) (bytes : List ℕ) (count len : ℕ) (read behind slice : List ℕ) → Consumes first old bytes

@@ -1,6 +1,7 @@
 use Rattle.std.proofs.lemmas.Result.{on_err_weaker}
+use Rattle.blot_types.proofs.GeneralLemmas.{on-ok}
+use Rattle.blot_stream.proofs.ResultLemmas.{if-some}
 use Rattle.blot_operator.proofs.OperatingLemmas.{own-told, own-stopped}
-use Rattle.blot_stream.proofs.ResultLemmas.{on-ok, if-some}
 use Rattle.blot_operator.proofs.operating.desk_lines.Goals as goal
 
 pub returns-clause-desk : goal.returns-clause-desk

@@ -1,8 +1,8 @@
 use Rattle.std.proofs.Common.{sym, ◌∙◌}
+use Rattle.blot_types.proofs.GeneralLemmas.{on_err}
 use Rattle.blot_order.specs.Cells.{with_one_kept}
 use Rattle.blot_order.proofs.PlaceLemmas.{changed-there, found-there, places-written}
 use Rattle.blot_order.proofs.cells.add_kept.Goals as goal
-use Rattle.blot_types.proofs.GeneralLemmas.{on_err}
 
 pub returns-in_err-add_kept-in-Some-get_index_mut-clause-places : goal.returns-in_err-add_kept-in-Some-get_index_mut-clause-places
 returns-in_err-add_kept-in-Some-get_index_mut-clause-places c = places-written c.args.cells.now.entries c.in-Some.place c.add_kept.new.self

@@ -1,5 +1,6 @@
 use Rattle.std.proofs.Common.{◌≡◌, ◌<◌, length, List, Option, false, ap, sym, subst, ◌∙◌, None}
 use Rattle.std.specs.FinMap as finite
+use Rattle.blot_types.proofs.GeneralLemmas.{on_err}
 use Rattle.blot_order.specs.declared.stored_fill.FillState.TheVariants.{Kept}
 use Rattle.blot_order.specs.Slots.{Placed, held_by, held_in_slots, put_under}
 use Rattle.blot_order.proofs.HoldsLemmas.{few_kept, has_one-counted, holds-kept, holds-same}
@@ -7,7 +8,6 @@ use Rattle.blot_order.proofs.PlaceLemmas.{KeepsPlaces-then}
 use Rattle.blot_order.proofs.PlacedLemmas.{held-set, placed_as, slots-reached, slots-same, slots-set, view-reached, within-held}
 use Rattle.blot_order.proofs.SlotLemmas.{held_by-set, length-reaching, put_under-unput}
 use Rattle.blot_order.proofs.orders.keep_fill.Goals as goal
-use Rattle.blot_types.proofs.GeneralLemmas.{on_err}
 
 pub add_kept-requires : goal.add_kept-requires
 add_kept-requires c = few_kept c.args.cells.now.entries (held_in_slots c.args.slots.now.items) c.requires.holds.orders c.args.fill.now.order

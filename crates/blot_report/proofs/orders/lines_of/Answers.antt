@@ -2,12 +2,12 @@ use Rattle.std.proofs.Common.{◌+◌, ◌<◌, length, arith, Option, sym, ap, 
 use Rattle.blot_types.specs.declared.{TheConstants.EVENTS_MAX, command.Entry.Entry, fill.Fill.Fill}
 use Rattle.blot_types.proofs.OrderLemmas.{IsWithin-weaker}
 use Rattle.blot_command.specs.declared.standing.Standing.{Standing}
-use Rattle.blot_report.specs.Day.{fills_on}
 use Rattle.blot_command.specs.Standings.{standing_of}
+use Rattle.blot_command.proofs.ReadyLemmas.{length-book}
+use Rattle.blot_report.specs.Day.{fills_on}
 use Rattle.blot_report.specs.Standings.{entries_in, fill_on}
 use Rattle.blot_report.proofs.OrderLemmas.{HoldsFirst, holds-all, holds-more, holds-none, holds-on}
 use Rattle.blot_report.proofs.StandingLemmas.{as-many, fills-told}
-use Rattle.blot_command.proofs.ReadyLemmas.{length-book}
 use Rattle.blot_report.proofs.orders.lines_of.Goals as goal
 use Rattle.blot_report.proofs.orders.lines_of.Goals.{in-Some+in_ok-add_fill, in_default}
 

@@ -1,8 +1,8 @@
 use Rattle.std.proofs.Common.{◌≡◌, ◌+◌, arith, List, [], ◌∷◌, ◌++◌, Option, Some, take, sym, ap, subst, ◌∙◌, All, flat_map, option_copied, append_assoc, take_all}
 use Rattle.blot_types.specs.declared.{allocation.Terms.Terms, command.Entry.Entry, part.Part.Part}
 use Rattle.blot_types.specs.Position.{moves_of, TermsFit}
-use Rattle.blot_command.specs.declared.standing.Standing.{Standing}
 use Rattle.blot_position.specs.Positions.{with_part}
+use Rattle.blot_command.specs.declared.standing.Standing.{Standing}
 use Rattle.blot_command.specs.Standings.{standing_of}
 use Rattle.blot_report.specs.Standings.{between, entries_in, moves_among, parts_among, parts_between, terms_among, terms_on}
 use Rattle.blot_report.specs.Sums.{MadeOf}

@@ -4,11 +4,11 @@ use Rattle.blot_report.proofs.text.put_order.Goals as goal
 
 pub returns : goal.returns
 returns c =
-    let w1 = c.in_ok-put_word.ensures in
-    let w2 = c.in_ok-put_word-2.ensures in
-    let w3 = c.in_ok-put_word-3.ensures in
-    let w4 = c.in_ok-put_word-4.ensures in
-    let w5 = c.in_ok-put_word-5.ensures in
+    let w1 = c.in_ok-put_word_and_tab.ensures in
+    let w2 = c.in_ok-put_word_and_tab-2.ensures in
+    let w3 = c.in_ok-put_word_and_tab-3.ensures in
+    let w4 = c.in_ok-put_word_and_tab-4.ensures in
+    let w5 = c.in_ok-put_word_and_tab-5.ensures in
     on_ok c.put_order_amounts.result
     (λ last.
     (◌∙◌ {A = List ℕ} last

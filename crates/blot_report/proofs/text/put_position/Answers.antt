@@ -4,9 +4,9 @@ use Rattle.blot_report.proofs.text.put_position.Goals as goal
 
 pub returns : goal.returns
 returns c =
-    let w1 = c.in_ok-put_word.ensures in
-    let w2 = c.in_ok-put_word-2.ensures in
-    let w3 = c.in_ok-put_word-3.ensures in
+    let w1 = c.in_ok-put_word_and_tab.ensures in
+    let w2 = c.in_ok-put_word_and_tab-2.ensures in
+    let w3 = c.in_ok-put_word_and_tab-3.ensures in
     on_ok c.put_position_amounts.result
     (λ last.
     (◌∙◌ {A = List ℕ} last

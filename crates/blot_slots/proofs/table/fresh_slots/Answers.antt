@@ -1,7 +1,7 @@
 use Rattle.std.proofs.Common.{Some, ap, ◌++◌, ◌∷◌, [], ◌∙◌}
+use Rattle.indexmap.proofs.CallerLemmas.{insert_entry-new}
 use Rattle.blot_types.specs.Keys.{same_text}
 use Rattle.blot_session.specs.States.{fresh}
-use Rattle.indexmap.proofs.CallerLemmas.{insert_entry-new}
 use Rattle.blot_slots.proofs.FreshLemmas.{fresh-absent, fresh-more}
 use Rattle.blot_slots.proofs.table.fresh_slots.Goals as goal
 

@@ -1,7 +1,7 @@
 use Rattle.std.proofs.Common.{[], append-nil}
 use Rattle.std.proofs.KnownBytes.{Appends-kept}
-use Rattle.blot_stream.proofs.transfer.write_text.Goals as goal
 use Rattle.blot_types.proofs.GeneralLemmas.{on_err}
+use Rattle.blot_stream.proofs.transfer.write_text.Goals as goal
 
 pub returns-clause-err : goal.returns-clause-err
 returns-clause-err g c =

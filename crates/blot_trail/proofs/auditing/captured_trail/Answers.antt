@@ -1,9 +1,10 @@
 use Rattle.std.proofs.Common.{◌≡◌, ◌<◌, ◌≤◌, List, ℕ, length, ap, subst, arith, ◌∙◌, IfOk, IfSome}
 use Rattle.std.proofs.lemmas.Result.{IfErr-at_err}
-use Rattle.blot_types.specs.declared.TheConstants.{EVENTS_MAX}
 use Rattle.blot_tag.specs.Walking.{frames_of}
+use Rattle.blot_types.specs.declared.TheConstants.{EVENTS_MAX}
+use Rattle.blot_types.proofs.GeneralLemmas.{both-ok}
 use Rattle.blot_stream.specs.declared.outcome.ReplayFault.TheVariants.{Full}
-use Rattle.blot_stream.proofs.ResultLemmas.{both-ok, if-some}
+use Rattle.blot_stream.proofs.ResultLemmas.{if-some}
 use Rattle.blot_capture.specs.Capture.{Sessions, commands_of, commands_over, first_sessions}
 use Rattle.blot_capture.specs.Replay.{Stopped, Taking, submitted}
 use Rattle.blot_capture.specs.Sessions.{sessions_of, taking_of}

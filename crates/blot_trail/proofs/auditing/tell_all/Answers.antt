@@ -1,6 +1,6 @@
 use Rattle.std.proofs.Common.{◌≡◌, length, take, drop, arith, refl, sym, ap, ◌∙◌, length-append, length-take-le}
-use Rattle.blot_capture.specs.Sessions.{taking_of}
 use Rattle.blot_stream.proofs.PieceLemmas.{front_of_buffer}
+use Rattle.blot_capture.specs.Sessions.{taking_of}
 use Rattle.blot_capture.proofs.StreamLemmas.{CameOf-first, CameOf-piece, CameOf-stopped}
 use Rattle.blot_trail.specs.Making.{Making, Telling, none_yet, offset_of}
 use Rattle.blot_trail.proofs.AuditLemmas.{SameTrailOf-first, SameTrailOf-piece, stops-nil}

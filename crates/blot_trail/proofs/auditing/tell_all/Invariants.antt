@@ -1,9 +1,10 @@
 use Rattle.std.proofs.Common.{◌≡◌, ◌≤◌, ◌+◌, ◌*◌, length, vec_len}
 use Rattle.blot_tag.specs.Walking.{stops_at, walk_of}
-use Rattle.blot_capture.specs.Replay.{CameOf}
-use Rattle.blot_capture.specs.Sessions.{taking_of}
 use Rattle.blot_gateway.specs.declared.piece.TheConstants.{PIECE}
-use Rattle.blot_trail.specs.Making.{IsInStep, SameTrailOf, none_yet, offset_of, telling_of}
+use Rattle.blot_capture.specs.Sessions.{taking_of}
+use Rattle.blot_capture.proofs.StreamLemmas.{CameOf}
+use Rattle.blot_trail.specs.Making.{IsInStep, none_yet, offset_of, telling_of}
+use Rattle.blot_trail.proofs.AuditLemmas.{SameTrailOf}
 use Rattle.blot_trail.proofs.auditing.tell_all.Given as goal
 
 abbrev pub invariant-loop : goal.invariant-loop

@@ -1,6 +1,7 @@
 use Rattle.std.proofs.Common.{◌≡◌, arith, sym, subst, is_some}
+use Rattle.blot_types.proofs.GeneralLemmas.{if-err}
 use Rattle.blot_stream.specs.declared.outcome.ReplayFault.TheVariants.{NoMemory}
-use Rattle.blot_stream.proofs.ResultLemmas.{if-both-ok, if-err}
+use Rattle.blot_stream.proofs.ResultLemmas.{if-both-ok}
 use Rattle.blot_capture.specs.Replay.{StoppedOn}
 use Rattle.blot_capture.specs.Sessions.{taking_of}
 use Rattle.blot_trail.specs.Making.{TellsNext, telling_of}

@@ -1,7 +1,7 @@
 use Rattle.std.proofs.Common.{arith}
-use Rattle.blot_diary.specs.Diary.{desk_events}
+use Rattle.blot_types.proofs.GeneralLemmas.{if-err}
 use Rattle.blot_journal.specs.File.{text_of}
-use Rattle.blot_stream.proofs.ResultLemmas.{if-err}
+use Rattle.blot_diary.specs.Diary.{desk_events}
 use Rattle.blotter.proofs.KeepingLemmas.{kept-day, some-first}
 use Rattle.blotter.proofs.kept_day.serve_kept_day.Goals as goal
 

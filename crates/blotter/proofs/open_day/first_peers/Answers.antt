@@ -1,8 +1,8 @@
 use Rattle.std.proofs.Common.{◌≡◌, [], ◌∷◌, ◌++◌, Some, length, map, take, ap, rules, arith, sym, ◌∙◌, option_to_list}
 use Rattle.std.proofs.lemmas.List.{map_more}
 use Rattle.blot_gateway.specs.AtOnce.{are_submits}
-use Rattle.blotter.specs.Serving.{begins_as}
 use Rattle.blot_recovery.proofs.TakingLemmas.{rest-hold, first-holds}
+use Rattle.blotter.specs.Serving.{begins_as}
 use Rattle.blotter.proofs.SeatLemmas.{one-begins}
 use Rattle.blotter.proofs.open_day.first_peers.Goals as goal
 

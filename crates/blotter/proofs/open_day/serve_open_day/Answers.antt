@@ -1,5 +1,6 @@
 use Rattle.std.proofs.Common.{rules}
-use Rattle.blot_stream.proofs.ResultLemmas.{on-ok, ok-says}
+use Rattle.blot_types.proofs.GeneralLemmas.{on-ok}
+use Rattle.blot_stream.proofs.ResultLemmas.{ok-says}
 use Rattle.blotter.proofs.ServingLemmas.{is-open-day, of-some}
 use Rattle.blotter.proofs.open_day.serve_open_day.Goals as goal
 

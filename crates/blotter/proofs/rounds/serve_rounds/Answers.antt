@@ -1,8 +1,8 @@
 use Rattle.std.proofs.Common.{◌≡◌, arith, subst}
+use Rattle.blot_types.proofs.GeneralLemmas.{on_err}
 use Rattle.blotter.specs.Rounds.{RoundsLead, ServesRound}
 use Rattle.blotter.proofs.RoundLemmas.{one-more, stops-at}
 use Rattle.blotter.proofs.rounds.serve_rounds.Goals as goal
-use Rattle.blot_types.proofs.GeneralLemmas.{on_err}
 
 pub loop-preserved : goal.loop-preserved
 loop-preserved g c =

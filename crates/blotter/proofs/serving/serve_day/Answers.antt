@@ -1,6 +1,7 @@
 use Rattle.std.proofs.Common.{◌∙◌, rules}
+use Rattle.blot_types.proofs.GeneralLemmas.{on-ok}
+use Rattle.blot_stream.proofs.ResultLemmas.{ok-says}
 use Rattle.blotter.specs.Rounds.{ServesRound}
-use Rattle.blot_stream.proofs.ResultLemmas.{on-ok, ok-says}
 use Rattle.blotter.proofs.ServingLemmas.{at-end, err-has, is-served, round-adds, tells-all}
 use Rattle.blotter.proofs.serving.serve_day.Goals as goal
 

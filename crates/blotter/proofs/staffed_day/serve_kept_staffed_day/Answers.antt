@@ -1,4 +1,4 @@
-use Rattle.blot_stream.proofs.ResultLemmas.{if-err}
+use Rattle.blot_types.proofs.GeneralLemmas.{if-err}
 use Rattle.blotter.proofs.staffed_day.serve_kept_staffed_day.Goals as goal
 
 pub serve_recovered_staffed-requires-clause-spare : goal.serve_recovered_staffed-requires-clause-spare

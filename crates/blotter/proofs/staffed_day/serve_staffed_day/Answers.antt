@@ -1,6 +1,7 @@
 use Rattle.std.proofs.Common.{◌≡◌, [], subst, sym, All}
 use Rattle.std.proofs.lemmas.List.Elements.{All-take}
-use Rattle.blot_stream.proofs.ResultLemmas.{on-ok, ok-says}
+use Rattle.blot_types.proofs.GeneralLemmas.{on-ok}
+use Rattle.blot_stream.proofs.ResultLemmas.{ok-says}
 use Rattle.blotter.proofs.ServingLemmas.{of-some}
 use Rattle.blotter.proofs.staffed_day.serve_staffed_day.Goals as goal
 

@@ -1,7 +1,7 @@
+use Rattle.blot_types.proofs.GeneralLemmas.{on-ok}
 use Rattle.blot_stream.specs.Texts.{AppendsOf}
 use Rattle.blot_capture.specs.Replay.{captured_by}
 use Rattle.blot_operator.specs.Operating.{answers_of}
-use Rattle.blot_stream.proofs.ResultLemmas.{on-ok}
 use Rattle.blotter_main.proofs.ResultLemmas.{led-to}
 use Rattle.blotter_main.proofs.running.keep_desk.Goals as goal
 

@@ -6,14 +6,14 @@ use Rattle.blot_alloc.proofs.allocs.Allocs.first_after_end.Goals as goal
 pub returns-in_err-reference : goal.returns-in_err-reference
 returns-in_err-reference c =
     let list = c.args.self.now.list in
-    let none = ended_roots-none list c.args.role.now (sym c.in_err-reference.was ∙ c.reference_of.ensures) in
+    let none = ended_roots-none list c.args.role.now (sym c.in_err-reference.was ∙ c.reference.ensures) in
     c.from_residual.ensures ∙ sym (ap (λ roots. first_instruction (names_any roots) c.args.number list) none ∙ none-asked c.args.number list)
 
 pub returns-in_err-roots : goal.returns-in_err-roots
 returns-in_err-roots c =
     let list = c.args.self.now.list in
     let none =
-    ended_roots-by list c.args.role.now c.in_ok-reference.reference None (sym c.in_ok-reference.was ∙ c.reference_of.ensures)
+    ended_roots-by list c.args.role.now c.in_ok-reference.reference None (sym c.in_ok-reference.was ∙ c.reference.ensures)
     (ap (option_map (λ roots. roots.now)) (sym c.in_err-roots.was) ∙ c.roots_of.ensures) in
     c.from_residual-in_err-roots.ensures ∙ sym (ap (λ roots. first_instruction (names_any roots) c.args.number list) none ∙ none-asked c.args.number list)
 
@@ -21,6 +21,6 @@ pub returns : goal.returns
 returns c =
     let list = c.args.self.now.list in
     let named =
-    ended_roots-by list c.args.role.now c.in_ok-reference.reference (Some c.in_ok-roots.roots.now) (sym c.in_ok-reference.was ∙ c.reference_of.ensures)
+    ended_roots-by list c.args.role.now c.in_ok-reference.reference (Some c.in_ok-roots.roots.now) (sym c.in_ok-reference.was ∙ c.reference.ensures)
     (ap (option_map (λ roots. roots.now)) (sym c.in_ok-roots.was) ∙ c.roots_of.ensures) in
     c.first_naming_any.ensures ∙ sym (ap (λ roots. first_instruction (names_any roots) c.args.number list) named)

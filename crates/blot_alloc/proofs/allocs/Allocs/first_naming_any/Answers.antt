@@ -1,7 +1,7 @@
 use Rattle.std.proofs.Common.{arith, ◌≡◌, length, take, sym, ap, ◌∙◌}
 use Rattle.std.proofs.Math.Seq.{take-length}
 use Rattle.blot_types.specs.Instructions.{first_instruction, names_any}
-use Rattle.blot_types.specs.Numbers.{lesser}
+use Rattle.blot_types.specs.Lesser.{lesser}
 use Rattle.blot_alloc.proofs.NeedLemmas.{any-step, none-asked}
 use Rattle.blot_alloc.proofs.allocs.Allocs.first_naming_any.Goals as goal
 

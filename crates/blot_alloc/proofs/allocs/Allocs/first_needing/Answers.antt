@@ -1,6 +1,6 @@
 use Rattle.std.proofs.Common.{◌≡◌, Some, reverse, sym, ap, ◌∙◌, option_copied}
+use Rattle.blot_types.specs.Lesser.{lesser}
 use Rattle.blot_places.specs.Shown.{item_at}
-use Rattle.blot_types.specs.Numbers.{lesser}
 use Rattle.blot_alloc.specs.Allocs.{number_of}
 use Rattle.blot_alloc.proofs.HoldsLemmas.{shown-instructed}
 use Rattle.blot_alloc.proofs.NeedLemmas.{needing-found, needing-none, shown-falls}

@@ -1,8 +1,8 @@
 use Rattle.std.proofs.Common.{◌≡◌, ◌∷◌, [], ◌++◌, true, ap, sym, subst, ◌∙◌, reverse, length}
 use Rattle.std.proofs.lemmas.List.{length-reverse}
-use Rattle.blot_places.specs.declared.slots.Slot.{Slot}
 use Rattle.blot_types.specs.declared.allocation.Instruction.{Instruction}
 use Rattle.blot_types.specs.Instructions.{is_above_instructions, may_follow}
+use Rattle.blot_places.specs.declared.slots.Slot.{Slot}
 use Rattle.blot_alloc.proofs.HoldsLemmas.{held-push}
 use Rattle.blot_alloc.proofs.allocs.Allocs.push.Goals as goal
 

@@ -1,8 +1,8 @@
 use Rattle.std.proofs.Common.{◌≡◌, ap, sym, subst, ◌∙◌, reverse, true}
+use Rattle.blot_types.specs.Instructions.{is_instructed}
 use Rattle.blot_places.specs.Shown.{shown_of}
 use Rattle.blot_places.specs.Slots.{marked}
 use Rattle.blot_places.proofs.MarkLemmas.{marked-items, shown-put_back}
-use Rattle.blot_types.specs.Instructions.{is_instructed}
 use Rattle.blot_alloc.specs.Allocs.{number_of, put_back}
 use Rattle.blot_alloc.specs.Holds.{HoldsAllocs}
 use Rattle.blot_alloc.proofs.HoldsLemmas.{held-marked}

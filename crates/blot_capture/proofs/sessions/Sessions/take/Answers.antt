@@ -1,12 +1,12 @@
 use Rattle.std.proofs.Common.{◌≡◌, ◌∙◌, ap, sym, subst, None, Some, IfOk}
 use Rattle.blot_tag.specs.Views.{text_of}
+use Rattle.blot_types.proofs.GeneralLemmas.{on-ok, if-err}
 use Rattle.blot_capture.specs.Capture.{sessions_behind, commands_in, taken_by}
 use Rattle.blot_capture.specs.Handling.{IsHandledBy}
 use Rattle.blot_capture.specs.Replay.{submitted, Stopped}
 use Rattle.blot_capture.specs.Sessions.{session_in, sessions_of, IsPlaceFor}
 use Rattle.blot_capture.specs.Trace.{session_for}
 use Rattle.blot_capture.proofs.LookupLemmas.{sessions-changed, commands-at, session-for, sessions-none}
-use Rattle.blot_stream.proofs.ResultLemmas.{on-ok, if-err}
 use Rattle.blot_capture.proofs.sessions.Sessions.take.Goals as goal
 
 pub returns-in-Ok-Some-clause-sessions : goal.returns-in-Ok-Some-clause-sessions

@@ -1,11 +1,11 @@
 use Rattle.std.proofs.Common.{◌≡◌, Some, None, reverse, sym, ap, subst, ◌∙◌, option_copied}
 use Rattle.std.proofs.lemmas.Option.{same_Some}
-use Rattle.blot_places.specs.Shown.{item_at}
-use Rattle.blot_places.specs.Slots.{live}
 use Rattle.blot_types.specs.Chains.{first_needing_link}
-use Rattle.blot_types.specs.Numbers.{lesser}
+use Rattle.blot_types.specs.Lesser.{lesser}
+use Rattle.blot_places.specs.Shown.{item_at}
+use Rattle.blot_places.specs.Slots.{UpToFirst, live}
 use Rattle.blot_chain.specs.Cells.{key_at}
-use Rattle.blot_chain.specs.Index.{UpToFirst, referring_at}
+use Rattle.blot_chain.specs.Index.{referring_at}
 use Rattle.blot_chain.specs.ChainLinks.{link_number}
 use Rattle.blot_chain.proofs.AroundLemmas.{needing-held, needing-none, needing-placed, busts_under, parted-busts, parted-versions, versions_under}
 use Rattle.blot_chain.proofs.IndexLemmas.{turned}
@@ -41,15 +41,15 @@ root-root-requires c =
 pub referring_at-requires : goal.referring_at-requires
 referring_at-requires c =
     let k = c.in_ok-item.item.now in
-    subst (λ slots. UpToFirst c.args.number slots c.versions.result.now) (sym c.deref-2.ensures.value)
-    (subst (UpToFirst c.args.number c.self.inside.slots.items) (sym (turned c.versions.result.now _ c.versions.ensures ∙ ap (versions_under c.self.inside.index) c.root-root.ensures))
+    subst (λ slots. UpToFirst link_number c.args.number slots c.versions.result.now) (sym c.deref-2.ensures.value)
+    (subst (UpToFirst link_number c.args.number c.self.inside.slots.items) (sym (turned c.versions.result.now _ c.versions.ensures ∙ ap (versions_under c.self.inside.index) c.root-root.ensures))
     (parted-versions c.self.inside.index c.self.inside.slots.items k.root c.args.number c.self.invariant))
 
 pub referring_at-requires-2 : goal.referring_at-requires-2
 referring_at-requires-2 c =
     let k = c.in_ok-item.item.now in
-    subst (λ slots. UpToFirst c.args.number slots c.busts.result.now) (sym c.deref-3.ensures.value)
-    (subst (UpToFirst c.args.number c.self.inside.slots.items) (sym (turned c.busts.result.now _ c.busts.ensures ∙ ap (busts_under c.self.inside.index) c.root-root.ensures))
+    subst (λ slots. UpToFirst link_number c.args.number slots c.busts.result.now) (sym c.deref-3.ensures.value)
+    (subst (UpToFirst link_number c.args.number c.self.inside.slots.items) (sym (turned c.busts.result.now _ c.busts.ensures ∙ ap (busts_under c.self.inside.index) c.root-root.ensures))
     (parted-busts c.self.inside.index c.self.inside.slots.items k.root c.args.number c.self.invariant))
 
 pub returns : goal.returns

@@ -1,10 +1,10 @@
 use Rattle.std.proofs.Common.{◌≡◌, ◌∷◌, [], ◌++◌, true, Some, None, ap, sym, subst, ◌∙◌, reverse, length}
 use Rattle.std.proofs.lemmas.List.{length-reverse}
-use Rattle.blot_places.specs.declared.slots.Slot.{Slot}
 use Rattle.blot_types.specs.Chains.{link_refusal, is_above_links}
+use Rattle.blot_types.specs.StandingVersion.{chain_under}
+use Rattle.blot_places.specs.declared.slots.Slot.{Slot}
 use Rattle.blot_chain.specs.declared.chain_link.ChainLink.{ChainLink}
 use Rattle.blot_chain.specs.Holds.{HoldsChains}
-use Rattle.blot_types.specs.StandingVersion.{chain_under}
 use Rattle.blot_chain.proofs.HoldsLemmas.{held-index, held-push}
 use Rattle.blot_chain.proofs.chains.Chains.push_link.Goals as goal
 

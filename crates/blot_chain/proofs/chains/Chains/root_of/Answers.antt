@@ -1,6 +1,6 @@
 use Rattle.std.proofs.Common.{◌≡◌, true, sym, ap, subst, ◌∙◌, IfSome}
-use Rattle.blot_places.specs.Slots.{newest_live}
 use Rattle.blot_types.specs.Chains.{root_in, is_chained}
+use Rattle.blot_places.specs.Slots.{newest_live}
 use Rattle.blot_chain.proofs.ChainLemmas.{one_trade-found}
 use Rattle.blot_chain.proofs.HoldsLemmas.{root-held, taker-keyed}
 use Rattle.blot_chain.specs.Index.{newest_on}

@@ -1,7 +1,6 @@
 use Rattle.std.proofs.Common.{◌≡◌, Some, ap, sym, ◌∙◌, option_and_then, option_copied}
 use Rattle.std.specs.Bool.{then_some}
-use Rattle.blot_types.specs.Chains.{root_in}
-use Rattle.blot_types.specs.StandingVersion.{standing_version_in}
+use Rattle.blot_types.specs.Chains.{root_in, standing_version_in}
 use Rattle.blot_chain.specs.ChainLinks.{kept_root}
 use Rattle.blot_chain.proofs.StandingLemmas.{key-told, rooted-stands, rootless-stands, root-told, version-beside}
 use Rattle.blot_chain.proofs.chains.Chains.standing_root.Goals.{then-begins, else-begins}

@@ -1,7 +1,7 @@
 use Rattle.std.proofs.Common.{◌≡◌, ap, sym, subst, ◌∙◌, reverse, true}
+use Rattle.blot_types.specs.Chains.{is_chained}
 use Rattle.blot_places.specs.Slots.{marked}
 use Rattle.blot_places.proofs.MarkLemmas.{marked-items}
-use Rattle.blot_types.specs.Chains.{is_chained}
 use Rattle.blot_chain.specs.Holds.{HoldsChains, shown_of}
 use Rattle.blot_chain.specs.ChainLinks.{link_number}
 use Rattle.blot_chain.specs.Steps.{CanReturn, put_back}

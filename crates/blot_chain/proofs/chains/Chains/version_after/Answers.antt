@@ -1,6 +1,7 @@
 use Rattle.std.proofs.Common.{sym, ap, subst, ◌∙◌}
 use Rattle.blot_types.specs.Chains.{version_after_in}
-use Rattle.blot_chain.specs.Index.{UpToFirst}
+use Rattle.blot_places.specs.Slots.{UpToFirst}
+use Rattle.blot_chain.specs.ChainLinks.{link_number}
 use Rattle.blot_chain.proofs.AroundLemmas.{after-held, parted-versions}
 use Rattle.blot_chain.proofs.IndexLemmas.{turned}
 use Rattle.blot_chain.proofs.chains.Chains.version_after.Goals as goal
@@ -8,8 +9,8 @@ use Rattle.blot_chain.proofs.chains.Chains.version_after.Goals as goal
 pub number_above-requires : goal.number_above-requires
 number_above-requires c =
     let stack = turned c.versions.result.now _ c.versions.ensures in
-    subst (λ slots. UpToFirst c.args.number slots c.versions.result.now) (sym c.deref.ensures.value)
-    (subst (UpToFirst c.args.number c.self.inside.slots.items) (sym stack)
+    subst (λ slots. UpToFirst link_number c.args.number slots c.versions.result.now) (sym c.deref.ensures.value)
+    (subst (UpToFirst link_number c.args.number c.self.inside.slots.items) (sym stack)
     (parted-versions c.self.inside.index c.self.inside.slots.items c.args.root.now c.args.number c.self.invariant))
 
 pub returns : goal.returns

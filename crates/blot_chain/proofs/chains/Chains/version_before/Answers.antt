@@ -1,6 +1,7 @@
 use Rattle.std.proofs.Common.{sym, ap, subst, ◌∙◌}
 use Rattle.blot_types.specs.Chains.{version_before_in}
-use Rattle.blot_chain.specs.Index.{BelowFirst}
+use Rattle.blot_places.specs.Slots.{BelowFirst}
+use Rattle.blot_chain.specs.ChainLinks.{link_number}
 use Rattle.blot_chain.proofs.AroundLemmas.{before-held, parted-earlier}
 use Rattle.blot_chain.proofs.IndexLemmas.{turned}
 use Rattle.blot_chain.proofs.chains.Chains.version_before.Goals as goal
@@ -8,8 +9,8 @@ use Rattle.blot_chain.proofs.chains.Chains.version_before.Goals as goal
 pub number_below-requires : goal.number_below-requires
 number_below-requires c =
     let stack = turned c.versions.result.now _ c.versions.ensures in
-    subst (λ slots. BelowFirst c.args.number slots c.versions.result.now) (sym c.deref.ensures.value)
-    (subst (BelowFirst c.args.number c.self.inside.slots.items) (sym stack)
+    subst (λ slots. BelowFirst link_number c.args.number slots c.versions.result.now) (sym c.deref.ensures.value)
+    (subst (BelowFirst link_number c.args.number c.self.inside.slots.items) (sym stack)
     (parted-earlier c.self.inside.index c.self.inside.slots.items c.args.root.now c.args.number c.self.invariant))
 
 pub returns : goal.returns

@@ -1,11 +1,11 @@
 use Rattle.std.proofs.Common.{◌≡◌, false, length, ap, sym, subst, ◌∙◌, find, if◌then◌else◌}
 use Rattle.std.specs.Vec.{with_items}
 use Rattle.std.proofs.lemmas.List.{with_items_is}
-use Rattle.blot_places.specs.Slots.{marked}
 use Rattle.blot_types.specs.declared.command.Entry.{Entry}
 use Rattle.blot_types.specs.Legal.{is_book, without}
-use Rattle.blot_alloc.specs.Allocs.{lifted_out as lifted_instruction}
+use Rattle.blot_places.specs.Slots.{marked}
 use Rattle.blot_chain.specs.Steps.{lifted_out as lifted_link}
+use Rattle.blot_alloc.specs.Allocs.{lifted_out as lifted_instruction}
 use Rattle.blot_command.specs.Book.{Shown, entry_number, has_number}
 use Rattle.blot_command.specs.Linking.{CanLift, is_instruction, is_link}
 use Rattle.blot_command.specs.Slots.{entries_in}

@@ -1,10 +1,10 @@
 use Rattle.std.proofs.Common.{◌≡◌, length, true, ap, sym, subst, ◌∙◌, if◌then◌else◌}
 use Rattle.std.specs.Vec.{with_items}
 use Rattle.std.proofs.lemmas.List.{with_items_is}
-use Rattle.blot_places.specs.Slots.{marked}
 use Rattle.blot_types.specs.declared.command.Entry.{Entry}
-use Rattle.blot_alloc.specs.Allocs.{put_back as put_back_instruction}
+use Rattle.blot_places.specs.Slots.{marked}
 use Rattle.blot_chain.specs.Steps.{put_back as put_back_link}
+use Rattle.blot_alloc.specs.Allocs.{put_back as put_back_instruction}
 use Rattle.blot_command.specs.Book.{entry_number}
 use Rattle.blot_command.specs.Linking.{CanUnLift, is_instruction, is_link}
 use Rattle.blot_command.specs.Withdrawing.{CanReturn, returned}

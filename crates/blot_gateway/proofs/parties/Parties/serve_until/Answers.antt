@@ -1,6 +1,6 @@
 use Rattle.std.proofs.Common.{refl, inr}
 use Rattle.blot_session.specs.Runs.{behind_calls}
-use Rattle.blot_gateway.proofs.NumbersLemmas.{keeps_all_numbers}
+use Rattle.blot_gateway.proofs.KeptNumbersLemmas.{keeps_all_numbers}
 use Rattle.blot_gateway.proofs.parties.Parties.serve_until.Goals as goal
 
 pub returns-in-None-clause-served : goal.returns-in-None-clause-served

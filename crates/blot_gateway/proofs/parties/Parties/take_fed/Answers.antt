@@ -1,11 +1,11 @@
 use Rattle.std.proofs.Common.{◌∷◌}
-use Rattle.blot_session.specs.Runs.Call.{Tick}
 use Rattle.blot_tag.specs.Walking.{rest_of}
+use Rattle.blot_types.proofs.GeneralLemmas.{on-ok, if-err}
+use Rattle.blot_session.specs.Runs.Call.{Tick}
 use Rattle.blot_gateway.specs.Progress.{TakesFed, TakesFedLast}
 use Rattle.blot_gateway.specs.Serving.{due_behind, parties}
 use Rattle.blot_gateway.specs.Serving.Due.{Passed}
 use Rattle.blot_gateway.specs.Sending.{Halted}
-use Rattle.blot_gateway.proofs.StepLemmas.{on-ok, if-err}
 use Rattle.blot_gateway.proofs.ServingLemmas.{runs-fed, ends-fed}
 use Rattle.blot_gateway.proofs.parties.Parties.take_fed.Goals as goal
 

@@ -1,12 +1,12 @@
 use Rattle.std.proofs.Common.{[], ◌∷◌, sym}
 use Rattle.blot_tag.specs.Views.{text_of}
+use Rattle.blot_types.proofs.GeneralLemmas.{on-ok, if-err}
 use Rattle.blot_session.specs.Runs.Call.{Frame}
 use Rattle.blot_gateway.specs.Hearing.{word_in}
 use Rattle.blot_gateway.specs.Progress.{Handles, HandlesLast}
 use Rattle.blot_gateway.specs.Serving.{parties}
 use Rattle.blot_gateway.specs.Serving.Due.{Came}
 use Rattle.blot_gateway.specs.Sending.{Submitted, SubmittedLast}
-use Rattle.blot_gateway.proofs.StepLemmas.{on-ok, if-err}
 use Rattle.blot_gateway.proofs.RunLemmas.{frame-call, runs-one, ends-one, runs-pair, ends-pair}
 use Rattle.blot_gateway.proofs.parties.Parties.take_frame.Goals as goal
 

@@ -1,7 +1,7 @@
 use Rattle.std.proofs.Common.{[], ◌++◌, ap, subst}
+use Rattle.blot_types.proofs.GeneralLemmas.{if-err}
 use Rattle.blot_gateway.specs.Progress.{TakesFedLast}
 use Rattle.blot_gateway.specs.Serving.{due_fed}
-use Rattle.blot_gateway.proofs.StepLemmas.{if-err}
 use Rattle.blot_gateway.proofs.RunLemmas.{runs-nowhere, ends-there}
 use Rattle.blot_gateway.proofs.parties.Parties.take_piece.Goals as goal
 

@@ -1,7 +1,7 @@
 use Rattle.std.proofs.Common.{sym, subst}
-use Rattle.blot_desk.specs.declared.event.Event.TheVariants.{Submit}
 use Rattle.blot_tag.proofs.FrameLemmas.{frame_kept}
 use Rattle.blot_tag.specs.Views.{text_of}
+use Rattle.blot_desk.specs.declared.event.Event.TheVariants.{Submit}
 use Rattle.blot_lanes.proofs.broker_seat.BrokerSeat.submit.Goals as goal
 
 pub submit_with-requires : goal.submit_with-requires

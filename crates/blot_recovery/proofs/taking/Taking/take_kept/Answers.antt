@@ -1,8 +1,8 @@
 use Rattle.std.proofs.Common.{inl, inr, refl, subst, sym}
 use Rattle.std.proofs.lemmas.Result.{on_ok_weaker}
+use Rattle.blot_types.proofs.GeneralLemmas.{both-ok}
 use Rattle.blot_recovery.specs.Parties.{IsKeptPeer}
 use Rattle.blot_recovery.specs.Taking.{IsPartyOf}
-use Rattle.blot_recovery.proofs.TestLemmas.{both-ok}
 use Rattle.blot_recovery.proofs.TakingLemmas.{asked-taken, peer-taken, same-names, seated-asked, seated-more}
 use Rattle.blot_recovery.proofs.taking.Taking.take_kept.Goals as goal
 

@@ -7,7 +7,7 @@ use Rattle.blot_session.specs.Runs.{AreMet, Call, HasNoReset, Numbered, behind_c
 use Rattle.blot_session.specs.Sending.{is_of_connection, numbers_sent}
 use Rattle.blot_session.specs.States.{IsIdle}
 use Rattle.blot_gateway.specs.declared.wire.Heard.{Heard}
-use Rattle.blot_gateway.specs.Serving.{told_in}
+use Rattle.blot_gateway.specs.Serving.{noticed_in}
 
 -- what is kept: under this number the message of a command that was taken, both numbers, or under this number a message that is sent
 pub data KeptNumber : Type 0 where
@@ -55,7 +55,7 @@ kept_by state (inr (text, heard)) = if heard.is_renumbered then Numbers heard.ex
 
 -- of a call: first of what passes between the session and the sink in it, and then of what it sends
 abbrev pub kept_numbers_in : State → Call → List KeptNumber
-kept_numbers_in state call = flat_map (kept_by state) (told_in state call) ++ map Sent (numbers_sent state call)
+kept_numbers_in state call = flat_map (kept_by state) (noticed_in state call) ++ map Sent (numbers_sent state call)
 
 -- of some calls
 abbrev pub kept_numbers_of : State → List Call → List KeptNumber

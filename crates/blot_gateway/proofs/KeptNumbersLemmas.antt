@@ -16,9 +16,9 @@ use Rattle.blot_session.proofs.SendingLemmas.{IsUnspent, MovesNumbers, closed_id
 use Rattle.blot_session.proofs.StateLemmas.{idle-none}
 use Rattle.blot_gateway.specs.declared.{calling.Before.Before, wire.Heard.Heard}
 use Rattle.blot_gateway.specs.Hearing.{before_frame, heard, heard_by, is_on, is_renumbered, word_of}
-use Rattle.blot_gateway.specs.Numbers.{AreKept, KeptNumber, KeepsNumbers, kept_numbers_in, kept_numbers_of, expected_after, expected_by, kept_by, next_after, next_by, sent_number, sent_numbers}
-use Rattle.blot_gateway.specs.Numbers.KeptNumber.{Taken, Numbers, Sent}
-use Rattle.blot_gateway.specs.Serving.{told_by, told_in}
+use Rattle.blot_gateway.specs.KeptNumbers.{AreKept, KeptNumber, KeepsNumbers, kept_numbers_in, kept_numbers_of, expected_after, expected_by, kept_by, next_after, next_by, sent_number, sent_numbers}
+use Rattle.blot_gateway.specs.KeptNumbers.KeptNumber.{Taken, Numbers, Sent}
+use Rattle.blot_gateway.specs.Serving.{noticed_by, noticed_in}
 
 -- ---- beginnings
 
@@ -149,7 +149,7 @@ abbrev kept_heard : Option Heard → List KeptNumber
 kept_heard None = []
 kept_heard (Some heard) = if heard.is_renumbered then Numbers heard.expected heard.next ∷ [] else []
 
-kept-word : (state : State) (text : List ℕ) (heard : Option Heard) → flat_map (kept_by state) (map told_by (word_of text heard)) ≡ kept_heard heard
+kept-word : (state : State) (text : List ℕ) (heard : Option Heard) → flat_map (kept_by state) (map noticed_by (word_of text heard)) ≡ kept_heard heard
 kept-word state text None = refl
 kept-word state text (Some heard) = append-nil (kept_heard (Some heard))
 
@@ -200,7 +200,7 @@ frame-keeps state text now moves =
     ]
 
 -- a call that tells the sink nothing, and leaves the expected number
-rests-keeps : (state : State) (call : Call) → told_in state call ≡ [] → (moves : MovesNumbers state call (outcome state call)) → (outcome state call).state.expected ≡ state.expected
+rests-keeps : (state : State) (call : Call) → noticed_in state call ≡ [] → (moves : MovesNumbers state call (outcome state call)) → (outcome state call).state.expected ≡ state.expected
     → Keeps state (outcome state call).state (kept_numbers_in state call)
 rests-keeps state call nothing moves same =
     subst (λ told. Keeps state (outcome state call).state (flat_map (kept_by state) told ++ map Sent (numbers_sent state call))) (sym nothing)
@@ -239,7 +239,7 @@ closed-entries : (state : State) (call : Call) → phase_of state ≡ phases.Clo
 closed-entries state (Frame text now true) shut of met moves =
     let after = (outcome state (Frame text now true)).state in
     let none = unheard-closed (before_frame state (said_by text) now) after shut (moves.shut shut).0 in
-    ap (λ heard. flat_map (kept_by state) (map told_by (word_of text heard)) ++ map Sent (numbers_sent state (Frame text now true))) none
+    ap (λ heard. flat_map (kept_by state) (map noticed_by (word_of text heard)) ++ map Sent (numbers_sent state (Frame text now true))) none
     ∙ ap (map Sent) (moves.shut shut).1
 closed-entries state (Frame text now false) shut of met moves = refl
 closed-entries state (Reply reply now memory) shut of met moves = absurd (idle-none state (closed_idle state shut) met)
